@@ -1,0 +1,5 @@
+pub mod Key
+pub mod Limits
+pub mod Format
+pub mod View
+pub mod Text

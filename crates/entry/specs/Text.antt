@@ -1,0 +1,83 @@
+-- Texts of segments: the spellings of their entries one after the other, in an order that is allowed.
+use Rattle.std.specs.Prelude.{◌≡◌, ℕ, zero, suc, List, [], ◌∷◌, ◌++◌, length, drop, Bool, true, false, ◌==◌, ◌&&◌}
+use Rattle.std.specs.Option.{option_map_or}
+use Rattle.std.specs.List.{flat_map, AllByRecursion}
+use Rattle.entry.specs.declared.entry.Role.{Role}
+use Rattle.entry.specs.declared.entry.Role.TheVariants.{Head, Survivor}
+use Rattle.entry.specs.declared.entry.Header.{Header}
+use Rattle.entry.specs.declared.entry.Entry.{Entry}
+use Rattle.entry.specs.declared.entry.Entry.TheVariants as entry
+use Rattle.entry.specs.Format.{spelling, front_of, IsEntry}
+
+-- ---- the row of entries
+
+abbrev pub text_of : List Entry → List ℕ
+text_of es = flat_map spelling es
+
+-- an object or a tombstone
+abbrev pub is_data : Entry → Bool
+is_data (entry.Header h) = false
+is_data (entry.Digest ids) = false
+is_data (entry.Safe version) = false
+is_data (entry.Object o) = true
+is_data (entry.Tombstone t) = true
+
+abbrev pub are_data : List Entry → Bool
+are_data [] = true
+are_data (e ∷ es) = is_data e && are_data es
+
+-- the last of the ids is this one
+abbrev pub ends_with : ℕ → List ℕ → Bool
+ends_with id [] = false
+ends_with id (x ∷ []) = x == id
+ends_with id (x ∷ y ∷ ys) = ends_with id (y ∷ ys)
+
+-- behind the header of a head: a digest whose last id is the segment, a safe version, and then objects and tombstones
+abbrev pub is_head_rest : ℕ → List Entry → Bool
+is_head_rest segment (entry.Digest ids ∷ entry.Safe version ∷ rest) = ends_with segment ids && are_data rest
+is_head_rest segment _ = false
+
+-- behind the header of a survivor: objects and tombstones
+abbrev pub is_rest : Role → ℕ → List Entry → Bool
+is_rest Head segment rest = is_head_rest segment rest
+is_rest Survivor segment rest = are_data rest
+
+-- the entries are a whole segment's, in an order that is allowed
+abbrev pub is_whole : List Entry → Bool
+is_whole (entry.Header h ∷ rest) = is_rest h.role h.segment rest
+is_whole _ = false
+
+-- some whole segment begins with these entries
+abbrev pub IsBeginning : List Entry → Type 0
+IsBeginning es = (more : List Entry) × (is_whole (es ++ more) ≡ true)
+
+-- what the entries of a segment are
+pub record IsSegment (es : List Entry) : Type 0 where
+  pub each : AllByRecursion IsEntry es
+  pub order : is_whole es ≡ true
+
+-- the bytes are the text of these entries, which are a segment's
+pub record IsTextOf (bytes : List ℕ) (es : List Entry) : Type 0 where
+  pub segment : IsSegment es
+  pub text : bytes ≡ text_of es
+
+-- ---- the entries of a text
+
+-- the entries that stand in the bytes one after the other, at most this many
+abbrev pub entries_within : ℕ → List ℕ → List Entry
+entries_within zero bytes = []
+entries_within (suc count) bytes = option_map_or (λ (front : Entry × ℕ). front.0 ∷ entries_within count (drop front.1 bytes)) (front_of bytes) []
+
+-- the entries that stand in the bytes one after the other
+abbrev pub entries_in : List ℕ → List Entry
+entries_in bytes = entries_within (length bytes) bytes
+
+-- the bytes are the text of some segment
+abbrev pub IsSegmentText : List ℕ → Type 0
+IsSegmentText bytes = (es : List Entry) × IsTextOf bytes es
+
+-- ---- laws
+
+-- A text has one row of entries: those that are read from it.
+abbrev pub TextsAreRead : Type 0
+TextsAreRead = (es : List Entry) → AllByRecursion IsEntry es → entries_in (text_of es) ≡ es

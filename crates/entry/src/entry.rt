@@ -1,0 +1,111 @@
+//! What an entry is.
+
+use crate::key::Key;
+use crate::limits::{Ids, SafeVersion, Value, Version};
+
+/// What a segment is for.
+#[derive(Clone, Copy, Debug, PartialEq, Eq)]
+pub enum Role {
+    Head,
+    Survivor,
+}
+
+impl Role {
+    ghost use Rattle.std.specs.Prelude.{◌≡◌, ◌<◌, IfSome, IfNone};
+    ghost use Rattle.entry.specs.Format.{role_byte};
+
+    /// The role of a byte.
+    pub fn from_byte(byte: u8) -> Option<Role>
+        ensures some { IfSome result (λ role. byte ≡ role_byte role) }
+        ensures none { IfNone result (1 < byte) }
+    {
+        match byte {
+            0 => Some(Role::Head),
+            1 => Some(Role::Survivor),
+            _ => None,
+        }
+    }
+
+    /// The byte of the role.
+    pub fn byte(self) -> u8
+        ensures { result ≡ role_byte self }
+    {
+        match self {
+            Role::Head => 0,
+            Role::Survivor => 1,
+        }
+    }
+}
+
+/// How a segment begins.
+#[derive(Clone, Copy, Debug, PartialEq, Eq)]
+pub struct Header {
+    pub master: u64,
+    pub segment: u64,
+    pub role: Role,
+}
+
+/// A key's value as of a version.
+#[derive(Clone, Debug, Drop)]
+pub struct Object {
+    pub key: Key,
+    pub version: Version,
+    pub value: Value,
+}
+
+/// The end of the object of a key and version, which lay in this segment.
+#[derive(Clone, Debug, Drop)]
+pub struct Tombstone {
+    pub key: Key,
+    pub version: Version,
+    pub segment: u64,
+}
+
+/// An entry of the log. Each value is within the limits of the format.
+#[derive(Clone, Debug, Drop)]
+pub enum Entry {
+    Header(Header),
+    /// The ids of all segments of the log.
+    Digest(Ids),
+    Safe(SafeVersion),
+    Object(Object),
+    Tombstone(Tombstone),
+}
+
+impl Entry {
+    ghost use Rattle.std.specs.Prelude.{◌≡◌, length};
+    ghost use Rattle.entry.specs.Format.{spelling, IsEntry};
+
+    /// How many bytes the spelling has.
+    pub fn spelled_len(&self) -> usize
+        ensures len { result ≡ length (spelling self.now) }
+        ensures valid { IsEntry self.now }
+    {
+        match self {
+            Entry::Header(header) => {
+                let Header {
+                    master: _master,
+                    segment: _segment,
+                    role: _,
+                } = *header;
+                18
+            }
+            Entry::Digest(ids) => 5 + 8 * ids.as_slice().len(),
+            Entry::Safe(version) => {
+                version.get();
+                9
+            }
+            Entry::Object(object) => {
+                object.version.get();
+                let _table = object.key.table;
+                23 + object.key.bytes.as_slice().len() + object.value.as_slice().len()
+            }
+            Entry::Tombstone(tombstone) => {
+                tombstone.version.get();
+                let _table = tombstone.key.table;
+                let _segment = tombstone.segment;
+                27 + tombstone.key.bytes.as_slice().len()
+            }
+        }
+    }
+}

@@ -1,0 +1,16 @@
+//! Laws about spellings and texts, for the proofs of callers.
+
+ghost use Rattle.entry.specs.Format.{SpellingsArePrefixFree};
+ghost use Rattle.entry.specs.Text.{TextsAreRead};
+
+/// No spelling begins the spelling of another entry.
+pub fn one_spelling()
+    ensures { SpellingsArePrefixFree }
+{
+}
+
+/// The entries that are read from a text are those that it was made of.
+pub fn one_reading()
+    ensures { TextsAreRead }
+{
+}

@@ -1,0 +1,25 @@
+//! The entries of a log: what they are, the one spelling of each, and how one is read.
+#![tactic(auto)]
+
+mod entry;
+mod fault;
+mod key;
+mod kind;
+mod laws;
+mod limits;
+mod owning;
+mod reading;
+mod view;
+mod writing;
+
+pub use entry::{Entry, Header, Object, Role, Tombstone};
+pub use fault::{EntryFault, KeyFault, NoMemory};
+pub use key::{Key, KeyBytes, place};
+pub use laws::{one_reading, one_spelling};
+pub use limits::{Ids, SafeVersion, Value, Version};
+pub use reading::read_entry;
+pub use view::{DigestRef, EntryRef, KeyRef, ObjectRef, TombstoneRef};
+pub use writing::write_entry;
+
+#[cfg(test)]
+mod tests;

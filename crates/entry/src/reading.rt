@@ -1,0 +1,214 @@
+//! Reading entries.
+
+ghost use Rattle.std.specs.Prelude.{◌≡◌, ◌+◌, ◌*◌, ◌≤◌, ◌<◌, ◌++◌, ℕ, List, Some, length, slice_index, IfOk, IfErr, IsOkAnd, MatchResult};
+ghost use Rattle.entry.specs.Format.{Begins, MayFail, IsEntry, spelling, number_at, kind_byte, ids_at, rises, first_fault, front_of};
+ghost use Rattle.entry.specs.View.{shown, Reads};
+
+use crate::entry::{Entry, Header, Role};
+use crate::fault::EntryFault;
+use crate::key::MAX_KEY_LEN;
+use crate::kind::Kind;
+use crate::limits::{MAX_VALUE_LEN, SafeVersion, Version};
+use crate::view::{DigestRef, EntryRef, KeyRef, ObjectRef, TombstoneRef};
+use std::alloc::Global;
+
+#[tactic(auto, unfolding(crate::specs::Format::number_at))]
+pub(crate) fn u64_at(bytes: &[u8], at: usize) -> u64
+    requires { at + 8 ≤ length bytes.now }
+    ensures { result ≡ number_at 8 at bytes.now }
+{
+    let b = &bytes[at..];
+    u64::from_be_bytes([b[0], b[1], b[2], b[3], b[4], b[5], b[6], b[7]])
+}
+
+#[tactic(auto, unfolding(crate::specs::Format::number_at))]
+fn u32_at(bytes: &[u8], at: usize) -> u32
+    requires { at + 4 ≤ length bytes.now }
+    ensures { result ≡ number_at 4 at bytes.now }
+{
+    let b = &bytes[at..];
+    u32::from_be_bytes([b[0], b[1], b[2], b[3]])
+}
+
+#[tactic(auto, unfolding(crate::specs::Format::number_at))]
+fn u16_at(bytes: &[u8], at: usize) -> u16
+    requires { at + 2 ≤ length bytes.now }
+    ensures { result ≡ number_at 2 at bytes.now }
+{
+    let b = &bytes[at..];
+    u16::from_be_bytes([b[0], b[1]])
+}
+
+fn read_header(bytes: &[u8]) -> Result<(EntryRef<'_>, usize), EntryFault>
+    requires fixed { 18 ≤ length bytes.now }
+    ensures { Reads Kind.Header bytes.entry.now result }
+{
+    let Some(role) = Role::from_byte(bytes[17]) else {
+        return Err(EntryFault::BadField);
+    };
+    let header = Header {
+        master: u64_at(bytes, 1),
+        segment: u64_at(bytes, 9),
+        role,
+    };
+    Ok((EntryRef::Header(header), 18))
+}
+
+/// Whether the ids of a digest rise strictly.
+fn ids_rise(bytes: &[u8], count: usize) -> bool
+    requires { 5 + 8 * count ≤ length bytes.now }
+    ensures { result ≡ rises (ids_at count 5 bytes.now) }
+{
+    for i in 1..count {
+        if u64_at(bytes, 5 + 8 * (i - 1)) >= u64_at(bytes, 5 + 8 * i) {
+            return false;
+        }
+    }
+    true
+}
+
+fn read_digest(bytes: &[u8]) -> Result<(EntryRef<'_>, usize), EntryFault>
+    requires fixed { 5 ≤ length bytes.now }
+    ensures { Reads Kind.Digest bytes.entry.now result }
+{
+    let count = u32_at(bytes, 1) as usize;
+    let end = 5 + 8 * count;
+    if bytes.len() < end {
+        return Err(EntryFault::Short);
+    }
+    if !ids_rise(bytes, count) {
+        return Err(EntryFault::BadField);
+    }
+    let digest = DigestRef { count, text: bytes };
+    Ok((EntryRef::Digest(digest), end))
+}
+
+fn read_safe(bytes: &[u8]) -> Result<(EntryRef<'_>, usize), EntryFault>
+    requires fixed { 9 ≤ length bytes.now }
+    ensures { Reads Kind.Safe bytes.entry.now result }
+{
+    let Some(version) = SafeVersion::new(u64_at(bytes, 1)) else {
+        return Err(EntryFault::BadField);
+    };
+    Ok((EntryRef::Safe(version), 9))
+}
+
+fn read_object(bytes: &[u8]) -> Result<(EntryRef<'_>, usize), EntryFault>
+    requires fixed { 23 ≤ length bytes.now }
+    ensures { Reads Kind.Object bytes.entry.now result }
+{
+    let table = u64_at(bytes, 1);
+    let Some(version) = Version::new(u64_at(bytes, 9)) else {
+        return Err(EntryFault::BadField);
+    };
+    let key_len = u16_at(bytes, 17) as usize;
+    let value_len = u32_at(bytes, 19) as usize;
+    if key_len == 0 || key_len > MAX_KEY_LEN || value_len > MAX_VALUE_LEN {
+        return Err(EntryFault::BadField);
+    }
+    let key_end = 23 + key_len;
+    let end = key_end + value_len;
+    if bytes.len() < end {
+        return Err(EntryFault::Short);
+    }
+    let key = KeyRef {
+        table,
+        bytes: &bytes[23..key_end],
+    };
+    let object = ObjectRef {
+        key,
+        version,
+        value: &bytes[key_end..end],
+    };
+    Ok((EntryRef::Object(object), end))
+}
+
+fn read_tombstone(bytes: &[u8]) -> Result<(EntryRef<'_>, usize), EntryFault>
+    requires fixed { 27 ≤ length bytes.now }
+    ensures { Reads Kind.Tombstone bytes.entry.now result }
+{
+    let table = u64_at(bytes, 1);
+    let Some(version) = Version::new(u64_at(bytes, 9)) else {
+        return Err(EntryFault::BadField);
+    };
+    let key_len = u16_at(bytes, 25) as usize;
+    if key_len == 0 || key_len > MAX_KEY_LEN {
+        return Err(EntryFault::BadField);
+    }
+    let end = 27 + key_len;
+    if bytes.len() < end {
+        return Err(EntryFault::Short);
+    }
+    let key = KeyRef {
+        table,
+        bytes: &bytes[27..end],
+    };
+    let tombstone = TombstoneRef {
+        key,
+        version,
+        segment: u64_at(bytes, 17),
+    };
+    Ok((EntryRef::Tombstone(tombstone), end))
+}
+
+fn read_kind(kind: Kind, bytes: &[u8]) -> Result<(EntryRef<'_>, usize), EntryFault>
+    ensures { Reads kind bytes.entry.now result }
+{
+    if bytes.len() < kind.fixed_len() {
+        return Err(EntryFault::Short);
+    }
+    match kind {
+        Kind::Header => read_header(bytes),
+        Kind::Digest => read_digest(bytes),
+        Kind::Safe => read_safe(bytes),
+        Kind::Object => read_object(bytes),
+        Kind::Tombstone => read_tombstone(bytes),
+    }
+}
+
+fn read_front(bytes: &[u8]) -> Result<(EntryRef<'_>, usize), EntryFault>
+    ensures found { IfOk result (λ read. Begins bytes.entry.now (shown read.0) read.1) }
+    ensures front { IfOk result (λ read. front_of bytes.entry.now ≡ Some (shown read.0, read.1)) }
+    ensures fault { IfErr result (λ fault. first_fault bytes.entry.now ≡ Some fault) }
+{
+    let Some(byte) = bytes.first() else {
+        return Err(EntryFault::Short);
+    };
+    let Some(kind) = Kind::from_byte(*byte) else {
+        return Err(EntryFault::UnknownKind);
+    };
+    read_kind(kind, bytes)
+}
+
+impl<'a> EntryRef<'a> {
+    /// The entry at the front of the bytes, and how many bytes it takes. What follows it isn't looked at, and no memory
+    /// is taken.
+    pub fn read(bytes: &'a [u8]) -> Result<(EntryRef<'a>, usize), EntryFault>
+        // What is read is spelled at the front.
+        ensures found { IfOk result (λ read. Begins bytes.entry.now (shown read.0) read.1) }
+        ensures front { IfOk result (λ read. front_of bytes.entry.now ≡ Some (shown read.0, read.1)) }
+        // What is spelled at the front is read.
+        ensures complete { (entry : Entry) (rest : List ℕ) → IsEntry entry → bytes.entry.now ≡ spelling entry ++ rest →
+            IsOkAnd result (λ read. (shown read.0 ≡ entry) × (read.1 ≡ length (spelling entry))) }
+        // A fault is the one that the first failing test names.
+        ensures fault { IfErr result (λ fault. first_fault bytes.entry.now ≡ Some fault) }
+    {
+        read_front(bytes)
+    }
+}
+
+/// The entry at the front of the bytes, and how many bytes it takes. What follows it isn't looked at.
+pub fn read_entry(alloc: Global, bytes: &[u8]) -> Result<(Entry, usize), EntryFault>
+    // What is read is spelled at the front.
+    ensures found { IfOk result (λ read. Begins bytes.now read.0 read.1) }
+    // What is spelled at the front is read, unless memory runs out.
+    ensures complete { (entry : Entry) (rest : List ℕ) → IsEntry entry → bytes.now ≡ spelling entry ++ rest →
+        MatchResult result (λ read. (read.0 ≡ entry) × (read.1 ≡ length (spelling entry))) (λ fault. fault ≡ EntryFault.NoMemory) }
+    // A fault is the one that the first failing test names. Want of memory comes only where no test fails.
+    ensures fault { IfErr result (λ fault. MayFail bytes.now fault) }
+{
+    match EntryRef::read(bytes) {
+        Ok((entry, taken)) => Ok((entry.to_entry(alloc)?, taken)),
+        Err(fault) => Err(fault),
+    }
+}

@@ -1,0 +1,200 @@
+//! Writing entries.
+
+ghost use Rattle.std.specs.Prelude.{◌≡◌, ◌+◌, ◌*◌, ◌<◌, ◌≤◌, ◌^◌, [], ◌∷◌, ◌++◌, length, vec_len, vec_capacity, OnOk, OnErr};
+ghost use Rattle.std.specs.List.{flat_map};
+ghost use Rattle.entry.specs.Format.{spelling, number_bytes, IsEntry};
+ghost use Rattle.entry.specs.View.{shown_key, shown_object, shown_tombstone};
+
+use crate::entry::{Entry, Role};
+use crate::fault::NoMemory;
+use crate::limits::Version;
+use crate::view::{KeyRef, ObjectRef, TombstoneRef};
+use byteorder::{BigEndian, ByteOrder};
+
+#[tactic(auto, unfolding(crate::specs::Format::number_bytes))]
+fn put_u64(out: &mut Vec<u8>, number: u64)
+    requires { vec_len out.old + 8 ≤ vec_capacity out.old }
+    ensures items { out.new.items ≡ out.old.items ++ number_bytes 8 number }
+    ensures len { vec_len out.new ≡ vec_len out.old + 8 }
+    ensures capacity { vec_capacity out.old ≤ vec_capacity out.new }
+{
+    let mut bytes = [0; 8];
+    BigEndian::write_u64(&mut bytes, number);
+    out.extend_from_slice(&bytes).unwrap()
+}
+
+#[tactic(auto, unfolding(crate::specs::Format::number_bytes))]
+fn put_u32(out: &mut Vec<u8>, number: u32)
+    requires { vec_len out.old + 4 ≤ vec_capacity out.old }
+    ensures items { out.new.items ≡ out.old.items ++ number_bytes 4 number }
+    ensures len { vec_len out.new ≡ vec_len out.old + 4 }
+    ensures capacity { vec_capacity out.old ≤ vec_capacity out.new }
+{
+    let mut bytes = [0; 4];
+    BigEndian::write_u32(&mut bytes, number);
+    out.extend_from_slice(&bytes).unwrap()
+}
+
+#[tactic(auto, unfolding(crate::specs::Format::number_bytes))]
+fn put_u16(out: &mut Vec<u8>, number: u16)
+    requires { vec_len out.old + 2 ≤ vec_capacity out.old }
+    ensures items { out.new.items ≡ out.old.items ++ number_bytes 2 number }
+    ensures len { vec_len out.new ≡ vec_len out.old + 2 }
+    ensures capacity { vec_capacity out.old ≤ vec_capacity out.new }
+{
+    let mut bytes = [0; 2];
+    BigEndian::write_u16(&mut bytes, number);
+    out.extend_from_slice(&bytes).unwrap()
+}
+
+/// Appends a key's or a value's bytes, where there is room for them.
+fn put_bytes(out: &mut Vec<u8>, bytes: &[u8])
+    requires { vec_len out.old + length bytes.now ≤ vec_capacity out.old }
+    ensures items { out.new.items ≡ out.old.items ++ bytes.now }
+    ensures len { vec_len out.new ≡ vec_len out.old + length bytes.now }
+    ensures capacity { vec_capacity out.old ≤ vec_capacity out.new }
+{
+    out.extend_from_slice(bytes).unwrap()
+}
+
+/// Appends the number of one byte, where there is room for it.
+fn put_u8(out: &mut Vec<u8>, number: u8)
+    requires { vec_len out.old + 1 ≤ vec_capacity out.old }
+    ensures items { out.new.items ≡ out.old.items ++ number ∷ [] }
+    ensures len { vec_len out.new ≡ vec_len out.old + 1 }
+    ensures capacity { vec_capacity out.old ≤ vec_capacity out.new }
+{
+    out.push(number).unwrap()
+}
+
+/// Appends ids, where there is room for them.
+fn put_ids(out: &mut Vec<u8>, ids: &[u64])
+    requires { vec_len out.old + 8 * length ids.now ≤ vec_capacity out.old }
+    ensures { out.new.items ≡ out.old.items ++ flat_map (number_bytes 8) ids.now }
+{
+    for id in ids {
+        put_u64(out, *id);
+    }
+}
+
+fn put_object(out: &mut Vec<u8>, key: &KeyRef, version: Version, value: &[u8])
+    requires limit { length value.now ≤ 2097152 }
+    requires room { vec_len out.old + (23 + length key.now.bytes.now + length value.now) ≤ vec_capacity out.old }
+    ensures items { out.new.items ≡ out.old.items ++ spelling (Entry.Object (record { key = shown_key key.now; version = version; value = value.now })) }
+    ensures capacity { vec_capacity out.old ≤ vec_capacity out.new }
+{
+    put_u8(out, 4);
+    put_u64(out, key.table);
+    put_u64(out, version.get());
+    put_u16(out, key.bytes.len() as u16);
+    put_u32(out, value.len() as u32);
+    put_bytes(out, key.bytes);
+    put_bytes(out, value);
+}
+
+fn put_tombstone(out: &mut Vec<u8>, key: &KeyRef, version: Version, segment: u64)
+    requires { vec_len out.old + (27 + length key.now.bytes.now) ≤ vec_capacity out.old }
+    ensures items { out.new.items ≡ out.old.items ++ spelling (Entry.Tombstone (record { key = shown_key key.now; version = version; segment = segment })) }
+    ensures capacity { vec_capacity out.old ≤ vec_capacity out.new }
+{
+    put_u8(out, 5);
+    put_u64(out, key.table);
+    put_u64(out, version.get());
+    put_u64(out, segment);
+    put_u16(out, key.bytes.len() as u16);
+    put_bytes(out, key.bytes);
+}
+
+/// Appends the spelling, where there is room for it.
+fn put_entry(out: &mut Vec<u8>, entry: &Entry)
+    requires { vec_len out.old + length (spelling entry.now) ≤ vec_capacity out.old }
+    ensures { out.new.items ≡ out.old.items ++ spelling entry.now }
+{
+    match entry {
+        Entry::Header(header) => {
+            put_u8(out, 1);
+            put_u64(out, header.master);
+            put_u64(out, header.segment);
+            put_u8(out, header.role.byte());
+        }
+        Entry::Digest(ids) => {
+            put_u8(out, 2);
+            put_u32(out, ids.as_slice().len() as u32);
+            put_ids(out, ids.as_slice());
+        }
+        Entry::Safe(version) => {
+            put_u8(out, 3);
+            put_u64(out, version.get());
+        }
+        Entry::Object(object) => {
+            let key = object.key.view();
+            put_object(out, &key, object.version, object.value.as_slice());
+        }
+        Entry::Tombstone(tombstone) => {
+            let key = tombstone.key.view();
+            put_tombstone(out, &key, tombstone.version, tombstone.segment);
+        }
+    }
+}
+
+/// Appends the spelling of an entry.
+pub fn write_entry(entry: &Entry, out: &mut Vec<u8>) -> Result<(), NoMemory>
+    ensures ok { OnOk result (out.new.items ≡ out.old.items ++ spelling entry.now) }
+    ensures err { OnErr result (out.new.items ≡ out.old.items) }
+    ensures full { OnErr result (vec_capacity out.old < vec_len out.old + length (spelling entry.now)) }
+{
+    out.reserve(entry.spelled_len())?;
+    put_entry(out, entry);
+    Ok(())
+}
+
+impl<'a> ObjectRef<'a> {
+    /// How many bytes the spelling has.
+    pub fn spelled_len(&self) -> usize
+        ensures len { result ≡ length (spelling (Entry.Object (shown_object self.now))) }
+        ensures limit { result ≤ 23 + 1024 + 2097152 }
+        ensures valid { IsEntry (Entry.Object (shown_object self.now)) }
+    {
+        self.version.get();
+        let _table = self.key.table;
+        23 + self.key.bytes.len() + self.value.len()
+    }
+
+    /// Appends the spelling.
+    pub fn write(&self, out: &mut Vec<u8>) -> Result<(), NoMemory>
+        ensures ok { OnOk result (out.new.items ≡ out.old.items ++ spelling (Entry.Object (shown_object self.now))) }
+        ensures err { OnErr result (out.new.items ≡ out.old.items) }
+        ensures full { OnErr result (vec_capacity out.old < vec_len out.old + length (spelling (Entry.Object (shown_object self.now)))) }
+        ensures capacity { vec_capacity out.old ≤ vec_capacity out.new }
+    {
+        out.reserve(self.spelled_len())?;
+        put_object(out, &self.key, self.version, self.value);
+        Ok(())
+    }
+}
+
+impl<'a> TombstoneRef<'a> {
+    /// How many bytes the spelling has.
+    pub fn spelled_len(&self) -> usize
+        ensures len { result ≡ length (spelling (Entry.Tombstone (shown_tombstone self.now))) }
+        ensures limit { result ≤ 27 + 1024 }
+        ensures valid { IsEntry (Entry.Tombstone (shown_tombstone self.now)) }
+    {
+        self.version.get();
+        let _table = self.key.table;
+        let _segment = self.segment;
+        27 + self.key.bytes.len()
+    }
+
+    /// Appends the spelling.
+    pub fn write(&self, out: &mut Vec<u8>) -> Result<(), NoMemory>
+        ensures ok { OnOk result (out.new.items ≡ out.old.items ++ spelling (Entry.Tombstone (shown_tombstone self.now))) }
+        ensures err { OnErr result (out.new.items ≡ out.old.items) }
+        ensures full { OnErr result (vec_capacity out.old < vec_len out.old + length (spelling (Entry.Tombstone (shown_tombstone self.now)))) }
+        ensures capacity { vec_capacity out.old ≤ vec_capacity out.new }
+    {
+        out.reserve(self.spelled_len())?;
+        put_tombstone(out, &self.key, self.version, self.segment);
+        Ok(())
+    }
+}
