@@ -9,6 +9,7 @@ ghost use Rattle.std.specs.Prelude.{refl, nat_eq, IsTrue, ◌≡◌, ◌<◌, �
 ghost use Rattle.entry.specs.Key.{IsKeyBytes, place_of};
 
 use crate::fault::KeyFault;
+use crate::view::KeyRef;
 use std::cmp::Ordering;
 use std::hash::{Hash, Hasher};
 use std::alloc::{AllocError, Global};
@@ -75,15 +76,29 @@ impl Key {
     }
 }
 
-/// The place of a key in its table: its first eight bytes, a shorter key padded with zero bytes, as a number.
-pub fn place(key: &Key) -> u64
-    ensures { result ≡ place_of key.now.bytes }
+fn place_at(bytes: &[u8]) -> u64
+    ensures { result ≡ place_of bytes.now }
 {
-    let bytes = key.bytes.as_slice();
     let taken = bytes.len().min(8);
     let mut first = [0; 8];
     first[..taken].copy_from_slice(&bytes[..taken]);
     u64::from_be_bytes(first)
+}
+
+/// The place of a key in its table: its first eight bytes, a shorter key padded with zero bytes, as a number.
+pub fn place(key: &Key) -> u64
+    ensures { result ≡ place_of key.now.bytes }
+{
+    place_at(key.bytes.as_slice())
+}
+
+impl<'a> KeyRef<'a> {
+    /// The place of the key in its table.
+    pub fn place(&self) -> u64
+        ensures { result ≡ place_of self.now.bytes.now }
+    {
+        place_at(self.bytes)
+    }
 }
 
 impl Hash for KeyBytes {

@@ -9,6 +9,7 @@ mod laws;
 mod limits;
 mod owning;
 mod reading;
+mod tablet;
 mod view;
 mod writing;
 
@@ -18,6 +19,7 @@ pub use key::{Key, KeyBytes, place};
 pub use laws::{one_reading, one_spelling};
 pub use limits::{Ids, SafeVersion, Value, Version};
 pub use reading::read_entry;
+pub use tablet::{Size, Tablet, Tablets};
 pub use view::{DigestRef, EntryRef, KeyRef, ObjectRef, TombstoneRef};
 pub use writing::write_entry;
 

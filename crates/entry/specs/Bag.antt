@@ -1,0 +1,6 @@
+-- Collections in which only membership counts.
+use Rattle.std.specs.Prelude.{◌≡◌, ◌⊎◌, List, [], ◌∷◌}
+
+abbrev pub IsAmong : {X : Type 0} → X → List X → Type 0
+IsAmong x [] = ⊥
+IsAmong x (y ∷ ys) = (y ≡ x) ⊎ IsAmong x ys

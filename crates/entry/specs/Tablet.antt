@@ -1,0 +1,32 @@
+-- Tablets: which keys are in them, and which rows of them are in order.
+use Rattle.std.specs.Prelude.{ℕ, List, [], ◌∷◌, Bool, true, false, ◌==◌, ◌&&◌, ◌||◌, nat_lt, nat_le}
+use Rattle.std.specs.List.{list_any}
+use Rattle.entry.specs.declared.key.Key.{Key}
+use Rattle.entry.specs.declared.tablet.Tablet.{Tablet}
+use Rattle.entry.specs.Key.{place_of}
+
+-- the key's place is in the tablet
+abbrev pub has_key : Tablet → Key → Bool
+has_key t k = (t.table == k.table) && (nat_le t.first (place_of k.bytes) && nat_le (place_of k.bytes) t.last)
+
+-- the key's place is in one of the tablets
+abbrev pub have_key : List Tablet → Key → Bool
+have_key ts k = list_any (λ (t : Tablet). has_key t k) ts
+
+-- the first ends before the other begins
+abbrev pub is_before : Tablet → Tablet → Bool
+is_before t u = nat_lt t.table u.table || ((t.table == u.table) && nat_lt t.last u.first)
+
+abbrev pub is_tablet : Tablet → Bool
+is_tablet t = nat_le t.first t.last
+
+-- each is a tablet, and ends before the next begins
+abbrev pub are_in_order : List Tablet → Bool
+are_in_order [] = true
+are_in_order (t ∷ []) = is_tablet t
+are_in_order (t ∷ u ∷ ts) = is_tablet t && (is_before t u && are_in_order (u ∷ ts))
+
+-- there are some, sorted and disjoint
+abbrev pub are_tablets : List Tablet → Bool
+are_tablets [] = false
+are_tablets (t ∷ ts) = are_in_order (t ∷ ts)

@@ -1,0 +1,117 @@
+//! Tablets: ranges of places of a table.
+
+ghost use Rattle.std.specs.Prelude.{◌≡◌, List};
+ghost use Rattle.entry.specs.View.{shown_key};
+
+use crate::view::KeyRef;
+use std::marker::Model;
+
+/// The places of a table from `first` to `last`, both included.
+#[derive(Clone, Copy, Debug, PartialEq, Eq)]
+pub struct Tablet {
+    pub table: u64,
+    pub first: u64,
+    pub last: u64,
+}
+
+/// How many bytes an object at a place of a table has.
+#[derive(Clone, Copy, Debug, PartialEq, Eq)]
+pub struct Size {
+    pub table: u64,
+    pub place: u64,
+    pub bytes: u64,
+}
+
+impl Tablet {
+    ghost use Rattle.std.specs.Prelude.{◌≡◌};
+    ghost use Rattle.entry.specs.View.{shown_key};
+    ghost use Rattle.entry.specs.Tablet.{has_key, is_before};
+
+    /// Whether the key's place is in the tablet.
+    pub fn has(&self, key: &KeyRef) -> bool
+        ensures { result ≡ has_key self.now (shown_key key.now) }
+    {
+        let place = key.place();
+        self.table == key.table && self.first <= place && place <= self.last
+    }
+
+    /// Whether the tablet ends before the other begins.
+    pub fn is_before(&self, other: &Tablet) -> bool
+        ensures { result ≡ is_before self.now other.now }
+    {
+        self.table < other.table || (self.table == other.table && self.last < other.first)
+    }
+}
+
+/// The tablets of a master, or of a will. A contract sees them as a list.
+#[derive(Clone, Debug, Drop)]
+pub struct Tablets {
+    tablets: Vec<Tablet>,
+}
+
+impl Model for Tablets {
+    ghost use Rattle.std.specs.Prelude.{List};
+    ghost use Rattle.entry.specs.declared.tablet.Tablet.{Tablet};
+
+    ghost Value = { List Tablet };
+
+    ghost view = { λ t. t.tablets.items };
+}
+
+impl Tablets {
+    ghost use Rattle.std.specs.Prelude.{◌≡◌};
+    ghost use Rattle.entry.specs.View.{shown_key};
+    ghost use Rattle.entry.specs.Tablet.{have_key, are_tablets};
+
+    /// The tablets of this list. It takes no memory.
+    pub fn new(tablets: Vec<Tablet>) -> Tablets
+        ensures { result ≡ tablets.items }
+    {
+        Tablets { tablets }
+    }
+
+    /// The list of the tablets. It takes no memory.
+    pub fn into_vec(self) -> Vec<Tablet>
+        ensures { result.items ≡ self }
+    {
+        let Tablets { tablets } = self;
+        tablets
+    }
+
+    pub fn as_slice(&self) -> &[Tablet]
+        ensures { result.now ≡ self.now }
+    {
+        self.tablets.as_slice()
+    }
+
+    /// Whether the key's place is in one of the tablets.
+    pub fn have(&self, key: &KeyRef) -> bool
+        ensures { result ≡ have_key self.now (shown_key key.now) }
+    {
+        self.tablets.iter().any(|tablet| tablet.has(key))
+    }
+
+    /// Whether there are some, each begins no later than it ends, and they are sorted and disjoint.
+    pub fn are_valid(&self) -> bool
+        ensures { result ≡ are_tablets self.now }
+    {
+        !self.tablets.is_empty() && are_in_order(self.tablets.as_slice())
+    }
+}
+
+ghost use Rattle.std.specs.Prelude.{◌<◌, length};
+ghost use Rattle.entry.specs.Tablet.{are_in_order as in_order};
+
+fn are_in_order(tablets: &[Tablet]) -> bool
+    requires { 0 < length tablets.now }
+    ensures { result ≡ in_order tablets.now }
+{
+    for i in 1..tablets.len() {
+        let tablet = &tablets[i - 1];
+        if tablet.first > tablet.last || !tablet.is_before(&tablets[i]) {
+            return false;
+        }
+    }
+    let last = &tablets[tablets.len() - 1];
+    last.first <= last.last
+}

@@ -1,0 +1,21 @@
+-- What a master asks of a backup, without where its bytes lie in memory.
+use Rattle.std.specs.Prelude.{ℕ, List}
+use Rattle.replica.specs.declared.op.Op.{Op}
+use Rattle.replica.specs.declared.op.Act.{Act}
+use Rattle.replica.specs.declared.op.Act.TheVariants as act
+
+pub data ActValue : Type 0 where
+  Open : List ℕ → ActValue
+  Extend : ℕ → List ℕ → ActValue
+
+pub record OpValue : Type 0 where
+  pub master : ℕ
+  pub segment : ℕ
+  pub act : ActValue
+
+abbrev pub shown_act : Act → ActValue
+shown_act (act.Open bytes) = Open bytes.now
+shown_act (act.Extend at bytes) = Extend at bytes.now
+
+abbrev pub shown_op : Op → OpValue
+shown_op op = record { master = op.master; segment = op.segment; act = shown_act op.act }

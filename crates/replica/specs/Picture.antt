@@ -1,0 +1,41 @@
+-- What the backups hold.
+use Rattle.std.specs.Prelude.{◌≡◌, ℕ, ◌==◌, ◌&&◌, List, [], ◌∷◌, Bool, Option, Some, None, if◌then◌else◌}
+use Rattle.entry.specs.Bag.{IsAmong}
+use Rattle.replica.specs.declared.holding.Holding.{Holding}
+
+pub record Replica : Type 0 where
+  pub bytes : List ℕ
+  pub is_open : Bool
+
+-- backup, master and segment lead to at most one replica
+abbrev pub Picture : Type 0
+Picture = ℕ → ℕ → ℕ → Option Replica
+
+abbrev pub is_same_place : ℕ → ℕ → ℕ → ℕ → ℕ → ℕ → Bool
+is_same_place b m s c n t = (b == c) && ((m == n) && (s == t))
+
+-- the picture with one place changed
+abbrev pub with_replica : Picture → ℕ → ℕ → ℕ → Option Replica → Picture
+with_replica p b m s r = λ c n t. if is_same_place b m s c n t then r else p c n t
+
+-- the replicas on some backups
+abbrev pub survivors : (ℕ → Bool) → Picture → Picture
+survivors keep p = λ b m s. if keep b then p b m s else None
+
+-- the picture has just this replica at its place
+abbrev pub IsHeld : Picture → Holding → Type 0
+IsHeld p h = p h.backup h.master h.segment ≡ Some (record { bytes = h.bytes; is_open = h.is_open })
+
+-- no replica is shown twice
+abbrev pub IsOnce : List Holding → Type 0
+IsOnce [] = Unit {0}
+IsOnce (h ∷ hs) = (IsAmong h hs → ⊥) × IsOnce hs
+
+-- A fleet: how many backups it has, numbered from 0, what they hold, how many ops were taken, after how many it is spent,
+-- and how many takes ended in a fault.
+pub record FleetState : Type 0 where
+  pub backups : ℕ
+  pub picture : Picture
+  pub takes : ℕ
+  pub end : ℕ
+  pub faults : ℕ

@@ -1,0 +1,52 @@
+-- What an op does to a fleet.
+use Rattle.std.specs.Prelude.{◌≡◌, ℕ, ◌+◌, ◌-◌, ◌^◌, ◌<◌, ◌⊎◌, ◌==◌, ◌&&◌, List, ◌++◌, length, min, Bool, true, Option, Some, None, Result, Ok, Err, nat_lt, if◌then◌else◌}
+use Rattle.replica.specs.declared.op.TakeFault.{TakeFault}
+use Rattle.replica.specs.declared.op.TakeFault.TheVariants as take_fault
+use Rattle.replica.specs.Op.{ActValue, Open, Extend, OpValue}
+use Rattle.replica.specs.Picture.{Replica, FleetState, with_replica}
+
+-- what the act makes of the replica that it names; None where it doesn't fit
+abbrev pub effect : ActValue → Option Replica → Option (Option Replica)
+effect (Open bytes) None = Some (Some (record { bytes = bytes; is_open = true }))
+effect (Open bytes) (Some r) = None
+effect (Extend at bytes) None = None
+effect (Extend at bytes) (Some r) =
+    if r.is_open && (at == length r.bytes) then Some (Some (record { bytes = r.bytes ++ bytes; is_open = true })) else None
+
+abbrev pub with_effect : FleetState → ℕ → OpValue → Option (Option Replica) → Option FleetState
+with_effect f b op None = None
+with_effect f b op (Some r) = Some (record {
+  backups = f.backups;
+  picture = with_replica f.picture b op.master op.segment r;
+  takes = f.takes + 1;
+  end = f.end;
+  faults = f.faults;
+})
+
+-- the fleet after the op; None where there is no such backup or the op doesn't fit
+abbrev pub taken : FleetState → ℕ → OpValue → Option FleetState
+taken f b op = if nat_lt b f.backups then with_effect f b op (effect op.act (f.picture b op.master op.segment)) else None
+
+-- the same fleet, with one more fault
+abbrev pub faulted : FleetState → FleetState
+faulted f = record { backups = f.backups; picture = f.picture; takes = f.takes; end = f.end; faults = f.faults + 1 }
+
+-- A refused op is not taken; after a fault nobody knows whether it was.
+abbrev pub Refuses : FleetState → ℕ → OpValue → TakeFault → FleetState → Type 0
+Refuses old b op take_fault.NoMemory new = new ≡ old
+Refuses old b op take_fault.Wrong new = (taken old b op ≡ None) × (new ≡ old)
+Refuses old b op take_fault.Fault new = (new ≡ faulted old) ⊎ ((mid : FleetState) × (taken old b op ≡ Some mid) × (new ≡ faulted mid))
+Refuses old b op take_fault.Spent new = (old.takes ≡ old.end) × (new ≡ old)
+
+-- what a take does, by its answer
+abbrev pub TakeGives : FleetState → ℕ → OpValue → Result Unit TakeFault → FleetState → Type 0
+TakeGives old b op (Ok u) new = (old.takes < old.end) × (taken old b op ≡ Some new)
+TakeGives old b op (Err fault) new = Refuses old b op fault new
+
+-- the greatest number of 64 bits
+abbrev pub no_limit : ℕ
+no_limit = 2 ^ 64 - 1
+
+-- the fleet that takes this many further ops
+abbrev pub limited : FleetState → ℕ → FleetState
+limited f n = record { backups = f.backups; picture = f.picture; takes = f.takes; end = min (f.takes + n) no_limit; faults = f.faults }

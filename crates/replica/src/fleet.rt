@@ -1,0 +1,49 @@
+//! What a fleet of backups promises.
+
+ghost use Rattle.std.specs.Prelude.{◌≡◌, ℕ, IfOk, ◌↔◌};
+ghost use Rattle.entry.specs.Bag.{IsAmong};
+ghost use Rattle.replica.specs.Op.{shown_op};
+ghost use Rattle.replica.specs.Picture.{FleetState, IsHeld, IsOnce};
+ghost use Rattle.replica.specs.Take.{TakeGives, limited};
+
+use crate::holding::Holding;
+use crate::op::{Op, TakeFault};
+use entry::NoMemory;
+use std::alloc::Global;
+
+/// Backups that hold replicas.
+///
+/// They are honest: what a backup shows is what it took. A take is whole or not at all; one that ends in a fault may have
+/// been taken. No op changes another replica than the one that it names.
+pub trait Fleet {
+    /// What the backups hold, and the counts.
+    ghost state: { Self → FleetState };
+
+    /// Hands an op to a backup.
+    fn take(&mut self, backup: u64, op: &Op<'_>) -> Result<(), TakeFault>
+        ensures { TakeGives (state self.old) backup (shown_op op.now) result (state self.new) };
+
+    /// All replicas that a backup holds, each once; none of a backup that there isn't.
+    fn holdings(&self, alloc: Global, backup: u64) -> Result<Vec<Holding>, NoMemory>
+        ensures shown { IfOk result (λ hs. (h : Holding) → IsAmong h hs.items ↔ ((h.backup ≡ backup) × IsHeld (state self.now).picture h)) }
+        ensures once { IfOk result (λ hs. IsOnce hs.items) };
+
+    /// How many ops were taken.
+    fn takes(&self) -> u64
+        ensures { result ≡ (state self.now).takes };
+
+    /// How many ops the fleet takes before it is spent.
+    fn end(&self) -> u64
+        ensures { result ≡ (state self.now).end };
+
+    /// How many takes ended in a fault.
+    fn faults(&self) -> u64
+        ensures { result ≡ (state self.now).faults };
+}
+
+/// A fleet whose takes can be limited, to stop a master after any of them.
+pub trait Bench: Fleet {
+    /// Lets the fleet take `n` further ops; then it is spent. The greatest number lifts the limit.
+    fn limit(&mut self, n: u64)
+        ensures { Self.state self.new ≡ limited (Self.state self.old) n };
+}

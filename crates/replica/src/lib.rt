@@ -1,0 +1,15 @@
+//! Replicas on backups: the ops that change them, and what a fleet of backups promises.
+//!
+//! The layer above uses `Fleet` alone: a take is whole or not at all, changes the one replica that its op names, and is
+//! counted; what a backup shows is what it took.
+#![tactic(auto)]
+
+mod bytes;
+mod fleet;
+mod holding;
+mod op;
+
+pub use bytes::Bytes;
+pub use fleet::{Bench, Fleet};
+pub use holding::{Holding, Inventory};
+pub use op::{Act, Op, TakeFault};
