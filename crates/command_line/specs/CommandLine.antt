@@ -1,0 +1,130 @@
+-- The command line: which options there are, what number each one has, and which words are refused.
+use Rattle.std.specs.Prelude.{◌≡◌, ◌<◌, ◌≤◌, ◌^◌, ℕ, List, [], ◌∷◌, Option, Some, None, Result, MatchResult, codes, false}
+use Rattle.std.specs.List.{fold}
+use Rattle.std.specs.Str.Parse.{IsNumeral, digits_value, without_leading_plus}
+use Rattle.clap.specs.declared.builder.command.Command.{Command}
+use Rattle.clap.specs.declared.builder.command.Command.TheViews.{out-Command}
+use Rattle.clap.specs.Words.{App, IsPlain, Kinds, Row, Rule, Text, app_of, fault_of, kind_of, matches_of, new_app, new_rule, one_of, with_rule}
+use Rattle.clap.specs.declared.builder.ArgAction.TheVariants.{Set}
+use Rattle.clap.specs.declared.builder.value_parser.ValueParser.TheVariants as parser
+use Rattle.clap.specs.declared.error.Error.{Error}
+use Rattle.clap.specs.declared.error.kind.ErrorKind.TheVariants.{OutOfMemory}
+use Rattle.command_line.specs.declared.settings.Options.{Options}
+
+-- an option `--NAME N`: the least and the most that N may be, and the number without the option
+pub record NumberOption : Type 0 where
+  pub name : Text
+  pub least : ℕ
+  pub most : ℕ
+  pub default : ℕ
+
+-- the ten options
+abbrev pub backups : NumberOption
+backups = record { name = codes "backups"; least = 1; most = 64; default = 3 }
+
+abbrev pub replicas : NumberOption
+replicas = record { name = codes "replicas"; least = 1; most = 64; default = 2 }
+
+abbrev pub step : NumberOption
+step = record { name = codes "step"; least = 1; most = 64; default = 1 }
+
+abbrev pub segment : NumberOption
+segment = record { name = codes "segment"; least = 512; most = 8388608; default = 512 }
+
+abbrev pub seglet : NumberOption
+seglet = record { name = codes "seglet"; least = 64; most = 65536; default = 64 }
+
+abbrev pub seglets : NumberOption
+seglets = record { name = codes "seglets"; least = 4; most = 4294967296; default = 64 }
+
+abbrev pub tables : NumberOption
+tables = record { name = codes "tables"; least = 1; most = 64; default = 4 }
+
+abbrev pub history : NumberOption
+history = record { name = codes "history"; least = 1; most = 1048576; default = 1048576 }
+
+abbrev pub bytes : NumberOption
+bytes = record { name = codes "bytes"; least = 1; most = 4294967296; default = 1048576 }
+
+abbrev pub objects : NumberOption
+objects = record { name = codes "objects"; least = 1; most = 4294967296; default = 1000000 }
+
+-- an option as clap takes it: a long name, and one value that is a number in the range
+abbrev pub number_rule : Text → ℕ → ℕ → Rule
+number_rule name least most = record (new_rule name) {
+  long = Some name;
+  value_names = 1;
+  action = Some Set;
+  parser = Some (parser.Unsigned least most);
+}
+
+abbrev pub with_option : App → NumberOption → App
+with_option app option = with_rule app (number_rule option.name option.least option.most)
+
+-- the program's command: the ten options, and nothing else
+unfoldable pub ramlog : App
+ramlog = fold with_option (new_app (codes "ramlog"))
+    (backups ∷ replicas ∷ step ∷ segment ∷ seglet ∷ seglets ∷ tables ∷ history ∷ bytes ∷ objects ∷ [])
+
+-- clap's exact matches of the words
+unfoldable pub ramlog_matches : List Text → List Row
+ramlog_matches words = matches_of ramlog words
+
+-- the kinds of error with which clap refuses the words: none where it takes them
+unfoldable pub ramlog_faults : List Text → Kinds
+ramlog_faults words = fault_of ramlog words
+
+-- n is the number that the option's text writes, in its range, or its default where there is no text
+abbrev pub IsNumberIn : NumberOption → Option Text → ℕ → Type 0
+IsNumberIn option None n = n ≡ option.default
+IsNumberIn option (Some text) n = IsNumeral 10 (without_leading_plus text)
+    × (n ≡ digits_value 10 (without_leading_plus text)) × (option.least ≤ n) × (n ≤ option.most)
+
+-- n is the option's number in the matches
+abbrev pub HasNumber : NumberOption → List Row → ℕ → Type 0
+HasNumber option rows n = IsNumberIn option (one_of option.name rows) n
+
+-- each field is its option's number in the matches
+pub record HasOptions (rows : List Row) (o : Options) : Type 0 where
+  pub backups : HasNumber backups rows o.backups
+  pub replicas : HasNumber replicas rows o.replicas
+  pub step : HasNumber step rows o.step
+  pub segment : HasNumber segment rows o.segment
+  pub seglet : HasNumber seglet rows o.seglet
+  pub seglets : HasNumber seglets rows o.seglets
+  pub tables : HasNumber tables rows o.tables
+  pub history : HasNumber history rows o.history
+  pub bytes : HasNumber bytes rows o.bytes
+  pub objects : HasNumber objects rows o.objects
+
+-- the options of a command line that names none
+abbrev pub default_options : Options
+default_options = record {
+  backups = backups.default;
+  replicas = replicas.default;
+  step = step.default;
+  segment = segment.default;
+  seglet = seglet.default;
+  seglets = seglets.default;
+  tables = tables.default;
+  history = history.default;
+  bytes = bytes.default;
+  objects = objects.default;
+}
+
+-- the defaults, unless memory runs out
+abbrev pub IsDefault : Result Options Error → Type 0
+IsDefault result = MatchResult result (λ o. o ≡ default_options) (λ e. kind_of e ≡ OutOfMemory)
+
+-- n is the number that the text writes, where it writes one of 64 bits, or the default where there is no text
+abbrev pub ReadsNumber : ℕ → Option Text → ℕ → Type 0
+ReadsNumber default None n = n ≡ default
+ReadsNumber default (Some text) n = IsNumeral 10 (without_leading_plus text)
+    → digits_value 10 (without_leading_plus text) < 2 ^ 64
+    → n ≡ digits_value 10 (without_leading_plus text)
+
+-- the command has this shape, and nothing in it excludes anything or is for subcommands
+pub record IsCommand (app : App) (command : Command) : Type 0 where
+  pub shape : app_of command ≡ app
+  pub plain : IsPlain command
+  pub local : (out-Command command).has_globals ≡ false

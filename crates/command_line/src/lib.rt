@@ -1,0 +1,14 @@
+//! The command line of the program: ten options that each take a number. `options` reads them
+//! from the words, and its contract says which numbers they have and when the words are refused.
+//! It stands on `clap` alone.
+#![tactic(auto)]
+
+mod number_option;
+mod reading;
+mod settings;
+
+pub use reading::options;
+pub use settings::Options;
+
+#[cfg(test)]
+mod tests;

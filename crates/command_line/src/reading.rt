@@ -1,0 +1,60 @@
+//! Reads the options from the words of the command line.
+ghost use Rattle.std.specs.Prelude.{◌≡◌, IfOk, length};
+ghost use Rattle.clap.specs.Words.{FailsBy};
+ghost use Rattle.clap.specs.Walk.{texts};
+ghost use Rattle.command_line.specs.CommandLine.{HasOptions, IsCommand, IsDefault, ramlog, ramlog_faults};
+ghost use Rattle.command_line.specs.CommandLine.{ramlog_matches};
+
+use crate::number_option::{
+    BACKUPS, BYTES, HISTORY, OBJECTS, REPLICAS, SEGLET, SEGLETS, SEGMENT, STEP, TABLES,
+};
+use crate::settings::Options;
+use clap::{Command, Error};
+use std::alloc::{AllocError, Global};
+
+/// The command of the program.
+fn command<'a>(alloc: Global) -> Result<Command<'a>, AllocError>
+    ensures { IfOk result (IsCommand ramlog) }
+{
+    Command::new(alloc, "ramlog")
+        .about("A log-structured key-value store, driven by a script on standard input")
+        .arg(BACKUPS.argument(alloc))?
+        .arg(REPLICAS.argument(alloc))?
+        .arg(STEP.argument(alloc))?
+        .arg(SEGMENT.argument(alloc))?
+        .arg(SEGLET.argument(alloc))?
+        .arg(SEGLETS.argument(alloc))?
+        .arg(TABLES.argument(alloc))?
+        .arg(HISTORY.argument(alloc))?
+        .arg(BYTES.argument(alloc))?
+        .arg(OBJECTS.argument(alloc))
+}
+
+/// Reads the words of the command line, of which the first is the program's name and isn't read.
+///
+/// The error is clap's: its text is what the program prints, and its exit code is 2, or 0 where
+/// `--help` was asked for.
+pub fn options<'a>(alloc: Global, words: &'a [&'a str]) -> Result<Options, Error>
+    // each field is the number of its option's entry in clap's matches, or the default without one
+    ensures reads { IfOk result (HasOptions (ramlog_matches (texts words.entry.now))) }
+    // the words are taken only where clap finds no fault in them; the error is of the kind that it
+    // finds, or says that memory ran out
+    ensures refuses { FailsBy (ramlog_faults (texts words.entry.now)) result }
+    // the program's name alone gives the defaults, unless memory runs out
+    ensures bare { length words.entry.now ≡ 1 → IsDefault result }
+{
+    let command = command(alloc)?;
+    let matches = command.try_get_matches_from(words)?;
+    Ok(Options {
+        backups: BACKUPS.number(&matches),
+        replicas: REPLICAS.number(&matches),
+        step: STEP.number(&matches),
+        segment: SEGMENT.number(&matches),
+        seglet: SEGLET.number(&matches),
+        seglets: SEGLETS.number(&matches),
+        tables: TABLES.number(&matches),
+        history: HISTORY.number(&matches),
+        bytes: BYTES.number(&matches),
+        objects: OBJECTS.number(&matches),
+    })
+}

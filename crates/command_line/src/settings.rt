@@ -1,0 +1,26 @@
+//! What a run of the program is set to.
+
+/// What the command line says.
+#[derive(Clone, Copy, Debug, PartialEq, Eq)]
+pub struct Options {
+    /// How many backups the fleet has. From 1 to 64, 3 by default.
+    pub backups: u64,
+    /// How many replicas a segment has, each on a backup of its own. From 1 to 64, 2 by default.
+    pub replicas: u64,
+    /// How many backups lie from the first replica of a segment to that of the next. From 1 to 64, 1 by default.
+    pub step: u64,
+    /// The length of a segment, in bytes. From 512 to 8388608, 512 by default.
+    pub segment: u64,
+    /// The length of a seglet, in bytes. From 64 to 65536, 64 by default.
+    pub seglet: u64,
+    /// The master's memory, in seglets. From 4 to 4294967296, 64 by default.
+    pub seglets: u64,
+    /// How many tables there are, numbered from 1, each one whole tablet. From 1 to 64, 4 by default.
+    pub tables: u64,
+    /// How many records the history of calls has room for. From 1 to 1048576, 1048576 by default.
+    pub history: u64,
+    /// The most bytes of a partition of a will. From 1 to 4294967296, 1048576 by default.
+    pub bytes: u64,
+    /// The most objects of a partition of a will. From 1 to 4294967296, 1000000 by default.
+    pub objects: u64,
+}

@@ -1,0 +1,11 @@
+//! One master: a log-structured store in memory whose head is replicated on a fleet of backups.
+//!
+//! The layer above uses `Master::step` alone: one command, or one op handed to one backup. A refused step changes nothing,
+//! except after a fault of a backup: then one op may have been taken, and the master stays halted.
+#![tactic(auto)]
+
+mod command;
+mod config;
+
+pub use command::{Command, If, Record, Reply};
+pub use config::{Config, ConfigFault};
