@@ -1,0 +1,87 @@
+-- What each line of a script is written as.
+use Rattle.std.specs.Prelude.{◌≡◌, ◌⊎◌, ◌<◌, ◌≤◌, ◌^◌, ℕ, List, [], ◌∷◌, length, codes}
+use Rattle.std.specs.List.{All, join_with_byte}
+use Rattle.std.specs.Fmt.{decimal}
+use Rattle.lines.specs.declared.line.Line.{Line}
+use Rattle.lines.specs.declared.line.Line.TheVariants as line
+
+-- ---- lines
+
+-- what a line says, with keys and values as lists of bytes
+pub data LineValue : Type 0 where
+  Idle : LineValue
+  Put : (table : ℕ) (key value : List ℕ) → LineValue
+  Get : (table : ℕ) (key : List ℕ) → LineValue
+  Hex : (segment : ℕ) → LineValue
+  Stop : (takes : ℕ) → LineValue
+  Crash : LineValue
+  Lose : (backup : ℕ) → LineValue
+  Recover : LineValue
+
+-- what a line of the program says
+abbrev pub shown : Line → LineValue
+shown line.Idle = Idle
+shown (line.Put table key value) = Put table key.now value.now
+shown (line.Get table key) = Get table key.now
+shown (line.Hex segment) = Hex segment
+shown (line.Stop takes) = Stop takes
+shown line.Crash = Crash
+shown (line.Lose backup) = Lose backup
+shown line.Recover = Recover
+
+-- ---- words
+
+-- a word has one byte or more, each from 0x21 to 0x7E
+pub record IsWord (word : List ℕ) : Type 0 where
+  pub some : 0 < length word
+  pub visible : All (λ b. (33 ≤ b) × (b ≤ 126)) word
+
+-- a key is a word of at most 1,024 bytes
+pub record IsKey (key : List ℕ) : Type 0 where
+  pub word : IsWord key
+  pub short : length key ≤ 1024
+
+-- ---- how a line is written
+
+-- the words of a line that does something; a number is written in decimal digits without leading zeros
+abbrev pub words_of : LineValue → List (List ℕ)
+words_of Idle = []
+words_of (Put table key value) = codes "put" ∷ decimal table ∷ key ∷ value ∷ []
+words_of (Get table key) = codes "get" ∷ decimal table ∷ key ∷ []
+words_of (Hex segment) = codes "hex" ∷ decimal segment ∷ []
+words_of (Stop takes) = codes "stop" ∷ decimal takes ∷ []
+words_of Crash = codes "crash" ∷ []
+words_of (Lose backup) = codes "lose" ∷ decimal backup ∷ []
+words_of Recover = codes "recover" ∷ []
+
+-- the numbers of a line are of 64 bits, and its key is a key
+abbrev pub IsLine : LineValue → Type 0
+IsLine Idle = Unit {0}
+IsLine (Put table key value) = (table < 2 ^ 64) × IsKey key
+IsLine (Get table key) = (table < 2 ^ 64) × IsKey key
+IsLine (Hex segment) = segment < 2 ^ 64
+IsLine (Stop takes) = takes < 2 ^ 64
+IsLine Crash = Unit {0}
+IsLine (Lose backup) = backup < 2 ^ 64
+IsLine Recover = Unit {0}
+
+-- the text is empty or begins with `#`
+abbrev pub IsIdle : List ℕ → Type 0
+IsIdle text = (text ≡ []) ⊎ ((rest : List ℕ) × (text ≡ 35 ∷ rest))
+
+-- the text is the words of the line, with one space between two
+pub record IsWritten (text : List ℕ) (line : LineValue) : Type 0 where
+  pub spaced : text ≡ join_with_byte 32 (words_of line)
+  pub words : All IsWord (words_of line)
+  pub limits : IsLine line
+
+-- the text says the line
+abbrev pub Says : List ℕ → LineValue → Type 0
+Says text Idle = IsIdle text
+Says text line = IsWritten text line
+
+-- ---- a law
+
+-- a text says one line at most
+abbrev pub EachTextSaysOneLine : Type 0
+EachTextSaysOneLine = (text : List ℕ) (one other : LineValue) → Says text one → Says text other → one ≡ other

@@ -1,0 +1,35 @@
+-- What is taken of a reader, line by line: each line ends at its line feed, which the last may lack.
+use Rattle.std.specs.Prelude.{◌≡◌, ◌≢◌, ◌<◌, ◌≤◌, ℕ, List, [], ◌∷◌, ◌++◌, length, Option, Some, None}
+use Rattle.std.specs.List.{All}
+use Rattle.std.specs.Io.KnownBytes.{Consumes, IsAtEnd}
+use Rattle.lines.specs.declared.reading.Taken.{Taken}
+use Rattle.lines.specs.declared.reading.Taken.TheVariants.{Ended, Last, TooLong, Nothing}
+use Rattle.lines.specs.declared.reading.ReadFault.{ReadFault}
+use Rattle.lines.specs.declared.reading.ReadFault.TheVariants.{Failed, NoMemory}
+
+-- no byte is a line feed
+abbrev pub IsUnbroken : List ℕ → Type 0
+IsUnbroken bytes = All (λ b. b ≢ 10) bytes
+
+-- a line has no line feed, and at most 4,096 bytes
+pub record IsLineText (line : List ℕ) : Type 0 where
+  pub unbroken : IsUnbroken line
+  pub short : length line ≤ 4096
+
+-- one byte was taken of the reader, or it was at its end
+abbrev pub TakesByte : Option (List ℕ) → Option (List ℕ) → Option ℕ → Type 0
+TakesByte old new (Some byte) = Consumes old new (byte ∷ [])
+TakesByte old new None = Consumes old new [] × IsAtEnd new
+
+-- What was taken of the reader: a line with its line feed, a last line of one byte or more without one, the 4,097 bytes
+-- at the front of a line that is too long, or nothing at the end.
+abbrev pub TakesLine : Option (List ℕ) → Option (List ℕ) → List ℕ → Taken → Type 0
+TakesLine old new line Ended = Consumes old new (line ++ 10 ∷ []) × IsLineText line
+TakesLine old new line Last = Consumes old new line × IsAtEnd new × (0 < length line) × IsLineText line
+TakesLine old new line TooLong = Consumes old new line × IsUnbroken line × (length line ≡ 4097)
+TakesLine old new line Nothing = Consumes old new [] × IsAtEnd new × (line ≡ [])
+
+-- What was taken where no line was: the bytes that stand in `line`, and where memory ran out one byte more.
+abbrev pub StopsIn : Option (List ℕ) → Option (List ℕ) → List ℕ → ReadFault → Type 0
+StopsIn old new line Failed = Consumes old new line × IsLineText line
+StopsIn old new line NoMemory = IsLineText line × (byte : ℕ) × Consumes old new (line ++ byte ∷ [])

@@ -1,0 +1,43 @@
+-- How the parser takes a text apart: it is cut at each space, and what follows a line's name has one of a few shapes.
+use Rattle.std.specs.Prelude.{◌≡◌, ◌==◌, ◌<◌, ◌^◌, ℕ, Bool, List, [], ◌∷◌, Option, Some, None}
+use Rattle.std.specs.Borrow.{Bor}
+use Rattle.std.specs.List.{All, slice_split}
+use Rattle.std.specs.Fmt.{decimal}
+use Rattle.lines.specs.Grammar.{IsKey, IsLine, IsWord, LineValue, Idle, words_of}
+
+abbrev pub is_space : ℕ → Bool
+is_space b = b == 32
+
+-- the words of what is left of a text, if any is
+abbrev pub words_left : Option (Bor (List ℕ)) → List (List ℕ)
+words_left None = []
+words_left (Some rest) = slice_split is_space rest.now
+
+-- the words are a number
+pub record AreNumber (words : List (List ℕ)) (n : ℕ) : Type 0 where
+  pub spelled : words ≡ decimal n ∷ []
+  pub small : n < 2 ^ 64
+
+-- the words are a table and a key
+pub record AreKey (words : List (List ℕ)) (table : ℕ) (key : List ℕ) : Type 0 where
+  pub spelled : words ≡ decimal table ∷ key ∷ []
+  pub small : table < 2 ^ 64
+  pub is_key : IsKey key
+
+-- the words are a table, a key and a value
+pub record AreObject (words : List (List ℕ)) (table : ℕ) (key value : List ℕ) : Type 0 where
+  pub spelled : words ≡ decimal table ∷ key ∷ value ∷ []
+  pub small : table < 2 ^ 64
+  pub is_key : IsKey key
+  pub is_word : IsWord value
+
+-- the words spell the line
+pub record Spell (words : List (List ℕ)) (line : LineValue) : Type 0 where
+  pub spelled : words ≡ words_of line
+  pub each : All IsWord (words_of line)
+  pub limits : IsLine line
+
+-- the line does something, and the words spell it
+abbrev pub AreWordsOf : List (List ℕ) → LineValue → Type 0
+AreWordsOf words Idle = ⊥
+AreWordsOf words line = Spell words line

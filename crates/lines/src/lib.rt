@@ -1,0 +1,20 @@
+//! The lines of a script: read one at a time from any reader, and parsed.
+//!
+//! `next_line` promises which bytes it took of the reader and where they ended, also at a fault. `parse_line` promises
+//! that the text says the line that it answers, and at `None` that the text says no line at all. `specs/Grammar.antt`
+//! defines what each line is written as, apart from the parser.
+#![tactic(auto)]
+
+mod laws;
+mod line;
+mod parse;
+mod reading;
+mod words;
+
+pub use laws::one_line;
+pub use line::Line;
+pub use parse::parse_line;
+pub use reading::{ReadFault, Taken, next_line};
+
+#[cfg(test)]
+mod tests;

@@ -1,0 +1,112 @@
+//! The words of a text, read one after another.
+
+ghost use Rattle.std.specs.Prelude.{◌≡◌, ◌≢◌, ◌∷◌, ◌^◌, ◌<◌, ◌↔◌, ℕ, List, [], IfSome, IsNone, IsSome, IsTrue, MatchOption};
+ghost use Rattle.std.specs.List.{slice_split};
+ghost use Rattle.std.specs.Fmt.{decimal};
+ghost use Rattle.lines.specs.Grammar.{IsKey, IsWord};
+ghost use Rattle.lines.specs.Words.{is_space, words_left};
+
+use std::marker::Model;
+use std::str;
+
+/// The most bytes of a key.
+const MAX_KEY_LEN: usize = 1024;
+
+/// The words of a text that are still to be read: what stands between its spaces.
+#[derive(Drop)]
+pub(crate) struct Words<'a> {
+    rest: Option<&'a [u8]>,
+}
+
+impl<'a> Model for Words<'a> {
+    ghost Value = { List (List ℕ) };
+
+    ghost view = { λ w. words_left w.rest };
+}
+
+impl<'a> Words<'a> {
+    /// The words of the text, of which there is one at least.
+    pub(crate) fn of(text: &'a [u8]) -> Self
+        ensures { result ≡ slice_split is_space text.entry.now }
+    {
+        Words { rest: Some(text) }
+    }
+
+    /// The next word, which is empty where no byte stands between two spaces.
+    pub(crate) fn next_word(&mut self) -> Option<&'a [u8]>
+        ensures { MatchOption result ((self.old ≡ []) × (self.new ≡ []))
+            (λ word. self.old ≡ word.now ∷ self.new) }
+    {
+        let (word, rest) = split_word(self.rest?);
+        self.rest = rest;
+        Some(word)
+    }
+
+    /// The next word as a number.
+    pub(crate) fn number(&mut self) -> Option<u64>
+        ensures sound { IfSome result (λ n. self.old ≡ decimal n ∷ self.new) }
+        ensures complete { IsNone result → (n : ℕ) (rest : List (List ℕ)) → n < 2 ^ 64 → self.old ≢ decimal n ∷ rest }
+    {
+        parse_number(self.next_word()?)
+    }
+
+    /// The next word as a key.
+    pub(crate) fn key(&mut self) -> Option<&'a [u8]>
+        ensures sound { IfSome result (λ key. (self.old ≡ key.now ∷ self.new) × IsKey key.now) }
+        ensures complete { IsNone result → (key : List ℕ) (rest : List (List ℕ)) → IsKey key → self.old ≢ key ∷ rest }
+    {
+        let key = self.next_word()?;
+        (is_word(key) && key.len() <= MAX_KEY_LEN).then_some(key)
+    }
+
+    /// The next word as a value.
+    pub(crate) fn value(&mut self) -> Option<&'a [u8]>
+        ensures sound { IfSome result (λ value. (self.old ≡ value.now ∷ self.new) × IsWord value.now) }
+        ensures complete { IsNone result → (value : List ℕ) (rest : List (List ℕ)) → IsWord value → self.old ≢ value ∷ rest }
+    {
+        let value = self.next_word()?;
+        is_word(value).then_some(value)
+    }
+
+    /// `Some` where no word is left.
+    pub(crate) fn end(mut self) -> Option<()>
+        ensures { IsSome result ↔ (self.entry ≡ []) }
+    {
+        match self.next_word() {
+            Some(_) => None,
+            None => Some(()),
+        }
+    }
+}
+
+/// The bytes before the first space, and those behind it, if there is one.
+fn split_word(text: &[u8]) -> (&[u8], Option<&[u8]>)
+    ensures { slice_split is_space text.entry.now ≡ result.0.now ∷ words_left result.1 }
+{
+    match text.iter().position(|byte| *byte == b' ') {
+        Some(at) => (&text[..at], Some(&text[at + 1..])),
+        None => (text, None),
+    }
+}
+
+/// Whether the bytes are a word.
+fn is_word(bytes: &[u8]) -> bool
+    ensures { IsTrue result ↔ IsWord bytes.now }
+{
+    !bytes.is_empty() && bytes.iter().all(|byte| (0x21..=0x7e).contains(byte))
+}
+
+/// The number that the word writes in decimal digits without leading zeros.
+fn parse_number(word: &[u8]) -> Option<u64>
+    ensures sound { IfSome result (λ n. word.now ≡ decimal n) }
+    ensures complete { IsNone result → (n : ℕ) → n < 2 ^ 64 → word.now ≢ decimal n }
+{
+    let Ok(text) = str::from_utf8(word) else {
+        return None;
+    };
+    let Ok(number) = text.parse::<u64>() else {
+        return None;
+    };
+    let mut buffer = itoa::Buffer::new();
+    (buffer.format(number).as_bytes() == word).then_some(number)
+}
