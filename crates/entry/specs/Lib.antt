@@ -5,3 +5,5 @@ pub mod View
 pub mod Text
 pub mod Tablet
 pub mod Bag
+pub mod Order
+pub mod Meaning

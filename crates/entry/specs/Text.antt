@@ -1,5 +1,5 @@
 -- Texts of segments: the spellings of their entries one after the other, in an order that is allowed.
-use Rattle.std.specs.Prelude.{◌≡◌, ℕ, zero, suc, List, [], ◌∷◌, ◌++◌, length, drop, Bool, true, false, ◌==◌, ◌&&◌}
+use Rattle.std.specs.Prelude.{◌≡◌, ℕ, zero, suc, List, [], ◌∷◌, ◌++◌, length, drop, filter, Bool, true, false, ◌==◌, ◌&&◌, Option, Some, None}
 use Rattle.std.specs.Option.{option_map_or}
 use Rattle.std.specs.List.{flat_map, AllByRecursion}
 use Rattle.entry.specs.declared.entry.Role.{Role}
@@ -71,6 +71,31 @@ entries_within (suc count) bytes = option_map_or (λ (front : Entry × ℕ). fro
 -- the entries that stand in the bytes one after the other
 abbrev pub entries_in : List ℕ → List Entry
 entries_in bytes = entries_within (length bytes) bytes
+
+-- the objects and tombstones among them
+abbrev pub data_in : List ℕ → List Entry
+data_in bytes = filter is_data (entries_in bytes)
+
+-- a head's digest and recorded safe version
+pub record Opening : Type 0 where
+  pub ids : List ℕ
+  pub safe : ℕ
+
+abbrev pub opening_of : List Entry → Option Opening
+opening_of (entry.Header h ∷ entry.Digest ids ∷ entry.Safe version ∷ rest) = Some (record { ids = ids; safe = version })
+opening_of _ = None
+
+-- the opening of a head; None where the bytes bear no digest
+abbrev pub opening_in : List ℕ → Option Opening
+opening_in bytes = opening_of (entries_in bytes)
+
+abbrev pub header_of : List Entry → Option Header
+header_of (entry.Header h ∷ rest) = Some h
+header_of _ = None
+
+-- the header at the front
+abbrev pub header_in : List ℕ → Option Header
+header_in bytes = header_of (entries_in bytes)
 
 -- the bytes are the text of some segment
 abbrev pub IsSegmentText : List ℕ → Type 0

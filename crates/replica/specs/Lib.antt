@@ -1,3 +1,4 @@
 pub mod Op
 pub mod Picture
 pub mod Take
+pub mod Choice

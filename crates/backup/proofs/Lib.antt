@@ -1,0 +1,4 @@
+mod Places
+mod Pictures
+mod Held
+mod Rising

@@ -1,0 +1,23 @@
+use Rattle.std.proofs.Common.{◌≡◌, [], ◌++◌, sym, ◌∙◌, drop, arith}
+use Rattle.std.proofs.lemmas.List.{append-nil, drop_all}
+use Rattle.std.proofs.lemmas.List.Elements.{recursion_from_All}
+use Rattle.backup.specs.Shelf.{IsInOrder}
+use Rattle.backup.proofs.Held.{AreInOrder, inventory_of, all_shown}
+use Rattle.backup.proofs.Rising.{rising_inventory}
+use Rattle.backup.proofs.fleet.MemoryFleet.inventory.Goals as goal
+
+whole : (c : goal.After-new) → c.new.result ≡ inventory_of 0 c.args.self.now.backups.items
+whole c =
+    let backups = c.args.self.now.backups.items in
+    let none : drop c.loop-backup.backup backups ≡ [] = drop_all c.loop-backup.backup backups (omega arith) in
+    let e : c.loop-backup.list.items ++ [] ≡ inventory_of 0 backups = rw none at c.loop-backup.invariant.whole in
+    c.new.ensures ∙ sym (append-nil c.loop-backup.list.items) ∙ e
+
+ordered : (c : goal.After-new) → AreInOrder c.args.self.now.backups.items
+ordered c = recursion_from_All IsInOrder c.args.self.now.backups.items (λ k d l. c.loop-backup.invariant.ordered k d (omega arith))
+
+pub returns-clause-shown : goal.returns-clause-shown
+returns-clause-shown c = rw (whole c) (all_shown c.args.self.now.backups.items (ordered c))
+
+pub returns-clause-rising : goal.returns-clause-rising
+returns-clause-rising c = rw (whole c) (rising_inventory 0 c.args.self.now.backups.items (ordered c))

@@ -1,0 +1,4 @@
+pub mod Acts
+pub mod Inventory
+pub mod Shelf
+pub mod State

@@ -1,0 +1,41 @@
+-- What a fleet in memory holds.
+use Rattle.std.specs.Prelude.{ℕ, ◌==◌, List, length, Option, Some, None, not}
+use Rattle.std.specs.List.{slice_get}
+use Rattle.replica.specs.Picture.{Replica, Picture, FleetState, survivors}
+use Rattle.replica.specs.Take.{no_limit}
+use Rattle.backup.specs.declared.memory.MemoryBackup.{MemoryBackup}
+use Rattle.backup.specs.declared.fleet.MemoryFleet.{MemoryFleet}
+use Rattle.backup.specs.Shelf.{replica_at}
+
+-- the replica of a master's segment on a backup, if there is that backup
+abbrev pub replica_on : Option MemoryBackup → ℕ → ℕ → Option Replica
+replica_on None m s = None
+replica_on (Some memory) m s = replica_at memory m s
+
+-- the backups are numbered by their order
+abbrev pub picture_of : List MemoryBackup → Picture
+picture_of backups = λ b m s. replica_on (slice_get backups b) m s
+
+-- the fleet as the contract of a fleet sees it
+abbrev pub state_of : MemoryFleet → FleetState
+state_of fleet = record {
+  backups = length fleet.backups.items;
+  picture = picture_of fleet.backups.items;
+  takes = fleet.takes;
+  end = fleet.end;
+  faults = fleet.faults;
+}
+
+-- a fleet of so many backups that holds nothing, without a limit
+abbrev pub new_fleet : ℕ → FleetState
+new_fleet backups = record { backups = backups; picture = λ b m s. None; takes = 0; end = no_limit; faults = 0 }
+
+-- the fleet in which one backup has lost all that it held
+abbrev pub lost : FleetState → ℕ → FleetState
+lost f b = record {
+  backups = f.backups;
+  picture = survivors (λ c. not (b == c)) f.picture;
+  takes = f.takes;
+  end = f.end;
+  faults = f.faults;
+}

@@ -1,0 +1,135 @@
+//! A fleet of backups in memory.
+
+ghost use Rattle.std.specs.Prelude.{◌≤◌};
+
+use crate::memory::MemoryBackup;
+use entry::NoMemory;
+use replica::{Bench, Fleet, Holding, Inventory, Op, TakeFault};
+use std::alloc::Global;
+
+/// Backups in memory, numbered from 0.
+#[derive(Drop)]
+pub struct MemoryFleet {
+    alloc: Global,
+    backups: Vec<MemoryBackup>,
+    takes: u64,
+    end: u64,
+    faults: u64,
+    ghost within: { takes ≤ end },
+}
+
+impl MemoryFleet {
+    ghost use Rattle.std.specs.Prelude.{◌≡◌, ◌<◌, ◌↔◌, IfOk};
+    ghost use Rattle.entry.specs.Bag.{IsAmong};
+    ghost use Rattle.replica.specs.Picture.{IsHeld};
+    ghost use Rattle.backup.specs.Inventory.{IsRising};
+    ghost use Rattle.backup.specs.State.{state_of, new_fleet, lost};
+
+    /// A fleet of so many backups, which hold nothing. It isn't limited.
+    pub fn new(alloc: Global, backups: u64) -> Result<MemoryFleet, NoMemory>
+        ensures { IfOk result (λ fleet. state_of fleet ≡ new_fleet backups) }
+    {
+        let mut list = Vec::with_capacity(alloc, backups as usize)?;
+        for _ in 0..backups {
+            list.push(MemoryBackup::new(alloc))?;
+        }
+        Ok(MemoryFleet {
+            alloc,
+            backups: list,
+            takes: 0,
+            end: u64::MAX,
+            faults: 0,
+        })
+    }
+
+    /// How many backups there are.
+    pub fn backups(&self) -> u64
+        ensures { result ≡ (state_of self.now).backups }
+    {
+        self.backups.len() as u64
+    }
+
+    /// Makes a backup lose all that it holds. An empty one has its number from then on.
+    pub fn lose(&mut self, backup: u64)
+        requires { backup < (state_of self.old).backups }
+        ensures { state_of self.new ≡ lost (state_of self.old) backup }
+    {
+        self.backups[backup as usize].clear();
+    }
+
+    /// All replicas of all backups, by backup, then by master, then by segment.
+    pub fn inventory(&self, alloc: Global) -> Result<Inventory, NoMemory>
+        ensures shown { IfOk result (λ hs. (h : Holding) → IsAmong h hs ↔ IsHeld (state_of self.now).picture h) }
+        ensures rising { IfOk result (λ hs. IsRising hs) }
+    {
+        let mut list = Vec::new(alloc);
+        for (backup, memory) in self.backups.iter().enumerate() {
+            memory.show(alloc, backup as u64, &mut list)?;
+        }
+        Ok(Inventory::new(list))
+    }
+}
+
+impl Fleet for MemoryFleet {
+    ghost use Rattle.std.specs.Prelude.{◌≡◌, ◌<◌, ◌↔◌, IfOk, None, Err};
+    ghost use Rattle.entry.specs.Bag.{IsAmong};
+    ghost use Rattle.replica.specs.Op.{shown_op};
+    ghost use Rattle.replica.specs.Picture.{IsHeld, IsOnce};
+    ghost use Rattle.replica.specs.Take.{TakeGives, taken};
+    ghost use Rattle.backup.specs.Inventory.{IsRising};
+    ghost use Rattle.backup.specs.State.{state_of};
+
+    ghost state = { state_of };
+
+    /// Hands an op to a backup. Spent is answered before Wrong, and NoMemory only where the op fits. No take ends in a
+    /// fault.
+    fn take(&mut self, backup: u64, op: &Op<'_>) -> Result<(), TakeFault>
+        ensures gives { TakeGives (state_of self.old) backup (shown_op op.now) result (state_of self.new) }
+        ensures spent { (result ≡ Err TakeFault.Spent) ↔ ((state_of self.old).takes ≡ (state_of self.old).end) }
+        ensures wrong { (result ≡ Err TakeFault.Wrong) ↔ (((state_of self.old).takes < (state_of self.old).end) × (taken (state_of self.old) backup (shown_op op.now) ≡ None)) }
+        ensures no_fault { ¬ (result ≡ Err TakeFault.Fault) }
+    {
+        if self.takes == self.end {
+            return Err(TakeFault::Spent);
+        }
+        let alloc = self.alloc;
+        let Some(memory) = self.backups.get_mut(backup as usize) else {
+            return Err(TakeFault::Wrong);
+        };
+        memory.take(alloc, op)?;
+        self.takes += 1;
+        Ok(())
+    }
+
+    /// All replicas of one backup, by master, then by segment.
+    fn holdings(&self, alloc: Global, backup: u64) -> Result<Vec<Holding>, NoMemory>
+        ensures shown { IfOk result (λ hs. (h : Holding) → IsAmong h hs.items ↔ ((h.backup ≡ backup) × IsHeld (state_of self.now).picture h)) }
+        ensures once { IfOk result (λ hs. IsOnce hs.items) }
+        ensures rising { IfOk result (λ hs. IsRising hs.items) }
+    {
+        let mut list = Vec::new(alloc);
+        let Some(memory) = self.backups.as_slice().get(backup as usize) else {
+            return Ok(list);
+        };
+        memory.show(alloc, backup, &mut list)?;
+        Ok(list)
+    }
+
+    fn takes(&self) -> u64 {
+        self.takes
+    }
+
+    fn end(&self) -> u64 {
+        self.end
+    }
+
+    fn faults(&self) -> u64 {
+        self.faults
+    }
+}
+
+impl Bench for MemoryFleet {
+    fn limit(&mut self, n: u64) {
+        self.end = self.takes.saturating_add(n);
+    }
+}

@@ -1,0 +1,86 @@
+//! What one backup holds.
+
+ghost use Rattle.std.specs.Prelude.{◌≡◌, ℕ, ◌==◌, ◌&&◌, ◌++◌, OnOk, false, Some, None};
+ghost use Rattle.replica.specs.Op.{shown_act, Open, Extend};
+ghost use Rattle.backup.specs.Acts.{Acts};
+ghost use Rattle.backup.specs.Shelf.{replica_at, holdings_of, IsInOrder};
+
+use crate::stored::Stored;
+use entry::NoMemory;
+use replica::{Act, Holding, Op, TakeFault};
+use std::alloc::Global;
+use std::collections::BTreeMap;
+
+/// A backup in memory: its replicas by master, then by segment.
+#[derive(Drop)]
+pub struct MemoryBackup {
+    replicas: BTreeMap<(u64, u64), Stored>,
+}
+
+impl MemoryBackup {
+    /// A backup that holds nothing. It takes no memory.
+    pub fn new(alloc: Global) -> MemoryBackup
+        ensures { (m s : ℕ) → replica_at result m s ≡ None }
+    {
+        MemoryBackup {
+            replicas: BTreeMap::new(alloc),
+        }
+    }
+
+    /// Does what an op asks. It is refused as Wrong where it doesn't fit, else as NoMemory.
+    pub fn take(&mut self, alloc: Global, op: &Op<'_>) -> Result<(), TakeFault>
+        ensures named { Acts (shown_act op.now.act) (replica_at self.old op.now.master op.now.segment) result (replica_at self.new op.now.master op.now.segment) }
+        ensures others { (m s : ℕ) → ((op.now.master == m) && (op.now.segment == s)) ≡ false → replica_at self.new m s ≡ replica_at self.old m s }
+    {
+        let place = (op.master, op.segment);
+        match op.act {
+            Act::Open(bytes) => self.open(alloc, place, bytes),
+            Act::Extend { at, bytes } => self.extend(place, at, bytes),
+        }
+    }
+
+    fn open(&mut self, alloc: Global, place: (u64, u64), bytes: &[u8]) -> Result<(), TakeFault>
+        ensures named { Acts (Open bytes.now) (replica_at self.old place.0 place.1) result (replica_at self.new place.0 place.1) }
+        ensures others { (m s : ℕ) → ((place.0 == m) && (place.1 == s)) ≡ false → replica_at self.new m s ≡ replica_at self.old m s }
+    {
+        if self.replicas.contains_key(&place) {
+            return Err(TakeFault::Wrong);
+        }
+        let Ok(bytes) = Vec::from_slice(alloc, bytes) else {
+            return Err(TakeFault::NoMemory);
+        };
+        match self.replicas.insert(place, Stored::open(bytes)) {
+            Ok(_) => Ok(()),
+            Err(_) => Err(TakeFault::NoMemory),
+        }
+    }
+
+    fn extend(&mut self, place: (u64, u64), at: usize, bytes: &[u8]) -> Result<(), TakeFault>
+        ensures named { Acts (Extend at bytes.now) (replica_at self.old place.0 place.1) result (replica_at self.new place.0 place.1) }
+        ensures others { (m s : ℕ) → ((place.0 == m) && (place.1 == s)) ≡ false → replica_at self.new m s ≡ replica_at self.old m s }
+    {
+        match self.replicas.get_mut(&place) {
+            Some(stored) => stored.extend(at, bytes),
+            None => Err(TakeFault::Wrong),
+        }
+    }
+
+    /// Forgets every replica.
+    pub fn clear(&mut self)
+        ensures { (m s : ℕ) → replica_at self.new m s ≡ None }
+    {
+        self.replicas.clear();
+    }
+
+    /// Appends all replicas to a list, by master, then by segment, as those of the backup of this number. After NoMemory
+    /// some have been appended.
+    pub fn show(&self, alloc: Global, backup: u64, list: &mut Vec<Holding>) -> Result<(), NoMemory>
+        ensures shown { OnOk result (list.new.items ≡ list.old.items ++ holdings_of backup self.now) }
+        ensures ordered { IsInOrder self.now }
+    {
+        for (place, stored) in &self.replicas {
+            list.push(stored.show(alloc, backup, place.0, place.1)?)?;
+        }
+        Ok(())
+    }
+}

@@ -1,0 +1,68 @@
+//! A replica in memory.
+
+ghost use Rattle.std.specs.Prelude.{◌≡◌, Some, IfOk, true};
+ghost use Rattle.replica.specs.Op.{Extend};
+ghost use Rattle.backup.specs.Acts.{Acts};
+
+use replica::{Bytes, Holding, TakeFault};
+use std::alloc::{AllocError, Global};
+use std::marker::Model;
+
+/// A replica that a backup holds.
+#[derive(Debug, Drop)]
+pub struct Stored {
+    bytes: Vec<u8>,
+    is_open: bool,
+}
+
+impl Model for Stored {
+    ghost use Rattle.replica.specs.Picture.{Replica};
+
+    ghost Value = { Replica };
+
+    ghost view = { λ s. record { bytes = s.bytes.items; is_open = s.is_open } };
+}
+
+impl Stored {
+    /// An open replica with these bytes. It takes no memory.
+    pub fn open(bytes: Vec<u8>) -> Stored
+        ensures { result ≡ record { bytes = bytes.items; is_open = true } }
+    {
+        Stored {
+            bytes,
+            is_open: true,
+        }
+    }
+
+    /// The replica as its backup shows it.
+    pub fn show(
+        &self,
+        alloc: Global,
+        backup: u64,
+        master: u64,
+        segment: u64,
+    ) -> Result<Holding, AllocError>
+        ensures { IfOk result (λ h. h ≡ record { backup = backup; master = master; segment = segment; bytes = self.now.bytes; is_open = self.now.is_open }) }
+    {
+        Ok(Holding {
+            backup,
+            master,
+            segment,
+            bytes: Bytes::from_slice(alloc, &self.bytes)?,
+            is_open: self.is_open,
+        })
+    }
+
+    /// Appends bytes to an open replica of the length `at`.
+    pub fn extend(&mut self, at: usize, bytes: &[u8]) -> Result<(), TakeFault>
+        ensures { Acts (Extend at bytes.now) (Some self.old) result (Some self.new) }
+    {
+        if !self.is_open || self.bytes.len() != at {
+            return Err(TakeFault::Wrong);
+        }
+        match self.bytes.extend_from_slice(bytes) {
+            Ok(()) => Ok(()),
+            Err(_) => Err(TakeFault::NoMemory),
+        }
+    }
+}

@@ -1,0 +1,76 @@
+-- Units, and what they leave behind a segment's entries.
+use Rattle.std.proofs.Common.{◌≡◌, ℕ, zero, suc, ◌+◌, ◌*◌, ◌<◌, ◌≤◌, Bool, true, false, List, [], ◌∷◌, ◌++◌, length, take, map, get_or, refl, sym, ap, ◌∙◌, append_assoc, arith}
+use Rattle.std.specs.Prelude.{◌&&◌}
+use Rattle.std.specs.List.{flat_map, AllByRecursion}
+use Rattle.std.proofs.lemmas.List.{length-append, append-nil}
+use Rattle.std.proofs.lemmas.List.Folds.{length-flat_map-take, flat_map-map}
+use Rattle.entry.specs.declared.entry.Role.TheVariants.{Head}
+use Rattle.entry.specs.declared.entry.Header.{Header}
+use Rattle.entry.specs.declared.entry.Entry.{Entry}
+use Rattle.entry.specs.declared.entry.Entry.TheVariants as entry
+use Rattle.entry.specs.declared.view.EntryRef.{EntryRef}
+use Rattle.entry.specs.Format.{spelling, IsEntry}
+use Rattle.entry.specs.Text.{text_of, is_data, are_data, ends_with, IsTextOf, entries_in}
+use Rattle.entry.specs.View.{shown}
+use Rattle.entry.proofs.SpellingLemmas.{length-header, length-digest, length-safe}
+use Rattle.segment.specs.Bytes.{IsSegmentBytes}
+use Rattle.segment.proofs.RowLemmas.{text_of-append, each-append}
+use Rattle.segment.proofs.OrderLemmas.{is_whole-append}
+
+both : (a b : Bool) → (a && b) ≡ true → (a ≡ true) × (b ≡ true)
+both true true e = (refl, refl)
+both true false e = absurd (cc)
+both false b e = absurd (cc)
+
+-- each of a unit is an object or a tombstone
+pub is_data-at : (es : List EntryRef) (i : ℕ) (x : EntryRef) → i < length es → x ≡ get_or es i x → are_data (map shown es) ≡ true → is_data (shown x) ≡ true
+is_data-at [] i x lt is d = absurd (omega arith)
+is_data-at (e ∷ es) zero x lt is d = rw is (both (is_data (shown e)) (are_data (map shown es)) d).0
+is_data-at (e ∷ es) (suc i) x lt is d = is_data-at es i x (omega arith) is (both (is_data (shown e)) (are_data (map shown es)) d).1
+
+-- the text up to an entry, and that entry's, are no longer than the whole
+pub text-at : (es : List EntryRef) (i : ℕ) (x : EntryRef) → i < length es → x ≡ get_or es i x
+    → length (text_of (map shown (take i es))) + length (spelling (shown x)) ≤ length (text_of (map shown es))
+text-at es i x lt is =
+    let f : EntryRef → List ℕ = λ e. spelling (shown e) in
+    let part : text_of (map shown (take i es)) ≡ flat_map f (take i es) = flat_map-map spelling shown (take i es) in
+    let whole : text_of (map shown es) ≡ flat_map f es = flat_map-map spelling shown es in
+    let last : length (spelling (shown x)) ≡ length (f (get_or es i x)) = ap (λ (e : EntryRef). length (f e)) is in
+    omega (arith, length-flat_map-take f es i x lt, ap length part, ap length whole)
+
+-- a segment's entries and a unit are a segment's entries
+pub IsTextOf-append : (bytes new : List ℕ) (unit : List Entry) → IsSegmentBytes bytes → AllByRecursion IsEntry unit → are_data unit ≡ true → new ≡ bytes ++ text_of unit → IsTextOf new (entries_in bytes ++ unit)
+IsTextOf-append bytes new unit is each d longer = record {
+  segment = record {
+    each = each-append (entries_in bytes) unit is.text.segment.each each;
+    order = is_whole-append (entries_in bytes) unit d is.text.segment.order;
+  };
+  text = longer ∙ ap (λ (l : List ℕ). l ++ text_of unit) is.text.text ∙ sym (text_of-append (entries_in bytes) unit);
+}
+
+-- ---- the opening entries of a head
+
+three : (x y z a b c d : List ℕ) → a ≡ [] → b ≡ a ++ x → c ≡ b ++ y → d ≡ c ++ z → d ≡ x ++ (y ++ (z ++ []))
+three x y z a b c d p q r s = rw (s, r, q, p, append_assoc, append-nil) refl
+
+length-three : (x y z : List ℕ) → length (x ++ (y ++ (z ++ []))) ≡ length x + (length y + length z)
+length-three x y z = omega (arith, length-append x (y ++ (z ++ [])), length-append y (z ++ []), length-append z [])
+
+abbrev pub head : ℕ → ℕ → Header
+head master segment = record { master = master; segment = segment; role = Head }
+
+abbrev pub head_of : ℕ → ℕ → List ℕ → ℕ → List Entry
+head_of master segment ids safe = entry.Header (head master segment) ∷ entry.Digest ids ∷ entry.Safe safe ∷ []
+
+pub IsTextOf-head : (master segment : ℕ) (ids : List ℕ) (safe : ℕ) (a b c d : List ℕ) → IsEntry (entry.Header (head master segment)) → IsEntry (entry.Digest ids) → IsEntry (entry.Safe safe)
+    → ends_with segment ids ≡ true → a ≡ [] → b ≡ a ++ spelling (entry.Header (head master segment)) → c ≡ b ++ spelling (entry.Digest ids) → d ≡ c ++ spelling (entry.Safe safe)
+    → IsTextOf d (head_of master segment ids safe)
+IsTextOf-head master segment ids safe a b c d header digest version last p q r s = record {
+  segment = record { each = (header, (digest, (version, tt))); order = rw last refl };
+  text = three (spelling (entry.Header (head master segment))) (spelling (entry.Digest ids)) (spelling (entry.Safe safe)) a b c d p q r s;
+}
+
+pub length-head : (master segment : ℕ) (ids : List ℕ) (safe : ℕ) → length (text_of (head_of master segment ids safe)) ≡ 32 + 8 * length ids
+length-head master segment ids safe =
+    length-three (spelling (entry.Header (head master segment))) (spelling (entry.Digest ids)) (spelling (entry.Safe safe))
+    ∙ rw (length-header, length-digest, length-safe) (omega arith)

@@ -1,0 +1,49 @@
+-- What a reader of segments may answer in place of a segment.
+use Rattle.std.specs.Prelude.{◌≡◌, ℕ, ◌<◌, ◌≤◌, List, [], ◌∷◌, ◌++◌, length, take, drop, Some, false, ◌⊎◌}
+use Rattle.std.specs.List.{AllByRecursion}
+use Rattle.entry.specs.declared.entry.Entry.{Entry}
+use Rattle.entry.specs.declared.fault.EntryFault.{EntryFault}
+use Rattle.entry.specs.Format.{IsEntry, Begins, first_fault}
+use Rattle.entry.specs.Text.{text_of, is_whole, IsBeginning, IsSegmentText}
+use Rattle.segment.specs.declared.fault.SegmentFault.{SegmentFault}
+use Rattle.segment.specs.declared.fault.SegmentFault.TheVariants.{BadEntry, BadOrder, TooLong, NoMemory}
+
+-- before the offset stand these entries, with which some segment begins
+pub record StandBefore (bytes : List ℕ) (at : ℕ) (before : List Entry) : Type 0 where
+  pub within : at ≤ length bytes
+  pub text : take at bytes ≡ text_of before
+  pub each : AllByRecursion IsEntry before
+  pub order : IsBeginning before
+
+-- the bytes go on at the offset, and not with an entry
+abbrev pub IsUnreadable : List ℕ → ℕ → Type 0
+IsUnreadable bytes at = (at < length bytes) × ((fault : EntryFault) × (first_fault (drop at bytes) ≡ Some fault))
+
+-- at the offset stands an entry with which no segment goes on behind these
+abbrev pub IsMisplaced : List ℕ → ℕ → List Entry → Type 0
+IsMisplaced bytes at before = (e : Entry) × (len : ℕ) × Begins (drop at bytes) e len × (IsBeginning (before ++ e ∷ []) → ⊥)
+
+-- the bytes end at the offset, and these entries are no whole segment's
+abbrev pub EndsEarly : List ℕ → ℕ → List Entry → Type 0
+EndsEarly bytes at before = (at ≡ length bytes) × (is_whole before ≡ false)
+
+-- at the offset the order fails, where all before it is well
+abbrev pub IsBadOrder : List ℕ → ℕ → Type 0
+IsBadOrder bytes at = (before : List Entry) × (StandBefore bytes at before) × (IsMisplaced bytes at before ⊎ EndsEarly bytes at before)
+
+-- at the offset no entry can be read, where all before it is well
+abbrev pub IsBadEntry : List ℕ → ℕ → Type 0
+IsBadEntry bytes at = (before : List Entry) × (StandBefore bytes at before) × IsUnreadable bytes at
+
+-- the fault that the first failing test names; want of memory comes only where no test fails
+abbrev pub IsFault : List ℕ → SegmentFault → Type 0
+IsFault bytes TooLong = 8388608 < length bytes
+IsFault bytes (BadEntry at) = (length bytes ≤ 8388608) × IsBadEntry bytes at
+IsFault bytes (BadOrder at) = (length bytes ≤ 8388608) × IsBadOrder bytes at
+IsFault bytes NoMemory = (length bytes ≤ 8388608) × IsSegmentText bytes
+
+-- ---- a law
+
+-- No bytes have two faults.
+abbrev pub FaultsAreOne : Type 0
+FaultsAreOne = (bytes : List ℕ) (f g : SegmentFault) → IsFault bytes f → IsFault bytes g → f ≡ g

@@ -1,0 +1,6 @@
+pub mod Bytes
+pub mod Order
+pub mod View
+pub mod Faults
+pub mod Walk
+pub mod Props

@@ -1,0 +1,23 @@
+-- What a reader of segments expects next.
+use Rattle.std.specs.Prelude.{◌≡◌, List, ◌∷◌, ◌++◌, Bool, false}
+use Rattle.entry.specs.declared.entry.Entry.{Entry}
+use Rattle.entry.specs.declared.entry.Entry.TheVariants as entry
+use Rattle.entry.specs.Text.{is_whole, is_head_rest, are_data}
+use Rattle.segment.specs.declared.expected.Expected.{Expected}
+use Rattle.segment.specs.declared.expected.Expected.TheVariants as expected
+
+-- behind the digest of a head: a safe version, and then objects and tombstones
+abbrev pub is_safe_rest : List Entry → Bool
+is_safe_rest (entry.Safe version ∷ rest) = are_data rest
+is_safe_rest _ = false
+
+-- where this is expected, these entries make the segment whole
+abbrev pub completes : Expected → List Entry → Bool
+completes expected.Header more = is_whole more
+completes (expected.Digest segment) more = is_head_rest segment more
+completes expected.Safe more = is_safe_rest more
+completes expected.Data more = are_data more
+
+-- behind these entries this is expected: whatever makes it whole makes them a whole segment's
+abbrev pub Expects : List Entry → Expected → Type 0
+Expects before x = (more : List Entry) → is_whole (before ++ more) ≡ completes x more

@@ -1,0 +1,145 @@
+//! Segments in memory of their own.
+
+ghost use Rattle.std.specs.Prelude.{◌≡◌, ◌+◌, ◌≤◌, ◌<◌, ◌↔◌, ◌++◌, ◌∷◌, [], List, length, map, true, IfOk, OnOk, OnErr, IsErrOf, IsSomeAnd};
+ghost use Rattle.entry.specs.declared.entry.Entry.{Entry};
+ghost use Rattle.entry.specs.Text.{text_of, IsSegment, ends_with, are_data};
+ghost use Rattle.entry.specs.View.{shown};
+
+use crate::entries::Entries;
+use crate::fault::AppendFault;
+use crate::unit::{len_within, write_all};
+use crate::view::SegmentRef;
+use entry::{Entry, EntryRef, Header, Ids, NoMemory, Role, SafeVersion, write_entry};
+use std::alloc::{AllocError, Global};
+use std::marker::Model;
+
+/// The most bytes of a segment.
+pub const MAX_SEGMENT_LEN: usize = 8_388_608;
+
+/// A segment: its text. A contract sees the list of its entries.
+#[derive(Debug, Drop)]
+pub struct Segment {
+    bytes: Vec<u8>,
+}
+
+impl Model for Segment {
+    ghost use Rattle.std.specs.Prelude.{List};
+    ghost use Rattle.entry.specs.declared.entry.Entry.{Entry};
+    ghost use Rattle.entry.specs.Text.{entries_in};
+    ghost use Rattle.segment.specs.Bytes.{IsSegmentBytes};
+
+    ghost Value = { List Entry };
+
+    ghost view = { λ s. entries_in s.bytes.items };
+
+    ghost invariant = { λ s. IsSegmentBytes s.bytes.items };
+}
+
+impl Segment {
+    ghost use Rattle.segment.specs.View.{entries_of, entries_left};
+
+    /// The head of a master's log: its header, a digest, and a safe version.
+    pub fn begin_head(
+        alloc: Global,
+        master: u64,
+        id: u64,
+        ids: &Ids,
+        safe: SafeVersion,
+    ) -> Result<Segment, NoMemory>
+        requires last { ends_with id ids.now ≡ true }
+        requires count { length ids.now ≤ 262144 }
+        ensures { IfOk result (λ segment.
+            segment ≡ Entry.Header (record { master = master; segment = id; role = Role.Head }) ∷ Entry.Digest ids.now ∷ Entry.Safe safe ∷ []) }
+    {
+        let header = Entry::Header(Header {
+            master,
+            segment: id,
+            role: Role::Head,
+        });
+        let ids = Ids::new(Vec::from_slice(alloc, ids.as_slice())?);
+        let digest = Entry::Digest(ids);
+        let safe = Entry::Safe(safe);
+        let len = header.spelled_len() + digest.spelled_len() + safe.spelled_len();
+        let mut bytes = Vec::with_capacity(alloc, len)?;
+        write_entry(&header, &mut bytes)?;
+        write_entry(&digest, &mut bytes)?;
+        write_entry(&safe, &mut bytes)?;
+        Ok(Segment { bytes })
+    }
+
+    /// Appends objects and tombstones, all or none of them, where the segment then has at most `limit` bytes. The
+    /// answer is the offset of the first.
+    pub fn append_unit(&mut self, unit: &[EntryRef<'_>], limit: usize) -> Result<usize, AppendFault>
+        requires data { are_data (map shown unit.now) ≡ true }
+        requires limit { limit ≤ MAX_SEGMENT_LEN }
+        ensures ok { OnOk result (self.new ≡ self.old ++ map shown unit.now) }
+        ensures place { IfOk result (λ at. at ≡ length (text_of self.old)) }
+        // A unit that doesn't fit is reported as such, even where memory is short.
+        ensures full { IsErrOf result AppendFault.Full ↔ (limit < length (text_of self.old) + length (text_of (map shown unit.now))) }
+        ensures err { OnErr result (self.new ≡ self.old) }
+    {
+        let at = self.bytes.len();
+        let Some(room) = limit.checked_sub(at) else {
+            return Err(AppendFault::Full);
+        };
+        let Some(len) = len_within(unit, room) else {
+            return Err(AppendFault::Full);
+        };
+        self.bytes.reserve(len)?;
+        write_all(unit, &mut self.bytes);
+        Ok(at)
+    }
+
+    /// The text.
+    pub fn bytes(&self) -> &[u8]
+        ensures text { result.now ≡ text_of self.now }
+        ensures valid { IsSegment self.now }
+        ensures limit { length result.now ≤ MAX_SEGMENT_LEN }
+    {
+        self.bytes.as_slice()
+    }
+
+    /// How many bytes the text has.
+    pub fn bytes_len(&self) -> usize
+        ensures { result ≡ length (text_of self.now) }
+    {
+        self.bytes().len()
+    }
+
+    /// The entries in order.
+    pub fn entries(&self) -> Entries<'_>
+        ensures entries { entries_left result ≡ self.entry.now }
+        ensures limit { length (entries_left result) ≤ MAX_SEGMENT_LEN }
+    {
+        self.view().entries()
+    }
+
+    /// The entry that begins at an offset from the first byte. What an offset inside an entry shows is left open.
+    pub fn entry_at(&self, at: usize) -> Option<EntryRef<'_>>
+        ensures { (before after : List Entry) (entry : Entry) → self.entry.now ≡ before ++ entry ∷ after → at ≡ length (text_of before) →
+            IsSomeAnd result (λ found. shown found ≡ entry) }
+    {
+        self.view().entry_at(at)
+    }
+
+    /// The segment as it lies here, without a copy.
+    pub fn view(&self) -> SegmentRef<'_>
+        ensures { entries_of result ≡ self.entry.now }
+    {
+        SegmentRef {
+            bytes: self.bytes.as_slice(),
+        }
+    }
+}
+
+impl<'a> SegmentRef<'a> {
+    ghost use Rattle.segment.specs.View.{entries_of};
+
+    /// A segment of its own.
+    pub fn to_segment(&self, alloc: Global) -> Result<Segment, AllocError>
+        ensures { IfOk result (λ segment. segment ≡ entries_of self.now) }
+    {
+        let bytes = Vec::from_slice(alloc, self.bytes)?;
+        Ok(Segment { bytes })
+    }
+}

@@ -1,0 +1,112 @@
+//! Segments that lie in bytes, seen without a copy.
+
+ghost use Rattle.std.specs.Prelude.{◌≡◌, ◌≤◌, ℕ, List, Some, length, IfOk, IfErr, IsOkAnd, IsSomeAnd, ◌++◌, ◌∷◌};
+ghost use Rattle.std.specs.Option.{option_map};
+ghost use Rattle.entry.specs.declared.entry.Entry.{Entry};
+ghost use Rattle.entry.specs.View.{shown, shown_ids};
+ghost use Rattle.entry.specs.Text.{text_of, Opening, opening_of, header_of, IsSegment, IsTextOf};
+ghost use Rattle.segment.specs.Bytes.{IsSegmentBytes};
+ghost use Rattle.segment.specs.Faults.{IsFault};
+ghost use Rattle.segment.specs.Props.{IsSegmentBytes-prop};
+
+use crate::entries::Entries;
+use crate::fault::SegmentFault;
+use crate::reading::check;
+use entry::{DigestRef, EntryRef, Header, SafeVersion};
+
+/// Bytes that were found to be a segment.
+#[derive(Clone, Copy, Debug)]
+pub struct SegmentRef<'a> {
+    pub(crate) bytes: &'a [u8],
+    ghost valid: { IsSegmentBytes bytes.now } by { IsSegmentBytes-prop bytes.now },
+}
+
+impl<'a> SegmentRef<'a> {
+    ghost use Rattle.segment.specs.View.{entries_of, entries_left};
+
+    /// The segment that the bytes are. No memory is taken.
+    pub fn read(bytes: &'a [u8]) -> Result<SegmentRef<'a>, SegmentFault>
+        // What is read is the segment whose text the bytes are.
+        ensures found { IfOk result (λ segment. IsTextOf bytes.entry.now (entries_of segment)) }
+        // The text of each segment within the limit is read.
+        ensures complete { (entries : List Entry) → IsTextOf bytes.entry.now entries → length bytes.entry.now ≤ 8388608 →
+            IsOkAnd result (λ segment. entries_of segment ≡ entries) }
+        // A fault is the one that the first failing test names.
+        ensures fault { IfErr result (λ fault. IsFault bytes.entry.now fault) }
+    {
+        match check(bytes) {
+            Ok(()) => Ok(SegmentRef { bytes }),
+            Err(fault) => Err(fault),
+        }
+    }
+
+    /// The text.
+    pub fn bytes(&self) -> &'a [u8]
+        ensures text { result.now ≡ text_of (entries_of self.entry.now) }
+        ensures valid { IsSegment (entries_of self.entry.now) }
+        ensures limit { length result.now ≤ 8388608 }
+    {
+        self.bytes
+    }
+
+    /// The header, with which each segment begins.
+    pub fn header(&self) -> Header
+        ensures { header_of (entries_of self.now) ≡ Some result }
+    {
+        let mut entries = self.entries();
+        match entries.next() {
+            Some(EntryRef::Header(header)) => header,
+            _ => unreachable!(),
+        }
+    }
+
+    /// The digest of a head; None for a survivor.
+    pub fn digest(&self) -> Option<DigestRef<'a>>
+        ensures { option_map shown_ids result ≡ option_map (λ (o : Opening). o.ids) (opening_of (entries_of self.entry.now)) }
+    {
+        let mut entries = self.entries();
+        entries.next();
+        match entries.next() {
+            Some(EntryRef::Digest(digest)) => Some(digest),
+            _ => None,
+        }
+    }
+
+    /// The safe version of a head; None for a survivor.
+    pub fn safe(&self) -> Option<SafeVersion>
+        ensures { result ≡ option_map (λ (o : Opening). o.safe) (opening_of (entries_of self.now)) }
+    {
+        let mut entries = self.entries();
+        entries.next();
+        entries.next();
+        match entries.next() {
+            Some(entry) => match &entry {
+                EntryRef::Safe(safe) => Some(*safe),
+                _ => None,
+            },
+            None => None,
+        }
+    }
+
+    /// The entries in order.
+    pub fn entries(&self) -> Entries<'a>
+        ensures entries { entries_left result ≡ entries_of self.entry.now }
+        ensures limit { length (entries_left result) ≤ 8388608 }
+    {
+        Entries { rest: self.bytes }
+    }
+
+    /// The entry that begins at an offset from the first byte. What an offset inside an entry shows is left open.
+    pub fn entry_at(&self, at: usize) -> Option<EntryRef<'a>>
+        ensures { (before after : List Entry) (entry : Entry) → entries_of self.entry.now ≡ before ++ entry ∷ after → at ≡ length (text_of before) →
+            IsSomeAnd result (λ found. shown found ≡ entry) }
+    {
+        if at > self.bytes.len() {
+            return None;
+        }
+        match EntryRef::read(&self.bytes[at..]) {
+            Ok((entry, _)) => Some(entry),
+            Err(_) => None,
+        }
+    }
+}
