@@ -1,2 +1,9 @@
 pub mod Command
 pub mod Config
+pub mod Versioned
+pub mod Units
+pub mod Head
+pub mod HeadSteps
+pub mod Change
+pub mod Master
+pub mod Steps

@@ -1,9 +1,10 @@
 //! What clients ask, and what they are answered.
 
-ghost use Rattle.std.specs.Prelude.{◌≡◌};
+ghost use Rattle.std.specs.Prelude.{◌≡◌, IfOk};
 ghost use Rattle.master.specs.Command.{command_key};
 
 use entry::{Key, Value, Version};
+use std::alloc::AllocError;
 
 /// When a put is done.
 #[derive(Clone, Copy, Debug, PartialEq, Eq)]
@@ -36,6 +37,15 @@ impl Command {
     }
 }
 
+impl Command {
+    /// The same command, in memory of its own.
+    pub fn copy(&self) -> Result<Command, AllocError>
+        ensures { IfOk result (λ copy. copy ≡ self.now) }
+    {
+        self.clone()
+    }
+}
+
 /// The answer to a command.
 #[derive(Clone, Debug, Drop)]
 pub enum Reply {
@@ -49,10 +59,32 @@ pub enum Reply {
     Mismatch(Option<Version>),
 }
 
+impl Reply {
+    /// The same reply, in memory of its own.
+    pub fn copy(&self) -> Result<Reply, AllocError>
+        ensures { IfOk result (λ copy. copy ≡ self.now) }
+    {
+        self.clone()
+    }
+}
+
 /// An accepted command, whose it was, and the reply to it.
 #[derive(Clone, Debug, Drop)]
 pub struct Record {
     pub seat: u64,
     pub command: Command,
     pub reply: Reply,
+}
+
+impl Record {
+    /// The same record, in memory of its own.
+    pub fn copy(&self) -> Result<Record, AllocError>
+        ensures { IfOk result (λ copy. copy ≡ self.now) }
+    {
+        Ok(Record {
+            seat: self.seat,
+            command: self.command.copy()?,
+            reply: self.reply.copy()?,
+        })
+    }
 }

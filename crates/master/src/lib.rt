@@ -4,8 +4,16 @@
 //! except after a fault of a backup: then one op may have been taken, and the master stays halted.
 #![tactic(auto)]
 
+mod appending;
+mod change;
 mod command;
 mod config;
+mod head;
+mod index;
+mod master;
+mod step;
 
 pub use command::{Command, If, Record, Reply};
 pub use config::{Config, ConfigFault};
+pub use master::Master;
+pub use step::{Look, Refusal, Shown, Step, StepAnswer};

@@ -1,0 +1,121 @@
+-- Heads: where units end, and what replicas have taken.
+use Rattle.std.proofs.Common.{◌≡◌, ℕ, zero, suc, ◌+◌, ◌-◌, ◌<◌, ◌≤◌, List, [], ◌∷◌, ◌++◌, length, take, drop, get_or, Option, Some, None, min, refl, sym, ap, ◌∙◌, add-one, arith, inl, inr}
+use Rattle.std.specs.Prelude.{slice_get, slice_set}
+use Rattle.std.specs.List.{AllByRecursion}
+use Rattle.std.proofs.Common.{sub-one}
+use Rattle.std.proofs.lemmas.List.{length-append, take_all}
+use Rattle.entry.specs.declared.entry.Entry.{Entry}
+use Rattle.entry.specs.Text.{text_of}
+use Rattle.segment.proofs.RowLemmas.{text_of-append}
+use Rattle.master.specs.declared.head.UnitEnd.{UnitEnd}
+use Rattle.master.specs.Head.{end_of, EndAt, IsLagging, fewest}
+
+pub EndAt_le : (us : List UnitEnd) (from len : ℕ) → EndAt from us len → from ≤ len
+EndAt_le [] from len e = omega arith
+EndAt_le (u ∷ us) from len e = let later = EndAt_le us u.end len e.1 in let here = e.0 in omega arith
+
+pub end_of_le : (us : List UnitEnd) (from len n : ℕ) → EndAt from us len → end_of from us n ≤ len
+end_of_le us from len zero e = EndAt_le us from len e
+end_of_le [] from len (suc n) e = omega arith
+end_of_le (u ∷ us) from len (suc n) e = end_of_le us u.end len n e.1
+
+end_of_suc : (us : List UnitEnd) (from len n : ℕ) → EndAt from us len → end_of from us n ≤ end_of from us (suc n)
+end_of_suc [] from len zero e = omega arith
+end_of_suc [] from len (suc n) e = omega arith
+end_of_suc (u ∷ us) from len zero e = e.0
+end_of_suc (u ∷ us) from len (suc n) e = end_of_suc us u.end len n e.1
+
+pub end_of_next : (us : List UnitEnd) (from len n : ℕ) → EndAt from us len → end_of from us n ≤ end_of from us (n + 1)
+end_of_next us from len n e = rw add-one (end_of_suc us from len n e)
+
+-- where units end, by the last of them
+pub end_of_last : (us : List UnitEnd) (from last : ℕ) (d : UnitEnd) → last < length us → end_of from us (last + 1) ≡ (get_or us last d).end
+end_of_last us from last d lt = rw add-one (go us from last lt) where
+  go : (us : List UnitEnd) (from n : ℕ) → n < length us → end_of from us (suc n) ≡ (get_or us n d).end
+  go [] from n lt = absurd (omega arith)
+  go (u ∷ us) from zero lt = refl
+  go (u ∷ us) from (suc n) lt = go us u.end n (omega arith)
+
+pub unit_end_le : (us : List UnitEnd) (from len n : ℕ) (d : UnitEnd) → EndAt from us len → n < length us → (get_or us n d).end ≤ len
+unit_end_le us from len n d e lt = rw (← end_of_last us from n d lt) (end_of_le us from len (n + 1) e)
+
+pub EndAt_push : (us : List UnitEnd) (from len : ℕ) (u : UnitEnd) → EndAt from us len → len ≤ u.end → EndAt from (us ++ u ∷ []) u.end
+EndAt_push [] from len u e le = (omega (arith, e), refl)
+EndAt_push (v ∷ us) from len u e le = (e.0, EndAt_push us v.end len u e.1 le)
+
+pub all_get : (P : ℕ → Type 0) (ns : List ℕ) (j d : ℕ) → AllByRecursion P ns → j < length ns → P (get_or ns j d)
+all_get P [] j d all lt = absurd (omega arith)
+all_get P (n ∷ ns) zero d all lt = all.0
+all_get P (n ∷ ns) (suc j) d all lt = all_get P ns j d all.1 (omega arith)
+
+pub all_push : (P : ℕ → Type 0) (ns : List ℕ) (n : ℕ) → AllByRecursion P ns → P n → AllByRecursion P (ns ++ n ∷ [])
+all_push P [] n all p = (p, tt)
+all_push P (m ∷ ns) n all p = (all.0, all_push P ns n all.1 p)
+
+pub all_set : (P : ℕ → Type 0) (ns : List ℕ) (j n : ℕ) → AllByRecursion P ns → P n → AllByRecursion P (slice_set ns j n)
+all_set P [] j n all p = tt
+all_set P (m ∷ ns) zero n all p = (p, all.1)
+all_set P (m ∷ ns) (suc j) n all p = (all.0, all_set P ns j n all.1 p)
+
+pub all_more : (ns : List ℕ) (a b : ℕ) → a ≤ b → AllByRecursion (λ n. n ≤ a) ns → AllByRecursion (λ n. n ≤ b) ns
+all_more [] a b le all = tt
+all_more (n ∷ ns) a b le all = let here = all.0 in (omega arith, all_more ns a b le all.1)
+
+pub slice_get_at : {X : Type 0} (xs : List X) (j : ℕ) (d : X) → j < length xs → slice_get xs j ≡ Some (get_or xs j d)
+slice_get_at [] j d lt = absurd (omega arith)
+slice_get_at (x ∷ xs) zero d lt = refl
+slice_get_at (x ∷ xs) (suc j) d lt = slice_get_at xs j d (omega arith)
+
+pub text_more : (xs ys : List Entry) → length (text_of (xs ++ ys)) ≡ length (text_of xs) + length (text_of ys)
+text_more xs ys = rw (text_of-append xs ys, length-append) refl
+
+-- ---- the replica that lags
+
+rest_of : (n : ℕ) (ns : List ℕ) → take (length (n ∷ ns) - 1) (drop 1 (n ∷ ns)) ≡ ns
+rest_of n ns = rw sub-one (take_all (length ns) ns (omega arith))
+
+-- all but the first
+abbrev pub rest_in : List ℕ → List ℕ
+rest_in ns = take (length ns - 1) (drop 1 ns)
+
+all_above : (ns : List ℕ) (a b : ℕ) → a ≤ b → AllByRecursion (λ m. b ≤ m) ns → AllByRecursion (λ m. a ≤ m) ns
+all_above [] a b le all = tt
+all_above (n ∷ ns) a b le all = let here = all.0 in (omega arith, all_above ns a b le all.1)
+
+pub lagging_first : (units : ℕ) (ns : List ℕ) → 1 ≤ length ns → IsLagging units (rest_in ns) None → get_or ns 0 0 < units → IsLagging units ns (Some 0)
+lagging_first units [] some rest lt = absurd (omega arith)
+lagging_first units (n ∷ ns) some rest lt = (n, refl, lt, (omega arith, all_above ns n units (omega arith) (rw rest_of at rest)), tt)
+
+pub lagging_none : (units : ℕ) (ns : List ℕ) → 1 ≤ length ns → IsLagging units (rest_in ns) None → units ≤ get_or ns 0 0 → IsLagging units ns None
+lagging_none units [] some rest le = absurd (omega arith)
+lagging_none units (n ∷ ns) some rest le = (le, rw rest_of at rest)
+
+pub within_get : (ns : List ℕ) (j n : ℕ) → slice_get ns j ≡ Some n → j < length ns
+within_get [] j n e = absurd (cc)
+within_get (m ∷ ns) zero n e = omega arith
+within_get (m ∷ ns) (suc j) n e = let later = within_get ns j n e in omega arith
+
+some-same : (m n : ℕ) → Some m ≡ Some n → m ≡ n
+some-same m n e = cc
+
+pub lagging_before : (units place : ℕ) (ns : List ℕ) → 1 ≤ length ns → IsLagging units (rest_in ns) (Some place) → get_or ns 0 0 ≤ get_or (rest_in ns) place 0
+    → IsLagging units ns (Some 0)
+lagging_before units place [] some rest le = absurd (omega arith)
+lagging_before units place (n ∷ ns) some rest le =
+    let later = rw rest_of at rest in
+    let within = within_get ns place later.0 later.1 in
+    let value : get_or ns place 0 ≡ later.0 = some-same (get_or ns place 0) later.0 (sym (slice_get_at ns place 0 within) ∙ later.1) in
+    let order : n ≤ get_or ns place 0 = rw rest_of at le in
+    let below : later.0 < units = later.2 in
+    (n, refl, omega arith, (omega arith, all_above ns n later.0 (omega arith) later.3), tt)
+
+pub lagging_later : (units place : ℕ) (ns : List ℕ) → 1 ≤ length ns → IsLagging units (rest_in ns) (Some place) → get_or (rest_in ns) place 0 < get_or ns 0 0
+    → IsLagging units ns (Some (place + 1))
+lagging_later units place [] some rest le = absurd (omega arith)
+lagging_later units place (n ∷ ns) some rest le =
+    let later = rw rest_of at rest in
+    let within = within_get ns place later.0 later.1 in
+    let value : get_or ns place 0 ≡ later.0 = some-same (get_or ns place 0) later.0 (sym (slice_get_at ns place 0 within) ∙ later.1) in
+    let order : get_or ns place 0 < n = rw rest_of at le in
+    let below : later.0 < units = later.2 in
+    rw add-one (later.0, later.1, below, (omega arith, later.3), (omega arith, later.4))

@@ -1,0 +1,11 @@
+use Rattle.master.proofs.Heads.{lagging_first, lagging_before, lagging_later}
+use Rattle.master.proofs.head.+lagging.Goals as goal
+
+pub returns-in-None : goal.returns-in-None
+returns-in-None t c = lagging_first c.args.units c.args.taken.now c.in-len1-up.len_at_least c.in-None.ensures c.if-first-units.true
+
+pub returns-in-Some : goal.returns-in-Some
+returns-in-Some t c = lagging_before c.args.units c.in-Some.place c.args.taken.now c.in-len1-up.len_at_least c.in-Some.ensures c.if-first-rest.true
+
+pub returns-in-Some-2 : goal.returns-in-Some-2
+returns-in-Some-2 t c = lagging_later c.args.units c.in-Some.place c.args.taken.now c.in-len1-up.len_at_least c.in-Some.ensures c.if-first-rest.false

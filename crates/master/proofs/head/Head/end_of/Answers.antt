@@ -1,0 +1,16 @@
+use Rattle.std.proofs.Common.{◌≡◌, ◌≤◌, ◌+◌, ap, sym, ◌∙◌, length, arith}
+use Rattle.entry.specs.declared.entry.Entry.{Entry}
+use Rattle.std.proofs.Common.{List}
+use Rattle.entry.specs.Text.{text_of}
+use Rattle.master.specs.Head.{HeadValue}
+use Rattle.master.proofs.Heads.{EndAt_le, end_of_le, end_of_last}
+use Rattle.master.proofs.head.Head.end_of.Goals as goal
+
+pub returns-in-None-clause-within : goal.returns-in-None-clause-within
+returns-in-None-clause-within c = rw (← c.self.view_is) (EndAt_le c.self.inside.units.items c.self.inside.opening _ c.self.invariant.1.units)
+
+pub returns-in-Some-clause-within : goal.returns-in-Some-clause-within
+returns-in-Some-clause-within c =
+    let count : length c.self.inside.units.items ≡ length c.args.self.now.units = ap (λ (h : HeadValue). length h.units) c.self.view_is in
+    let here = end_of_last c.self.inside.units.items c.self.inside.opening c.in-Some.last c.index.result.now (omega arith) in
+    rw (← c.self.view_is, c.index.ensures, ← here) (end_of_le c.self.inside.units.items c.self.inside.opening _ _ c.self.invariant.1.units)

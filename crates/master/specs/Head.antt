@@ -1,0 +1,50 @@
+-- The head of the log.
+use Rattle.std.specs.Prelude.{◌≡◌, ℕ, zero, suc, ◌+◌, ◌-◌, ◌<◌, ◌≤◌, ◌==◌, List, [], ◌∷◌, ◌++◌, length, take, drop, Bool, Option, Some, None, slice_get, slice_set, min, nat_lt, if◌then◌else◌, ⊤}
+use Rattle.entry.specs.declared.entry.Entry.{Entry}
+use Rattle.entry.specs.Text.{text_of}
+use Rattle.std.specs.List.{AllByRecursion}
+use Rattle.master.specs.declared.head.UnitEnd.{UnitEnd}
+
+pub record HeadValue : Type 0 where
+  pub id : ℕ
+  -- how many replicas it is to have
+  pub replicas : ℕ
+  -- what the image holds
+  pub image : List Entry
+  -- the length of the opening
+  pub opening : ℕ
+  pub units : List UnitEnd
+  -- how many units each replica has, of those that were opened
+  pub taken : List ℕ
+
+-- where the first units end: the length of a replica that has just them
+abbrev pub end_of : ℕ → List UnitEnd → ℕ → ℕ
+end_of from us zero = from
+end_of from [] (suc n) = from
+end_of from (u ∷ us) (suc n) = end_of u.end us n
+
+-- each unit ends no earlier than the one before it, and the last where the image does
+abbrev pub EndAt : ℕ → List UnitEnd → ℕ → Type 0
+EndAt from [] len = from ≡ len
+EndAt from (u ∷ us) len = (from ≤ u.end) × EndAt u.end us len
+
+pub record IsHead (h : HeadValue) : Type 0 where
+  pub units : EndAt h.opening h.units (length (text_of h.image))
+  pub opened : length h.taken ≤ h.replicas
+  pub few : h.replicas ≤ 64
+  -- each replica has some of the first units
+  pub taken : AllByRecursion (λ n. n ≤ length h.units) h.taken
+
+-- the fewest units that one of the replicas has, at most this many
+abbrev pub fewest : ℕ → List ℕ → ℕ
+fewest units [] = units
+fewest units (n ∷ ns) = min n (fewest units ns)
+
+-- the replica that has the fewest units, the first of several; None where each has all of them
+abbrev pub IsLagging : ℕ → List ℕ → Option ℕ → Type 0
+IsLagging units ns None = AllByRecursion (λ m. units ≤ m) ns
+IsLagging units ns (Some j) = (n : ℕ) × (slice_get ns j ≡ Some n) × (n < units) × AllByRecursion (λ m. n ≤ m) ns × AllByRecursion (λ m. n < m) (take j ns)
+
+-- how many units every replica has
+abbrev pub everywhere : HeadValue → ℕ
+everywhere h = if nat_lt (length h.taken) h.replicas then 0 else fewest (length h.units) h.taken

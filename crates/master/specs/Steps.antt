@@ -1,0 +1,121 @@
+-- A master with its fleet, and what a step makes of them.
+use Rattle.std.specs.Prelude.{◌≡◌, ℕ, ◌+◌, ◌*◌, ◌%◌, ◌-◌, ◌<◌, ◌≤◌, ◌⊎◌, List, [], ◌∷◌, ◌++◌, length, take, drop, Result, Ok, Err, true, false, Some, None, slice_get, ◌==◌, if◌then◌else◌}
+use Rattle.entry.specs.Text.{text_of}
+use Rattle.replica.specs.Op.{OpValue, Open, Extend}
+use Rattle.replica.specs.Picture.{FleetState}
+use Rattle.replica.specs.Take.{TakeGives, taken, faulted, limited}
+use Rattle.replica.specs.declared.op.TakeFault.{TakeFault}
+use Rattle.replica.specs.declared.op.TakeFault.TheVariants as take_fault
+use Rattle.master.specs.declared.command.Command.{Command}
+use Rattle.master.specs.declared.command.Record.{Record}
+use Rattle.master.specs.declared.config.Config.{Config}
+use Rattle.master.specs.declared.step.Step.{Step}
+use Rattle.master.specs.declared.step.Step.TheVariants.{Apply, Push}
+use Rattle.master.specs.declared.step.StepAnswer.{StepAnswer}
+use Rattle.master.specs.declared.step.StepAnswer.TheVariants.{Applied, Opened, Extended}
+use Rattle.master.specs.declared.step.Look.{Look}
+use Rattle.master.specs.declared.step.Look.TheVariants.{Image}
+use Rattle.master.specs.declared.step.Shown.{Shown}
+use Rattle.master.specs.declared.step.Shown.TheVariants.{Image as ImageShown}
+use Rattle.master.specs.declared.step.Refusal.{Refusal}
+use Rattle.master.specs.declared.step.Refusal.TheVariants as refusal
+use Rattle.master.specs.Head.{HeadValue, end_of, IsLagging}
+use Rattle.master.specs.HeadSteps.{with_replica, with_taken}
+use Rattle.master.specs.Master.{MasterData, MasterValue}
+
+pub record World : Type 0 where
+  pub knows : MasterData
+  pub fleet : FleetState
+
+abbrev pub world : {F : Type 0} → (F → FleetState) → MasterValue F → World
+world state v = record { knows = v.knows; fleet = state v.fleet }
+
+-- the backup of a replica of a segment
+abbrev pub home : Config → ℕ → ℕ → ℕ
+home c segment j = (segment * c.step + j) % c.backups
+
+-- ---- what an accepted step does
+
+abbrev pub with_head : MasterData → HeadValue → MasterData
+with_head d h = record { config = d.config; head = h; places = d.places; safe = d.safe; history = d.history; is_halted = d.is_halted }
+
+-- the op that opens a replica of the head
+abbrev pub open_op : MasterData → OpValue
+open_op d = record { master = d.config.master; segment = d.head.id; act = Open (take d.head.opening (text_of d.head.image)) }
+
+-- the op that hands a replica the unit behind those that it has
+abbrev pub extend_op : MasterData → ℕ → OpValue
+extend_op d units = record {
+  master = d.config.master;
+  segment = d.head.id;
+  act = Extend (end_of d.head.opening d.head.units units)
+      (take (end_of d.head.opening d.head.units (units + 1) - end_of d.head.opening d.head.units units)
+      (drop (end_of d.head.opening d.head.units units) (text_of d.head.image)));
+}
+
+-- a command adds its record, and the fleet stays
+pub record AppliesTo (old : World) (seat : ℕ) (command : Command) (answer : StepAnswer) (new : World) : Type 0 where
+  pub fleet : new.fleet ≡ old.fleet
+  pub config : new.knows.config ≡ old.knows.config
+  pub running : new.knows.is_halted ≡ old.knows.is_halted
+  pub history : (r : Record) × (answer ≡ Applied (length old.knows.history) r.reply) × (r.seat ≡ seat) × (r.command ≡ command)
+      × (new.knows.history ≡ old.knows.history ++ r ∷ [])
+
+abbrev pub Accepts : World → Step → StepAnswer → World → Type 0
+Accepts old (Apply seat command) answer new = AppliesTo old seat command answer new
+Accepts old Push (Opened b s) new =
+    (length old.knows.head.taken < old.knows.head.replicas) × (b ≡ home old.knows.config old.knows.head.id (length old.knows.head.taken)) × (s ≡ old.knows.head.id)
+    × (taken old.fleet b (open_op old.knows) ≡ Some new.fleet) × (new.knows ≡ with_head old.knows (with_replica old.knows.head))
+Accepts old Push (Extended b s) new =
+    (j units : ℕ) × IsLagging (length old.knows.head.units) old.knows.head.taken (Some j) × (slice_get old.knows.head.taken j ≡ Some units)
+    × (b ≡ home old.knows.config old.knows.head.id j) × (s ≡ old.knows.head.id)
+    × (taken old.fleet b (extend_op old.knows units) ≡ Some new.fleet) × (new.knows ≡ with_head old.knows (with_taken old.knows.head j))
+Accepts old Push (Applied place reply) new = ⊥
+
+-- ---- what a refused step leaves
+
+abbrev pub halted : MasterData → MasterData
+halted d = record { config = d.config; head = d.head; places = d.places; safe = d.safe; history = d.history; is_halted = true }
+
+-- a backup failed, and one op may have been taken
+abbrev pub FailsTake : World → World → Type 0
+FailsTake old new = (new.knows ≡ halted old.knows) × ((b : ℕ) × (op : OpValue) × (fault : TakeFault) × TakeGives old.fleet b op (Err fault) new.fleet)
+
+-- A refusal changes nothing, but for a fault's: then one op may have been taken, and the master stays halted.
+abbrev pub Declines : World → Refusal → World → Type 0
+Declines old refusal.Halted new = ((old.knows.is_halted ≡ true) × (new ≡ old)) ⊎ FailsTake old new
+Declines old _ new = new ≡ old
+
+abbrev pub Steps : World → Step → Result StepAnswer Refusal → World → Type 0
+Steps old step (Ok answer) new = Accepts old step answer new
+Steps old step (Err refusal) new = Declines old refusal new
+
+-- the steps in order, with their answers
+abbrev pub IsRun : World → List Step → List (Result StepAnswer Refusal) → World → Type 0
+IsRun old [] [] new = new ≡ old
+IsRun old (step ∷ steps) (answer ∷ answers) new = (mid : World) × Steps old step answer mid × IsRun mid steps answers new
+IsRun old [] (answer ∷ answers) new = ⊥
+IsRun old (step ∷ steps) [] new = ⊥
+
+-- ---- what is shown
+
+-- what a fault of the fleet answers
+abbrev pub refusal_of : TakeFault → Refusal
+refusal_of take_fault.NoMemory = refusal.NoMemory
+refusal_of take_fault.Spent = refusal.Spent
+refusal_of take_fault.Wrong = refusal.Halted
+refusal_of take_fault.Fault = refusal.Halted
+
+-- and what the master knows then
+abbrev pub failed_data : MasterData → TakeFault → MasterData
+failed_data d take_fault.NoMemory = d
+failed_data d take_fault.Spent = d
+failed_data d take_fault.Wrong = halted d
+failed_data d take_fault.Fault = halted d
+
+-- the image of a segment, where there is one
+abbrev pub IsShown : MasterData → Look → Shown → Type 0
+IsShown d (Image id) (ImageShown bytes) = bytes ≡ (if id == d.head.id then Some (text_of d.head.image) else None)
+
+abbrev pub limited_world : World → ℕ → World
+limited_world w n = record { knows = w.knows; fleet = limited w.fleet n }

@@ -1,0 +1,98 @@
+//! From a command and its change to the unit that the head takes.
+
+ghost use Rattle.std.specs.Prelude.{◌≡◌, ◌^◌, ◌≤◌, OnOk, OnErr};
+ghost use Rattle.entry.specs.View.{shown};
+ghost use Rattle.master.specs.Units.{object_entry, tombstone_entry};
+ghost use Rattle.master.specs.Change.{unit_of_change, appended};
+
+use crate::change::Change;
+use crate::command::Command;
+use crate::head::Head;
+use entry::{EntryRef, Key, ObjectRef, TombstoneRef, Value, Version};
+use segment::AppendFault;
+
+/// The object that a put makes, as it lies in the command.
+fn object_of<'a>(key: &'a Key, version: Version, value: &'a Value) -> EntryRef<'a>
+    ensures { shown result ≡ object_entry key.entry.now version value.entry.now }
+{
+    let key = key.view();
+    EntryRef::Object(ObjectRef {
+        key,
+        version,
+        value: value.as_slice(),
+    })
+}
+
+/// The tombstone of the key's object of this version, which lies in this segment.
+fn tombstone_of(key: &Key, version: Version, segment: u64) -> EntryRef<'_>
+    ensures { shown result ≡ tombstone_entry key.entry.now version segment }
+{
+    let key = key.view();
+    EntryRef::Tombstone(TombstoneRef {
+        key,
+        version,
+        segment,
+    })
+}
+
+/// Where in the unit of a change its object begins.
+pub fn object_offset(command: &Command, change: &Change) -> usize
+    ensures { result ≤ 2 ^ 32 }
+{
+    match change {
+        Change::Replace(_, _) => 27 + command.key().bytes.as_slice().len(),
+        _ => 0,
+    }
+}
+
+/// How many bytes the unit of a change has.
+pub fn unit_len(command: &Command, change: &Change) -> usize
+    ensures { result ≤ 2 ^ 32 }
+{
+    let key_len = command.key().bytes.as_slice().len();
+    let value_len = match command {
+        Command::Put(_, value, _) => value.as_slice().len(),
+        _ => 0,
+    };
+    match change {
+        Change::Nothing => 0,
+        Change::Create(_) => 23 + key_len + value_len,
+        Change::Replace(_, _) => 27 + key_len + 23 + key_len + value_len,
+        Change::Delete(_) => 27 + key_len,
+    }
+}
+
+/// Appends the unit of a change to the head.
+pub fn append_change(
+    head: &mut Head,
+    command: &Command,
+    change: &Change,
+    number: usize,
+    limit: usize,
+) -> Result<(), AppendFault>
+    requires { limit ≤ 8388608 }
+    ensures ok { OnOk result (head.new ≡ appended head.old number (unit_of_change head.old.id command.now change.now)) }
+    ensures err { OnErr result (head.new ≡ head.old) }
+{
+    let segment = head.id();
+    match command {
+        Command::Get(_) => Ok(()),
+        Command::Delete(key) => match change {
+            Change::Delete(dead) => {
+                head.append(&[tombstone_of(key, *dead, segment)], number, limit)
+            }
+            _ => Ok(()),
+        },
+        Command::Put(key, value, _) => match change {
+            Change::Create(version) => {
+                head.append(&[object_of(key, *version, value)], number, limit)
+            }
+            Change::Replace(dead, version) => {
+                let tombstone = tombstone_of(key, *dead, segment);
+                let object = object_of(key, *version, value);
+                head.append(&[tombstone, object], number, limit)
+            }
+            _ => Ok(()),
+        },
+    }
+}

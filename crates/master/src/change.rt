@@ -1,0 +1,120 @@
+//! What a command does, from what its key has.
+
+use crate::command::{Command, If, Reply};
+use entry::{ObjectRef, SafeVersion, Value, Version};
+use std::alloc::{AllocError, Global};
+
+/// What a command does to the map, and so what it appends.
+#[derive(Clone, Copy, Debug, PartialEq, Eq)]
+pub enum Change {
+    /// Nothing.
+    Nothing,
+    /// The absent key gets this version.
+    Create(Version),
+    /// The key goes from the first version to the second.
+    Replace(Version, Version),
+    /// The object of this version ends.
+    Delete(Version),
+}
+
+/// No version is left for a put.
+#[derive(Clone, Copy, Debug, PartialEq, Eq)]
+pub struct VersionsSpent;
+
+/// What a put of an absent key does.
+fn create(when: &If, safe: SafeVersion) -> Result<Change, VersionsSpent> {
+    match when {
+        If::Any | If::Absent => match safe.version() {
+            None => Err(VersionsSpent),
+            Some(version) => Ok(Change::Create(version)),
+        },
+        If::Version(_) => Ok(Change::Nothing),
+    }
+}
+
+/// What a put of a key of this version does.
+fn replace(when: &If, dead: Version) -> Result<Change, VersionsSpent> {
+    let is_met = match when {
+        If::Any => true,
+        If::Absent => false,
+        If::Version(wanted) => dead.get() == *wanted,
+    };
+    if !is_met {
+        return Ok(Change::Nothing);
+    }
+    match dead.next() {
+        None => Err(VersionsSpent),
+        Some(version) => Ok(Change::Replace(dead, version)),
+    }
+}
+
+/// What a command does where its key has this version.
+pub fn change_of(
+    command: &Command,
+    safe: SafeVersion,
+    present: Option<Version>,
+) -> Result<Change, VersionsSpent> {
+    match present {
+        None => match command {
+            Command::Get(_) | Command::Delete(_) => Ok(Change::Nothing),
+            Command::Put(_, _, when) => create(when, safe),
+        },
+        Some(dead) => match command {
+            Command::Get(_) => Ok(Change::Nothing),
+            Command::Delete(_) => Ok(Change::Delete(dead)),
+            Command::Put(_, _, when) => replace(when, dead),
+        },
+    }
+}
+
+impl Change {
+    pub fn is_nothing(&self) -> bool {
+        matches!(self, Change::Nothing)
+    }
+
+    /// The safe version afterwards.
+    pub fn safe_after(&self, safe: SafeVersion) -> SafeVersion {
+        match self {
+            Change::Nothing | Change::Replace(_, _) => safe,
+            Change::Create(version) => version.safe_above(),
+            Change::Delete(dead) => safe.max(dead.safe_above()),
+        }
+    }
+
+    /// The reply to the command, where its key has this object.
+    pub fn reply(
+        &self,
+        alloc: Global,
+        command: &Command,
+        present: Option<&ObjectRef<'_>>,
+    ) -> Result<Reply, AllocError> {
+        match self {
+            Change::Nothing => unchanged_reply(alloc, command, present),
+            Change::Create(version) => Ok(Reply::Ok(*version)),
+            Change::Replace(_, version) => Ok(Reply::Ok(*version)),
+            Change::Delete(dead) => Ok(Reply::Ok(*dead)),
+        }
+    }
+}
+
+/// The reply to a command that changes nothing, where its key has this object.
+fn unchanged_reply(
+    alloc: Global,
+    command: &Command,
+    present: Option<&ObjectRef<'_>>,
+) -> Result<Reply, AllocError> {
+    match command {
+        Command::Get(_) => match present {
+            None => Ok(Reply::None),
+            Some(object) => {
+                let value = Value::new(Vec::from_slice(alloc, object.value)?);
+                Ok(Reply::Found(object.version, value))
+            }
+        },
+        Command::Delete(_) => Ok(Reply::None),
+        Command::Put(_, _, _) => match present {
+            None => Ok(Reply::Mismatch(None)),
+            Some(object) => Ok(Reply::Mismatch(Some(object.version))),
+        },
+    }
+}

@@ -1,0 +1,239 @@
+//! The head of the log: its image, where its units end, and what each replica of it has.
+
+ghost use Rattle.std.specs.Prelude.{◌≡◌, ◌+◌, ◌-◌, ◌<◌, ◌≤◌, ◌^◌, ◌++◌, ◌∷◌, [], ℕ, List, length, map, take, drop, true, Some, None, IfSome, IfOk, OnOk, OnErr, IsErrOf, ◌↔◌, slice_get, slice_set};
+ghost use Rattle.entry.specs.declared.entry.Entry.{Entry};
+ghost use Rattle.entry.specs.declared.entry.Role.TheVariants.{Head as head_role};
+ghost use Rattle.entry.specs.Text.{text_of, are_data};
+ghost use Rattle.entry.specs.View.{shown};
+ghost use Rattle.std.specs.Prelude.{nat_le, Option, ◌==◌};
+ghost use Rattle.std.specs.Option.{option_map};
+
+use entry::{EntryRef, Ids, NoMemory, SafeVersion};
+use segment::{AppendFault, Segment};
+use std::alloc::Global;
+use std::marker::Model;
+
+/// What one command appended to the head.
+#[derive(Clone, Copy, Debug)]
+pub struct UnitEnd {
+    /// The number of the command's record in the history, from 0.
+    pub number: usize,
+    /// Where the unit ends in the image.
+    pub end: usize,
+}
+
+/// The head. Its replicas are opened in order, and each has a front of the image that ends where a unit does.
+#[derive(Drop)]
+pub struct Head {
+    id: u64,
+    /// How many replicas it is to have.
+    replicas: usize,
+    image: Segment,
+    /// Where the opening ends in the image.
+    opening: usize,
+    units: Vec<UnitEnd>,
+    /// How many units each replica has, of those that were opened.
+    taken: Vec<usize>,
+}
+
+impl Model for Head {
+    ghost use Rattle.std.specs.Prelude.{◌≤◌, vec_capacity};
+    ghost use Rattle.master.specs.Head.{HeadValue, IsHead};
+
+    ghost Value = { HeadValue };
+
+    ghost view = { λ h. record { id = h.id; replicas = h.replicas; image = h.image; opening = h.opening; units = h.units.items; taken = h.taken.items } };
+
+    ghost invariant = { λ h. (h.replicas ≤ vec_capacity h.taken) × IsHead (record { id = h.id; replicas = h.replicas; image = h.image; opening = h.opening; units = h.units.items; taken = h.taken.items }) };
+}
+
+impl Head {
+    ghost use Rattle.master.specs.declared.head.UnitEnd.{UnitEnd as UnitValue};
+    ghost use Rattle.master.specs.Head.{HeadValue, IsHead, end_of, everywhere, IsLagging};
+    ghost use Rattle.master.specs.HeadSteps.{fresh_head, with_unit, with_replica, with_taken};
+
+    /// The first head of a master. Its opening alone is in its image, and no replica was opened.
+    pub fn begin(
+        alloc: Global,
+        master: u64,
+        replicas: usize,
+        safe: SafeVersion,
+    ) -> Result<Head, NoMemory>
+        requires { replicas ≤ 64 }
+        ensures { IfOk result (λ head. head ≡ fresh_head master replicas safe) }
+    {
+        let mut ids = Vec::with_capacity(alloc, 1)?;
+        ids.push(1)?;
+        let image = Segment::begin_head(alloc, master, 1, &Ids::new(ids), safe)?;
+        let opening = image.bytes_len();
+        Ok(Head {
+            id: 1,
+            replicas,
+            image,
+            opening,
+            units: Vec::new(alloc),
+            taken: Vec::with_capacity(alloc, replicas)?,
+        })
+    }
+
+    /// The segment's number.
+    pub fn id(&self) -> u64
+        ensures { result ≡ self.now.id }
+    {
+        self.id
+    }
+
+    pub fn image(&self) -> &Segment
+        ensures image { result.now ≡ self.now.image }
+        ensures valid { IsHead self.now }
+    {
+        &self.image
+    }
+
+    /// How many replicas were opened.
+    pub fn opened(&self) -> usize
+        ensures { result ≡ length self.now.taken }
+    {
+        self.taken.len()
+    }
+
+    /// Whether all replicas were opened.
+    pub fn is_open(&self) -> bool
+        ensures open { result ≡ (length self.now.taken == self.now.replicas) }
+        ensures valid { IsHead self.now }
+    {
+        self.taken.len() == self.replicas
+    }
+
+    /// Whether this many bytes more are within the limit.
+    pub fn fits(&self, bytes: usize, limit: usize) -> bool
+        requires { bytes ≤ 2 ^ 32 }
+        ensures { result ≡ nat_le (length (text_of self.now.image) + bytes) limit }
+    {
+        self.image.bytes().len() + bytes <= limit
+    }
+
+    /// The opening's bytes: what a new replica holds.
+    pub fn opening(&self) -> &[u8]
+        ensures { result.now ≡ take self.entry.now.opening (text_of self.entry.now.image) }
+    {
+        let end = self.end_of(0);
+        &self.image.bytes()[..end]
+    }
+
+    /// How many units a replica has.
+    pub fn units_of(&self, replica: usize) -> usize
+        requires { replica < length self.now.taken }
+        ensures units { slice_get self.now.taken replica ≡ Some result }
+        ensures small { replica < 64 }
+        ensures within { result ≤ length self.now.units }
+    {
+        self.taken[replica]
+    }
+
+    /// Where the first units end: how long a replica is that has them, in bytes.
+    #[tactic(auto, using(crate::proofs::Heads::end_of_le, crate::proofs::Heads::end_of_last))]
+    pub fn end_of(&self, units: usize) -> usize
+        requires { units ≤ length self.now.units }
+        ensures end { result ≡ end_of self.now.opening self.now.units units }
+        ensures within { result ≤ length (text_of self.now.image) }
+    {
+        match units.checked_sub(1) {
+            None => self.opening,
+            Some(last) => self.units[last].end,
+        }
+    }
+
+    /// The bytes of the unit behind the first units.
+    #[tactic(auto, using(crate::proofs::Heads::end_of_next, crate::proofs::Heads::end_of_last, crate::proofs::Heads::unit_end_le))]
+    pub fn unit_behind(&self, units: usize) -> &[u8]
+        requires { units < length self.now.units }
+        ensures { let start = end_of self.entry.now.opening self.entry.now.units units in
+            let end = end_of self.entry.now.opening self.entry.now.units (units + 1) in
+            result.now ≡ take (end - start) (drop start (text_of self.entry.now.image)) }
+    {
+        let start = self.end_of(units);
+        let end = self.units[units].end;
+        let bytes = self.image.bytes();
+        &bytes[start..end]
+    }
+
+    /// The replica that has the fewest units, the first of several; `None` where each has all of them.
+    pub fn lagging(&self) -> Option<usize>
+        ensures { IsLagging (length self.now.units) self.now.taken result }
+    {
+        lagging(self.taken.as_slice(), self.units.len())
+    }
+
+    /// The record of the first unit that some replica lacks; `None` where each has all of them.
+    pub fn first_missing(&self) -> Option<usize> {
+        if !self.is_open() {
+            return self.units.first().map(|unit| unit.number);
+        }
+        match self.lagging() {
+            None => None,
+            Some(replica) => {
+                let units = self.units_of(replica);
+                self.units.get(units).map(|unit| unit.number)
+            }
+        }
+    }
+
+    /// Counts a replica that was opened.
+    pub fn open(&mut self)
+        requires { length self.old.taken < self.old.replicas }
+        ensures { self.new ≡ with_replica self.old }
+    {
+        self.taken.push(0).unwrap()
+    }
+
+    /// Counts a unit that a replica took.
+    pub fn extend(&mut self, replica: usize)
+        requires lags { IfSome (slice_get self.old.taken replica) (λ n. n < length self.old.units) }
+        requires opened { replica < length self.old.taken }
+        ensures { self.new ≡ with_taken self.old replica }
+    {
+        self.taken[replica] += 1;
+    }
+
+    #[tactic(auto, using(crate::proofs::Heads::EndAt_push, crate::proofs::Heads::all_more, crate::proofs::Heads::text_more))]
+    /// Appends a unit: objects and tombstones that a record of the history stands for.
+    pub fn append(
+        &mut self,
+        unit: &[EntryRef<'_>],
+        number: usize,
+        limit: usize,
+    ) -> Result<(), AppendFault>
+        requires some { 0 < length unit.now }
+        requires data { are_data (map shown unit.now) ≡ true }
+        requires limit { limit ≤ 8388608 }
+        ensures ok { OnOk result (self.new ≡ with_unit self.old number (map shown unit.now)) }
+        ensures full { IsErrOf result AppendFault.Full → (limit < length (text_of self.old.image) + length (text_of (map shown unit.now))) }
+        ensures err { OnErr result (self.new ≡ self.old) }
+    {
+        if self.units.reserve(1).is_err() {
+            return Err(AppendFault::NoMemory);
+        }
+        self.image.append_unit(unit, limit)?;
+        let end = self.image.bytes_len();
+        self.units.push(UnitEnd { number, end }).unwrap();
+        Ok(())
+    }
+}
+
+ghost use Rattle.master.specs.Head.{IsLagging};
+
+/// The first place of the least number below `units`. There are at most 64 numbers.
+fn lagging(taken: &[usize], units: usize) -> Option<usize>
+    ensures { IsLagging units taken.now result }
+{
+    match taken {
+        [] => None,
+        [first, rest @ ..] => match lagging(rest, units) {
+            None if *first < units => Some(0),
+            None => None,
+            Some(place) if *first <= rest[place] => Some(0),
+            Some(place) => Some(place + 1),
+        },
+    }
+}

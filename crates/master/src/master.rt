@@ -1,0 +1,400 @@
+//! One master over a fleet of backups.
+
+ghost use Rattle.std.specs.Prelude.{◌≡◌, ◌≤◌, ◌<◌, ◌^◌, ℕ, None, Some, false, true, length, IfOk, IfErr, IfSome, OnErr, vec_len, vec_capacity};
+ghost use Rattle.master.specs.Config.{config_fault};
+ghost use Rattle.master.specs.Master.{fresh_data};
+ghost use Rattle.master.specs.Steps.{World, world, home, Accepts, Declines, Steps, IsRun};
+
+use crate::appending::{append_change, object_offset, unit_len};
+use crate::change::{Change, change_of};
+use crate::command::{Command, Record, Reply};
+use crate::config::Config;
+use crate::head::Head;
+use crate::index::{object_at, slot_of};
+use crate::step::{Look, Refusal, Shown, Step, StepAnswer};
+use entry::{NoMemory, SafeVersion};
+use replica::{Act, Bench, Bytes, Fleet, Op, TakeFault};
+use segment::AppendFault;
+use std::alloc::{AllocError, Global};
+use std::marker::Model;
+
+/// A log-structured store on one head, over a fleet of backups.
+#[derive(Drop)]
+pub struct Master<F: Fleet> {
+    alloc: Global,
+    config: Config,
+    head: Head,
+    /// Where the live objects begin in the head's image.
+    places: Vec<usize>,
+    safe: SafeVersion,
+    history: Vec<Record>,
+    is_halted: bool,
+    fleet: F,
+}
+
+impl<F: Fleet> Model for Master<F> {
+    ghost use Rattle.master.specs.Master.{MasterValue, IsMaster};
+
+    ghost Value = { MasterValue F };
+
+    ghost view = { λ m. record {
+      knows = record { config = m.config; head = m.head; places = m.places.items; safe = m.safe; history = m.history.items; is_halted = m.is_halted };
+      fleet = m.fleet;
+    } };
+
+    ghost invariant = { λ m. IsMaster (record { config = m.config; head = m.head; places = m.places.items; safe = m.safe; history = m.history.items; is_halted = m.is_halted }) };
+}
+
+impl<F: Fleet> Master<F> {
+    ghost use Rattle.master.specs.Steps.{refusal_of, failed_data, IsShown};
+    ghost use Rattle.master.specs.Head.{IsLagging};
+
+    /// A master whose head is to be opened. It takes nothing from the fleet, and hands it back where memory ran out.
+    pub fn new(alloc: Global, config: Config, fleet: F) -> Result<Master<F>, (NoMemory, F)>
+        requires config { config_fault config ≡ None }
+        requires backups { config.backups ≤ (F.state fleet).backups }
+        requires none { (b s : ℕ) → (F.state fleet).picture b config.master s ≡ None }
+        ensures made { IfOk result (λ m. (m.knows ≡ fresh_data config) × (m.fleet ≡ fleet)) }
+        ensures refused { IfErr result (λ e. e.1 ≡ fleet) }
+    {
+        let replicas = config.replicas as usize;
+        match Head::begin(alloc, config.master, replicas, SafeVersion::first()) {
+            Ok(head) => Ok(Master {
+                alloc,
+                config,
+                head,
+                places: Vec::new(alloc),
+                safe: SafeVersion::first(),
+                history: Vec::new(alloc),
+                is_halted: false,
+                fleet,
+            }),
+            Err(fault) => Err((fault, fleet)),
+        }
+    }
+
+    /// Which of the places has the command's key, and what the command does there. All refusals but want of memory.
+    fn judge(&self, command: &Command) -> Result<(Change, Option<usize>), Refusal>
+        ensures running { IfOk result (λ _. self.now.knows.is_halted ≡ false) }
+        ensures room { IfOk result (λ _. length self.now.knows.history < self.now.knows.config.history) }
+        ensures slot { IfOk result (λ found. IfSome found.1 (λ slot. slot < length self.now.knows.places)) }
+        ensures halted { IfErr result (λ r. r ≡ Refusal.Halted → self.now.knows.is_halted ≡ true) }
+    {
+        if self.is_halted {
+            return Err(Refusal::Halted);
+        }
+        if is_too_big(command, self.config.segment) {
+            return Err(Refusal::TooBig);
+        }
+        let key = command.key().view();
+        if !self.config.tablets.have(&key) {
+            return Err(Refusal::NoTablet);
+        }
+        if self.history.len() as u64 >= self.config.history {
+            return Err(Refusal::HistoryFull);
+        }
+        let slot = slot_of(self.places.as_slice(), self.head.image(), &key);
+        let change = self.change_at(command, slot)?;
+        if !change.is_nothing() {
+            let limit = self.config.segment as usize;
+            if self.head.is_open() && !self.head.fits(unit_len(command, &change), limit) {
+                return Err(Refusal::Full);
+            }
+            if !self.head.is_open() {
+                return Err(Refusal::Rolling);
+            }
+        }
+        Ok((change, slot))
+    }
+
+    /// What a command does whose key has the object of this place.
+    fn change_at(&self, command: &Command, slot: Option<usize>) -> Result<Change, Refusal>
+        requires { IfSome slot (λ slot. slot < length self.now.knows.places) }
+        ensures { IfErr result (λ r. r ≡ Refusal.VersionsSpent) }
+    {
+        let present = match slot {
+            None => None,
+            Some(slot) => match object_at(self.head.image(), self.places[slot]) {
+                None => None,
+                Some(object) => Some(object.version),
+            },
+        };
+        match change_of(command, self.safe, present) {
+            Ok(change) => Ok(change),
+            Err(_) => Err(Refusal::VersionsSpent),
+        }
+    }
+
+    /// The reply to a command whose key has the object of this place.
+    fn reply_at(
+        &self,
+        command: &Command,
+        change: &Change,
+        slot: Option<usize>,
+    ) -> Result<Reply, AllocError>
+        requires { IfSome slot (λ slot. slot < length self.now.knows.places) }
+    {
+        let Some(slot) = slot else {
+            return change.reply(self.alloc, command, None);
+        };
+        match object_at(self.head.image(), self.places[slot]) {
+            None => change.reply(self.alloc, command, None),
+            Some(object) => change.reply(self.alloc, command, Some(&object)),
+        }
+    }
+
+    /// One command.
+    fn apply(&mut self, seat: u64, command: Command) -> Result<StepAnswer, Refusal>
+        ensures accepted { IfOk result (λ a. Accepts (world F.state self.old) (Step.Apply seat command) a (world F.state self.new)) }
+        ensures refused { IfErr result (λ r. Declines (world F.state self.old) r (world F.state self.new)) }
+    {
+        let (change, slot) = self.judge(&command)?;
+        let reply = self.reply_at(&command, &change, slot)?;
+        let answer = reply.copy()?;
+        self.history.reserve(1)?;
+        self.places.reserve(1)?;
+        let number = self.history.len();
+        let at = self.head.image().bytes().len();
+        let limit = self.config.segment as usize;
+        match append_change(&mut self.head, &command, &change, number, limit) {
+            Ok(()) => {}
+            Err(AppendFault::Full) => return Err(Refusal::Full),
+            Err(AppendFault::NoMemory) => return Err(Refusal::NoMemory),
+        }
+        place_change(
+            &mut self.places,
+            &change,
+            slot,
+            at + object_offset(&command, &change),
+        );
+        self.safe = change.safe_after(self.safe);
+        let record = Record {
+            seat,
+            command,
+            reply,
+        };
+        self.history.push(record).unwrap();
+        Ok(StepAnswer::Applied(number as u64, answer))
+    }
+
+    /// What a fault of the fleet answers.
+    fn failed(&mut self, fault: TakeFault) -> Refusal
+        ensures answer { result ≡ refusal_of fault }
+        ensures knows { self.new ≡ record { knows = failed_data self.old.knows fault; fleet = self.old.fleet } }
+    {
+        match fault {
+            TakeFault::NoMemory => Refusal::NoMemory,
+            TakeFault::Spent => Refusal::Spent,
+            TakeFault::Wrong | TakeFault::Fault => {
+                self.is_halted = true;
+                Refusal::Halted
+            }
+        }
+    }
+
+    /// Opens the next replica of the head.
+    fn open_next(&mut self) -> Result<StepAnswer, Refusal>
+        requires running { self.old.knows.is_halted ≡ false }
+        requires waiting { length self.old.knows.head.taken < self.old.knows.head.replicas }
+        ensures accepted { IfOk result (λ a. Accepts (world F.state self.old) Step.Push a (world F.state self.new)) }
+        ensures refused { IfErr result (λ r. Declines (world F.state self.old) r (world F.state self.new)) }
+    {
+        let segment = self.head.id();
+        let backup = home(&self.config, segment, self.head.opened());
+        let op = Op {
+            master: self.config.master,
+            segment,
+            act: Act::Open(self.head.opening()),
+        };
+        match self.fleet.take(backup, &op) {
+            Ok(()) => {
+                self.head.open();
+                Ok(StepAnswer::Opened(backup, segment))
+            }
+            Err(fault) => Err(self.failed(fault)),
+        }
+    }
+
+    /// Hands a replica the unit behind those that it has.
+    fn extend(&mut self, replica: usize) -> Result<StepAnswer, Refusal>
+        requires running { self.old.knows.is_halted ≡ false }
+        requires lagging { IsLagging (length self.old.knows.head.units) self.old.knows.head.taken (Some replica) }
+        ensures accepted { IfOk result (λ a. Accepts (world F.state self.old) Step.Push a (world F.state self.new)) }
+        ensures refused { IfErr result (λ r. Declines (world F.state self.old) r (world F.state self.new)) }
+    {
+        let segment = self.head.id();
+        let units = self.head.units_of(replica);
+        let backup = home(&self.config, segment, replica);
+        let op = Op {
+            master: self.config.master,
+            segment,
+            act: Act::Extend {
+                at: self.head.end_of(units),
+                bytes: self.head.unit_behind(units),
+            },
+        };
+        match self.fleet.take(backup, &op) {
+            Ok(()) => {
+                self.head.extend(replica);
+                Ok(StepAnswer::Extended(backup, segment))
+            }
+            Err(fault) => Err(self.failed(fault)),
+        }
+    }
+
+    /// One op handed to one backup.
+    fn push(&mut self) -> Result<StepAnswer, Refusal>
+        ensures accepted { IfOk result (λ a. Accepts (world F.state self.old) Step.Push a (world F.state self.new)) }
+        ensures refused { IfErr result (λ r. Declines (world F.state self.old) r (world F.state self.new)) }
+    {
+        if self.is_halted {
+            return Err(Refusal::Halted);
+        }
+        if !self.head.is_open() {
+            return self.open_next();
+        }
+        match self.head.lagging() {
+            None => Err(Refusal::Nothing),
+            Some(replica) => self.extend(replica),
+        }
+    }
+
+    /// One step. It makes at most one take.
+    pub fn step(&mut self, step: Step) -> Result<StepAnswer, Refusal>
+        ensures { Steps (world F.state self.old) step result (world F.state self.new) }
+    {
+        match step {
+            Step::Apply(seat, command) => self.apply(seat, command),
+            Step::Push => self.push(),
+        }
+    }
+
+    /// Steps in order, with their answers. Memory for the steps and the answers is taken before the first step.
+    pub fn run(&mut self, steps: &[Step]) -> Result<Vec<Result<StepAnswer, Refusal>>, NoMemory>
+        ensures ran { IfOk result (λ answers. IsRun (world F.state self.old) steps.now answers.items (world F.state self.new)) }
+        ensures refused { OnErr result (world F.state self.new ≡ world F.state self.old) }
+    {
+        let mut answers = Vec::with_capacity(self.alloc, steps.len())?;
+        let own = copies(self.alloc, steps)?;
+        for step in own {
+            let answer = self.step(step);
+            answers.push(answer).unwrap();
+        }
+        Ok(answers)
+    }
+
+    /// How many of the first records are durable: each unit of theirs was taken whole, by takes that answered Ok, by every
+    /// replica of the head.
+    pub fn durable(&self) -> u64 {
+        match self.head.first_missing() {
+            None => self.history.len() as u64,
+            Some(number) => number as u64,
+        }
+    }
+
+    /// The accepted commands, with their replies.
+    pub fn history(&self) -> &[Record]
+        ensures { result.now ≡ self.now.knows.history }
+    {
+        self.history.as_slice()
+    }
+
+    /// What is to be shown. Nothing changes.
+    pub fn look(&self, look: Look) -> Result<Shown, NoMemory>
+        ensures { IfOk result (λ shown. IsShown self.now.knows look shown) }
+    {
+        match look {
+            Look::Image(id) => {
+                if id != self.head.id() {
+                    return Ok(Shown::Image(None));
+                }
+                let bytes = Bytes::from_slice(self.alloc, self.head.image().bytes())?;
+                Ok(Shown::Image(Some(bytes)))
+            }
+        }
+    }
+
+    /// Drops the master. The fleet comes back as it was left.
+    pub fn crash(self) -> F
+        ensures { result ≡ self.fleet }
+    {
+        let Master {
+            alloc: _,
+            config,
+            head,
+            places,
+            safe: _,
+            history,
+            is_halted: _,
+            fleet,
+        } = self;
+        drop(config);
+        drop(head);
+        drop(places);
+        drop(history);
+        fleet
+    }
+}
+
+impl<F: Bench> Master<F> {
+    ghost use Rattle.master.specs.Steps.{limited_world};
+
+    /// Lets the fleet take `n` further ops.
+    pub fn limit(&mut self, n: u64)
+        ensures { world F.Fleet.state self.new ≡ limited_world (world F.Fleet.state self.old) n }
+    {
+        self.fleet.limit(n);
+    }
+}
+
+/// The same steps, in memory of their own.
+fn copies(alloc: Global, steps: &[Step]) -> Result<Vec<Step>, NoMemory>
+    ensures { IfOk result (λ own. own.items ≡ steps.now) }
+{
+    let mut own = Vec::with_capacity(alloc, steps.len())?;
+    for step in steps {
+        own.push(step.copy()?)?;
+    }
+    Ok(own)
+}
+
+/// The backup of a replica of a segment.
+fn home(config: &Config, segment: u64, replica: usize) -> u64
+    requires config { config_fault config.now ≡ None }
+    requires replica { replica < 64 }
+    ensures { result ≡ home config.now segment replica }
+{
+    ((segment % config.backups) * config.step + replica as u64) % config.backups
+}
+
+/// Whether the key and the value of a put are too big for a quarter of a segment of this many bytes.
+fn is_too_big(command: &Command, segment: u64) -> bool {
+    match command {
+        Command::Put(key, value, _) => {
+            let bytes = 50 + 2 * key.bytes.as_slice().len() + value.as_slice().len();
+            bytes as u64 > segment / 4
+        }
+        _ => false,
+    }
+}
+
+/// Keeps the places of the live objects, where the change put a new object at this offset.
+fn place_change(places: &mut Vec<usize>, change: &Change, slot: Option<usize>, at: usize)
+    requires slot { IfSome slot (λ slot. slot < vec_len places.old) }
+    requires room { vec_len places.old < vec_capacity places.old }
+{
+    match change {
+        Change::Nothing => {}
+        Change::Create(_) => places.push(at).unwrap(),
+        Change::Replace(_, _) => {
+            if let Some(slot) = slot {
+                places[slot] = at;
+            }
+        }
+        Change::Delete(_) => {
+            if let Some(slot) = slot {
+                places.swap_remove(slot);
+            }
+        }
+    }
+}
