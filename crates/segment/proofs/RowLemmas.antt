@@ -14,7 +14,7 @@ use Rattle.entry.specs.Text.{text_of, entries_within, entries_in, IsTextOf}
 use Rattle.entry.proofs.FrontLemmas.{Passes-from_none}
 use Rattle.entry.proofs.PrefixFree.{prefix_free}
 use Rattle.entry.proofs.TextLemmas.{spelling-some, length-text_of}
-use Rattle.segment.specs.Bytes.{IsSegmentBytes}
+use Rattle.segment.specs.Bytes.{IsSegmentBytes, standing_at}
 
 -- ---- what stands at the front
 
@@ -149,3 +149,16 @@ pub length-entries_in : (bytes : List ℕ) → IsSegmentBytes bytes → length (
 length-entries_in bytes is =
     let limit = is.limit in
     omega (arith, length-text_of (entries_in bytes), ap (λ (l : List ℕ). length l) is.text.text)
+
+-- ---- what stands at an offset of a text
+
+pub standing_at-front : (bytes : List ℕ) (at : ℕ) (e : Entry) (n : ℕ) → IsSegmentBytes bytes → front_of (take (length bytes - at) (drop at bytes)) ≡ Some (e, n)
+    → Some e ≡ standing_at at (text_of (entries_in bytes))
+standing_at-front bytes at e n is front =
+    let there : front_of (drop at bytes) ≡ Some (e, n) = rw rest_from at front in
+    rw (← is.text.text, there) refl
+
+pub standing_at-fault : (bytes : List ℕ) (at : ℕ) (f : EntryFault) → IsSegmentBytes bytes → first_fault (take (length bytes - at) (drop at bytes)) ≡ Some f → None ≡ standing_at at (text_of (entries_in bytes))
+standing_at-fault bytes at f is fault =
+    let none : front_of (drop at bytes) ≡ None = front_of-fault (drop at bytes) f (rw rest_from at fault) in
+    rw (← is.text.text, none) refl

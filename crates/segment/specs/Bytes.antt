@@ -1,7 +1,14 @@
--- What the bytes of a segment are.
-use Rattle.std.specs.Prelude.{ℕ, ◌≤◌, List, length}
+-- What the bytes of a segment are, and what stands in bytes.
+use Rattle.std.specs.Prelude.{ℕ, ◌≤◌, List, length, drop, Option}
+use Rattle.std.specs.Option.{option_map}
+use Rattle.entry.specs.declared.entry.Entry.{Entry}
+use Rattle.entry.specs.Format.{front_of}
 use Rattle.entry.specs.Text.{IsTextOf, entries_in}
 
 pub record IsSegmentBytes (bytes : List ℕ) : Type 0 where
   pub text : IsTextOf bytes (entries_in bytes)
   pub limit : length bytes ≤ 8388608
+
+-- the entry that stands at an offset
+abbrev pub standing_at : ℕ → List ℕ → Option Entry
+standing_at at bytes = option_map (λ (front : Entry × ℕ). front.0) (front_of (drop at bytes))

@@ -4,6 +4,8 @@ ghost use Rattle.std.specs.Prelude.{◌≡◌, ◌+◌, ◌≤◌, ◌<◌, ◌�
 ghost use Rattle.entry.specs.declared.entry.Entry.{Entry};
 ghost use Rattle.entry.specs.Text.{text_of, IsSegment, ends_with, are_data};
 ghost use Rattle.entry.specs.View.{shown};
+ghost use Rattle.std.specs.Option.{option_map};
+ghost use Rattle.segment.specs.Bytes.{standing_at};
 
 use crate::entries::Entries;
 use crate::fault::AppendFault;
@@ -114,9 +116,11 @@ impl Segment {
         self.view().entries()
     }
 
-    /// The entry that begins at an offset from the first byte. What an offset inside an entry shows is left open.
+    /// The entry that stands at an offset from the first byte.
     pub fn entry_at(&self, at: usize) -> Option<EntryRef<'_>>
-        ensures { (before after : List Entry) (entry : Entry) → self.entry.now ≡ before ++ entry ∷ after → at ≡ length (text_of before) →
+        ensures standing { option_map shown result ≡ standing_at at (text_of self.entry.now) }
+        // Each entry of the segment is found where it begins.
+        ensures found { (before after : List Entry) (entry : Entry) → self.entry.now ≡ before ++ entry ∷ after → at ≡ length (text_of before) →
             IsSomeAnd result (λ found. shown found ≡ entry) }
     {
         self.view().entry_at(at)

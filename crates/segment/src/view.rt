@@ -5,7 +5,7 @@ ghost use Rattle.std.specs.Option.{option_map};
 ghost use Rattle.entry.specs.declared.entry.Entry.{Entry};
 ghost use Rattle.entry.specs.View.{shown, shown_ids};
 ghost use Rattle.entry.specs.Text.{text_of, Opening, opening_of, header_of, IsSegment, IsTextOf};
-ghost use Rattle.segment.specs.Bytes.{IsSegmentBytes};
+ghost use Rattle.segment.specs.Bytes.{IsSegmentBytes, standing_at};
 ghost use Rattle.segment.specs.Faults.{IsFault};
 ghost use Rattle.segment.specs.Props.{IsSegmentBytes-prop};
 
@@ -96,9 +96,11 @@ impl<'a> SegmentRef<'a> {
         Entries { rest: self.bytes }
     }
 
-    /// The entry that begins at an offset from the first byte. What an offset inside an entry shows is left open.
+    /// The entry that stands at an offset from the first byte.
     pub fn entry_at(&self, at: usize) -> Option<EntryRef<'a>>
-        ensures { (before after : List Entry) (entry : Entry) → entries_of self.entry.now ≡ before ++ entry ∷ after → at ≡ length (text_of before) →
+        ensures standing { option_map shown result ≡ standing_at at (text_of (entries_of self.entry.now)) }
+        // Each entry of the segment is found where it begins.
+        ensures found { (before after : List Entry) (entry : Entry) → entries_of self.entry.now ≡ before ++ entry ∷ after → at ≡ length (text_of before) →
             IsSomeAnd result (λ found. shown found ≡ entry) }
     {
         if at > self.bytes.len() {

@@ -1,0 +1,166 @@
+-- Preferred replicas of growing lists.
+use Rattle.std.proofs.Common.{◌≡◌, ℕ, ◌<◌, inl, inr, Bool, true, false, cond, List, [], ◌∷◌, ◌++◌, refl, sym, ap, subst, ◌∙◌, arith, append_assoc, take, get_or, ◌+◌, ⊎_elim}
+use Rattle.std.specs.Prelude.{Option, Some, None, nat_lt, ◌==◌, ◌&&◌, ◌||◌, ◌⊎◌, length}
+use Rattle.std.proofs.lemmas.Bool.Decides.{nat_tests}
+use Rattle.std.proofs.lemmas.Bool.{cases_eq}
+use Rattle.std.proofs.lemmas.Grind.{take_at_read}
+use Rattle.std.specs.Option.{option_copied}
+use Rattle.std.specs.Ordering.{nat_cmp}
+use Rattle.std.specs.BTreeMap.{is_at}
+use Rattle.std.specs.Borrow.{Bor}
+use Rattle.entry.specs.Bag.{IsAmong}
+use Rattle.replica.specs.declared.holding.Holding.{Holding}
+use Rattle.recovery_plan.specs.Good.{IsReplicaOf}
+use Rattle.recovery_plan.specs.Preferred.{is_preferred, better, IsPreferred, IsBest}
+
+-- ---- membership
+
+pub among-append : {X : Type 0} (x : X) (xs ys : List X) → IsAmong x (xs ++ ys) → IsAmong x xs ⊎ IsAmong x ys
+among-append x [] ys i = inr i
+among-append x (y ∷ xs) ys (inl e) = inl (inl e)
+among-append x (y ∷ xs) ys (inr i) = ⊎_elim (λ a. inl (inr a)) (λ b. inr b) (among-append x xs ys i)
+
+pub among-left : {X : Type 0} (x : X) (xs ys : List X) → IsAmong x xs → IsAmong x (xs ++ ys)
+among-left x [] ys i = absurd i
+among-left x (y ∷ xs) ys (inl e) = inl e
+among-left x (y ∷ xs) ys (inr i) = inr (among-left x xs ys i)
+
+pub among-right : {X : Type 0} (x : X) (xs ys : List X) → IsAmong x ys → IsAmong x (xs ++ ys)
+among-right x [] ys i = i
+among-right x (y ∷ xs) ys i = inr (among-right x xs ys i)
+
+-- ---- the order of preference
+
+-- lengths and backups, compared as the preference compares replicas
+module _ where
+  abbrev longer : ℕ → ℕ → ℕ → ℕ → Bool
+  longer k b l c = nat_lt l k || ((k == l) && nat_lt b c)
+
+  longer-asym : (k b l c : ℕ) → longer k b l c ≡ true → longer l c k b ≡ false
+  longer-asym k b l c e = grind (arith, nat_tests)
+
+  longer-weak : (k b l c m d : ℕ) → longer k b l c ≡ true → longer m d l c ≡ false → longer k b m d ≡ true
+  longer-weak k b l c m d e f = grind (arith, nat_tests)
+
+  backup-asym : (b c : ℕ) → nat_lt b c ≡ true → nat_lt c b ≡ false
+  backup-asym b c e = grind (arith, nat_tests)
+
+  backup-weak : (b c d : ℕ) → nat_lt b c ≡ true → nat_lt d c ≡ false → nat_lt b d ≡ true
+  backup-weak b c d e f = grind (arith, nat_tests)
+
+  abbrev prefers : Bool → ℕ → ℕ → Bool → ℕ → ℕ → Bool
+  prefers x k b y l c = cond x (y && longer k b l c) (y || nat_lt b c)
+
+  prefers-asym : (x : Bool) (k b : ℕ) (y : Bool) (l c : ℕ) → prefers x k b y l c ≡ true → prefers y l c x k b ≡ false
+  prefers-asym true k b true l c e = longer-asym k b l c e
+  prefers-asym true k b false l c e = absurd (cc)
+  prefers-asym false k b true l c e = refl
+  prefers-asym false k b false l c e = backup-asym b c e
+
+  prefers-weak : (x : Bool) (k b : ℕ) (y : Bool) (l c : ℕ) (z : Bool) (m d : ℕ) → prefers x k b y l c ≡ true → prefers z m d y l c ≡ false → prefers x k b z m d ≡ true
+  prefers-weak true k b true l c true m d e f = longer-weak k b l c m d e f
+  prefers-weak true k b true l c false m d e f = absurd (cc)
+  prefers-weak true k b false l c z m d e f = absurd (cc)
+  prefers-weak false k b true l c true m d e f = refl
+  prefers-weak false k b true l c false m d e f = absurd (cc)
+  prefers-weak false k b false l c true m d e f = refl
+  prefers-weak false k b false l c false m d e f = backup-weak b c d e f
+
+preferred-asym : (a b : Holding) → is_preferred a b ≡ true → is_preferred b a ≡ false
+preferred-asym a b e = prefers-asym a.is_open (length a.bytes) a.backup b.is_open (length b.bytes) b.backup e
+
+preferred-weak : (a b c : Holding) → is_preferred a b ≡ true → is_preferred c b ≡ false → is_preferred a c ≡ true
+preferred-weak a b c e f = prefers-weak a.is_open (length a.bytes) a.backup b.is_open (length b.bytes) b.backup c.is_open (length c.bytes) c.backup e f
+
+-- ---- one more replica
+
+module _ (P : Holding → Type 0) where
+  -- one that is no candidate changes nothing
+  pub best-skip : (hs : List Holding) (h : Holding) (o : Option Holding) → (P h → ⊥) → IsBest P hs o → IsBest P (hs ++ h ∷ []) o
+  best-skip hs h None not best = λ g i p. ⊎_elim (λ a. best g a p) (λ b. ⊎_elim (λ e. not (subst P (sym e) p)) (λ n. n) b) (among-append g hs (h ∷ []) i)
+  best-skip hs h (Some b) not best = record {
+    before = best.before;
+    after = best.after ++ h ∷ [];
+    place = ap (λ (l : List Holding). l ++ h ∷ []) best.place ∙ append_assoc best.before (b ∷ best.after) (h ∷ []);
+    candidate = best.candidate;
+    earlier = best.earlier;
+    later = λ g i p. ⊎_elim (λ a. best.later g a p) (λ r. ⊎_elim (λ e. absurd (not (subst P (sym e) p))) (λ n. absurd n) r) (among-append g best.after (h ∷ []) i);
+  }
+
+  -- a candidate that isn't preferred changes nothing
+  kept : (hs : List Holding) (h b : Holding) → is_preferred h b ≡ false → IsPreferred P hs b → IsPreferred P (hs ++ h ∷ []) b
+  kept hs h b not best = record {
+    before = best.before;
+    after = best.after ++ h ∷ [];
+    place = ap (λ (l : List Holding). l ++ h ∷ []) best.place ∙ append_assoc best.before (b ∷ best.after) (h ∷ []);
+    candidate = best.candidate;
+    earlier = best.earlier;
+    later = λ g i p. ⊎_elim (λ a. best.later g a p) (λ r. ⊎_elim (λ e. ap (λ x. is_preferred x b) (sym e) ∙ not) (λ n. absurd n) r) (among-append g best.after (h ∷ []) i);
+  }
+
+  -- one that is preferred is preferred to all before it
+  replaced : (hs : List Holding) (h b : Holding) → P h → is_preferred h b ≡ true → IsPreferred P hs b → IsPreferred P (hs ++ h ∷ []) h
+  replaced hs h b p is best = record {
+    before = hs;
+    after = [];
+    place = refl;
+    candidate = p;
+    earlier = λ g i q.
+        ⊎_elim
+        (λ a. preferred-weak h b g is (preferred-asym b g (best.earlier g a q)))
+        (λ r. ⊎_elim (λ e. subst (λ x. is_preferred h x ≡ true) e is) (λ a. preferred-weak h b g is (best.later g a q)) r)
+        (among-append g best.before (b ∷ best.after) (subst (IsAmong g) best.place i));
+    later = λ g i q. absurd i;
+  }
+
+  pub best-more : (hs : List Holding) (h : Holding) (o : Option Holding) → P h → IsBest P hs o → IsBest P (hs ++ h ∷ []) (Some (better o h))
+  best-more hs h None p best = record {
+    before = hs;
+    after = [];
+    place = refl;
+    candidate = p;
+    earlier = λ g i q. absurd (best g i q);
+    later = λ g i q. absurd i;
+  }
+  best-more hs h (Some b) p best = chosen (is_preferred h b) refl
+    where
+      chosen : (t : Bool) → is_preferred h b ≡ t → IsPreferred P (hs ++ h ∷ []) (cond t h b)
+      chosen true is = replaced hs h b p is best
+      chosen false is = kept hs h b is best
+
+-- ---- lists that a loop goes over
+
+-- an element joins those before it
+pub take-more : {X : Type 0} (xs : List X) (i : ℕ) (x : X) → i < length xs → x ≡ get_or xs i x → take (i + 1) xs ≡ take i xs ++ x ∷ []
+take-more xs i x lt is = (take_at_read xs i x lt).1 ∙ ap (λ y. take i xs ++ y ∷ []) (sym is)
+
+-- ---- the best of each segment
+
+same_key : (s q : ℕ) → q ≡ s → is_at (nat_cmp s) q ≡ true
+same_key s q e = grind (arith, nat_tests)
+
+other_key : (s q : ℕ) → (q ≡ s → ⊥) → is_at (nat_cmp s) q ≡ false
+other_key s q n = grind (arith, nat_tests)
+
+-- one more replica, put at its segment
+pub bests-more : (hs : List Holding) (h : Holding) (m : ℕ) (old new : ℕ → Option (Bor Holding)) (v : Bor Holding) → h.master ≡ m →
+    ((q : ℕ) → new q ≡ cond (is_at (nat_cmp h.segment) q) (Some v) (old q)) → v.now ≡ better (option_copied (old h.segment)) h →
+    ((id : ℕ) → IsBest (IsReplicaOf m id) hs (option_copied (old id))) → (id : ℕ) → IsBest (IsReplicaOf m id) (hs ++ h ∷ []) (option_copied (new id))
+bests-more hs h m old new v master put is best id = ⊎_elim same other (cases_eq id h.segment)
+  where
+    same : id ≡ h.segment → IsBest (IsReplicaOf m id) (hs ++ h ∷ []) (option_copied (new id))
+    same e =
+        let at : new id ≡ Some v = put id ∙ ap (λ t. cond t (Some v) (old id)) (same_key h.segment id e) in
+        let now : option_copied (new id) ≡ Some (better (option_copied (old id)) h) =
+        ap option_copied at ∙ ap Some is ∙ ap (λ k. Some (better (option_copied (old k)) h)) (sym e) in
+        subst (IsBest (IsReplicaOf m id) (hs ++ h ∷ [])) (sym now) (best-more (IsReplicaOf m id) hs h (option_copied (old id)) (master, sym e) (best id))
+
+    other : (id ≡ h.segment → ⊥) → IsBest (IsReplicaOf m id) (hs ++ h ∷ []) (option_copied (new id))
+    other n =
+        let at : new id ≡ old id = put id ∙ ap (λ t. cond t (Some v) (old id)) (other_key h.segment id n) in
+        subst (λ o. IsBest (IsReplicaOf m id) (hs ++ h ∷ []) (option_copied o)) (sym at) (best-skip (IsReplicaOf m id) hs h (option_copied (old id)) (λ p. n (sym p.1)) (best id))
+
+-- a replica of another master changes nothing
+pub bests-skip : (hs : List Holding) (h : Holding) (m : ℕ) (old : ℕ → Option (Bor Holding)) → (h.master ≡ m → ⊥) →
+    ((id : ℕ) → IsBest (IsReplicaOf m id) hs (option_copied (old id))) → (id : ℕ) → IsBest (IsReplicaOf m id) (hs ++ h ∷ []) (option_copied (old id))
+bests-skip hs h m old n best id = best-skip (IsReplicaOf m id) hs h (option_copied (old id)) (λ p. n p.0) (best id)

@@ -1,0 +1,6 @@
+pub mod Bests
+pub mod Digests
+pub mod Heads
+pub mod Lookups
+pub mod Losses
+pub mod Plans

@@ -1,0 +1,43 @@
+use Rattle.std.proofs.Common.{◌≡◌, ◌-◌, ◌++◌, ◌∷◌, [], take, length, refl, ◌∙◌, arith}
+use Rattle.std.proofs.lemmas.Grind.{common_steps}
+use Rattle.std.specs.Ordering.{nat_cmp}
+use Rattle.std.specs.BTreeMap.{get}
+use Rattle.entry.specs.Text.{Opening}
+use Rattle.entry.specs.View.{shown_ids}
+use Rattle.recovery_plan.proofs.Digests.{digest-of, ends-some}
+use Rattle.recovery_plan.proofs.Plans.{taken-good, found-taken, lack-later, chosen-good, found-plan}
+use Rattle.recovery_plan.proofs.planning.plan_from.Goals as goal
+
+pub opening-safe-requires-clause-good : goal.opening-safe-requires-clause-good
+opening-safe-requires-clause-good c = taken-good c.args.holdings.now c.args.master c.args.head.now c.requires
+
+pub others-requires : goal.others-requires
+others-requires c =
+    let head = c.args.head.now in
+    let o : Opening = record { ids = shown_ids c.opening-safe.result.0; safe = c.opening-safe.result.1 } in
+    let good = taken-good c.args.holdings.now c.args.master head c.requires in
+    ends-some head.segment o.ids (digest-of head o good c.opening-safe.ensures).ends
+
+pub returns-in-Err-clause-fault : goal.returns-in-Err-clause-fault
+returns-in-Err-clause-fault c =
+    let o : Opening = record { ids = shown_ids c.opening-safe.result.0; safe = c.opening-safe.result.1 } in
+    lack-later c.args.holdings.now c.args.master (get nat_cmp c.in_ok-best.best) c.in_ok-best.ensures c.args.head.now o c.in-Err.fault c.requires c.opening-safe.ensures
+    c.in-Err.ensures.fault
+
+pub copies-requires : goal.copies-requires
+copies-requires c =
+    let ids = shown_ids c.opening-safe.result.0 in
+    let pushed : c.push.new.self.items ≡ c.in-Ok.others.items ++ c.args.head ∷ [] = grind (arith, common_steps) in
+    let all =
+    found-taken c.args.holdings.now c.args.master (get nat_cmp c.in_ok-best.best) c.in_ok-best.ensures (take (length ids - 1) ids) c.in-Ok.others.items
+    c.in-Ok.ensures.found in
+    chosen-good c.args.holdings.now c.args.master c.args.head.now c.in-Ok.others.items c.deref.result.now c.args.head c.requires all refl (c.deref.ensures.value ∙ pushed)
+
+pub returns-clause-ok : goal.returns-clause-ok
+returns-clause-ok c =
+    let o : Opening = record { ids = shown_ids c.opening-safe.result.0; safe = c.opening-safe.result.1 } in
+    let pushed : c.push.new.self.items ≡ c.in-Ok.others.items ++ c.args.head ∷ [] = grind (arith, common_steps) in (
+      _,
+      found-plan c.args.holdings.now c.args.master c.args.head.now o (get nat_cmp c.in_ok-best.best) c.in-Ok.others.items c.deref.result.now c.args.head _
+          c.requires c.opening-safe.ensures c.in_ok-best.ensures c.in-Ok.ensures.found refl (c.deref.ensures.value ∙ pushed) c.in_ok-segments.ensures refl,
+    )

@@ -1,0 +1,4 @@
+pub mod Good
+pub mod Preferred
+pub mod Looked
+pub mod Planned

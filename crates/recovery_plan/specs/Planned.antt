@@ -1,0 +1,112 @@
+-- What a plan is, and why there may be none.
+use Rattle.std.specs.Prelude.{◌≡◌, ℕ, ◌<◌, List, [], ◌∷◌, ◌++◌, map, Some}
+use Rattle.std.specs.List.{AllByRecursion}
+use Rattle.entry.specs.Bag.{IsAmong}
+use Rattle.entry.specs.Text.{Opening, entries_in, opening_in}
+use Rattle.replica.specs.declared.holding.Holding.{Holding}
+use Rattle.replica.specs.Choice.{Choice, IsChoice}
+use Rattle.recovery_plan.specs.declared.chosen.Plan.{Plan}
+use Rattle.recovery_plan.specs.declared.fault.PlanFault.{PlanFault}
+use Rattle.recovery_plan.specs.declared.fault.PlanFault.TheVariants.{NoHead, HeadClosed, Missing, BadReplica, NoMemory}
+use Rattle.recovery_plan.specs.Good.{IsGood, AreGood, IsHead, IsOpenHead, IsReplicaOf, IsNewest}
+use Rattle.recovery_plan.specs.Preferred.{IsPreferred}
+
+-- ---- a plan
+
+-- a choice of the master's newest log from these replicas
+abbrev pub IsChoiceOf : List Holding → ℕ → Choice → Type 0
+IsChoiceOf hs master c = IsChoice (λ (h : Holding). IsAmong h hs) master c
+
+-- The plan has the segments of a choice, in the digest's order, and no other. Each is read from its preferred replica.
+pub record IsPlanOf (hs : List Holding) (master : ℕ) (c : Choice) (p : Plan) : Type 0 where
+  pub choice : IsChoiceOf hs master c
+  pub good : AreGood master hs
+  pub head : IsPreferred (IsOpenHead master c.head.segment) hs c.head
+  pub others : AllByRecursion (λ (h : Holding). IsPreferred (IsReplicaOf master h.segment) hs h) c.others
+  pub segments : p.segments ≡ map (λ (h : Holding). entries_in h.bytes) (c.others ++ c.head ∷ [])
+  pub safe : p.safe ≡ c.opening.safe
+
+-- ---- a fault
+
+-- the first bad replica of the master is of this segment, on this backup
+pub record IsFirstBad (hs : List Holding) (master backup id : ℕ) : Type 0 where
+  pub before : List Holding
+  pub bad : Holding
+  pub after : List Holding
+  pub place : hs ≡ before ++ bad ∷ after
+  pub of_master : bad.master ≡ master
+  pub on_backup : bad.backup ≡ backup
+  pub of_segment : bad.segment ≡ id
+  pub is_bad : IsGood bad → ⊥
+  pub good_before : AreGood master before
+
+-- the fault of a bad replica
+abbrev pub IsBadFault : List Holding → ℕ → PlanFault → Type 0
+IsBadFault hs master (BadReplica backup id) = IsFirstBad hs master backup id
+IsBadFault hs master _ = ⊥
+
+-- all replicas are well, and none bears a digest
+pub record HasNoHead (hs : List Holding) (master : ℕ) : Type 0 where
+  pub good : AreGood master hs
+  pub no_head : (h : Holding) → IsAmong h hs → IsHead master h → ⊥
+
+-- all replicas are well, and none of the newest head is open
+pub record IsHeadClosed (hs : List Holding) (master id : ℕ) : Type 0 where
+  pub good : AreGood master hs
+  pub newest : IsNewest master hs id
+  pub closed : (h : Holding) → IsAmong h hs → IsOpenHead master id h → ⊥
+
+-- all replicas are well, and this one of the newest head is taken
+pub record IsHeadTaken (hs : List Holding) (master : ℕ) (head : Holding) : Type 0 where
+  pub good : AreGood master hs
+  pub newest : IsNewest master hs head.segment
+  pub preferred : IsPreferred (IsOpenHead master head.segment) hs head
+
+-- no replica of the segment is there
+abbrev pub IsLost : List Holding → ℕ → ℕ → Type 0
+IsLost hs master id = (h : Holding) → IsAmong h hs → IsReplicaOf master id h → ⊥
+
+-- some replica of the segment is there
+abbrev pub IsHere : List Holding → ℕ → ℕ → Type 0
+IsHere hs master id = (h : Holding) × IsAmong h hs × IsReplicaOf master id h
+
+-- the digest of the head that is taken lists the segment, which is lost; none of those below it is
+pub record IsMissing (hs : List Holding) (master id : ℕ) : Type 0 where
+  pub head : Holding
+  pub taken : IsHeadTaken hs master head
+  pub opening : Opening
+  pub opened : opening_in head.bytes ≡ Some opening
+  pub listed : IsAmong id opening.ids
+  pub lost : IsLost hs master id
+  pub lowest : (n : ℕ) → IsAmong n opening.ids → n < id → IsHere hs master n
+
+-- what each fault says of the replicas, in the order of the tests
+abbrev pub IsFault : List Holding → ℕ → PlanFault → Type 0
+IsFault hs master (BadReplica backup id) = IsFirstBad hs master backup id
+IsFault hs master NoHead = HasNoHead hs master
+IsFault hs master (HeadClosed id) = IsHeadClosed hs master id
+IsFault hs master (Missing id) = IsMissing hs master id
+IsFault hs master NoMemory = (head : Holding) × IsHeadTaken hs master head
+
+-- a fault that may come once it is known which head is taken
+abbrev pub IsLaterFault : List Holding → ℕ → PlanFault → Type 0
+IsLaterFault hs master (Missing id) = IsMissing hs master id
+IsLaterFault hs master NoMemory = Unit {0}
+IsLaterFault hs master _ = ⊥
+
+-- ---- what a fault means
+
+-- the open replicas of the newest head bear one digest
+abbrev pub AgreeOnDigest : List Holding → ℕ → Type 0
+AgreeOnDigest hs master = (id : ℕ) (g h : Holding) (o q : Opening) → IsNewest master hs id → IsAmong g hs → IsAmong h hs →
+    IsOpenHead master id g → IsOpenHead master id h → opening_in g.bytes ≡ Some o → opening_in h.bytes ≡ Some q → o.ids ≡ q.ids
+
+-- Where the master's replicas are well, a loss is named only where there is no choice: at once for a lost head; for a lost
+-- segment no choice takes a head whose digest lists it, so there is none where the open heads agree.
+abbrev pub NamesLoss : List Holding → ℕ → PlanFault → Type 0
+NamesLoss hs master NoHead = (c : Choice) → IsChoiceOf hs master c → ⊥
+NamesLoss hs master (HeadClosed id) = (c : Choice) → IsChoiceOf hs master c → ⊥
+NamesLoss hs master (Missing id) = ((c : Choice) → IsChoiceOf hs master c → IsAmong id c.opening.ids → ⊥)
+    × (AgreeOnDigest hs master → (c : Choice) → IsChoiceOf hs master c → ⊥)
+NamesLoss hs master (BadReplica backup id) = Unit {0}
+NamesLoss hs master NoMemory = Unit {0}

@@ -1,0 +1,22 @@
+//! Which replicas a recovery reads: the newest log among an inventory, or the loss that hides it.
+//!
+//! The layer above uses `plan` alone. With Ok the plan is a choice of the newest log, which takes the preferred replica of
+//! each segment (`IsPlanOf`). A fault stands in the inventory (`IsFault`), and where it names a loss there is nothing to
+//! choose (`NamesLoss`). The crate stands on `segment`, which reads replicas, and on `replica`, which says what a choice
+//! is.
+#![tactic(auto)]
+
+mod chosen;
+mod fault;
+mod finding;
+mod listed;
+mod planning;
+mod preferred;
+mod reading;
+
+pub use chosen::{Plan, Segments};
+pub use fault::PlanFault;
+pub use planning::plan;
+
+#[cfg(test)]
+mod tests;

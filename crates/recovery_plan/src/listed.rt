@@ -1,0 +1,34 @@
+//! The replicas of the segments that a digest lists.
+
+ghost use Rattle.std.specs.Prelude.{◌≡◌, ◌-◌, ◌<◌, length, take, IfOk, IfErr};
+ghost use Rattle.std.specs.Ordering.{nat_cmp};
+ghost use Rattle.std.specs.BTreeMap.{get};
+ghost use Rattle.entry.specs.View.{shown_ids};
+ghost use Rattle.recovery_plan.specs.Looked.{AreFound, IsLack};
+
+use crate::fault::PlanFault;
+use entry::DigestRef;
+use replica::Holding;
+use std::alloc::Global;
+use std::collections::BTreeMap;
+
+/// The best replica of each id of a digest but the last, which is the head's own.
+pub(crate) fn others<'a>(
+    alloc: Global,
+    best: &BTreeMap<u64, &'a Holding>,
+    digest: &DigestRef<'_>,
+) -> Result<Vec<&'a Holding>, PlanFault>
+    requires { 0 < length (shown_ids digest.now) }
+    ensures found { IfOk result (λ others. AreFound (get nat_cmp best.now) (take (length (shown_ids digest.now) - 1) (shown_ids digest.now)) others.items) }
+    ensures fault { IfErr result (λ fault. IsLack (get nat_cmp best.now) (shown_ids digest.now) fault) }
+{
+    let mut others: Vec<&'a Holding> = Vec::new(alloc);
+    for place in 0..digest.len() - 1 {
+        let id = digest.id(place);
+        match best.get(&id) {
+            Some(holding) => others.push(*holding)?,
+            None => return Err(PlanFault::Missing(id)),
+        }
+    }
+    Ok(others)
+}

@@ -1,0 +1,57 @@
+//! The plan of a recovery.
+
+ghost use Rattle.std.specs.Prelude.{◌≡◌, ℕ, IfOk, IfErr};
+ghost use Rattle.replica.specs.Choice.{Choice};
+ghost use Rattle.replica.specs.declared.holding.Holding.{Holding};
+ghost use Rattle.recovery_plan.specs.Planned.{IsPlanOf, IsHeadTaken, IsFault, IsLaterFault, NamesLoss};
+
+use crate::chosen::Plan;
+use crate::fault::PlanFault;
+use crate::finding::{newest_head, open_head};
+use crate::listed::others;
+use crate::preferred::best_replicas;
+use crate::reading::{copies, opening};
+use replica::{Holding, Inventory};
+use std::alloc::Global;
+
+// The plan, once it is known which replica of the head is taken.
+fn plan_from(
+    alloc: Global,
+    holdings: &[Holding],
+    master: u64,
+    head: &Holding,
+) -> Result<Plan, PlanFault>
+    requires { IsHeadTaken holdings.now master head.now }
+    ensures ok { IfOk result (λ plan. (c : Choice) × IsPlanOf holdings.now master c plan) }
+    ensures fault { IfErr result (λ fault. IsLaterFault holdings.now master fault) }
+{
+    let (digest, safe) = opening(head);
+    let best = best_replicas(alloc, holdings, master)?;
+    let mut chosen = match others(alloc, &best, &digest) {
+        Ok(others) => others,
+        Err(fault) => return Err(fault),
+    };
+    chosen.push(head)?;
+    let segments = copies(alloc, &chosen)?;
+    Ok(Plan { segments, safe })
+}
+
+/// The segments of the newest log that the inventory shows of a master. Of the newest head the longest open replica is
+/// taken; of another segment a closed one, else the longest open one; ties go to the lowest backup, then to the first.
+pub fn plan(alloc: Global, inventory: &Inventory, master: u64) -> Result<Plan, PlanFault>
+    // The plan is a choice of the newest log, and takes the preferred replicas.
+    ensures ok { IfOk result (λ plan. (c : Choice) × IsPlanOf inventory.now master c plan) }
+    // A fault stands in the inventory: it is the first that the tests find.
+    ensures fault { IfErr result (λ fault. IsFault inventory.now master fault) }
+    // A loss is named only where there is nothing to choose.
+    ensures loss { IfErr result (λ fault. NamesLoss inventory.now master fault) }
+{
+    let holdings = inventory.as_slice();
+    let Some(id) = newest_head(holdings, master)? else {
+        return Err(PlanFault::NoHead);
+    };
+    let Some(head) = open_head(holdings, master, id) else {
+        return Err(PlanFault::HeadClosed(id));
+    };
+    plan_from(alloc, holdings, master, head)
+}

@@ -1,0 +1,60 @@
+//! Which replica of a segment is taken.
+
+ghost use Rattle.std.specs.Prelude.{◌≡◌, ◌==◌, ◌&&◌, ◌||◌, ℕ, nat_lt, length, IfOk};
+ghost use Rattle.std.specs.Option.{option_copied};
+ghost use Rattle.std.specs.Ordering.{nat_cmp};
+ghost use Rattle.std.specs.BTreeMap.{get};
+ghost use Rattle.recovery_plan.specs.Good.{IsReplicaOf};
+ghost use Rattle.recovery_plan.specs.Preferred.{is_longer, is_preferred, better, IsBest};
+
+use replica::Holding;
+use std::alloc::{AllocError, Global};
+use std::collections::BTreeMap;
+
+// Whether the first is longer, or as long and on a lower backup.
+fn longer(a: &Holding, b: &Holding) -> bool
+    ensures { result ≡ is_longer a.now b.now }
+{
+    let a_len = a.bytes.as_slice().len();
+    let b_len = b.bytes.as_slice().len();
+    b_len < a_len || (a_len == b_len && a.backup < b.backup)
+}
+
+// Whether the first is preferred to the second.
+fn prefers(a: &Holding, b: &Holding) -> bool
+    ensures { result ≡ is_preferred a.now b.now }
+{
+    if a.is_open {
+        b.is_open && longer(a, b)
+    } else {
+        b.is_open || a.backup < b.backup
+    }
+}
+
+// The later replica where it is preferred to the best before it, and else that one.
+pub(crate) fn better_of<'a>(best: Option<&'a Holding>, later: &'a Holding) -> &'a Holding
+    ensures { result.now ≡ better (option_copied best.entry) later.entry.now }
+{
+    match best {
+        Some(best) if !prefers(later, best) => best,
+        _ => later,
+    }
+}
+
+/// The preferred replica of each segment of a master.
+pub(crate) fn best_replicas<'a>(
+    alloc: Global,
+    holdings: &'a [Holding],
+    master: u64,
+) -> Result<BTreeMap<u64, &'a Holding>, AllocError>
+    ensures { IfOk result (λ best. (id : ℕ) → IsBest (IsReplicaOf master id) holdings.entry.now (option_copied (get nat_cmp best id))) }
+{
+    let mut best: BTreeMap<u64, &'a Holding> = BTreeMap::new(alloc);
+    for holding in holdings {
+        if holding.master == master {
+            let known = best.get(&holding.segment).copied();
+            best.insert(holding.segment, better_of(known, holding))?;
+        }
+    }
+    Ok(best)
+}

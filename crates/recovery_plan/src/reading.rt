@@ -1,0 +1,78 @@
+//! Reading replicas.
+
+ghost use Rattle.std.specs.Prelude.{◌≡◌, Some, List, map, length, IfSome, IfNone, IfOk, IsSome, is_some};
+ghost use Rattle.std.specs.Option.{option_map};
+ghost use Rattle.std.specs.List.{AllByRecursion};
+ghost use Rattle.entry.specs.View.{shown_ids};
+ghost use Rattle.entry.specs.Text.{Opening, entries_in, opening_in};
+ghost use Rattle.segment.specs.View.{entries_of};
+ghost use Rattle.replica.specs.declared.holding.Holding.{Holding};
+ghost use Rattle.recovery_plan.specs.Good.{IsGood};
+ghost use Rattle.recovery_plan.specs.Looked.{lent};
+
+use crate::chosen::Segments;
+use entry::{DigestRef, SafeVersion};
+use replica::Holding;
+use segment::SegmentRef;
+use std::alloc::{AllocError, Global};
+
+/// The segment of a replica, where that is well.
+pub(crate) fn segment_in<'a>(holding: &'a Holding) -> Option<SegmentRef<'a>>
+    ensures good { IfSome result (λ segment. IsGood holding.entry.now) }
+    ensures entries { IfSome result (λ segment. entries_of segment ≡ entries_in holding.entry.now.bytes) }
+    ensures bad { IfNone result (IsGood holding.entry.now → ⊥) }
+{
+    match SegmentRef::read(holding.bytes.as_slice()) {
+        Ok(segment) => {
+            let header = segment.header();
+            if header.master == holding.master && header.segment == holding.segment {
+                Some(segment)
+            } else {
+                None
+            }
+        }
+        Err(_) => None,
+    }
+}
+
+/// Whether a replica bears a digest; None where it isn't well.
+pub(crate) fn bears_digest(holding: &Holding) -> Option<bool>
+    ensures good { IfSome result (λ bears. IsGood holding.now) }
+    ensures bears { IfSome result (λ bears. bears ≡ is_some (opening_in holding.now.bytes)) }
+    ensures bad { IfNone result (IsGood holding.now → ⊥) }
+{
+    match segment_in(holding) {
+        Some(segment) => Some(segment.digest().is_some()),
+        None => None,
+    }
+}
+
+/// The digest and the safe version of a head.
+pub(crate) fn opening<'a>(head: &'a Holding) -> (DigestRef<'a>, SafeVersion)
+    requires good { IsGood head.now }
+    requires opening { IsSome (opening_in head.now.bytes) }
+    ensures { opening_in head.entry.now.bytes ≡ Some (record { ids = shown_ids result.0; safe = result.1 }) }
+{
+    let Some(segment) = segment_in(head) else {
+        unreachable!()
+    };
+    let (Some(digest), Some(safe)) = (segment.digest(), segment.safe()) else {
+        unreachable!()
+    };
+    (digest, safe)
+}
+
+/// Copies of the segments of replicas that are well.
+pub(crate) fn copies(alloc: Global, chosen: &[&Holding]) -> Result<Segments, AllocError>
+    requires { AllByRecursion IsGood (lent chosen.now) }
+    ensures { IfOk result (λ segments. segments ≡ map (λ (h : Holding). entries_in h.bytes) (lent chosen.now)) }
+{
+    let mut segments = Vec::new(alloc);
+    for holding in chosen {
+        let Some(segment) = segment_in(holding) else {
+            unreachable!()
+        };
+        segments.push(segment.to_segment(alloc)?)?;
+    }
+    Ok(Segments::new(segments))
+}

@@ -1,0 +1,42 @@
+-- The claims of segments, one segment after the other.
+use Rattle.std.proofs.Common.{◌≡◌, ℕ, ◌+◌, ◌<◌, List, [], ◌∷◌, ◌++◌, length, drop, get_or, refl, sym, ap, ◌∙◌, append_assoc}
+use Rattle.std.specs.Prelude.{filter}
+use Rattle.std.proofs.lemmas.List.{append-nil, at_drop_more}
+use Rattle.entry.specs.declared.entry.Entry.{Entry}
+use Rattle.entry.specs.declared.entry.Entry.TheVariants as entry
+use Rattle.entry.specs.Text.{is_data}
+use Rattle.replay.specs.Bags.{bag_of}
+use Rattle.replay.specs.Claims.{Claimed, claims_of}
+
+pub claims_of-append : (es fs : List Entry) → claims_of (es ++ fs) ≡ claims_of es ++ claims_of fs
+claims_of-append [] fs = refl
+claims_of-append (entry.Header h ∷ es) fs = claims_of-append es fs
+claims_of-append (entry.Digest ids ∷ es) fs = claims_of-append es fs
+claims_of-append (entry.Safe version ∷ es) fs = claims_of-append es fs
+claims_of-append (entry.Object o ∷ es) fs = (let rest = claims_of-append es fs in cc)
+claims_of-append (entry.Tombstone t ∷ es) fs = (let rest = claims_of-append es fs in cc)
+
+pub claims_of-data : (es : List Entry) → claims_of (filter is_data es) ≡ claims_of es
+claims_of-data [] = refl
+claims_of-data (entry.Header h ∷ es) = claims_of-data es
+claims_of-data (entry.Digest ids ∷ es) = claims_of-data es
+claims_of-data (entry.Safe version ∷ es) = claims_of-data es
+claims_of-data (entry.Object o ∷ es) = (let rest = claims_of-data es in cc)
+claims_of-data (entry.Tombstone t ∷ es) = (let rest = claims_of-data es in cc)
+
+pub gathered_more : (segments : List (List Entry)) (i : ℕ) (es left : List Entry) (was now : List Claimed) → i < length segments →
+    es ≡ get_or segments i es → left ≡ [] →
+    now ++ claims_of left ≡ was ++ claims_of es → was ++ claims_of (bag_of (drop i segments)) ≡ claims_of (bag_of segments) →
+    now ++ claims_of (bag_of (drop (i + 1) segments)) ≡ claims_of (bag_of segments)
+gathered_more segments i es left was now lt at none inner outer =
+    let rest : List (List Entry) = drop (i + 1) segments in
+    let front : claims_of (bag_of (drop i segments)) ≡ claims_of es ++ claims_of (bag_of rest) =
+    at_drop_more (λ ss. claims_of (bag_of ss)) segments i es lt
+    ∙ ap (λ (fs : List Entry). claims_of (bag_of (fs ∷ rest))) (sym at)
+    ∙ claims_of-append (filter is_data es) (bag_of rest)
+    ∙ ap (λ (cs : List Claimed). cs ++ claims_of (bag_of rest)) (claims_of-data es) in
+    let whole : now ≡ was ++ claims_of es = sym (append-nil now) ∙ ap (λ (fs : List Entry). now ++ claims_of fs) (sym none) ∙ inner in
+    ap (λ (cs : List Claimed). cs ++ claims_of (bag_of rest)) whole
+    ∙ append_assoc was (claims_of es) (claims_of (bag_of rest))
+    ∙ ap (λ (cs : List Claimed). was ++ cs) (sym front)
+    ∙ outer

@@ -1,0 +1,5 @@
+pub mod KeyOrder
+pub mod ClaimOrder
+pub mod ScanLemmas
+pub mod MeaningLemmas
+pub mod GatheringLemmas

@@ -1,0 +1,72 @@
+//! The objects of a log, and a safe version for what follows it.
+
+ghost use Rattle.std.specs.Prelude.{◌≡◌, IfOk, IfErr};
+ghost use Rattle.replay.specs.Rebuilt.{IsRebuilt, IsRefusal};
+
+use crate::fault::ReplayFault;
+use crate::gathering::claims_in;
+use crate::winners::{safe_above, winners};
+use entry::{Object, SafeVersion};
+use recovery_plan::Plan;
+use std::alloc::Global;
+use std::marker::Model;
+
+/// Objects, in an order that whoever makes the list says. A contract sees them as a list.
+#[derive(Debug, Drop)]
+pub struct Objects {
+    objects: Vec<Object>,
+}
+
+impl Model for Objects {
+    ghost use Rattle.std.specs.Prelude.{List};
+    ghost use Rattle.entry.specs.declared.entry.Object.{Object};
+
+    ghost Value = { List Object };
+
+    ghost view = { λ o. o.objects.items };
+}
+
+impl Objects {
+    /// The objects of this list. It takes no memory.
+    pub fn new(objects: Vec<Object>) -> Objects
+        ensures { result ≡ objects.items }
+    {
+        Objects { objects }
+    }
+
+    /// The list of the objects. It takes no memory.
+    pub fn into_vec(self) -> Vec<Object>
+        ensures { result.items ≡ self }
+    {
+        let Objects { objects } = self;
+        objects
+    }
+
+    pub fn as_slice(&self) -> &[Object]
+        ensures { result.now ≡ self.now }
+    {
+        self.objects.as_slice()
+    }
+}
+
+/// What a log stands for.
+#[derive(Debug, Drop)]
+pub struct Rebuilt {
+    /// Sorted by table, then by key bytes; each key once.
+    pub objects: Objects,
+    /// Above the version of each object and tombstone of the log.
+    pub safe: SafeVersion,
+}
+
+/// The objects that the plan's segments mean, in memory of their own. Two values of one key and version are a Clash,
+/// even where a later version covers them. For n entries it takes n log n steps.
+pub fn rebuild_plain(alloc: Global, plan: &Plan) -> Result<Rebuilt, ReplayFault>
+    ensures ok { IfOk result (IsRebuilt plan.now.segments plan.now.safe) }
+    ensures err { IfErr result (IsRefusal plan.now.segments) }
+{
+    let mut claims = claims_in(alloc, plan.segments.as_slice())?;
+    let safe = safe_above(plan.safe, claims.as_slice());
+    claims.sort_unstable();
+    let objects = Objects::new(winners(alloc, claims.as_slice())?);
+    Ok(Rebuilt { objects, safe })
+}

@@ -1,0 +1,96 @@
+//! What a line answers, and its text.
+
+use crate::recovery::RecoveryFault;
+use master::{Refusal, Reply};
+use replay::Rebuilt;
+use replica::Bytes;
+use std::io::{self, Write};
+
+/// What a line of a script answers.
+#[derive(Debug, Drop)]
+pub enum Answer {
+    /// Nothing is printed.
+    Silent,
+    Reply(Reply),
+    Refused(Refusal),
+    /// The image of a segment.
+    Hex(Bytes),
+    /// There is no image of this segment.
+    NotInLog(u64),
+    /// How many further ops the fleet takes.
+    Stop(u64),
+    /// The fleet took no more ops, and the master was dropped.
+    Stopped,
+    Crashed,
+    /// The backup that lost all it held.
+    Lost(u64),
+    Recovered(Rebuilt),
+    NotRecovered(RecoveryFault),
+    /// There is no master.
+    Down,
+    /// There is a master.
+    Up,
+}
+
+/// Writes the lines of an answer, each with its line feed.
+pub fn write_answer<W: Write>(writer: &mut W, answer: &Answer) -> io::Result<()> {
+    match answer {
+        Answer::Silent => Ok(()),
+        Answer::Reply(reply) => write_reply(writer, reply),
+        Answer::Refused(refusal) => writeln!(writer, "refused {refusal}"),
+        Answer::Hex(bytes) => write_hex(writer, bytes.as_slice()),
+        Answer::NotInLog(segment) => writeln!(writer, "refused NotInLog {segment}"),
+        Answer::Stop(takes) => writeln!(writer, "stop {takes}"),
+        Answer::Stopped => writer.write_all(b"stopped\n"),
+        Answer::Crashed => writer.write_all(b"crashed\n"),
+        Answer::Lost(backup) => writeln!(writer, "lost {backup}"),
+        Answer::Recovered(rebuilt) => write_rebuilt(writer, rebuilt),
+        Answer::NotRecovered(fault) => writeln!(writer, "refused {fault}"),
+        Answer::Down => writer.write_all(b"refused Down\n"),
+        Answer::Up => writer.write_all(b"refused Up\n"),
+    }
+}
+
+fn write_reply<W: Write>(writer: &mut W, reply: &Reply) -> io::Result<()> {
+    match reply {
+        Reply::Found(version, value) => {
+            let version = version.get();
+            write!(writer, "{version} ")?;
+            writer.write_all(value.as_slice())?;
+            writer.write_all(b"\n")
+        }
+        Reply::None => writer.write_all(b"none\n"),
+        Reply::Ok(version) => {
+            let version = version.get();
+            writeln!(writer, "ok {version}")
+        }
+        Reply::Mismatch(None) => writer.write_all(b"mismatch none\n"),
+        Reply::Mismatch(Some(version)) => {
+            let version = version.get();
+            writeln!(writer, "mismatch {version}")
+        }
+    }
+}
+
+fn write_hex<W: Write>(writer: &mut W, bytes: &[u8]) -> io::Result<()> {
+    for byte in bytes {
+        write!(writer, "{byte:02x}")?;
+    }
+    writer.write_all(b"\n")
+}
+
+/// A line for each object, in order, and their number.
+fn write_rebuilt<W: Write>(writer: &mut W, rebuilt: &Rebuilt) -> io::Result<()> {
+    let objects = rebuilt.objects.as_slice();
+    for object in objects {
+        let table = object.key.table;
+        let version = object.version.get();
+        write!(writer, "{table} ")?;
+        writer.write_all(object.key.bytes.as_slice())?;
+        write!(writer, " {version} ")?;
+        writer.write_all(object.value.as_slice())?;
+        writer.write_all(b"\n")?;
+    }
+    let count = objects.len();
+    writeln!(writer, "recovered {count}")
+}

@@ -1,0 +1,22 @@
+//! The script: lines come in, drive a master and its recovery, and replies and rebuilt tables come out.
+#![tactic(auto)]
+
+mod answer;
+mod fault;
+mod recovery;
+mod running;
+mod session;
+mod setup;
+
+pub use answer::{Answer, write_answer};
+pub use backup::{MemoryBackup, MemoryFleet};
+pub use command_line::{Options, options};
+pub use fault::{ScriptFault, report};
+pub use recovery::{RecoveryFault, recover};
+pub use recovery_plan::{Plan, PlanFault, plan};
+pub use replay::{Rebuilt, ReplayFault, rebuild_plain};
+pub use running::run_script;
+pub use setup::configuration;
+
+#[cfg(test)]
+mod tests;
