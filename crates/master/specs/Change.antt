@@ -4,7 +4,7 @@ use Rattle.entry.specs.declared.entry.Entry.{Entry}
 use Rattle.master.specs.declared.change.Change.{Change}
 use Rattle.master.specs.declared.change.Change.TheVariants as change
 use Rattle.master.specs.declared.command.Command.{Command}
-use Rattle.master.specs.declared.command.Command.TheVariants.{Get, Put, Delete}
+use Rattle.master.specs.declared.command.Command.TheVariants.{Put, Delete}
 use Rattle.master.specs.Head.{HeadValue}
 use Rattle.master.specs.HeadSteps.{with_unit}
 use Rattle.master.specs.Units.{object_entry, tombstone_entry}

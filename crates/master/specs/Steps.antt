@@ -1,9 +1,9 @@
 -- A master with its fleet, and what a step makes of them.
-use Rattle.std.specs.Prelude.{◌≡◌, ℕ, ◌+◌, ◌*◌, ◌%◌, ◌-◌, ◌<◌, ◌≤◌, ◌⊎◌, List, [], ◌∷◌, ◌++◌, length, take, drop, Result, Ok, Err, true, false, Some, None, slice_get, ◌==◌, if◌then◌else◌}
+use Rattle.std.specs.Prelude.{◌≡◌, ℕ, ◌+◌, ◌*◌, ◌%◌, ◌-◌, ◌<◌, ◌⊎◌, List, [], ◌∷◌, ◌++◌, length, take, drop, Result, Ok, Err, true, Some, None, slice_get, ◌==◌, if◌then◌else◌}
 use Rattle.entry.specs.Text.{text_of}
 use Rattle.replica.specs.Op.{OpValue, Open, Extend}
 use Rattle.replica.specs.Picture.{FleetState}
-use Rattle.replica.specs.Take.{TakeGives, taken, faulted, limited}
+use Rattle.replica.specs.Take.{TakeGives, taken, limited}
 use Rattle.replica.specs.declared.op.TakeFault.{TakeFault}
 use Rattle.replica.specs.declared.op.TakeFault.TheVariants as take_fault
 use Rattle.master.specs.declared.command.Command.{Command}

@@ -1,5 +1,5 @@
 -- The configuration that the command line stands for.
-use Rattle.std.specs.Prelude.{ℕ, zero, suc, ◌+◌, ◌-◌, ◌^◌, List, [], ◌∷◌, ◌++◌}
+use Rattle.std.specs.Prelude.{ℕ, zero, suc, ◌-◌, ◌^◌, List, [], ◌∷◌, ◌++◌}
 use Rattle.entry.specs.declared.tablet.Tablet.{Tablet}
 use Rattle.command_line.specs.declared.settings.Options.{Options}
 use Rattle.master.specs.declared.config.Config.{Config}

@@ -1,4 +1,4 @@
-use Rattle.std.proofs.Common.{◌≡◌, ◌+◌, ◌++◌, ◌∷◌, [], ℕ, add-one, refl, ◌∙◌}
+use Rattle.std.proofs.Common.{◌≡◌, ◌+◌, ◌++◌, ◌∷◌, [], ℕ, add-one, refl}
 use Rattle.script.specs.Configuration.{tables_to, whole_table}
 use Rattle.script.proofs.setup.tables.Goals as goal
 

@@ -1,4 +1,4 @@
-use Rattle.std.proofs.Common.{◌≡◌, ◌≤◌, ◌+◌, ℕ, List, [], ◌∷◌, ◌++◌, ap, sym, ◌∙◌, length, map, refl, arith}
+use Rattle.std.proofs.Common.{◌≡◌, ◌≤◌, [], ◌∷◌, ◌++◌, ◌∙◌, length, map, refl, arith}
 use Rattle.std.proofs.lemmas.List.{length-append}
 use Rattle.entry.specs.Text.{text_of}
 use Rattle.entry.specs.View.{shown}

@@ -1,7 +1,4 @@
-use Rattle.std.proofs.Common.{◌≡◌, ◌≤◌, ◌+◌, ap, sym, ◌∙◌, length, arith}
-use Rattle.entry.specs.declared.entry.Entry.{Entry}
-use Rattle.std.proofs.Common.{List}
-use Rattle.entry.specs.Text.{text_of}
+use Rattle.std.proofs.Common.{◌≡◌, ap, length, arith}
 use Rattle.master.specs.Head.{HeadValue}
 use Rattle.master.proofs.Heads.{EndAt_le, end_of_le, end_of_last}
 use Rattle.master.proofs.head.Head.end_of.Goals as goal

@@ -1,5 +1,4 @@
-use Rattle.std.proofs.Common.{◌≡◌, ◌++◌, ◌∷◌, [], length, rules, refl, ap, ◌∙◌}
-use Rattle.master.specs.declared.step.StepAnswer.{StepAnswer}
+use Rattle.std.proofs.Common.{◌≡◌, length, rules, refl}
 use Rattle.master.proofs.master.Master.apply.Goals as goal
 
 pub returns-clause-accepted : goal.returns-clause-accepted

@@ -1,7 +1,6 @@
-use Rattle.std.proofs.Common.{◌≡◌, ◌≤◌, ◌+◌, ◌++◌, ◌∷◌, [], List, length, vec_len, ap, sym, refl, ◌∙◌, arith}
+use Rattle.std.proofs.Common.{◌≡◌, ◌+◌, ◌++◌, ◌∷◌, [], vec_len, refl, ◌∙◌, arith}
 use Rattle.std.proofs.lemmas.List.{length-append}
 use Rattle.master.specs.Steps.{world}
-use Rattle.master.specs.declared.step.Step.{Step}
 use Rattle.master.proofs.Runs.{run_pushed}
 use Rattle.master.proofs.master.Master.run.Goals as goal
 
