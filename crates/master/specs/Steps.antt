@@ -1,5 +1,5 @@
 -- A master with its fleet, and what a step makes of them.
-use Rattle.std.specs.Prelude.{◌≡◌, ℕ, ◌+◌, ◌*◌, ◌%◌, ◌-◌, ◌<◌, ◌⊎◌, List, [], ◌∷◌, ◌++◌, length, take, drop, Result, Ok, Err, true, Some, None, slice_get, ◌==◌, if◌then◌else◌}
+use Rattle.std.specs.Prelude.{◌≡◌, ℕ, ◌+◌, ◌*◌, ◌%◌, ◌-◌, ◌<◌, ◌⊎◌, List, [], ◌∷◌, ◌++◌, length, take, drop, Result, Ok, Err, false, true, Some, None, slice_get, ◌==◌, if◌then◌else◌}
 use Rattle.entry.specs.Text.{text_of}
 use Rattle.replica.specs.Op.{OpValue, Open, Extend}
 use Rattle.replica.specs.Picture.{FleetState}
@@ -57,19 +57,29 @@ extend_op d units = record {
 pub record AppliesTo (old : World) (seat : ℕ) (command : Command) (answer : StepAnswer) (new : World) : Type 0 where
   pub fleet : new.fleet ≡ old.fleet
   pub config : new.knows.config ≡ old.knows.config
-  pub running : new.knows.is_halted ≡ old.knows.is_halted
+  pub running : (old.knows.is_halted ≡ false) × (new.knows.is_halted ≡ false)
   pub history : (r : Record) × (answer ≡ Applied (length old.knows.history) r.reply) × (r.seat ≡ seat) × (r.command ≡ command)
       × (new.knows.history ≡ old.knows.history ++ r ∷ [])
+
+-- the op that a push hands to this backup: the head's opening where a replica is to be opened, else the next unit of the
+-- replica that has the fewest
+pub record Opens (d : MasterData) (b : ℕ) : Type 0 where
+  pub waiting : length d.head.taken < d.head.replicas
+  pub backup : b ≡ home d.config d.head.id (length d.head.taken)
+
+pub record Extends (d : MasterData) (b j units : ℕ) : Type 0 where
+  pub lagging : IsLagging (length d.head.units) d.head.taken (Some j)
+  pub has : slice_get d.head.taken j ≡ Some units
+  pub backup : b ≡ home d.config d.head.id j
 
 abbrev pub Accepts : World → Step → StepAnswer → World → Type 0
 Accepts old (Apply seat command) answer new = AppliesTo old seat command answer new
 Accepts old Push (Opened b s) new =
-    (length old.knows.head.taken < old.knows.head.replicas) × (b ≡ home old.knows.config old.knows.head.id (length old.knows.head.taken)) × (s ≡ old.knows.head.id)
+    (old.knows.is_halted ≡ false) × Opens old.knows b × (s ≡ old.knows.head.id)
     × (taken old.fleet b (open_op old.knows) ≡ Some new.fleet) × (new.knows ≡ with_head old.knows (with_replica old.knows.head))
 Accepts old Push (Extended b s) new =
-    (j units : ℕ) × IsLagging (length old.knows.head.units) old.knows.head.taken (Some j) × (slice_get old.knows.head.taken j ≡ Some units)
-    × (b ≡ home old.knows.config old.knows.head.id j) × (s ≡ old.knows.head.id)
-    × (taken old.fleet b (extend_op old.knows units) ≡ Some new.fleet) × (new.knows ≡ with_head old.knows (with_taken old.knows.head j))
+    (old.knows.is_halted ≡ false) × ((j units : ℕ) × Extends old.knows b j units × (s ≡ old.knows.head.id)
+    × (taken old.fleet b (extend_op old.knows units) ≡ Some new.fleet) × (new.knows ≡ with_head old.knows (with_taken old.knows.head j)))
 Accepts old Push (Applied place reply) new = ⊥
 
 -- ---- what a refused step leaves
@@ -77,11 +87,13 @@ Accepts old Push (Applied place reply) new = ⊥
 abbrev pub halted : MasterData → MasterData
 halted d = record { config = d.config; head = d.head; places = d.places; safe = d.safe; history = d.history; is_halted = true }
 
--- a backup failed, and one op may have been taken
+-- the take of a push failed, and its op may have been taken
 abbrev pub FailsTake : World → World → Type 0
-FailsTake old new = (new.knows ≡ halted old.knows) × ((b : ℕ) × (op : OpValue) × (fault : TakeFault) × TakeGives old.fleet b op (Err fault) new.fleet)
+FailsTake old new = (new.knows ≡ halted old.knows) × ((b : ℕ) × (fault : TakeFault)
+    × ((Opens old.knows b × TakeGives old.fleet b (open_op old.knows) (Err fault) new.fleet)
+    ⊎ ((j units : ℕ) × Extends old.knows b j units × TakeGives old.fleet b (extend_op old.knows units) (Err fault) new.fleet)))
 
--- A refusal changes nothing, but for a fault's: then one op may have been taken, and the master stays halted.
+-- A refusal changes nothing, but for a fault's: then the push's op may have been taken, and the master stays halted.
 abbrev pub Declines : World → Refusal → World → Type 0
 Declines old refusal.Halted new = ((old.knows.is_halted ≡ true) × (new ≡ old)) ⊎ FailsTake old new
 Declines old _ new = new ≡ old

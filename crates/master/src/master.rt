@@ -1,6 +1,6 @@
 //! One master over a fleet of backups.
 
-ghost use Rattle.std.specs.Prelude.{◌≡◌, ◌≤◌, ◌<◌, ◌^◌, ℕ, None, Some, false, true, length, IfOk, IfErr, IfSome, OnErr, vec_len, vec_capacity};
+ghost use Rattle.std.specs.Prelude.{◌≡◌, ◌≤◌, ◌<◌, ◌^◌, ℕ, None, Some, false, true, length, IfOk, IfErr, IfSome, IsErrOf, OnErr, vec_len, vec_capacity};
 ghost use Rattle.master.specs.Config.{config_fault};
 ghost use Rattle.master.specs.Master.{fresh_data};
 ghost use Rattle.master.specs.Steps.{World, world, home, Accepts, Declines, Steps, IsRun};
@@ -79,6 +79,7 @@ impl<F: Fleet> Master<F> {
         ensures room { IfOk result (λ _. length self.now.knows.history < self.now.knows.config.history) }
         ensures slot { IfOk result (λ found. IfSome found.1 (λ slot. slot < length self.now.knows.places)) }
         ensures halted { IfErr result (λ r. r ≡ Refusal.Halted → self.now.knows.is_halted ≡ true) }
+        ensures stays { self.now.knows.is_halted ≡ true → IsErrOf result Refusal.Halted }
     {
         if self.is_halted {
             return Err(Refusal::Halted);
@@ -146,6 +147,7 @@ impl<F: Fleet> Master<F> {
     /// One command.
     fn apply(&mut self, seat: u64, command: Command) -> Result<StepAnswer, Refusal>
         ensures accepted { IfOk result (λ a. Accepts (world F.state self.old) (Step.Apply seat command) a (world F.state self.new)) }
+        ensures stays { self.old.knows.is_halted ≡ true → IsErrOf result Refusal.Halted }
         ensures refused { IfErr result (λ r. Declines (world F.state self.old) r (world F.state self.new)) }
     {
         let (change, slot) = self.judge(&command)?;
@@ -245,6 +247,7 @@ impl<F: Fleet> Master<F> {
     /// One op handed to one backup.
     fn push(&mut self) -> Result<StepAnswer, Refusal>
         ensures accepted { IfOk result (λ a. Accepts (world F.state self.old) Step.Push a (world F.state self.new)) }
+        ensures stays { self.old.knows.is_halted ≡ true → IsErrOf result Refusal.Halted }
         ensures refused { IfErr result (λ r. Declines (world F.state self.old) r (world F.state self.new)) }
     {
         if self.is_halted {
@@ -261,7 +264,8 @@ impl<F: Fleet> Master<F> {
 
     /// One step. It makes at most one take.
     pub fn step(&mut self, step: Step) -> Result<StepAnswer, Refusal>
-        ensures { Steps (world F.state self.old) step result (world F.state self.new) }
+        ensures gives { Steps (world F.state self.old) step result (world F.state self.new) }
+        ensures stays { self.old.knows.is_halted ≡ true → IsErrOf result Refusal.Halted }
     {
         match step {
             Step::Apply(seat, command) => self.apply(seat, command),

@@ -13,7 +13,7 @@ loop-step-preserved g c =
     let room = before.room in
     record {
       ran = run_pushed (world g.F.Fleet.state c.args.self.now) (world g.F.Fleet.state c.loop-step.self) (world g.F.Fleet.state c.step-answer.new.self)
-          c.loop-step.yielded c.loop-step.answers.items c.push.new.self.items c.in-Some.step c.step-answer.result items before.ran c.step-answer.ensures;
+          c.loop-step.yielded c.loop-step.answers.items c.push.new.self.items c.in-Some.step c.step-answer.result items before.ran c.step-answer.ensures.gives;
       count = omega (arith, length-append c.loop-step.yielded (c.in-Some.step ∷ []));
       room = omega (arith, c.push.ensures.lower_bound);
     }
