@@ -1,18 +1,16 @@
 -- What stands at the front of bytes that pass the tests.
-use Rattle.std.proofs.Common.{◌≡◌, ℕ, zero, suc, ◌+◌, ◌*◌, ◌-◌, ◌^◌, ◌<◌, ◌≤◌, Bool, true, false, List, [], ◌∷◌, ◌++◌, length, take, drop, Option, Some, None, refl, sym, ap, ◌∙◌, arith}
+use Rattle.std.proofs.Common.{◌≡◌, ℕ, zero, suc, ◌+◌, ◌^◌, ◌<◌, ◌≤◌, Bool, true, false, List, [], ◌∷◌, ◌++◌, length, take, drop, Option, Some, None, refl, sym, ap, ◌∙◌, arith}
 use Rattle.std.specs.Prelude.{slice_index, ◌&&◌, nat_le, nat_lt, not, if◌then◌else◌, Result, Ok, Err, IfOk, IfErr, IsOkAnd}
-use Rattle.std.proofs.lemmas.Bool.{leb-true, ltb-false, ltb-true}
-use Rattle.std.proofs.lemmas.List.{length-append, length-take, take-append-drop}
-use Rattle.entry.specs.declared.entry.Role.{Role}
-use Rattle.entry.specs.declared.entry.Role.TheVariants.{Head, Survivor}
+use Rattle.std.proofs.lemmas.Bool.{leb-true, ltb-false}
+use Rattle.std.proofs.lemmas.List.{length-take, take-append-drop}
 use Rattle.entry.specs.declared.entry.Entry.{Entry}
 use Rattle.entry.specs.declared.kind.Kind.{Kind}
 use Rattle.entry.specs.declared.kind.Kind.TheVariants as kind
 use Rattle.entry.specs.declared.fault.EntryFault.{EntryFault}
-use Rattle.entry.specs.declared.fault.EntryFault.TheVariants.{Short, UnknownKind, BadField, NoMemory}
+use Rattle.entry.specs.declared.fault.EntryFault.TheVariants.{Short, BadField}
 use Rattle.entry.specs.declared.view.EntryRef.{EntryRef}
 use Rattle.entry.specs.Key.{IsBytes}
-use Rattle.entry.specs.Limits.{IsVersion, IsSafeVersion}
+use Rattle.entry.specs.Limits.{IsVersion}
 use Rattle.entry.specs.Format.{number_at, kind_of, kind_byte, role_of, role_byte, fixed_len, whole_len, is_within, are_fields, has_order, fault_in, entry_of, ids_at, spelling, front_of, first_fault, IsEntry, Begins}
 use Rattle.entry.specs.View.{shown, Reads}
 use Rattle.entry.proofs.PrefixFree.{prefix_free}
@@ -87,7 +85,7 @@ begins_of kind.Object bytes fits first e =
     let inner = both (is_within 1 (2 ^ 62) n) (is_within 1 1024 k) outer.0 in
     let limits = within_limits 1 1024 k inner.1 in
     object_begins bytes (number_at 8 1 bytes) n k v (take k (drop 23 bytes)) (take v (drop (23 + k) bytes)) fits tests.whole first refl refl refl refl refl refl
-        (version_from n inner.0) limits.0 limits.1 (leb-true v 2097152 outer.1)
+    (version_from n inner.0) limits.0 limits.1 (leb-true v 2097152 outer.1)
 begins_of kind.Tombstone bytes fits first e =
     let tests = Passes-from_none kind.Tombstone bytes e in
     let n = number_at 8 9 bytes in
@@ -95,7 +93,7 @@ begins_of kind.Tombstone bytes fits first e =
     let inner = both (is_within 1 (2 ^ 62) n) (is_within 1 1024 k) tests.fields in
     let limits = within_limits 1 1024 k inner.1 in
     tombstone_begins bytes (number_at 8 1 bytes) n (number_at 8 17 bytes) k (take k (drop 27 bytes)) fits tests.whole first refl refl refl refl refl
-        (version_from n inner.0) limits.0 limits.1
+    (version_from n inner.0) limits.0 limits.1
 
 -- the tests of the first byte's kind are those of the bytes
 pub front_of-kind : (k : Kind) (bytes : List ℕ) → 0 < length bytes → kind_of (slice_index bytes 0) ≡ Some k → fault_in k bytes ≡ None → front_of bytes ≡ Some (entry_of k bytes, whole_len k bytes)

@@ -1,12 +1,11 @@
 -- The ids of a digest, one after the other.
-use Rattle.std.proofs.Common.{◌≡◌, ℕ, zero, suc, ◌+◌, ◌*◌, ◌-◌, ◌^◌, ◌<◌, ◌≤◌, Bool, true, false, List, [], ◌∷◌, ◌++◌, length, get_or, take, drop, refl, sym, ap, ◌∙◌, append_assoc, add-zero, arith}
+use Rattle.std.proofs.Common.{◌≡◌, ℕ, zero, suc, ◌+◌, ◌*◌, ◌-◌, ◌^◌, ◌<◌, ◌≤◌, Bool, true, false, List, [], ◌∷◌, ◌++◌, length, refl, ap, append_assoc, add-zero, arith}
 use Rattle.std.specs.Prelude.{slice_index, slice_get, Some, ◌&&◌, nat_lt}
 use Rattle.std.specs.List.{flat_map}
 use Rattle.std.specs.List.Sorted.{IsStrictlyIncreasing}
 use Rattle.std.proofs.lemmas.List.{append-nil}
-use Rattle.std.proofs.lemmas.Bool.{le-ltb, ltb-true}
+use Rattle.std.proofs.lemmas.Bool.{ltb-true}
 use Rattle.entry.specs.Key.{IsBytes}
-use Rattle.entry.specs.Limits.{AreIds}
 use Rattle.entry.specs.Format.{number_bytes, number_at, ids_at, rises}
 use Rattle.entry.proofs.Numbers.{number_at-lt, width-8, Fronts, Fronts-number}
 

@@ -1,12 +1,10 @@
 -- What is spelled passes the tests of a reader.
-use Rattle.std.proofs.Common.{◌≡◌, ℕ, zero, suc, ◌+◌, ◌*◌, ◌-◌, ◌^◌, ◌<◌, ◌≤◌, Bool, true, false, List, [], ◌∷◌, ◌++◌, length, take, drop, Option, Some, None, Result, Ok, Err, refl, sym, ap, ◌∙◌, append_assoc, arith}
-use Rattle.std.specs.Prelude.{slice_index, ◌&&◌, nat_le, nat_lt, IfOk, IfErr, MatchResult}
+use Rattle.std.proofs.Common.{◌≡◌, ℕ, suc, ◌+◌, ◌^◌, ◌<◌, ◌≤◌, true, List, [], ◌∷◌, ◌++◌, length, Option, Some, None, refl, sym, append_assoc, arith}
+use Rattle.std.specs.Prelude.{slice_index, nat_lt}
 use Rattle.std.specs.List.{flat_map}
 use Rattle.std.specs.List.Sorted.{IsStrictlyIncreasing}
 use Rattle.std.proofs.lemmas.Bool.{le-leb, lt-ltb}
-use Rattle.std.proofs.lemmas.List.{length-append, length-take, take-append-drop}
-use Rattle.std.proofs.Math.Seq.{drop-append-add}
-use Rattle.entry.specs.declared.entry.Role.{Role}
+use Rattle.std.proofs.lemmas.List.{length-append}
 use Rattle.entry.specs.declared.entry.Header.{Header}
 use Rattle.entry.specs.declared.entry.Object.{Object}
 use Rattle.entry.specs.declared.entry.Tombstone.{Tombstone}
@@ -14,10 +12,8 @@ use Rattle.entry.specs.declared.entry.Entry.{Entry}
 use Rattle.entry.specs.declared.entry.Entry.TheVariants as entry
 use Rattle.entry.specs.declared.kind.Kind.TheVariants as kind
 use Rattle.entry.specs.declared.fault.EntryFault.{EntryFault}
-use Rattle.entry.specs.declared.fault.EntryFault.TheVariants.{Short, UnknownKind, BadField, NoMemory}
-use Rattle.entry.proofs.PrefixFree.{prefix_free}
-use Rattle.entry.specs.Limits.{IsVersion, IsSafeVersion, IsValue, AreIds}
-use Rattle.entry.specs.Format.{number_bytes, number_at, role_byte, spelling, IsHeader, IsObject, IsTombstone, IsEntry, whole_len, are_fields, has_order, ids_at, rises, fault_in, first_fault, Begins, MayFail}
+use Rattle.entry.specs.Limits.{IsSafeVersion, AreIds}
+use Rattle.entry.specs.Format.{number_bytes, number_at, role_byte, spelling, IsHeader, IsObject, IsTombstone, IsEntry, whole_len, are_fields, has_order, ids_at, rises, fault_in, first_fault}
 use Rattle.entry.proofs.Numbers.{length-number_bytes, number_at-front, number_at-past}
 use Rattle.entry.proofs.SpellingLemmas.{length-header, length-digest, length-safe, length-object, length-tombstone}
 use Rattle.entry.proofs.ReadingLemmas.{no_fault, within, role_fits, object_fields, tombstone_fields}

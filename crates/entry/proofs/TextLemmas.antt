@@ -1,8 +1,8 @@
 -- What is spelled stands at the front, and a text has the entries that it was made of.
-use Rattle.std.proofs.Common.{◌≡◌, ℕ, zero, suc, ◌+◌, ◌*◌, ◌-◌, ◌^◌, ◌<◌, ◌≤◌, Bool, true, false, List, [], ◌∷◌, ◌++◌, length, take, drop, Option, Some, None, refl, sym, ap, ◌∙◌, append_assoc, arith}
+use Rattle.std.proofs.Common.{◌≡◌, ℕ, zero, suc, ◌+◌, ◌<◌, ◌≤◌, List, [], ◌∷◌, ◌++◌, length, drop, Some, refl, ap, append_assoc, arith}
 use Rattle.std.specs.Prelude.{slice_index}
 use Rattle.std.specs.List.{flat_map, AllByRecursion}
-use Rattle.std.proofs.lemmas.List.{length-append, take_at, drop_at, append-nil}
+use Rattle.std.proofs.lemmas.List.{length-append, take_at, drop_at}
 use Rattle.entry.specs.declared.entry.Role.{Role}
 use Rattle.entry.specs.declared.entry.Role.TheVariants.{Head, Survivor}
 use Rattle.entry.specs.declared.entry.Header.{Header}
@@ -10,10 +10,9 @@ use Rattle.entry.specs.declared.entry.Object.{Object}
 use Rattle.entry.specs.declared.entry.Tombstone.{Tombstone}
 use Rattle.entry.specs.declared.entry.Entry.{Entry}
 use Rattle.entry.specs.declared.entry.Entry.TheVariants as entry
-use Rattle.entry.specs.declared.kind.Kind.{Kind}
 use Rattle.entry.specs.declared.kind.Kind.TheVariants as kind
 use Rattle.entry.specs.Limits.{AreIds, IsSafeVersion}
-use Rattle.entry.specs.Format.{number_bytes, number_at, role_byte, role_of, spelling, IsHeader, IsObject, IsTombstone, IsEntry, part_of, whole_len, ids_at, fault_in, entry_of, front_of}
+use Rattle.entry.specs.Format.{number_bytes, number_at, role_byte, role_of, spelling, IsHeader, IsObject, IsTombstone, IsEntry, part_of, whole_len, ids_at, entry_of, front_of}
 use Rattle.entry.specs.Text.{text_of, entries_within, entries_in}
 use Rattle.entry.proofs.Numbers.{length-number_bytes}
 use Rattle.entry.proofs.SpellingLemmas.{length-header, length-digest, length-safe, length-object, length-tombstone}

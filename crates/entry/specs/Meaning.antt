@@ -1,7 +1,6 @@
 -- What a collection of objects and tombstones means: of each key its entry of greatest rank. A collection is a word on
 -- entries, true of those that are in it; only objects and tombstones count.
-use Rattle.std.specs.Prelude.{◌≡◌, ℕ, ◌+◌, ◌*◌, ◌<◌, ◌≤◌, ◌↔◌, max, List, [], ◌∷◌, Option, Some, None, if◌then◌else◌}
-
+use Rattle.std.specs.Prelude.{◌≡◌, ℕ, ◌+◌, ◌*◌, ◌≤◌, ◌↔◌, max, List, [], ◌∷◌, Option, Some, None, if◌then◌else◌}
 use Rattle.entry.specs.declared.key.Key.{Key}
 use Rattle.entry.specs.declared.entry.Object.{Object}
 use Rattle.entry.specs.declared.entry.Entry.{Entry}

@@ -1,5 +1,5 @@
 -- Tablets: which keys are in them, and which rows of them are in order.
-use Rattle.std.specs.Prelude.{ℕ, List, [], ◌∷◌, Bool, true, false, ◌==◌, ◌&&◌, ◌||◌, nat_lt, nat_le}
+use Rattle.std.specs.Prelude.{List, [], ◌∷◌, Bool, true, false, ◌==◌, ◌&&◌, ◌||◌, nat_lt, nat_le}
 use Rattle.std.specs.List.{list_any}
 use Rattle.entry.specs.declared.key.Key.{Key}
 use Rattle.entry.specs.declared.tablet.Tablet.{Tablet}

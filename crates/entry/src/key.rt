@@ -10,9 +10,9 @@ ghost use Rattle.entry.specs.Key.{IsKeyBytes, place_of};
 
 use crate::fault::KeyFault;
 use crate::view::KeyRef;
+use std::alloc::{AllocError, Global};
 use std::cmp::Ordering;
 use std::hash::{Hash, Hasher};
-use std::alloc::{AllocError, Global};
 use std::marker::Model;
 
 /// The most bytes that a key has.

@@ -6,11 +6,9 @@ ghost use Rattle.entry.specs.Text.{TextsAreRead};
 /// No spelling begins the spelling of another entry.
 pub fn one_spelling()
     ensures { SpellingsArePrefixFree }
-{
-}
+{}
 
 /// The entries that are read from a text are those that it was made of.
 pub fn one_reading()
     ensures { TextsAreRead }
-{
-}
+{}

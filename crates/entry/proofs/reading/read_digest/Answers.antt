@@ -1,4 +1,4 @@
-use Rattle.std.proofs.Common.{◌≡◌, ℕ, true, sym, ◌∙◌, arith}
+use Rattle.std.proofs.Common.{◌≡◌, true, sym, ◌∙◌, arith}
 use Rattle.entry.specs.Key.{IsBytes}
 use Rattle.entry.specs.Format.{ids_at, rises}
 use Rattle.entry.proofs.ReadingLemmas.{are_ids}

@@ -1,5 +1,4 @@
-use Rattle.std.proofs.Common.{◌≡◌, ◌+◌, ◌*◌, ◌<◌, ◌≤◌, length, arith, sym, ◌∙◌}
-use Rattle.entry.specs.Format.{ids_at}
+use Rattle.std.proofs.Common.{arith}
 use Rattle.entry.proofs.IdLemmas.{length-ids_at, slice_get-ids_at}
 use Rattle.entry.proofs.view.DigestRef.id.Goals as goal
 
