@@ -45,10 +45,11 @@ impl<'a> TombstoneRef<'a> {
         ensures { IfOk result (λ tombstone. tombstone ≡ shown_tombstone self.now) }
     {
         let key = self.key.to_key(alloc)?;
+        let segment = self.segment;
         Ok(Tombstone {
             key,
             version: self.version,
-            segment: self.segment,
+            segment,
         })
     }
 }
@@ -65,7 +66,7 @@ impl<'a> DigestRef<'a> {
     pub fn is_empty(&self) -> bool
         ensures { result ≡ (length (shown_ids self.now) == 0) }
     {
-        self.count == 0
+        self.len() == 0
     }
 
     /// The id at a place, which counts from 0.

@@ -1,12 +1,12 @@
 -- A take that failed leaves what a refused push leaves.
-use Rattle.std.proofs.Common.{◌≡◌, ℕ, refl, inl, inr}
+use Rattle.std.proofs.Common.{◌≡◌, ℕ, refl, inr}
 use Rattle.std.specs.Prelude.{Err}
 use Rattle.replica.specs.Picture.{FleetState}
 use Rattle.replica.specs.Take.{TakeGives}
 use Rattle.replica.specs.declared.op.TakeFault.{TakeFault}
 use Rattle.replica.specs.declared.op.TakeFault.TheVariants as take_fault
 use Rattle.master.specs.Master.{MasterData}
-use Rattle.master.specs.Steps.{World, Opens, Extends, open_op, extend_op, Declines, refusal_of, failed_data}
+use Rattle.master.specs.Steps.{World, Extends, extend_op, Declines, refusal_of, failed_data}
 
 same_world : (old : World) (knows : MasterData) (fleet : FleetState) → knows ≡ old.knows → fleet ≡ old.fleet → record { knows = knows; fleet = fleet } ≡ old
 same_world old knows fleet e f = rw (e, f) refl

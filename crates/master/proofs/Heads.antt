@@ -8,7 +8,7 @@ use Rattle.entry.specs.declared.entry.Entry.{Entry}
 use Rattle.entry.specs.Text.{text_of}
 use Rattle.segment.proofs.RowLemmas.{text_of-append}
 use Rattle.master.specs.declared.head.UnitEnd.{UnitEnd}
-use Rattle.master.specs.Head.{end_of, EndAt, IsLagging}
+use Rattle.master.specs.Head.{end_of, EndAt, IsLagging, fewest}
 
 pub EndAt_le : (us : List UnitEnd) (from len : ℕ) → EndAt from us len → from ≤ len
 EndAt_le [] from len e = omega arith
@@ -119,3 +119,23 @@ lagging_later units place (n ∷ ns) some rest le =
     let order : get_or ns place 0 < n = rw rest_of at le in
     let below : later.0 < units = later.2 in
     rw add-one (later.0, later.1, below, (omega arith, later.3), (omega arith, later.4))
+
+pub fewest_all : (units : ℕ) (ns : List ℕ) → AllByRecursion (λ m. units ≤ m) ns → fewest units ns ≡ units
+fewest_all units [] all = refl
+fewest_all units (n ∷ ns) all = let here = all.0 in let later = fewest_all units ns all.1 in omega arith
+
+-- none of them has fewer than these, nor than all
+fewest_above : (units n : ℕ) (ns : List ℕ) → n ≤ units → AllByRecursion (λ m. n ≤ m) ns → n ≤ fewest units ns
+fewest_above units n [] le all = le
+fewest_above units n (m ∷ ns) le all = let here = all.0 in let later = fewest_above units n ns le all.1 in omega arith
+
+fewest_below : (units n j : ℕ) (ns : List ℕ) → slice_get ns j ≡ Some n → fewest units ns ≤ n
+fewest_below units n j [] e = absurd (cc)
+fewest_below units n zero (m ∷ ns) e = let same = some-same m n e in omega arith
+fewest_below units n (suc j) (m ∷ ns) e = let later = fewest_below units n j ns e in omega arith
+
+pub fewest_at : (units n j : ℕ) (ns : List ℕ) → slice_get ns j ≡ Some n → n < units → AllByRecursion (λ m. n ≤ m) ns → fewest units ns ≡ n
+fewest_at units n j ns e lt all =
+    let low = fewest_above units n ns (omega arith) all in
+    let high = fewest_below units n j ns e in
+    omega arith

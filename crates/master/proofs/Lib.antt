@@ -1,3 +1,11 @@
 pub mod Heads
 pub mod Runs
 pub mod Failing
+pub mod Numbers
+pub mod Changes
+pub mod Keys
+pub mod Tops
+pub mod Units
+pub mod Represented
+pub mod Versions
+pub mod Meanings

@@ -1,13 +1,19 @@
--- What a change appends to the head.
-use Rattle.std.specs.Prelude.{ℕ, List, [], ◌∷◌}
+-- Changes: what they append to the head, and which one a command makes.
+use Rattle.std.specs.Prelude.{◌≡◌, ℕ, ◌+◌, ◌*◌, ◌/◌, ◌^◌, ◌<◌, max, List, [], ◌∷◌, length, Bool, true, false, nat_lt, Option}
+use Rattle.std.specs.Borrow.{Bor}
+use Rattle.std.specs.Option.{option_map, option_copied}
 use Rattle.entry.specs.declared.entry.Entry.{Entry}
+use Rattle.entry.specs.Meaning.{Versioned, versioned}
+use Rattle.entry.specs.declared.view.ObjectRef.{ObjectRef}
+use Rattle.entry.specs.View.{shown_object}
 use Rattle.master.specs.declared.change.Change.{Change}
 use Rattle.master.specs.declared.change.Change.TheVariants as change
 use Rattle.master.specs.declared.command.Command.{Command}
-use Rattle.master.specs.declared.command.Command.TheVariants.{Put, Delete}
+use Rattle.master.specs.declared.command.Command.TheVariants.{Get, Put, Delete}
 use Rattle.master.specs.Head.{HeadValue}
 use Rattle.master.specs.HeadSteps.{with_unit}
-use Rattle.master.specs.Units.{object_entry, tombstone_entry}
+use Rattle.master.specs.Versioned.{is_met, put_version}
+use Rattle.master.specs.Units.{object_entry, tombstone_entry, unit_given, safe_given}
 
 abbrev pub unit_of_change : ℕ → Command → Change → List Entry
 unit_of_change segment (Put k value when) (change.Create version) = object_entry k version value ∷ []
@@ -19,3 +25,46 @@ unit_of_change segment _ _ = []
 abbrev pub appended : HeadValue → ℕ → List Entry → HeadValue
 appended h number [] = h
 appended h number (e ∷ es) = with_unit h number (e ∷ es)
+
+-- what the safe version is after a change
+abbrev pub safe_of_change : ℕ → Change → ℕ
+safe_of_change safe change.Nothing = safe
+safe_of_change safe (change.Create version) = version + 1
+safe_of_change safe (change.Replace dead version) = safe
+safe_of_change safe (change.Delete dead) = max safe (dead + 1)
+
+-- ---- the change that a command makes
+
+abbrev pub version_in : Option Versioned → Option ℕ
+version_in x = option_map (λ (v : Versioned). v.version) x
+
+-- what a key has whose object this is
+abbrev pub versioned_in : Option (Bor ObjectRef) → Option Versioned
+versioned_in present = option_map (λ (o : ObjectRef). versioned (shown_object o)) (option_copied present)
+
+abbrev pub is_nothing : Change → Bool
+is_nothing change.Nothing = true
+is_nothing _ = false
+
+abbrev pub is_empty : List Entry → Bool
+is_empty [] = true
+is_empty (e ∷ es) = false
+
+-- from the safe version and what the key has, the change does what the command does
+pub record IsChangeOf (safe : ℕ) (x : Option Versioned) (command : Command) (change : Change) : Type 0 where
+  pub unit : (segment : ℕ) → unit_of_change segment command change ≡ unit_given safe segment x command
+  pub safe_after : safe_of_change safe change ≡ safe_given safe x command
+  -- it is none just where the command appends nothing
+  pub nothing : (segment : ℕ) → is_nothing change ≡ is_empty (unit_given safe segment x command)
+
+-- a put that would be done, with a version above the greatest
+abbrev pub IsSpent : ℕ → Option Versioned → Command → Type 0
+IsSpent safe x (Get k) = ⊥
+IsSpent safe x (Put k value when) = (is_met when x ≡ true) × (2 ^ 62 < put_version safe x)
+IsSpent safe x (Delete k) = ⊥
+
+-- a put whose tombstone and object are longer than a quarter of a segment of this many bytes
+abbrev pub is_too_big : Command → ℕ → Bool
+is_too_big (Get k) segment = false
+is_too_big (Put k value when) segment = nat_lt (segment / 4) (50 + 2 * length k.bytes + length value)
+is_too_big (Delete k) segment = false

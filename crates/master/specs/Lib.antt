@@ -7,3 +7,6 @@ pub mod HeadSteps
 pub mod Change
 pub mod Master
 pub mod Steps
+pub mod Causes
+pub mod Membership
+pub mod Represents

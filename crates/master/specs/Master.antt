@@ -1,9 +1,12 @@
 -- A master as clauses see it.
-use Rattle.std.specs.Prelude.{◌≡◌, ℕ, ◌≤◌, List, [], length, Bool, false, None}
+use Rattle.std.specs.Prelude.{◌≡◌, ℕ, ◌<◌, ◌≤◌, List, [], length, Bool, false, None, slice_get}
 use Rattle.master.specs.declared.command.Record.{Record}
 use Rattle.master.specs.declared.config.Config.{Config}
 use Rattle.master.specs.Config.{config_fault}
-use Rattle.master.specs.Head.{HeadValue}
+use Rattle.std.specs.List.{AllByRecursion}
+use Rattle.std.specs.Option.{option_map_or}
+use Rattle.master.specs.declared.head.UnitEnd.{UnitEnd}
+use Rattle.master.specs.Head.{HeadValue, everywhere}
 use Rattle.master.specs.HeadSteps.{fresh_head}
 
 -- what a master knows, its fleet apart
@@ -26,6 +29,8 @@ pub record IsMaster (d : MasterData) : Type 0 where
   pub config : config_fault d.config ≡ None
   pub replicas : d.head.replicas ≡ d.config.replicas
   pub history : length d.history ≤ d.config.history
+  -- each unit is of a record
+  pub numbers : AllByRecursion (λ (u : UnitEnd). u.number < length d.history) d.head.units
 
 -- a new master's
 abbrev pub fresh_data : Config → MasterData
@@ -37,3 +42,7 @@ fresh_data config = record {
   history = [];
   is_halted = false;
 }
+
+-- How many of the first records are durable: those before the record of the first unit that some replica lacks, or all.
+abbrev pub durable_of : MasterData → ℕ
+durable_of d = option_map_or (λ (u : UnitEnd). u.number) (slice_get d.head.units (everywhere d.head)) (length d.history)

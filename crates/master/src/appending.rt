@@ -1,6 +1,10 @@
 //! From a command and its change to the unit that the head takes.
 
-ghost use Rattle.std.specs.Prelude.{◌≡◌, ◌^◌, ◌≤◌, OnOk, OnErr};
+ghost use Rattle.std.specs.Prelude.{◌≡◌, ℕ, ◌+◌, ◌^◌, ◌<◌, ◌≤◌, List, [], ◌∷◌, ◌++◌, length, OnOk, OnErr, IsErrOf};
+ghost use Rattle.entry.specs.declared.entry.Object.{Object};
+ghost use Rattle.entry.specs.declared.entry.Entry.{Entry};
+ghost use Rattle.entry.specs.declared.entry.Entry.TheVariants as entry;
+ghost use Rattle.entry.specs.Text.{text_of};
 ghost use Rattle.entry.specs.View.{shown};
 ghost use Rattle.master.specs.Units.{object_entry, tombstone_entry};
 ghost use Rattle.master.specs.Change.{unit_of_change, appended};
@@ -36,8 +40,11 @@ fn tombstone_of(key: &Key, version: Version, segment: u64) -> EntryRef<'_>
 }
 
 /// Where in the unit of a change its object begins.
+#[tactic(auto, using(crate::proofs::Changes::front_of_replacing))]
 pub fn object_offset(command: &Command, change: &Change) -> usize
-    ensures { result ≤ 2 ^ 32 }
+    ensures behind { (segment : ℕ) (front : List Entry) (o : Object) →
+        unit_of_change segment command.now change.now ≡ front ++ entry.Object o ∷ [] → result ≡ length (text_of front) }
+    ensures small { result ≤ 2 ^ 32 }
 {
     match change {
         Change::Replace(_, _) => 27 + command.key().bytes.as_slice().len(),
@@ -46,19 +53,26 @@ pub fn object_offset(command: &Command, change: &Change) -> usize
 }
 
 /// How many bytes the unit of a change has.
+#[tactic(auto, using(crate::proofs::Changes::unit_lengths))]
 pub fn unit_len(command: &Command, change: &Change) -> usize
-    ensures { result ≤ 2 ^ 32 }
+    ensures len { (segment : ℕ) → result ≡ length (text_of (unit_of_change segment command.now change.now)) }
+    ensures small { result ≤ 2 ^ 32 }
 {
-    let key_len = command.key().bytes.as_slice().len();
-    let value_len = match command {
-        Command::Put(_, value, _) => value.as_slice().len(),
-        _ => 0,
-    };
-    match change {
-        Change::Nothing => 0,
-        Change::Create(_) => 23 + key_len + value_len,
-        Change::Replace(_, _) => 27 + key_len + 23 + key_len + value_len,
-        Change::Delete(_) => 27 + key_len,
+    match command {
+        Command::Get(_) => 0,
+        Command::Delete(key) => match change {
+            Change::Delete(_) => 27 + key.bytes.as_slice().len(),
+            _ => 0,
+        },
+        Command::Put(key, value, _) => {
+            let key_len = key.bytes.as_slice().len();
+            let object_len = 23 + key_len + value.as_slice().len();
+            match change {
+                Change::Create(_) => object_len,
+                Change::Replace(_, _) => 27 + key_len + object_len,
+                _ => 0,
+            }
+        }
     }
 }
 
@@ -72,6 +86,8 @@ pub fn append_change(
 ) -> Result<(), AppendFault>
     requires { limit ≤ 8388608 }
     ensures ok { OnOk result (head.new ≡ appended head.old number (unit_of_change head.old.id command.now change.now)) }
+    ensures full { IsErrOf result AppendFault.Full →
+        limit < length (text_of head.old.image) + length (text_of (unit_of_change head.old.id command.now change.now)) }
     ensures err { OnErr result (head.new ≡ head.old) }
 {
     let segment = head.id();

@@ -1,5 +1,11 @@
 //! What a command does, from what its key has.
 
+ghost use Rattle.std.specs.Prelude.{◌≡◌, ℕ, List, Option, None, Some, IfOk, IfErr};
+ghost use Rattle.entry.specs.declared.key.Key.{Key};
+ghost use Rattle.entry.specs.Meaning.{Versioned};
+ghost use Rattle.master.specs.Versioned.{reply_given};
+ghost use Rattle.master.specs.Change.{version_in, versioned_in, is_nothing, safe_of_change, IsChangeOf, IsSpent};
+
 use crate::command::{Command, If, Reply};
 use entry::{ObjectRef, SafeVersion, Value, Version};
 use std::alloc::{AllocError, Global};
@@ -22,7 +28,10 @@ pub enum Change {
 pub struct VersionsSpent;
 
 /// What a put of an absent key does.
-fn create(when: &If, safe: SafeVersion) -> Result<Change, VersionsSpent> {
+fn create(when: &If, safe: SafeVersion) -> Result<Change, VersionsSpent>
+    ensures done { IfOk result (λ change. (k : Key) (value : List ℕ) → IsChangeOf safe None (Command.Put k value when.now) change) }
+    ensures spent { IfErr result (λ _. (k : Key) (value : List ℕ) → IsSpent safe None (Command.Put k value when.now)) }
+{
     match when {
         If::Any | If::Absent => match safe.version() {
             None => Err(VersionsSpent),
@@ -33,7 +42,10 @@ fn create(when: &If, safe: SafeVersion) -> Result<Change, VersionsSpent> {
 }
 
 /// What a put of a key of this version does.
-fn replace(when: &If, dead: Version) -> Result<Change, VersionsSpent> {
+fn replace(when: &If, dead: Version) -> Result<Change, VersionsSpent>
+    ensures done { IfOk result (λ change. (safe : ℕ) (x : Versioned) (k : Key) (value : List ℕ) → x.version ≡ dead → IsChangeOf safe (Some x) (Command.Put k value when.now) change) }
+    ensures spent { IfErr result (λ _. (safe : ℕ) (x : Versioned) (k : Key) (value : List ℕ) → x.version ≡ dead → IsSpent safe (Some x) (Command.Put k value when.now)) }
+{
     let is_met = match when {
         If::Any => true,
         If::Absent => false,
@@ -53,7 +65,10 @@ pub fn change_of(
     command: &Command,
     safe: SafeVersion,
     present: Option<Version>,
-) -> Result<Change, VersionsSpent> {
+) -> Result<Change, VersionsSpent>
+    ensures done { IfOk result (λ change. (x : Option Versioned) → version_in x ≡ present → IsChangeOf safe x command.now change) }
+    ensures spent { IfErr result (λ _. (x : Option Versioned) → version_in x ≡ present → IsSpent safe x command.now) }
+{
     match present {
         None => match command {
             Command::Get(_) | Command::Delete(_) => Ok(Change::Nothing),
@@ -68,12 +83,16 @@ pub fn change_of(
 }
 
 impl Change {
-    pub fn is_nothing(&self) -> bool {
+    pub fn is_nothing(&self) -> bool
+        ensures { result ≡ is_nothing self.now }
+    {
         matches!(self, Change::Nothing)
     }
 
     /// The safe version afterwards.
-    pub fn safe_after(&self, safe: SafeVersion) -> SafeVersion {
+    pub fn safe_after(&self, safe: SafeVersion) -> SafeVersion
+        ensures { result ≡ safe_of_change safe self.now }
+    {
         match self {
             Change::Nothing | Change::Replace(_, _) => safe,
             Change::Create(version) => version.safe_above(),
@@ -87,7 +106,10 @@ impl Change {
         alloc: Global,
         command: &Command,
         present: Option<&ObjectRef<'_>>,
-    ) -> Result<Reply, AllocError> {
+    ) -> Result<Reply, AllocError>
+        ensures { let x = versioned_in present.entry in
+            IfOk result (λ reply. (safe : ℕ) → IsChangeOf safe x command.now self.now → reply ≡ reply_given safe x command.now) }
+    {
         match self {
             Change::Nothing => unchanged_reply(alloc, command, present),
             Change::Create(version) => Ok(Reply::Ok(*version)),
@@ -102,7 +124,10 @@ fn unchanged_reply(
     alloc: Global,
     command: &Command,
     present: Option<&ObjectRef<'_>>,
-) -> Result<Reply, AllocError> {
+) -> Result<Reply, AllocError>
+    ensures { let x = versioned_in present.entry in
+        IfOk result (λ reply. (safe : ℕ) → IsChangeOf safe x command.now Change.Nothing → reply ≡ reply_given safe x command.now) }
+{
     match command {
         Command::Get(_) => match present {
             None => Ok(Reply::None),

@@ -166,16 +166,32 @@ impl Head {
     }
 
     /// The record of the first unit that some replica lacks; `None` where each has all of them.
-    pub fn first_missing(&self) -> Option<usize> {
+    pub fn first_missing(&self) -> Option<usize>
+        ensures { result ≡ option_map (λ (u : UnitValue). u.number) (slice_get self.now.units (everywhere self.now)) }
+    {
+        self.number_of(self.everywhere())
+    }
+
+    /// How many of the first units every replica has.
+    fn everywhere(&self) -> usize
+        ensures { result ≡ everywhere self.now }
+    {
         if !self.is_open() {
-            return self.units.first().map(|unit| unit.number);
+            return 0;
         }
         match self.lagging() {
+            None => self.units.len(),
+            Some(replica) => self.units_of(replica),
+        }
+    }
+
+    /// The record of a unit.
+    fn number_of(&self, unit: usize) -> Option<usize>
+        ensures { result ≡ option_map (λ (u : UnitValue). u.number) (slice_get self.now.units unit) }
+    {
+        match self.units.get(unit) {
             None => None,
-            Some(replica) => {
-                let units = self.units_of(replica);
-                self.units.get(units).map(|unit| unit.number)
-            }
+            Some(unit) => Some(unit.number),
         }
     }
 

@@ -10,10 +10,17 @@ mod command;
 mod config;
 mod head;
 mod index;
+mod laws;
 mod master;
 mod step;
 
 pub use command::{Command, If, Record, Reply};
 pub use config::{Config, ConfigFault};
+pub use laws::{
+    empty_represented, entries_bounded, meaning_by_members, members_represent, one_meaning,
+    represented_safe, run_represented, states_go_on, unit_represented, units_are_data, units_go_on,
+    versions_bounded,
+};
 pub use master::Master;
+pub use segment::{Segment, SegmentFault, read_segment};
 pub use step::{Look, Refusal, Shown, Step, StepAnswer};

@@ -1,8 +1,10 @@
 //! One master over a fleet of backups.
 
 ghost use Rattle.std.specs.Prelude.{◌≡◌, ◌≤◌, ◌<◌, ◌^◌, ℕ, None, Some, false, true, length, IfOk, IfErr, IfSome, IsErrOf, OnErr, vec_len, vec_capacity};
+ghost use Rattle.master.specs.Change.{is_too_big};
+ghost use Rattle.master.specs.Causes.{early_refusal, Cause};
 ghost use Rattle.master.specs.Config.{config_fault};
-ghost use Rattle.master.specs.Master.{fresh_data};
+ghost use Rattle.master.specs.Master.{fresh_data, durable_of};
 ghost use Rattle.master.specs.Steps.{World, world, home, Accepts, Declines, Steps, IsRun};
 
 use crate::appending::{append_change, object_offset, unit_len};
@@ -80,6 +82,8 @@ impl<F: Fleet> Master<F> {
         ensures slot { IfOk result (λ found. IfSome found.1 (λ slot. slot < length self.now.knows.places)) }
         ensures halted { IfErr result (λ r. r ≡ Refusal.Halted → self.now.knows.is_halted ≡ true) }
         ensures stays { self.now.knows.is_halted ≡ true → IsErrOf result Refusal.Halted }
+        ensures early { IfSome (early_refusal self.now.knows command.now) (λ r. IsErrOf result r) }
+        ensures cause { IfErr result (λ r. Cause self.now.knows command.now r) }
     {
         if self.is_halted {
             return Err(Refusal::Halted);
@@ -289,7 +293,10 @@ impl<F: Fleet> Master<F> {
 
     /// How many of the first records are durable: each unit of theirs was taken whole, by takes that answered Ok, by every
     /// replica of the head.
-    pub fn durable(&self) -> u64 {
+    pub fn durable(&self) -> u64
+        ensures count { result ≡ durable_of self.now.knows }
+        ensures within { result ≤ length self.now.knows.history }
+    {
         match self.head.first_missing() {
             None => self.history.len() as u64,
             Some(number) => number as u64,
@@ -372,7 +379,9 @@ fn home(config: &Config, segment: u64, replica: usize) -> u64
 }
 
 /// Whether the key and the value of a put are too big for a quarter of a segment of this many bytes.
-fn is_too_big(command: &Command, segment: u64) -> bool {
+fn is_too_big(command: &Command, segment: u64) -> bool
+    ensures { result ≡ is_too_big command.now segment }
+{
     match command {
         Command::Put(key, value, _) => {
             let bytes = 50 + 2 * key.bytes.as_slice().len() + value.as_slice().len();

@@ -1,5 +1,5 @@
 use Rattle.std.proofs.Common.{◌≡◌, ℕ, refl, ◌∙◌, ap, length, Some}
-use Rattle.replica.specs.Op.{OpValue, Extend}
+use Rattle.replica.specs.Op.{Extend}
 use Rattle.master.specs.Head.{IsLagging}
 use Rattle.master.specs.Master.{MasterData}
 use Rattle.master.specs.Steps.{Extends, extend_op, home}
