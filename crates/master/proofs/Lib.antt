@@ -9,3 +9,4 @@ pub mod Units
 pub mod Represented
 pub mod Versions
 pub mod Meanings
+pub mod Places

@@ -39,8 +39,11 @@ abbrev pub version_in : Option Versioned → Option ℕ
 version_in x = option_map (λ (v : Versioned). v.version) x
 
 -- what a key has whose object this is
+abbrev pub shown_versioned : Option ObjectRef → Option Versioned
+shown_versioned present = option_map (λ (o : ObjectRef). versioned (shown_object o)) present
+
 abbrev pub versioned_in : Option (Bor ObjectRef) → Option Versioned
-versioned_in present = option_map (λ (o : ObjectRef). versioned (shown_object o)) (option_copied present)
+versioned_in present = shown_versioned (option_copied present)
 
 abbrev pub is_nothing : Change → Bool
 is_nothing change.Nothing = true

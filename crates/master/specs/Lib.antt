@@ -10,3 +10,4 @@ pub mod Steps
 pub mod Causes
 pub mod Membership
 pub mod Represents
+pub mod Index

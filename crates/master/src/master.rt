@@ -1,6 +1,6 @@
 //! One master over a fleet of backups.
 
-ghost use Rattle.std.specs.Prelude.{◌≡◌, ◌≤◌, ◌<◌, ◌^◌, ℕ, None, Some, false, true, length, IfOk, IfErr, IfSome, IsErrOf, OnErr, vec_len, vec_capacity};
+ghost use Rattle.std.specs.Prelude.{List, ◌≡◌, ◌≤◌, ◌<◌, ◌^◌, ℕ, None, Some, false, true, length, IfOk, IfErr, IfSome, IsErrOf, OnErr, vec_len, vec_capacity};
 ghost use Rattle.master.specs.Change.{is_too_big};
 ghost use Rattle.master.specs.Causes.{early_refusal, Cause};
 ghost use Rattle.master.specs.Config.{config_fault};
@@ -14,7 +14,7 @@ use crate::config::Config;
 use crate::head::Head;
 use crate::index::{object_at, slot_of};
 use crate::step::{Look, Refusal, Shown, Step, StepAnswer};
-use entry::{NoMemory, SafeVersion};
+use entry::{NoMemory, ObjectRef, SafeVersion};
 use replica::{Act, Bench, Bytes, Fleet, Op, TakeFault};
 use segment::AppendFault;
 use std::alloc::{AllocError, Global};
@@ -48,6 +48,13 @@ impl<F: Fleet> Model for Master<F> {
 }
 
 impl<F: Fleet> Master<F> {
+    ghost use Rattle.entry.specs.declared.entry.Object.{Object as ObjectValue};
+    ghost use Rattle.entry.specs.declared.key.Key.{Key as KeyValue};
+    ghost use Rattle.entry.specs.Meaning.{contents_of};
+    ghost use Rattle.master.specs.Command.{command_key};
+    ghost use Rattle.master.specs.Index.{AreAt, slot_in};
+    ghost use Rattle.master.specs.Versioned.{reply_given};
+    ghost use Rattle.master.specs.Change.{shown_versioned, IsChangeOf, IsSpent};
     ghost use Rattle.master.specs.Steps.{refusal_of, failed_data, IsShown};
     ghost use Rattle.master.specs.Head.{IsLagging};
 
@@ -80,6 +87,10 @@ impl<F: Fleet> Master<F> {
         ensures running { IfOk result (λ _. self.now.knows.is_halted ≡ false) }
         ensures room { IfOk result (λ _. length self.now.knows.history < self.now.knows.config.history) }
         ensures slot { IfOk result (λ found. IfSome found.1 (λ slot. slot < length self.now.knows.places)) }
+        ensures done { IfOk result (λ found. (os : List ObjectValue) → AreAt self.now.knows.head.image self.now.knows.places os →
+            (found.1 ≡ slot_in os (command_key command.now)) × IsChangeOf self.now.knows.safe (contents_of os (command_key command.now)) command.now found.0) }
+        ensures spent { IfErr result (λ r. r ≡ Refusal.VersionsSpent → (os : List ObjectValue) → AreAt self.now.knows.head.image self.now.knows.places os →
+            IsSpent self.now.knows.safe (contents_of os (command_key command.now)) command.now) }
         ensures halted { IfErr result (λ r. r ≡ Refusal.Halted → self.now.knows.is_halted ≡ true) }
         ensures stays { self.now.knows.is_halted ≡ true → IsErrOf result Refusal.Halted }
         ensures early { IfSome (early_refusal self.now.knows command.now) (λ r. IsErrOf result r) }
@@ -112,17 +123,30 @@ impl<F: Fleet> Master<F> {
         Ok((change, slot))
     }
 
+    /// The object of this place.
+    fn object_of(&self, slot: Option<usize>) -> Option<ObjectRef<'_>>
+        requires { IfSome slot (λ slot. slot < length self.now.knows.places) }
+        ensures { (os : List ObjectValue) (k : KeyValue) → AreAt self.now.knows.head.image self.now.knows.places os → slot ≡ slot_in os k →
+            shown_versioned result ≡ contents_of os k }
+    {
+        match slot {
+            None => None,
+            Some(slot) => object_at(self.head.image(), self.places[slot]),
+        }
+    }
+
     /// What a command does whose key has the object of this place.
     fn change_at(&self, command: &Command, slot: Option<usize>) -> Result<Change, Refusal>
         requires { IfSome slot (λ slot. slot < length self.now.knows.places) }
-        ensures { IfErr result (λ r. r ≡ Refusal.VersionsSpent) }
+        ensures done { IfOk result (λ change. (os : List ObjectValue) → AreAt self.now.knows.head.image self.now.knows.places os → slot ≡ slot_in os (command_key command.now) →
+            IsChangeOf self.now.knows.safe (contents_of os (command_key command.now)) command.now change) }
+        ensures spent { IfErr result (λ r. r ≡ Refusal.VersionsSpent) }
+        ensures cause { IfErr result (λ _. (os : List ObjectValue) → AreAt self.now.knows.head.image self.now.knows.places os → slot ≡ slot_in os (command_key command.now) →
+            IsSpent self.now.knows.safe (contents_of os (command_key command.now)) command.now) }
     {
-        let present = match slot {
+        let present = match self.object_of(slot) {
             None => None,
-            Some(slot) => match object_at(self.head.image(), self.places[slot]) {
-                None => None,
-                Some(object) => Some(object.version),
-            },
+            Some(object) => Some(object.version),
         };
         match change_of(command, self.safe, present) {
             Ok(change) => Ok(change),
@@ -138,14 +162,11 @@ impl<F: Fleet> Master<F> {
         slot: Option<usize>,
     ) -> Result<Reply, AllocError>
         requires { IfSome slot (λ slot. slot < length self.now.knows.places) }
+        ensures { IfOk result (λ reply. (os : List ObjectValue) → AreAt self.now.knows.head.image self.now.knows.places os → slot ≡ slot_in os (command_key command.now) →
+            IsChangeOf self.now.knows.safe (contents_of os (command_key command.now)) command.now change.now →
+            reply ≡ reply_given self.now.knows.safe (contents_of os (command_key command.now)) command.now) }
     {
-        let Some(slot) = slot else {
-            return change.reply(self.alloc, command, None);
-        };
-        match object_at(self.head.image(), self.places[slot]) {
-            None => change.reply(self.alloc, command, None),
-            Some(object) => change.reply(self.alloc, command, Some(&object)),
-        }
+        change.reply(self.alloc, command, self.object_of(slot).as_ref())
     }
 
     /// One command.

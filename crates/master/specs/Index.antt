@@ -1,0 +1,28 @@
+-- Where entries stand in an image, and what an index of places finds.
+use Rattle.std.specs.Prelude.{◌≡◌, ℕ, suc, List, [], ◌∷◌, ◌++◌, length, Option, Some, None, if◌then◌else◌}
+use Rattle.std.specs.Option.{option_map}
+use Rattle.entry.specs.declared.key.Key.{Key}
+use Rattle.entry.specs.declared.entry.Object.{Object}
+use Rattle.entry.specs.declared.entry.Entry.{Entry}
+use Rattle.entry.specs.declared.entry.Entry.TheVariants as entry
+use Rattle.entry.specs.Order.{key_eq}
+use Rattle.entry.specs.Text.{text_of}
+
+-- the entry stands at this offset of the image
+pub record Stands (image : List Entry) (at : ℕ) (e : Entry) : Type 0 where
+  pub before : List Entry
+  pub after : List Entry
+  pub split : image ≡ before ++ e ∷ after
+  pub offset : at ≡ length (text_of before)
+
+-- each of the objects stands at its place
+abbrev pub AreAt : List Entry → List ℕ → List Object → Type 0
+AreAt image [] [] = Unit {0}
+AreAt image (at ∷ places) (o ∷ os) = Stands image at (entry.Object o) × AreAt image places os
+AreAt image [] (o ∷ os) = ⊥
+AreAt image (at ∷ places) [] = ⊥
+
+-- the first of the objects that has the key
+abbrev pub slot_in : List Object → Key → Option ℕ
+slot_in [] k = None
+slot_in (o ∷ os) k = if key_eq k o.key then Some 0 else option_map (λ n. suc n) (slot_in os k)
