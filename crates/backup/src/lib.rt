@@ -10,6 +10,3 @@ mod stored;
 
 pub use fleet::MemoryFleet;
 pub use memory::MemoryBackup;
-
-#[cfg(test)]
-mod tests;

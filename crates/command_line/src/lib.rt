@@ -9,6 +9,3 @@ mod settings;
 
 pub use reading::options;
 pub use settings::Options;
-
-#[cfg(test)]
-mod tests;

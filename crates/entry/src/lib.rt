@@ -22,6 +22,3 @@ pub use reading::read_entry;
 pub use tablet::{Size, Tablet, Tablets};
 pub use view::{DigestRef, EntryRef, KeyRef, ObjectRef, TombstoneRef};
 pub use writing::write_entry;
-
-#[cfg(test)]
-mod tests;

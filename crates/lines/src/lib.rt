@@ -15,6 +15,3 @@ pub use laws::one_line;
 pub use line::Line;
 pub use parse::parse_line;
 pub use reading::{ReadFault, Taken, next_line};
-
-#[cfg(test)]
-mod tests;

@@ -20,7 +20,7 @@ use Rattle.master.specs.declared.command.Reply.TheVariants as reply
 use Rattle.master.specs.Versioned.{is_met, reply_given}
 use Rattle.master.specs.Units.{object_entry, tombstone_entry, put_unit}
 use Rattle.master.specs.Command.{command_key}
-use Rattle.master.specs.Change.{unit_of_change, version_in, is_empty, IsChangeOf, IsSpent}
+use Rattle.master.specs.Change.{unit_of_change, version_in, is_empty, IsChangeOf, is_spent}
 
 -- ---- lengths of units
 
@@ -82,10 +82,10 @@ create_done safe k value when (Ok c) done = absent (λ x. IsChangeOf safe x (Put
 create_done safe k value when (Err e) done = tt
 
 pub create_spent : (safe : ℕ) (k : Key) (value : List ℕ) (when : If) (r : Result Change VersionsSpent)
-    → IfErr r (λ _. (k : Key) (value : List ℕ) → IsSpent safe None (Put k value when))
-    → IfErr r (λ _. (x : Option Versioned) → version_in x ≡ None → IsSpent safe x (Put k value when))
+    → IfErr r (λ _. (k : Key) (value : List ℕ) → is_spent safe None (Put k value when) ≡ true)
+    → IfErr r (λ _. (x : Option Versioned) → version_in x ≡ None → is_spent safe x (Put k value when) ≡ true)
 create_spent safe k value when (Ok c) spent = tt
-create_spent safe k value when (Err e) spent = absent (λ x. IsSpent safe x (Put k value when)) (spent k value)
+create_spent safe k value when (Err e) spent = absent (λ x. is_spent safe x (Put k value when) ≡ true) (spent k value)
 
 pub replace_done : (safe dead : ℕ) (k : Key) (value : List ℕ) (when : If) (r : Result Change VersionsSpent)
     → IfOk r (λ change. (safe : ℕ) (x : Versioned) (k : Key) (value : List ℕ) → x.version ≡ dead → IsChangeOf safe (Some x) (Put k value when) change)
@@ -94,14 +94,14 @@ replace_done safe dead k value when (Ok c) done = present (λ x. IsChangeOf safe
 replace_done safe dead k value when (Err e) done = tt
 
 pub replace_spent : (safe dead : ℕ) (k : Key) (value : List ℕ) (when : If) (r : Result Change VersionsSpent)
-    → IfErr r (λ _. (safe : ℕ) (x : Versioned) (k : Key) (value : List ℕ) → x.version ≡ dead → IsSpent safe (Some x) (Put k value when))
-    → IfErr r (λ _. (x : Option Versioned) → version_in x ≡ Some dead → IsSpent safe x (Put k value when))
+    → IfErr r (λ _. (safe : ℕ) (x : Versioned) (k : Key) (value : List ℕ) → x.version ≡ dead → is_spent safe (Some x) (Put k value when) ≡ true)
+    → IfErr r (λ _. (x : Option Versioned) → version_in x ≡ Some dead → is_spent safe x (Put k value when) ≡ true)
 replace_spent safe dead k value when (Ok c) spent = tt
-replace_spent safe dead k value when (Err e) spent = present (λ x. IsSpent safe x (Put k value when)) dead (λ (x : Versioned). spent safe x k value)
+replace_spent safe dead k value when (Err e) spent = present (λ x. is_spent safe x (Put k value when) ≡ true) dead (λ (x : Versioned). spent safe x k value)
 
 -- ---- replies
 
-unmet : (safe : ℕ) (x : Option Versioned) (k : Key) (value : List ℕ) (when : If) → IsChangeOf safe x (Put k value when) change.Nothing → is_met when x ≡ false
+pub unmet : (safe : ℕ) (x : Option Versioned) (k : Key) (value : List ℕ) (when : If) → IsChangeOf safe x (Put k value when) change.Nothing → is_met when x ≡ false
 unmet safe None k value when c = go (is_met when None) (c.nothing 0) where
   go : (b : Bool) → true ≡ is_empty (if b then put_unit safe 0 k value None else []) → b ≡ false
   go true e = cc
@@ -111,7 +111,7 @@ unmet safe (Some x) k value when c = go (is_met when (Some x)) (c.nothing 0) whe
   go true e = cc
   go false e = refl
 
-undeleted : (safe : ℕ) (x : Option Versioned) (k : Key) → IsChangeOf safe x (Delete k) change.Nothing → x ≡ None
+pub undeleted : (safe : ℕ) (x : Option Versioned) (k : Key) → IsChangeOf safe x (Delete k) change.Nothing → x ≡ None
 undeleted safe None k c = refl
 undeleted safe (Some x) k c = let e = c.nothing 0 in cc
 

@@ -95,7 +95,7 @@ within_get [] j n e = absurd (cc)
 within_get (m ∷ ns) zero n e = omega arith
 within_get (m ∷ ns) (suc j) n e = let later = within_get ns j n e in omega arith
 
-some-same : (m n : ℕ) → Some m ≡ Some n → m ≡ n
+pub some-same : (m n : ℕ) → Some m ≡ Some n → m ≡ n
 some-same m n e = cc
 
 pub lagging_before : (units place : ℕ) (ns : List ℕ) → 1 ≤ length ns → IsLagging units (rest_in ns) (Some place) → get_or ns 0 0 ≤ get_or (rest_in ns) place 0
@@ -129,7 +129,7 @@ fewest_above : (units n : ℕ) (ns : List ℕ) → n ≤ units → AllByRecursio
 fewest_above units n [] le all = le
 fewest_above units n (m ∷ ns) le all = let here = all.0 in let later = fewest_above units n ns le all.1 in omega arith
 
-fewest_below : (units n j : ℕ) (ns : List ℕ) → slice_get ns j ≡ Some n → fewest units ns ≤ n
+pub fewest_below : (units n j : ℕ) (ns : List ℕ) → slice_get ns j ≡ Some n → fewest units ns ≤ n
 fewest_below units n j [] e = absurd (cc)
 fewest_below units n zero (m ∷ ns) e = let same = some-same m n e in omega arith
 fewest_below units n (suc j) (m ∷ ns) e = let later = fewest_below units n j ns e in omega arith

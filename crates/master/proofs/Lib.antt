@@ -1,6 +1,5 @@
 pub mod Heads
 pub mod Runs
-pub mod Failing
 pub mod Numbers
 pub mod Changes
 pub mod Keys
@@ -10,3 +9,18 @@ pub mod Represented
 pub mod Versions
 pub mod Meanings
 pub mod Places
+pub mod Indexing
+pub mod Indexed
+pub mod Homes
+pub mod Mirroring
+pub mod Refusals
+pub mod Appended
+pub mod Kept
+pub mod Pushes
+pub mod Durables
+pub mod Buried
+pub mod Coverings
+pub mod Ends
+pub mod Fronts
+pub mod Mirrored
+pub mod Sounding

@@ -59,14 +59,14 @@ some-none : (n : ℕ) → Some n ≡ None → ⊥
 some-none n e = cc
 
 -- a slot that is one further
-abbrev next_slot : Option ℕ → Option ℕ
+abbrev pub next_slot : Option ℕ → Option ℕ
 next_slot slot = option_map (λ (n : ℕ). suc n) slot
 
-none_before : (slot : Option ℕ) → next_slot slot ≡ None → slot ≡ None
+pub none_before : (slot : Option ℕ) → next_slot slot ≡ None → slot ≡ None
 none_before None e = refl
 none_before (Some n) e = absurd (cc)
 
-some_before : (slot : Option ℕ) (j : ℕ) → next_slot slot ≡ Some j → (i : ℕ) × (slot ≡ Some i) × (j ≡ suc i)
+pub some_before : (slot : Option ℕ) (j : ℕ) → next_slot slot ≡ Some j → (i : ℕ) × (slot ≡ Some i) × (j ≡ suc i)
 some_before None j e = absurd (cc)
 some_before (Some i) j e = (i, refl, sym (some-same (suc i) j e))
 

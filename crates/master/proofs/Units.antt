@@ -1,5 +1,5 @@
 -- What units hold, and how runs go on.
-use Rattle.std.proofs.Common.{◌≡◌, ℕ, Bool, true, false, cond, List, [], ◌∷◌, ◌++◌, refl, sym, ap, subst}
+use Rattle.std.proofs.Common.{◌≡◌, ℕ, Bool, true, false, cond, suc, List, [], ◌∷◌, ◌++◌, length, refl, sym, ap, subst}
 use Rattle.std.specs.Prelude.{filter, Option, Some, None}
 use Rattle.entry.specs.declared.key.Key.{Key}
 use Rattle.entry.specs.declared.entry.Entry.{Entry}
@@ -81,3 +81,10 @@ units_pushed st [] [] segment command are = ((segment, refl), tt)
 units_pushed st [] (u ∷ us) segment command are = absurd are
 units_pushed st (c ∷ cs) [] segment command are = absurd are
 units_pushed st (c ∷ cs) (u ∷ us) segment command are = (are.0, units_pushed (after_command st c) cs us segment command are.1)
+
+-- there are as many units as commands
+pub length-units : (st : State) (commands : List Command) (units : List (List Entry)) → AreUnitsOf st commands units → length units ≡ length commands
+length-units st [] [] are = refl
+length-units st [] (u ∷ us) are = absurd are
+length-units st (c ∷ cs) [] are = absurd are
+length-units st (c ∷ cs) (u ∷ us) are = ap suc (length-units (after_command st c) cs us are.1)

@@ -1,14 +1,23 @@
--- Why a command is refused before its key is looked up.
-use Rattle.std.specs.Prelude.{◌≡◌, length, nat_le, not, Option, Some, None, if◌then◌else◌}
+-- Why a step is refused.
+use Rattle.std.specs.Prelude.{◌≡◌, ℕ, ◌+◌, ◌^◌, ◌==◌, ◌&&◌, length, Bool, true, false, nat_le, nat_lt, not, Option, Some, None, List, is_none, if◌then◌else◌}
+use Rattle.entry.specs.declared.entry.Entry.{Entry}
 use Rattle.entry.specs.Tablet.{have_key}
+use Rattle.entry.specs.Text.{text_of}
+use Rattle.entry.specs.Meaning.{Versioned}
 use Rattle.master.specs.declared.command.Command.{Command}
 use Rattle.master.specs.declared.step.Refusal.{Refusal}
-use Rattle.master.specs.declared.step.Refusal.TheVariants.{Halted, TooBig, NoTablet, HistoryFull}
+use Rattle.master.specs.declared.step.Refusal.TheVariants.{Halted, TooBig, NoTablet, HistoryFull, VersionsSpent, Full, Rolling, Nothing}
 use Rattle.master.specs.Command.{command_key}
-use Rattle.master.specs.Change.{is_too_big}
+use Rattle.master.specs.Change.{is_too_big, is_spent, is_empty}
+use Rattle.master.specs.Head.{HeadValue, fewest}
+use Rattle.master.specs.Log.{state_of}
 use Rattle.master.specs.Master.{MasterData}
+use Rattle.master.specs.Represents.{unit_of}
+use Rattle.master.specs.Versioned.{State}
 
--- the first test that refuses the command
+-- ---- a command
+
+-- the first test that refuses the command before its key is looked up
 abbrev pub early_refusal : MasterData → Command → Option Refusal
 early_refusal d command =
     if d.is_halted then Some Halted
@@ -17,10 +26,42 @@ early_refusal d command =
     else if nat_le d.config.history (length d.history) then Some HistoryFull
     else None
 
--- a command is refused so: by the first of those tests, else for another cause
-abbrev pub Cause : MasterData → Command → Refusal → Type 0
-Cause d command Halted = early_refusal d command ≡ Some Halted
-Cause d command TooBig = early_refusal d command ≡ Some TooBig
-Cause d command NoTablet = early_refusal d command ≡ Some NoTablet
-Cause d command HistoryFull = early_refusal d command ≡ Some HistoryFull
-Cause d command _ = early_refusal d command ≡ None
+-- all replicas of the head were opened
+abbrev pub is_open : HeadValue → Bool
+is_open h = length h.taken == h.replicas
+
+-- the unit is within the segment's bytes
+abbrev pub has_room : MasterData → List Entry → Bool
+has_room d unit = nat_le (length (text_of d.head.image) + length (text_of unit)) d.config.segment
+
+-- why the unit of a command is not appended: no other head can begin yet, so it must fit the open one
+abbrev pub unit_refusal : MasterData → List Entry → Option Refusal
+unit_refusal d unit =
+    if is_empty unit then None
+    else if not (is_open d.head) then Some Rolling
+    else if not (has_room d unit) then Some Full
+    else None
+
+-- the test that refuses a command, from the state and what its key has
+abbrev pub late_refusal : MasterData → State → Command → Option Refusal
+late_refusal d st command =
+    if is_spent st.safe (st.contents (command_key command)) command then Some VersionsSpent
+    else unit_refusal d (unit_of st d.head.id command)
+
+-- the first test that refuses the command, want of memory apart; None where all are passed
+abbrev pub command_refusal : MasterData → Command → Option Refusal
+command_refusal d command =
+    if is_none (early_refusal d command) then late_refusal d (state_of d) command else early_refusal d command
+
+-- ---- a push
+
+-- each replica was opened, and has each unit
+abbrev pub is_pushed : HeadValue → Bool
+is_pushed h = is_open h && (fewest (length h.units) h.taken == length h.units)
+
+-- the test that refuses a push, what the fleet answers apart
+abbrev pub push_refusal : MasterData → Option Refusal
+push_refusal d =
+    if d.is_halted then Some Halted
+    else if is_pushed d.head then Some Nothing
+    else None

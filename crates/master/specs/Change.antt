@@ -1,5 +1,5 @@
 -- Changes: what they append to the head, and which one a command makes.
-use Rattle.std.specs.Prelude.{◌≡◌, ℕ, ◌+◌, ◌*◌, ◌/◌, ◌^◌, ◌<◌, max, List, [], ◌∷◌, length, Bool, true, false, nat_lt, Option}
+use Rattle.std.specs.Prelude.{◌≡◌, ℕ, ◌+◌, ◌*◌, ◌/◌, ◌^◌, ◌&&◌, max, List, [], ◌∷◌, length, Bool, true, false, nat_lt, Option}
 use Rattle.std.specs.Borrow.{Bor}
 use Rattle.std.specs.Option.{option_map, option_copied}
 use Rattle.entry.specs.declared.entry.Entry.{Entry}
@@ -53,18 +53,19 @@ abbrev pub is_empty : List Entry → Bool
 is_empty [] = true
 is_empty (e ∷ es) = false
 
+-- a put that would be done, with a version above the greatest
+abbrev pub is_spent : ℕ → Option Versioned → Command → Bool
+is_spent safe x (Get k) = false
+is_spent safe x (Put k value when) = is_met when x && nat_lt (2 ^ 62) (put_version safe x)
+is_spent safe x (Delete k) = false
+
 -- from the safe version and what the key has, the change does what the command does
 pub record IsChangeOf (safe : ℕ) (x : Option Versioned) (command : Command) (change : Change) : Type 0 where
   pub unit : (segment : ℕ) → unit_of_change segment command change ≡ unit_given safe segment x command
   pub safe_after : safe_of_change safe change ≡ safe_given safe x command
   -- it is none just where the command appends nothing
   pub nothing : (segment : ℕ) → is_nothing change ≡ is_empty (unit_given safe segment x command)
-
--- a put that would be done, with a version above the greatest
-abbrev pub IsSpent : ℕ → Option Versioned → Command → Type 0
-IsSpent safe x (Get k) = ⊥
-IsSpent safe x (Put k value when) = (is_met when x ≡ true) × (2 ^ 62 < put_version safe x)
-IsSpent safe x (Delete k) = ⊥
+  pub not_spent : is_spent safe x command ≡ false
 
 -- a put whose tombstone and object are longer than a quarter of a segment of this many bytes
 abbrev pub is_too_big : Command → ℕ → Bool

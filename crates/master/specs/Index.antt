@@ -1,5 +1,6 @@
 -- Where entries stand in an image, and what an index of places finds.
-use Rattle.std.specs.Prelude.{◌≡◌, ℕ, suc, List, [], ◌∷◌, ◌++◌, length, Option, Some, None, if◌then◌else◌}
+use Rattle.std.specs.Prelude.{◌≡◌, ℕ, suc, List, [], ◌∷◌, ◌++◌, length, Option, Some, None, slice_set, if◌then◌else◌}
+use Rattle.std.specs.List.{remove}
 use Rattle.std.specs.Option.{option_map}
 use Rattle.entry.specs.declared.key.Key.{Key}
 use Rattle.entry.specs.declared.entry.Object.{Object}
@@ -7,6 +8,8 @@ use Rattle.entry.specs.declared.entry.Entry.{Entry}
 use Rattle.entry.specs.declared.entry.Entry.TheVariants as entry
 use Rattle.entry.specs.Order.{key_eq}
 use Rattle.entry.specs.Text.{text_of}
+use Rattle.master.specs.declared.change.Change.{Change}
+use Rattle.master.specs.declared.change.Change.TheVariants as change
 
 -- the entry stands at this offset of the image
 pub record Stands (image : List Entry) (at : ℕ) (e : Entry) : Type 0 where
@@ -26,3 +29,12 @@ AreAt image (at ∷ places) [] = ⊥
 abbrev pub slot_in : List Object → Key → Option ℕ
 slot_in [] k = None
 slot_in (o ∷ os) k = if key_eq k o.key then Some 0 else option_map (λ n. suc n) (slot_in os k)
+
+-- the places once a change was done to the object of this slot, and its new object, if it makes one, stands at this offset
+abbrev pub placed : List ℕ → Change → Option ℕ → ℕ → List ℕ
+placed places change.Nothing slot at = places
+placed places (change.Create version) slot at = places ++ at ∷ []
+placed places (change.Replace dead version) None at = places
+placed places (change.Replace dead version) (Some slot) at = slice_set places slot at
+placed places (change.Delete dead) None at = places
+placed places (change.Delete dead) (Some slot) at = remove places slot

@@ -11,3 +11,9 @@ pub mod Causes
 pub mod Membership
 pub mod Represents
 pub mod Index
+pub mod Log
+pub mod Mirror
+pub mod Sound
+pub mod Durable
+pub mod Covered
+pub mod Invariant

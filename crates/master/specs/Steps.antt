@@ -1,9 +1,9 @@
 -- A master with its fleet, and what a step makes of them.
-use Rattle.std.specs.Prelude.{◌≡◌, ℕ, ◌+◌, ◌*◌, ◌%◌, ◌-◌, ◌<◌, ◌⊎◌, List, [], ◌∷◌, ◌++◌, length, take, drop, Result, Ok, Err, false, true, Some, None, slice_get, ◌==◌, if◌then◌else◌}
+use Rattle.std.specs.Prelude.{◌≡◌, ℕ, ◌+◌, ◌*◌, ◌%◌, ◌-◌, ◌<◌, ◌⊎◌, List, [], ◌∷◌, ◌++◌, length, take, drop, Result, Ok, Err, Bool, false, true, Some, None, slice_get, ◌==◌, if◌then◌else◌}
 use Rattle.entry.specs.Text.{text_of}
 use Rattle.replica.specs.Op.{OpValue, Open, Extend}
 use Rattle.replica.specs.Picture.{FleetState}
-use Rattle.replica.specs.Take.{TakeGives, taken, limited}
+use Rattle.replica.specs.Take.{Refuses, taken, limited}
 use Rattle.replica.specs.declared.op.TakeFault.{TakeFault}
 use Rattle.replica.specs.declared.op.TakeFault.TheVariants as take_fault
 use Rattle.master.specs.declared.command.Command.{Command}
@@ -19,9 +19,14 @@ use Rattle.master.specs.declared.step.Shown.{Shown}
 use Rattle.master.specs.declared.step.Shown.TheVariants.{Image as ImageShown}
 use Rattle.master.specs.declared.step.Refusal.{Refusal}
 use Rattle.master.specs.declared.step.Refusal.TheVariants as refusal
+use Rattle.master.specs.Causes.{command_refusal, push_refusal}
+use Rattle.master.specs.Change.{appended}
 use Rattle.master.specs.Head.{HeadValue, end_of, IsLagging}
 use Rattle.master.specs.HeadSteps.{with_replica, with_taken}
+use Rattle.master.specs.Log.{state_of}
 use Rattle.master.specs.Master.{MasterData, MasterValue}
+use Rattle.master.specs.Represents.{unit_of}
+use Rattle.master.specs.Versioned.{reply_to}
 
 pub record World : Type 0 where
   pub knows : MasterData
@@ -53,13 +58,15 @@ extend_op d units = record {
       (drop (end_of d.head.opening d.head.units units) (text_of d.head.image)));
 }
 
--- a command adds its record, and the fleet stays
+-- A command is answered as the versioned map does, adds its record, and appends its unit; the fleet stays.
 pub record AppliesTo (old : World) (seat : ℕ) (command : Command) (answer : StepAnswer) (new : World) : Type 0 where
+  pub passed : command_refusal old.knows command ≡ None
+  pub told : answer ≡ Applied (length old.knows.history) (reply_to (state_of old.knows) command)
   pub fleet : new.fleet ≡ old.fleet
   pub config : new.knows.config ≡ old.knows.config
-  pub running : (old.knows.is_halted ≡ false) × (new.knows.is_halted ≡ false)
-  pub history : (r : Record) × (answer ≡ Applied (length old.knows.history) r.reply) × (r.seat ≡ seat) × (r.command ≡ command)
-      × (new.knows.history ≡ old.knows.history ++ r ∷ [])
+  pub running : new.knows.is_halted ≡ false
+  pub history : new.knows.history ≡ old.knows.history ++ record { seat = seat; command = command; reply = reply_to (state_of old.knows) command } ∷ []
+  pub head : new.knows.head ≡ appended old.knows.head (length old.knows.history) (unit_of (state_of old.knows) old.knows.head.id command)
 
 -- the op that a push hands to this backup: the head's opening where a replica is to be opened, else the next unit of the
 -- replica that has the fewest
@@ -87,20 +94,27 @@ Accepts old Push (Applied place reply) new = ⊥
 abbrev pub halted : MasterData → MasterData
 halted d = record { config = d.config; head = d.head; places = d.places; safe = d.safe; history = d.history; is_halted = true }
 
--- the take of a push failed, and its op may have been taken
-abbrev pub FailsTake : World → World → Type 0
-FailsTake old new = (new.knows ≡ halted old.knows) × ((b : ℕ) × (fault : TakeFault)
-    × ((Opens old.knows b × TakeGives old.fleet b (open_op old.knows) (Err fault) new.fleet)
-    ⊎ ((j units : ℕ) × Extends old.knows b j units × TakeGives old.fleet b (extend_op old.knows units) (Err fault) new.fleet)))
+-- the op that a push hands to a backup
+abbrev pub IsNextOp : MasterData → ℕ → OpValue → Type 0
+IsNextOp d b op = (Opens d b × (op ≡ open_op d)) ⊎ ((j units : ℕ) × Extends d b j units × (op ≡ extend_op d units))
 
--- A refusal changes nothing, but for a fault's: then the push's op may have been taken, and the master stays halted.
-abbrev pub Declines : World → Refusal → World → Type 0
-Declines old refusal.Halted new = ((old.knows.is_halted ≡ true) × (new ≡ old)) ⊎ FailsTake old new
-Declines old _ new = new ≡ old
+-- the take of a push failed: after a fault its op may have been taken
+abbrev pub FailsTake : World → Refusal → World → Type 0
+FailsTake old refusal.NoMemory new = new ≡ old
+FailsTake old refusal.Spent new = (old.fleet.takes ≡ old.fleet.end) × (new ≡ old)
+FailsTake old refusal.Halted new = (new.knows ≡ halted old.knows) × ((b : ℕ) × (op : OpValue) × IsNextOp old.knows b op × Refuses old.fleet b op take_fault.Fault new.fleet)
+FailsTake old _ new = ⊥
+
+-- A refusal is that of the first test that fails, or comes of memory or the fleet where all are passed. It changes nothing,
+-- but for a fault's: then the master stays halted.
+abbrev pub Declines : World → Step → Refusal → World → Type 0
+Declines old (Apply seat command) r new =
+    (new ≡ old) × ((command_refusal old.knows command ≡ Some r) ⊎ ((command_refusal old.knows command ≡ None) × (r ≡ refusal.NoMemory)))
+Declines old Push r new = ((push_refusal old.knows ≡ Some r) × (new ≡ old)) ⊎ ((push_refusal old.knows ≡ None) × FailsTake old r new)
 
 abbrev pub Steps : World → Step → Result StepAnswer Refusal → World → Type 0
 Steps old step (Ok answer) new = Accepts old step answer new
-Steps old step (Err refusal) new = Declines old refusal new
+Steps old step (Err refusal) new = Declines old step refusal new
 
 -- the steps in order, with their answers
 abbrev pub IsRun : World → List Step → List (Result StepAnswer Refusal) → World → Type 0
@@ -118,12 +132,12 @@ refusal_of take_fault.Spent = refusal.Spent
 refusal_of take_fault.Wrong = refusal.Halted
 refusal_of take_fault.Fault = refusal.Halted
 
--- and what the master knows then
-abbrev pub failed_data : MasterData → TakeFault → MasterData
-failed_data d take_fault.NoMemory = d
-failed_data d take_fault.Spent = d
-failed_data d take_fault.Wrong = halted d
-failed_data d take_fault.Fault = halted d
+-- and whether the master is halted then
+abbrev pub is_halting : TakeFault → Bool
+is_halting take_fault.NoMemory = false
+is_halting take_fault.Spent = false
+is_halting take_fault.Wrong = true
+is_halting take_fault.Fault = true
 
 -- the image of a segment, where there is one
 abbrev pub IsShown : MasterData → Look → Shown → Type 0

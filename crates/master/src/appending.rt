@@ -1,13 +1,13 @@
 //! From a command and its change to the unit that the head takes.
 
-ghost use Rattle.std.specs.Prelude.{◌≡◌, ℕ, ◌+◌, ◌^◌, ◌<◌, ◌≤◌, List, [], ◌∷◌, ◌++◌, length, OnOk, OnErr, IsErrOf};
+ghost use Rattle.std.specs.Prelude.{◌≡◌, false, ℕ, ◌+◌, ◌^◌, ◌<◌, ◌≤◌, List, [], ◌∷◌, ◌++◌, length, OnOk, OnErr, IsErrOf};
 ghost use Rattle.entry.specs.declared.entry.Object.{Object};
 ghost use Rattle.entry.specs.declared.entry.Entry.{Entry};
 ghost use Rattle.entry.specs.declared.entry.Entry.TheVariants as entry;
 ghost use Rattle.entry.specs.Text.{text_of};
 ghost use Rattle.entry.specs.View.{shown};
 ghost use Rattle.master.specs.Units.{object_entry, tombstone_entry};
-ghost use Rattle.master.specs.Change.{unit_of_change, appended};
+ghost use Rattle.master.specs.Change.{unit_of_change, is_empty, appended};
 
 use crate::change::Change;
 use crate::command::Command;
@@ -86,8 +86,8 @@ pub fn append_change(
 ) -> Result<(), AppendFault>
     requires { limit ≤ 8388608 }
     ensures ok { OnOk result (head.new ≡ appended head.old number (unit_of_change head.old.id command.now change.now)) }
-    ensures full { IsErrOf result AppendFault.Full →
-        limit < length (text_of head.old.image) + length (text_of (unit_of_change head.old.id command.now change.now)) }
+    ensures full { let unit = unit_of_change head.old.id command.now change.now in
+        IsErrOf result AppendFault.Full → (is_empty unit ≡ false) × (limit < length (text_of head.old.image) + length (text_of unit)) }
     ensures err { OnErr result (head.new ≡ head.old) }
 {
     let segment = head.id();

@@ -1,10 +1,10 @@
 //! What a command does, from what its key has.
 
-ghost use Rattle.std.specs.Prelude.{◌≡◌, ℕ, List, Option, None, Some, IfOk, IfErr};
+ghost use Rattle.std.specs.Prelude.{◌≡◌, ℕ, List, Option, None, Some, true, IfOk, IfErr};
 ghost use Rattle.entry.specs.declared.key.Key.{Key};
 ghost use Rattle.entry.specs.Meaning.{Versioned};
 ghost use Rattle.master.specs.Versioned.{reply_given};
-ghost use Rattle.master.specs.Change.{version_in, versioned_in, is_nothing, safe_of_change, IsChangeOf, IsSpent};
+ghost use Rattle.master.specs.Change.{version_in, versioned_in, is_nothing, safe_of_change, IsChangeOf, is_spent, is_too_big};
 
 use crate::command::{Command, If, Reply};
 use entry::{ObjectRef, SafeVersion, Value, Version};
@@ -30,7 +30,7 @@ pub struct VersionsSpent;
 /// What a put of an absent key does.
 fn create(when: &If, safe: SafeVersion) -> Result<Change, VersionsSpent>
     ensures done { IfOk result (λ change. (k : Key) (value : List ℕ) → IsChangeOf safe None (Command.Put k value when.now) change) }
-    ensures spent { IfErr result (λ _. (k : Key) (value : List ℕ) → IsSpent safe None (Command.Put k value when.now)) }
+    ensures spent { IfErr result (λ _. (k : Key) (value : List ℕ) → is_spent safe None (Command.Put k value when.now) ≡ true) }
 {
     match when {
         If::Any | If::Absent => match safe.version() {
@@ -44,7 +44,7 @@ fn create(when: &If, safe: SafeVersion) -> Result<Change, VersionsSpent>
 /// What a put of a key of this version does.
 fn replace(when: &If, dead: Version) -> Result<Change, VersionsSpent>
     ensures done { IfOk result (λ change. (safe : ℕ) (x : Versioned) (k : Key) (value : List ℕ) → x.version ≡ dead → IsChangeOf safe (Some x) (Command.Put k value when.now) change) }
-    ensures spent { IfErr result (λ _. (safe : ℕ) (x : Versioned) (k : Key) (value : List ℕ) → x.version ≡ dead → IsSpent safe (Some x) (Command.Put k value when.now)) }
+    ensures spent { IfErr result (λ _. (safe : ℕ) (x : Versioned) (k : Key) (value : List ℕ) → x.version ≡ dead → is_spent safe (Some x) (Command.Put k value when.now) ≡ true) }
 {
     let is_met = match when {
         If::Any => true,
@@ -67,7 +67,7 @@ pub fn change_of(
     present: Option<Version>,
 ) -> Result<Change, VersionsSpent>
     ensures done { IfOk result (λ change. (x : Option Versioned) → version_in x ≡ present → IsChangeOf safe x command.now change) }
-    ensures spent { IfErr result (λ _. (x : Option Versioned) → version_in x ≡ present → IsSpent safe x command.now) }
+    ensures spent { IfErr result (λ _. (x : Option Versioned) → version_in x ≡ present → is_spent safe x command.now ≡ true) }
 {
     match present {
         None => match command {
@@ -141,5 +141,18 @@ fn unchanged_reply(
             None => Ok(Reply::Mismatch(None)),
             Some(object) => Ok(Reply::Mismatch(Some(object.version))),
         },
+    }
+}
+
+/// Whether the key and the value of a put are too big for a quarter of a segment of this many bytes.
+pub fn is_too_big(command: &Command, segment: u64) -> bool
+    ensures { result ≡ is_too_big command.now segment }
+{
+    match command {
+        Command::Put(key, value, _) => {
+            let bytes = 50 + 2 * key.bytes.as_slice().len() + value.as_slice().len();
+            bytes as u64 > segment / 4
+        }
+        _ => false,
     }
 }

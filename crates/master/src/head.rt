@@ -78,7 +78,8 @@ impl Head {
 
     /// The segment's number.
     pub fn id(&self) -> u64
-        ensures { result ≡ self.now.id }
+        ensures id { result ≡ self.now.id }
+        ensures valid { IsHead self.now }
     {
         self.id
     }
@@ -167,9 +168,13 @@ impl Head {
 
     /// The record of the first unit that some replica lacks; `None` where each has all of them.
     pub fn first_missing(&self) -> Option<usize>
-        ensures { result ≡ option_map (λ (u : UnitValue). u.number) (slice_get self.now.units (everywhere self.now)) }
+        ensures valid { IsHead self.now }
+        ensures missing { result ≡ option_map (λ (u : UnitValue). u.number) (slice_get self.now.units (everywhere self.now)) }
     {
-        self.number_of(self.everywhere())
+        match self.units.get(self.everywhere()) {
+            None => None,
+            Some(unit) => Some(unit.number),
+        }
     }
 
     /// How many of the first units every replica has.
@@ -182,16 +187,6 @@ impl Head {
         match self.lagging() {
             None => self.units.len(),
             Some(replica) => self.units_of(replica),
-        }
-    }
-
-    /// The record of a unit.
-    fn number_of(&self, unit: usize) -> Option<usize>
-        ensures { result ≡ option_map (λ (u : UnitValue). u.number) (slice_get self.now.units unit) }
-    {
-        match self.units.get(unit) {
-            None => None,
-            Some(unit) => Some(unit.number),
         }
     }
 

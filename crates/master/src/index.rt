@@ -1,12 +1,13 @@
 //! Where the live objects of an image lie: a list that is walked.
 
-ghost use Rattle.std.specs.Prelude.{◌≡◌, ◌<◌, IfSome, IsSomeAnd, List, length};
+ghost use Rattle.std.specs.Prelude.{◌≡◌, ◌<◌, IfSome, IsSomeAnd, List, length, vec_len, vec_capacity};
 ghost use Rattle.entry.specs.declared.entry.Entry.TheVariants as entry_variant;
 ghost use Rattle.entry.specs.declared.entry.Object.{Object as ObjectValue};
 ghost use Rattle.entry.specs.Order.{key_eq};
 ghost use Rattle.entry.specs.View.{shown_key, shown_object};
-ghost use Rattle.master.specs.Index.{Stands, AreAt, slot_in};
+ghost use Rattle.master.specs.Index.{Stands, AreAt, slot_in, placed};
 
+use crate::change::Change;
 use entry::{EntryRef, KeyRef, ObjectRef};
 use segment::Segment;
 
@@ -41,4 +42,26 @@ pub fn slot_of(places: &[usize], image: &Segment, key: &KeyRef) -> Option<usize>
         }
     }
     None
+}
+
+/// Keeps the places of the live objects, where the change put a new object at this offset.
+pub fn place_change(places: &mut Vec<usize>, change: &Change, slot: Option<usize>, at: usize)
+    requires slot { IfSome slot (λ slot. slot < vec_len places.old) }
+    requires room { vec_len places.old < vec_capacity places.old }
+    ensures { places.new.items ≡ placed places.old.items change.now slot at }
+{
+    match change {
+        Change::Nothing => {}
+        Change::Create(_) => places.push(at).unwrap(),
+        Change::Replace(_, _) => {
+            if let Some(slot) = slot {
+                places[slot] = at;
+            }
+        }
+        Change::Delete(_) => {
+            if let Some(slot) = slot {
+                places.remove(slot);
+            }
+        }
+    }
 }

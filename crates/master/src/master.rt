@@ -1,18 +1,20 @@
 //! One master over a fleet of backups.
 
-ghost use Rattle.std.specs.Prelude.{List, ◌≡◌, ◌≤◌, ◌<◌, ◌^◌, ℕ, None, Some, false, true, length, IfOk, IfErr, IfSome, IsErrOf, OnErr, vec_len, vec_capacity};
-ghost use Rattle.master.specs.Change.{is_too_big};
-ghost use Rattle.master.specs.Causes.{early_refusal, Cause};
+ghost use Rattle.std.specs.Prelude.{List, ◌≡◌, ◌≤◌, ◌<◌, ◌^◌, ℕ, None, Some, false, true, length, IfOk, IfErr, IfSome, OnErr};
 ghost use Rattle.master.specs.Config.{config_fault};
+ghost use Rattle.master.specs.Covered.{IsCovered};
+ghost use Rattle.master.specs.Durable.{IsDurable};
+ghost use Rattle.master.specs.Log.{IsLegal};
 ghost use Rattle.master.specs.Master.{fresh_data, durable_of};
-ghost use Rattle.master.specs.Steps.{World, world, home, Accepts, Declines, Steps, IsRun};
+ghost use Rattle.master.specs.Sound.{IsSound};
+ghost use Rattle.master.specs.Steps.{World, world, home, Accepts, Declines, Steps, IsRun, refusal_of, is_halting};
 
 use crate::appending::{append_change, object_offset, unit_len};
-use crate::change::{Change, change_of};
+use crate::change::{Change, change_of, is_too_big};
 use crate::command::{Command, Record, Reply};
 use crate::config::Config;
 use crate::head::Head;
-use crate::index::{object_at, slot_of};
+use crate::index::{object_at, place_change, slot_of};
 use crate::step::{Look, Refusal, Shown, Step, StepAnswer};
 use entry::{NoMemory, ObjectRef, SafeVersion};
 use replica::{Act, Bench, Bytes, Fleet, Op, TakeFault};
@@ -35,7 +37,8 @@ pub struct Master<F: Fleet> {
 }
 
 impl<F: Fleet> Model for Master<F> {
-    ghost use Rattle.master.specs.Master.{MasterValue, IsMaster};
+    ghost use Rattle.master.specs.Master.{MasterValue};
+    ghost use Rattle.master.specs.Invariant.{IsKept};
 
     ghost Value = { MasterValue F };
 
@@ -44,18 +47,24 @@ impl<F: Fleet> Model for Master<F> {
       fleet = m.fleet;
     } };
 
-    ghost invariant = { λ m. IsMaster (record { config = m.config; head = m.head; places = m.places.items; safe = m.safe; history = m.history.items; is_halted = m.is_halted }) };
+    ghost invariant = { λ m. IsKept (record { config = m.config; head = m.head; places = m.places.items; safe = m.safe; history = m.history.items; is_halted = m.is_halted })
+        (F.state m.fleet) };
 }
 
 impl<F: Fleet> Master<F> {
     ghost use Rattle.entry.specs.declared.entry.Object.{Object as ObjectValue};
     ghost use Rattle.entry.specs.declared.key.Key.{Key as KeyValue};
     ghost use Rattle.entry.specs.Meaning.{contents_of};
+    ghost use Rattle.entry.specs.Meaning.{Versioned};
+    ghost use Rattle.std.specs.Prelude.{Option};
+    ghost use Rattle.std.specs.Result.{result_err};
+    ghost use Rattle.master.specs.Causes.{early_refusal, unit_refusal, command_refusal};
     ghost use Rattle.master.specs.Command.{command_key};
     ghost use Rattle.master.specs.Index.{AreAt, slot_in};
+    ghost use Rattle.master.specs.Units.{unit_given};
     ghost use Rattle.master.specs.Versioned.{reply_given};
-    ghost use Rattle.master.specs.Change.{shown_versioned, IsChangeOf, IsSpent};
-    ghost use Rattle.master.specs.Steps.{refusal_of, failed_data, IsShown};
+    ghost use Rattle.master.specs.Change.{shown_versioned, IsChangeOf, is_spent};
+    ghost use Rattle.master.specs.Steps.{IsShown};
     ghost use Rattle.master.specs.Head.{IsLagging};
 
     /// A master whose head is to be opened. It takes nothing from the fleet, and hands it back where memory ran out.
@@ -64,37 +73,48 @@ impl<F: Fleet> Master<F> {
         requires backups { config.backups ≤ (F.state fleet).backups }
         requires none { (b s : ℕ) → (F.state fleet).picture b config.master s ≡ None }
         ensures made { IfOk result (λ m. (m.knows ≡ fresh_data config) × (m.fleet ≡ fleet)) }
+        ensures sound { IfOk result (λ m. IsSound m.knows (F.state m.fleet).picture × IsCovered m.knows (F.state m.fleet).picture) }
         ensures refused { IfErr result (λ e. e.1 ≡ fleet) }
     {
         let replicas = config.replicas as usize;
         match Head::begin(alloc, config.master, replicas, SafeVersion::first()) {
-            Ok(head) => Ok(Master {
-                alloc,
-                config,
-                head,
-                places: Vec::new(alloc),
-                safe: SafeVersion::first(),
-                history: Vec::new(alloc),
-                is_halted: false,
-                fleet,
-            }),
+            Ok(head) => {
+                let master = Master {
+                    alloc,
+                    config,
+                    head,
+                    places: Vec::new(alloc),
+                    safe: SafeVersion::first(),
+                    history: Vec::new(alloc),
+                    is_halted: false,
+                    fleet,
+                };
+                master.show_sound();
+                Ok(master)
+            }
             Err(fault) => Err((fault, fleet)),
         }
     }
 
     /// Which of the places has the command's key, and what the command does there. All refusals but want of memory.
     fn judge(&self, command: &Command) -> Result<(Change, Option<usize>), Refusal>
-        ensures running { IfOk result (λ _. self.now.knows.is_halted ≡ false) }
-        ensures room { IfOk result (λ _. length self.now.knows.history < self.now.knows.config.history) }
+        ensures passed { IfOk result (λ _. command_refusal self.now.knows command.now ≡ None) }
         ensures slot { IfOk result (λ found. IfSome found.1 (λ slot. slot < length self.now.knows.places)) }
         ensures done { IfOk result (λ found. (os : List ObjectValue) → AreAt self.now.knows.head.image self.now.knows.places os →
             (found.1 ≡ slot_in os (command_key command.now)) × IsChangeOf self.now.knows.safe (contents_of os (command_key command.now)) command.now found.0) }
-        ensures spent { IfErr result (λ r. r ≡ Refusal.VersionsSpent → (os : List ObjectValue) → AreAt self.now.knows.head.image self.now.knows.places os →
-            IsSpent self.now.knows.safe (contents_of os (command_key command.now)) command.now) }
-        ensures halted { IfErr result (λ r. r ≡ Refusal.Halted → self.now.knows.is_halted ≡ true) }
-        ensures stays { self.now.knows.is_halted ≡ true → IsErrOf result Refusal.Halted }
-        ensures early { IfSome (early_refusal self.now.knows command.now) (λ r. IsErrOf result r) }
-        ensures cause { IfErr result (λ r. Cause self.now.knows command.now r) }
+        ensures refused { IfErr result (λ r. command_refusal self.now.knows command.now ≡ Some r) }
+    {
+        self.admit(command)?;
+        let key = command.key().view();
+        let slot = slot_of(self.places.as_slice(), self.head.image(), &key);
+        let change = self.change_at(command, slot)?;
+        self.fit(command, &change)?;
+        Ok((change, slot))
+    }
+
+    /// The tests that come before the key is looked up.
+    fn admit(&self, command: &Command) -> Result<(), Refusal>
+        ensures { result_err result ≡ early_refusal self.now.knows command.now }
     {
         if self.is_halted {
             return Err(Refusal::Halted);
@@ -102,25 +122,31 @@ impl<F: Fleet> Master<F> {
         if is_too_big(command, self.config.segment) {
             return Err(Refusal::TooBig);
         }
-        let key = command.key().view();
-        if !self.config.tablets.have(&key) {
+        if !self.config.tablets.have(&command.key().view()) {
             return Err(Refusal::NoTablet);
         }
         if self.history.len() as u64 >= self.config.history {
             return Err(Refusal::HistoryFull);
         }
-        let slot = slot_of(self.places.as_slice(), self.head.image(), &key);
-        let change = self.change_at(command, slot)?;
-        if !change.is_nothing() {
-            let limit = self.config.segment as usize;
-            if self.head.is_open() && !self.head.fits(unit_len(command, &change), limit) {
-                return Err(Refusal::Full);
-            }
-            if !self.head.is_open() {
-                return Err(Refusal::Rolling);
-            }
+        Ok(())
+    }
+
+    /// Whether the unit of a change, if it makes one, can be appended.
+    fn fit(&self, command: &Command, change: &Change) -> Result<(), Refusal>
+        ensures { (safe : ℕ) (x : Option Versioned) → IsChangeOf safe x command.now change.now →
+            result_err result ≡ unit_refusal self.now.knows (unit_given safe self.now.knows.head.id x command.now) }
+    {
+        if change.is_nothing() {
+            return Ok(());
         }
-        Ok((change, slot))
+        if !self.head.is_open() {
+            return Err(Refusal::Rolling);
+        }
+        let limit = self.config.segment as usize;
+        if !self.head.fits(unit_len(command, change), limit) {
+            return Err(Refusal::Full);
+        }
+        Ok(())
     }
 
     /// The object of this place.
@@ -142,7 +168,7 @@ impl<F: Fleet> Master<F> {
             IsChangeOf self.now.knows.safe (contents_of os (command_key command.now)) command.now change) }
         ensures spent { IfErr result (λ r. r ≡ Refusal.VersionsSpent) }
         ensures cause { IfErr result (λ _. (os : List ObjectValue) → AreAt self.now.knows.head.image self.now.knows.places os → slot ≡ slot_in os (command_key command.now) →
-            IsSpent self.now.knows.safe (contents_of os (command_key command.now)) command.now) }
+            is_spent self.now.knows.safe (contents_of os (command_key command.now)) command.now ≡ true) }
     {
         let present = match self.object_of(slot) {
             None => None,
@@ -172,8 +198,7 @@ impl<F: Fleet> Master<F> {
     /// One command.
     fn apply(&mut self, seat: u64, command: Command) -> Result<StepAnswer, Refusal>
         ensures accepted { IfOk result (λ a. Accepts (world F.state self.old) (Step.Apply seat command) a (world F.state self.new)) }
-        ensures stays { self.old.knows.is_halted ≡ true → IsErrOf result Refusal.Halted }
-        ensures refused { IfErr result (λ r. Declines (world F.state self.old) r (world F.state self.new)) }
+        ensures refused { IfErr result (λ r. Declines (world F.state self.old) (Step.Apply seat command) r (world F.state self.new)) }
     {
         let (change, slot) = self.judge(&command)?;
         let reply = self.reply_at(&command, &change, slot)?;
@@ -185,7 +210,7 @@ impl<F: Fleet> Master<F> {
         let limit = self.config.segment as usize;
         match append_change(&mut self.head, &command, &change, number, limit) {
             Ok(()) => {}
-            Err(AppendFault::Full) => return Err(Refusal::Full),
+            Err(AppendFault::Full) => unreachable!(),
             Err(AppendFault::NoMemory) => return Err(Refusal::NoMemory),
         }
         place_change(
@@ -204,27 +229,12 @@ impl<F: Fleet> Master<F> {
         Ok(StepAnswer::Applied(number as u64, answer))
     }
 
-    /// What a fault of the fleet answers.
-    fn failed(&mut self, fault: TakeFault) -> Refusal
-        ensures answer { result ≡ refusal_of fault }
-        ensures knows { self.new ≡ record { knows = failed_data self.old.knows fault; fleet = self.old.fleet } }
-    {
-        match fault {
-            TakeFault::NoMemory => Refusal::NoMemory,
-            TakeFault::Spent => Refusal::Spent,
-            TakeFault::Wrong | TakeFault::Fault => {
-                self.is_halted = true;
-                Refusal::Halted
-            }
-        }
-    }
-
     /// Opens the next replica of the head.
     fn open_next(&mut self) -> Result<StepAnswer, Refusal>
         requires running { self.old.knows.is_halted ≡ false }
         requires waiting { length self.old.knows.head.taken < self.old.knows.head.replicas }
         ensures accepted { IfOk result (λ a. Accepts (world F.state self.old) Step.Push a (world F.state self.new)) }
-        ensures refused { IfErr result (λ r. Declines (world F.state self.old) r (world F.state self.new)) }
+        ensures refused { IfErr result (λ r. Declines (world F.state self.old) Step.Push r (world F.state self.new)) }
     {
         let segment = self.head.id();
         let backup = home(&self.config, segment, self.head.opened());
@@ -238,7 +248,11 @@ impl<F: Fleet> Master<F> {
                 self.head.open();
                 Ok(StepAnswer::Opened(backup, segment))
             }
-            Err(fault) => Err(self.failed(fault)),
+            Err(fault) => {
+                let (refusal, is_halted) = failed(fault);
+                self.is_halted = is_halted;
+                Err(refusal)
+            }
         }
     }
 
@@ -247,7 +261,7 @@ impl<F: Fleet> Master<F> {
         requires running { self.old.knows.is_halted ≡ false }
         requires lagging { IsLagging (length self.old.knows.head.units) self.old.knows.head.taken (Some replica) }
         ensures accepted { IfOk result (λ a. Accepts (world F.state self.old) Step.Push a (world F.state self.new)) }
-        ensures refused { IfErr result (λ r. Declines (world F.state self.old) r (world F.state self.new)) }
+        ensures refused { IfErr result (λ r. Declines (world F.state self.old) Step.Push r (world F.state self.new)) }
     {
         let segment = self.head.id();
         let units = self.head.units_of(replica);
@@ -265,15 +279,18 @@ impl<F: Fleet> Master<F> {
                 self.head.extend(replica);
                 Ok(StepAnswer::Extended(backup, segment))
             }
-            Err(fault) => Err(self.failed(fault)),
+            Err(fault) => {
+                let (refusal, is_halted) = failed(fault);
+                self.is_halted = is_halted;
+                Err(refusal)
+            }
         }
     }
 
     /// One op handed to one backup.
     fn push(&mut self) -> Result<StepAnswer, Refusal>
         ensures accepted { IfOk result (λ a. Accepts (world F.state self.old) Step.Push a (world F.state self.new)) }
-        ensures stays { self.old.knows.is_halted ≡ true → IsErrOf result Refusal.Halted }
-        ensures refused { IfErr result (λ r. Declines (world F.state self.old) r (world F.state self.new)) }
+        ensures refused { IfErr result (λ r. Declines (world F.state self.old) Step.Push r (world F.state self.new)) }
     {
         if self.is_halted {
             return Err(Refusal::Halted);
@@ -287,28 +304,47 @@ impl<F: Fleet> Master<F> {
         }
     }
 
-    /// One step. It makes at most one take.
+    /// One step. It makes at most one take. After it, as before, what any backups hold stands for a prefix of the commands.
     pub fn step(&mut self, step: Step) -> Result<StepAnswer, Refusal>
         ensures gives { Steps (world F.state self.old) step result (world F.state self.new) }
-        ensures stays { self.old.knows.is_halted ≡ true → IsErrOf result Refusal.Halted }
+        ensures sound { IsSound self.new.knows (F.state self.new.fleet).picture }
+        ensures covered { IsCovered self.new.knows (F.state self.new.fleet).picture }
+        ensures legal { IsLegal self.new.knows }
     {
-        match step {
+        let result = match step {
             Step::Apply(seat, command) => self.apply(seat, command),
             Step::Push => self.push(),
-        }
+        };
+        self.show_sound();
+        result
+    }
+
+    /// What holds of every master. Whichever backups are left, what they hold of it stands for the first commands of its
+    /// history, each durable one among them; where the head and the segments survive there is a log to choose. Memory and
+    /// the replicas of the log stand for the map after the history, whose replies are the versioned map's.
+    pub fn show_sound(&self)
+        ensures sound { IsSound self.now.knows (F.state self.now.fleet).picture }
+        ensures covered { IsCovered self.now.knows (F.state self.now.fleet).picture }
+        ensures legal { IsLegal self.now.knows }
+    {
+        let _bytes = self.head.image().bytes();
     }
 
     /// Steps in order, with their answers. Memory for the steps and the answers is taken before the first step.
     pub fn run(&mut self, steps: &[Step]) -> Result<Vec<Result<StepAnswer, Refusal>>, NoMemory>
         ensures ran { IfOk result (λ answers. IsRun (world F.state self.old) steps.now answers.items (world F.state self.new)) }
+        ensures sound { IsSound self.new.knows (F.state self.new.fleet).picture }
+        ensures covered { IsCovered self.new.knows (F.state self.new.fleet).picture }
         ensures refused { OnErr result (world F.state self.new ≡ world F.state self.old) }
     {
+        self.show_sound();
         let mut answers = Vec::with_capacity(self.alloc, steps.len())?;
         let own = copies(self.alloc, steps)?;
         for step in own {
             let answer = self.step(step);
             answers.push(answer).unwrap();
         }
+        self.show_sound();
         Ok(answers)
     }
 
@@ -316,7 +352,7 @@ impl<F: Fleet> Master<F> {
     /// replica of the head.
     pub fn durable(&self) -> u64
         ensures count { result ≡ durable_of self.now.knows }
-        ensures within { result ≤ length self.now.knows.history }
+        ensures durable { IsDurable self.now.knows result }
     {
         match self.head.first_missing() {
             None => self.history.len() as u64,
@@ -346,10 +382,13 @@ impl<F: Fleet> Master<F> {
         }
     }
 
-    /// Drops the master. The fleet comes back as it was left.
+    /// Drops the master. The fleet comes back as it was left: what any backups hold stands for a prefix of the commands.
     pub fn crash(self) -> F
-        ensures { result ≡ self.fleet }
+        ensures fleet { result ≡ self.fleet }
+        ensures sound { IsSound self.knows (F.state result).picture }
+        ensures covered { IsCovered self.knows (F.state result).picture }
     {
+        self.show_sound();
         let Master {
             alloc: _,
             config,
@@ -399,36 +438,16 @@ fn home(config: &Config, segment: u64, replica: usize) -> u64
     ((segment % config.backups) * config.step + replica as u64) % config.backups
 }
 
-/// Whether the key and the value of a put are too big for a quarter of a segment of this many bytes.
-fn is_too_big(command: &Command, segment: u64) -> bool
-    ensures { result ≡ is_too_big command.now segment }
+/// What a fault of the fleet answers, and whether the master is halted then. No op of a master is Wrong.
+fn failed(fault: TakeFault) -> (Refusal, bool)
+    requires { fault ≡ TakeFault.Wrong → ⊥ }
+    ensures answer { result.0 ≡ refusal_of fault }
+    ensures halts { result.1 ≡ is_halting fault }
 {
-    match command {
-        Command::Put(key, value, _) => {
-            let bytes = 50 + 2 * key.bytes.as_slice().len() + value.as_slice().len();
-            bytes as u64 > segment / 4
-        }
-        _ => false,
-    }
-}
-
-/// Keeps the places of the live objects, where the change put a new object at this offset.
-fn place_change(places: &mut Vec<usize>, change: &Change, slot: Option<usize>, at: usize)
-    requires slot { IfSome slot (λ slot. slot < vec_len places.old) }
-    requires room { vec_len places.old < vec_capacity places.old }
-{
-    match change {
-        Change::Nothing => {}
-        Change::Create(_) => places.push(at).unwrap(),
-        Change::Replace(_, _) => {
-            if let Some(slot) = slot {
-                places[slot] = at;
-            }
-        }
-        Change::Delete(_) => {
-            if let Some(slot) = slot {
-                places.swap_remove(slot);
-            }
-        }
+    match fault {
+        TakeFault::NoMemory => (Refusal::NoMemory, false),
+        TakeFault::Spent => (Refusal::Spent, false),
+        TakeFault::Fault => (Refusal::Halted, true),
+        TakeFault::Wrong => unreachable!(),
     }
 }

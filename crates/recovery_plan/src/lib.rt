@@ -17,6 +17,3 @@ mod reading;
 pub use chosen::{Plan, Segments};
 pub use fault::PlanFault;
 pub use planning::plan;
-
-#[cfg(test)]
-mod tests;

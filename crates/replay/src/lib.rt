@@ -11,6 +11,3 @@ mod winners;
 
 pub use fault::ReplayFault;
 pub use rebuilt::{Objects, Rebuilt, rebuild_plain};
-
-#[cfg(test)]
-mod tests;

@@ -2,3 +2,4 @@ pub mod Op
 pub mod Picture
 pub mod Take
 pub mod Choice
+pub mod Survival

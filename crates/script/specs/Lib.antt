@@ -1,1 +1,3 @@
 pub mod Configuration
+pub mod Recovered
+pub mod Kept

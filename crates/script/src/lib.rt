@@ -2,6 +2,8 @@
 #![tactic(auto)]
 
 mod answer;
+mod asking;
+mod drill;
 mod fault;
 mod recovery;
 mod running;
@@ -9,14 +11,13 @@ mod session;
 mod setup;
 
 pub use answer::{Answer, write_answer};
+pub use asking::inventory_of;
 pub use backup::{MemoryBackup, MemoryFleet};
 pub use command_line::{Options, options};
+pub use drill::{Drill, run_drill};
 pub use fault::{ScriptFault, report};
 pub use recovery::{RecoveryFault, recover};
 pub use recovery_plan::{Plan, PlanFault, plan};
 pub use replay::{Rebuilt, ReplayFault, rebuild_plain};
 pub use running::run_script;
 pub use setup::configuration;
-
-#[cfg(test)]
-mod tests;

@@ -1,7 +1,12 @@
 //! Recovery from the replicas that are left, and from nothing else.
 
-use backup::MemoryFleet;
-use entry::NoMemory;
+ghost use Rattle.std.specs.Prelude.{◌≡◌, ℕ, Bool, IfOk, IfErr};
+ghost use Rattle.replica.specs.Picture.{Picture, survivors};
+ghost use Rattle.replica.specs.Survival.{BothSurvive};
+ghost use Rattle.master.specs.Master.{MasterData};
+ghost use Rattle.master.specs.Sound.{IsHome, IsSound};
+ghost use Rattle.script.specs.Recovered.{Shows, IsRecovered, IsLossOrMemory, IsWant};
+
 use recovery_plan::{PlanFault, plan};
 use replay::{Rebuilt, ReplayFault, rebuild_plain};
 use replica::Inventory;
@@ -18,11 +23,16 @@ pub enum RecoveryFault {
 }
 
 /// The objects of a master, and a safe version for what follows, from what some backups hold.
-pub fn recover(
-    alloc: Global,
-    inventory: &Inventory,
-    master: u64,
-) -> Result<Rebuilt, RecoveryFault> {
+pub fn recover(alloc: Global, inventory: &Inventory, master: u64) -> Result<Rebuilt, RecoveryFault>
+    // Of whatever sound state of the master the inventory shows what some backups still hold: exactly the map after a
+    // prefix of its commands, each durable one among them.
+    ensures ok { IfOk result (λ r. (d : MasterData) (p : Picture) (keep : ℕ → Bool) →
+        IsSound d p → d.config.master ≡ master → Shows inventory.now (survivors keep p) master → (count : ℕ) × IsRecovered d count r) }
+    // Of such a state only a lost head or segment is named, or want of memory, and a loss only where it hides the log.
+    ensures refused { IfErr result (λ e. (d : MasterData) (p : Picture) (keep : ℕ → Bool) →
+        IsSound d p → d.config.master ≡ master → Shows inventory.now (survivors keep p) master →
+        IsLossOrMemory e × (BothSurvive (IsHome d.config) p d.config.master keep → IsWant e)) }
+{
     let plan = match plan(alloc, inventory, master) {
         Ok(plan) => plan,
         Err(fault) => return Err(RecoveryFault::Plan(fault)),

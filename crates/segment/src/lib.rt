@@ -22,6 +22,3 @@ pub use laws::one_fault;
 pub use reading::read_segment;
 pub use segment::{MAX_SEGMENT_LEN, Segment};
 pub use view::SegmentRef;
-
-#[cfg(test)]
-mod tests;

@@ -1,0 +1,18 @@
+use Rattle.std.proofs.Common.{◌≡◌, sym, subst}
+use Rattle.replica.specs.Picture.{FleetState}
+use Rattle.master.specs.Invariant.{IsKept}
+use Rattle.master.specs.Master.{MasterData}
+use Rattle.master.proofs.Pushes.{limited_kept}
+use Rattle.master.proofs.master.Master.limit.Goals as goal
+
+pub invariant_of-self : goal.invariant_of-self
+invariant_of-self g c =
+    let d : MasterData = record {
+      config = c.self.inside.config;
+      head = c.self.inside.head;
+      places = c.self.inside.places.items;
+      safe = c.self.inside.safe;
+      history = c.self.inside.history.items;
+      is_halted = c.self.inside.is_halted;
+    } in
+    subst (λ (f : FleetState). IsKept d f) (sym c.limit.ensures) (limited_kept d (g.F.Fleet.state c.self.inside.fleet) c.args.n c.self.invariant)

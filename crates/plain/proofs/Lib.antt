@@ -1,0 +1,3 @@
+pub mod ObjectLists
+pub mod Listings
+pub mod Puts

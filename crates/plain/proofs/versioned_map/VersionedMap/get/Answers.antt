@@ -1,0 +1,12 @@
+use Rattle.std.proofs.Common.{refl}
+use Rattle.plain.specs.Map.{IsAtSlot}
+use Rattle.plain.proofs.Puts.{slot_has}
+use Rattle.plain.proofs.versioned_map.VersionedMap.get.Goals as goal
+
+pub returns-in_ok-copy_value-in-Some-clause-reply : goal.returns-in_ok-copy_value-in-Some-clause-reply
+returns-in_ok-copy_value-in-Some-clause-reply c =
+    let os = c.self.inside.objects.items in
+    let k = c.args.key.now in
+    let at : IsAtSlot os k c.in-Some.slot = rw (← c.self.view_is) at c.in-Some.ensures.found in
+    let has = slot_has os k c.in-Some.slot c.index-object.result.now c.self.invariant at c.index-object.ensures in
+    rw (← c.self.view_is) (rw (has, c.in_ok-copy_value-in-Some.ensures) refl)

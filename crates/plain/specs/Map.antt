@@ -1,0 +1,24 @@
+-- A versioned map as a list of objects.
+use Rattle.std.specs.Prelude.{◌≡◌, ◌≢◌, ◌<◌, ℕ, List, length, slice_index_or}
+use Rattle.std.specs.List.{AllPairs}
+use Rattle.entry.specs.declared.key.Key.{Key}
+use Rattle.entry.specs.declared.entry.Object.{Object}
+use Rattle.entry.specs.Meaning.{contents_of}
+use Rattle.master.specs.Versioned.{State}
+
+pub record MapValue : Type 0 where
+  pub objects : List Object
+  pub safe : ℕ
+
+-- no two of the objects have one key
+abbrev pub AreOfDifferentKeys : List Object → Type 0
+AreOfDifferentKeys os = AllPairs (λ (o p : Object). o.key ≢ p.key) os
+
+-- what each key has, and the version that the next new key gets
+abbrev pub state_of : MapValue → State
+state_of m = record { contents = contents_of m.objects; safe = m.safe }
+
+-- the object in this slot is the key's
+pub record IsAtSlot (os : List Object) (k : Key) (slot : ℕ) : Type 0 where
+  pub within : slot < length os
+  pub of_key : (d : Object) → (slice_index_or os slot d).key ≡ k

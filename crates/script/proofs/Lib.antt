@@ -1,0 +1,4 @@
+pub mod Choices
+pub mod Recoveries
+pub mod Asked
+pub mod Drilled

@@ -1,0 +1,104 @@
+-- What is recovered of a sound state, and what a refusal says of it.
+use Rattle.std.proofs.Common.{◌≡◌, ℕ, max, inl, Bool, List, ◌∷◌, refl, sym, ap, subst, ◌∙◌, take}
+use Rattle.entry.specs.Bag.{IsAmong}
+use Rattle.entry.specs.Meaning.{IsMeaning, IsClean, among, bound_of, contents_of}
+use Rattle.replica.specs.declared.holding.Holding.{Holding}
+use Rattle.replica.specs.Picture.{Picture, survivors}
+use Rattle.replica.specs.Choice.{Choice, bag_of}
+use Rattle.replica.specs.Survival.{BothSurvive}
+use Rattle.replay.specs.Bags.{bag_of as segments_bag}
+use Rattle.replay.specs.Rebuilt.{IsRebuilt, IsRefusal}
+use Rattle.replay.specs.declared.rebuilt.Rebuilt.{Rebuilt}
+use Rattle.replay.specs.declared.fault.ReplayFault.{ReplayFault}
+use Rattle.replay.specs.declared.fault.ReplayFault.TheVariants as replay_fault
+use Rattle.recovery_plan.specs.declared.chosen.Plan.{Plan}
+use Rattle.recovery_plan.specs.declared.fault.PlanFault.{PlanFault}
+use Rattle.recovery_plan.specs.declared.fault.PlanFault.TheVariants as plan_fault
+use Rattle.recovery_plan.specs.Planned.{IsChoiceOf, IsPlanOf, IsFirstBad, IsFault, NamesLoss}
+use Rattle.recovery_plan.proofs.Bests.{among-right}
+use Rattle.master.specs.Log.{commands_of, opening_state, state_after}
+use Rattle.master.specs.Master.{MasterData}
+use Rattle.master.specs.Sound.{IsHome, IsSound}
+use Rattle.master.specs.Versioned.{IsSafeAfter}
+use Rattle.master.proofs.Meanings.{one_contents}
+use Rattle.script.specs.Recovered.{Shows, IsRecovered, IsPlanLoss, IsPlanWant, IsLossOrMemory, IsWant, IsReplayWant}
+use Rattle.script.specs.declared.recovery.RecoveryFault.{RecoveryFault}
+use Rattle.script.specs.declared.recovery.RecoveryFault.TheVariants as fault
+use Rattle.script.proofs.Choices.{bag-of-plan, surviving-choice, shown-choice, shown-good, shown-agree}
+
+-- ---- what is recovered
+
+-- a prefix of the commands, whatever the sound state is that the inventory shows a part of
+abbrev pub IsSomePrefix : List Holding → ℕ → Rebuilt → Type 0
+IsSomePrefix hs m r = (d : MasterData) (p : Picture) (keep : ℕ → Bool) → IsSound d p → d.config.master ≡ m → Shows hs (survivors keep p) m →
+    (count : ℕ) × IsRecovered d count r
+
+pub rebuilt-prefix : (hs : List Holding) (m : ℕ) (c : Choice) (plan : Plan) (r : Rebuilt) →
+    IsPlanOf hs m c plan → IsRebuilt plan.segments plan.safe r → IsSomePrefix hs m r
+rebuilt-prefix hs m c plan r planned rebuilt d p keep sound is shows =
+    let bag = bag-of-plan hs m c plan planned in
+    let found = sound.prefix keep c (surviving-choice hs m d p keep is shows c planned.choice) in
+    let prefix = found.1 in
+    let meaning : IsMeaning (among (bag_of c)) (contents_of r.objects) =
+    subst (λ es. IsMeaning (among es) (contents_of r.objects)) bag rebuilt.meaning in
+    let safe : r.safe ≡ max c.opening.safe (bound_of (bag_of c)) =
+    rebuilt.safe ∙ ap (λ n. max n (bound_of (segments_bag plan.segments))) planned.safe ∙ ap (λ es. max c.opening.safe (bound_of es)) bag in (
+      found.0,
+      record {
+        durable = prefix.durable;
+        within = prefix.within;
+        exactly = one_contents (among (bag_of c)) (contents_of r.objects) (state_after d found.0).contents meaning prefix.meaning;
+        order = rebuilt.order;
+        safe = subst (IsSafeAfter (opening_state d) (take found.0 (commands_of d.history))) (sym safe) prefix.safe;
+      },
+    )
+
+-- ---- what is refused
+
+-- whatever the sound state is that the inventory shows a part of, a loss, or want of memory, and this alone where both survive
+abbrev pub IsSomeLoss : List Holding → ℕ → RecoveryFault → Type 0
+IsSomeLoss hs m e = (d : MasterData) (p : Picture) (keep : ℕ → Bool) → IsSound d p → d.config.master ≡ m → Shows hs (survivors keep p) m →
+    IsLossOrMemory e × (BothSurvive (IsHome d.config) p d.config.master keep → IsWant e)
+
+module _ (hs : List Holding) (m : ℕ) (d : MasterData) (p : Picture) (keep : ℕ → Bool)
+    (sound : IsSound d p) (is : d.config.master ≡ m) (shows : Shows hs (survivors keep p) m) where
+  -- where there is nothing to choose, not both survive
+  not-both : ((c : Choice) → IsChoiceOf hs m c → ⊥) → BothSurvive (IsHome d.config) p d.config.master keep → ⊥
+  not-both none both =
+      let some = sound.choice keep both in
+      none some.0 (shown-choice hs m d p keep is shows some.0 some.1)
+
+  -- no replica of the master is bad
+  none-bad : (backup id : ℕ) → IsFirstBad hs m backup id → ⊥
+  none-bad backup id first =
+      let there : IsAmong first.bad hs =
+      subst (IsAmong first.bad) (sym first.place) (among-right first.bad first.before (first.bad ∷ first.after) (inl refl)) in
+      first.is_bad (shown-good hs m d p keep is shows sound first.bad first.of_master there)
+
+  pub plan-loss : (e : PlanFault) → IsFault hs m e → NamesLoss hs m e →
+      IsPlanLoss e × (BothSurvive (IsHome d.config) p d.config.master keep → IsPlanWant e)
+  plan-loss plan_fault.NoHead says loss = (tt, λ both. absurd (not-both loss both))
+  plan-loss (plan_fault.HeadClosed id) says loss = (tt, λ both. absurd (not-both loss both))
+  plan-loss (plan_fault.Missing id) says loss = (tt, λ both. absurd (not-both (loss.1 (shown-agree hs m d p keep is shows sound)) both))
+  plan-loss (plan_fault.BadReplica backup id) says loss = absurd (none-bad backup id says)
+  plan-loss plan_fault.NoMemory says loss = (tt, λ both. tt)
+
+  -- the log that was chosen is clean
+  pub replay-want : (c : Choice) (plan : Plan) (e : ReplayFault) → IsPlanOf hs m c plan → IsRefusal plan.segments e → IsReplayWant e
+  replay-want c plan (replay_fault.Double id) planned says = absurd says
+  replay-want c plan replay_fault.Stranger planned says = absurd says
+  replay-want c plan (replay_fault.MissingGroup id) planned says = absurd says
+  replay-want c plan replay_fault.NoMemory planned says = tt
+  replay-want c plan replay_fault.Clash planned says =
+      let clean : IsClean (among (bag_of c)) = sound.clean keep c (surviving-choice hs m d p keep is shows c planned.choice) in
+      absurd (says (subst (λ es. IsClean (among es)) (sym (bag-of-plan hs m c plan planned)) clean))
+  replay-want c plan (replay_fault.Stray k) planned says = absurd says
+
+pub refused-plan : (hs : List Holding) (m : ℕ) (e : PlanFault) → IsFault hs m e → NamesLoss hs m e → IsSomeLoss hs m (fault.Plan e)
+refused-plan hs m e says loss d p keep sound is shows = plan-loss hs m d p keep sound is shows e says loss
+
+pub refused-replay : (hs : List Holding) (m : ℕ) (c : Choice) (plan : Plan) (e : ReplayFault) →
+    IsPlanOf hs m c plan → IsRefusal plan.segments e → IsSomeLoss hs m (fault.Replay e)
+refused-replay hs m c plan e planned says d p keep sound is shows =
+    let want = replay-want hs m d p keep sound is shows c plan e planned says in
+    (want, λ both. want)

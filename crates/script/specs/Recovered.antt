@@ -1,0 +1,60 @@
+-- What a recovery gives back, and why it may give nothing back.
+use Rattle.std.specs.Prelude.{◌≡◌, ℕ, ◌≤◌, ◌↔◌, List, map, take, length}
+use Rattle.std.specs.List.Sorted.{IsStrictlySortedBy}
+use Rattle.entry.specs.declared.entry.Object.{Object}
+use Rattle.entry.specs.Bag.{IsAmong}
+use Rattle.entry.specs.Meaning.{contents_of}
+use Rattle.entry.specs.Order.{key_cmp}
+use Rattle.replica.specs.declared.holding.Holding.{Holding}
+use Rattle.replica.specs.Picture.{Picture, IsHeld}
+use Rattle.recovery_plan.specs.declared.fault.PlanFault.{PlanFault}
+use Rattle.recovery_plan.specs.declared.fault.PlanFault.TheVariants as plan_fault
+use Rattle.replay.specs.declared.fault.ReplayFault.{ReplayFault}
+use Rattle.replay.specs.declared.fault.ReplayFault.TheVariants as replay_fault
+use Rattle.replay.specs.declared.rebuilt.Rebuilt.{Rebuilt}
+use Rattle.master.specs.Log.{commands_of, opening_state, state_after}
+use Rattle.master.specs.Master.{MasterData, durable_of}
+use Rattle.master.specs.Versioned.{IsSafeAfter}
+use Rattle.script.specs.declared.recovery.RecoveryFault.{RecoveryFault}
+use Rattle.script.specs.declared.recovery.RecoveryFault.TheVariants.{Plan, Replay}
+
+-- the inventory shows of this master just what the picture has
+abbrev pub Shows : List Holding → Picture → ℕ → Type 0
+Shows inventory p master = (h : Holding) → h.master ≡ master → IsAmong h inventory ↔ IsHeld p h
+
+-- Exactly the map after this many of the commands, each durable one among them, and a safe version for what follows.
+pub record IsRecovered (d : MasterData) (count : ℕ) (r : Rebuilt) : Type 0 where
+  pub durable : durable_of d ≤ count
+  pub within : count ≤ length d.history
+  pub exactly : contents_of r.objects ≡ (state_after d count).contents
+  -- each key once, by table and then key bytes
+  pub order : IsStrictlySortedBy key_cmp (map (λ (o : Object). o.key) r.objects)
+  pub safe : IsSafeAfter (opening_state d) (take count (commands_of d.history)) r.safe
+
+-- ---- refusals
+
+-- a lost head or segment, or want of memory
+abbrev pub IsPlanLoss : PlanFault → Type 0
+IsPlanLoss plan_fault.NoHead = Unit {0}
+IsPlanLoss (plan_fault.HeadClosed id) = Unit {0}
+IsPlanLoss (plan_fault.Missing id) = Unit {0}
+IsPlanLoss (plan_fault.BadReplica backup id) = ⊥
+IsPlanLoss plan_fault.NoMemory = Unit {0}
+
+abbrev pub IsPlanWant : PlanFault → Type 0
+IsPlanWant plan_fault.NoMemory = Unit {0}
+IsPlanWant _ = ⊥
+
+abbrev pub IsReplayWant : ReplayFault → Type 0
+IsReplayWant replay_fault.NoMemory = Unit {0}
+IsReplayWant _ = ⊥
+
+-- what is refused is lost, or memory ran out
+abbrev pub IsLossOrMemory : RecoveryFault → Type 0
+IsLossOrMemory (Plan fault) = IsPlanLoss fault
+IsLossOrMemory (Replay fault) = IsReplayWant fault
+
+-- memory ran out
+abbrev pub IsWant : RecoveryFault → Type 0
+IsWant (Plan fault) = IsPlanWant fault
+IsWant (Replay fault) = IsReplayWant fault
