@@ -1,5 +1,6 @@
 use Rattle.std.proofs.Common.{◌≡◌, ℕ, ◌+◌, ◌<◌, ◌^◌, true, false, Option, Some, None, refl, sym, ap, ◌∙◌, arith, rules}
-use Rattle.std.specs.Prelude.{◌↔◌, Result, Ok, Err, IfErr, IsSome}
+use Rattle.std.proofs.lemmas.Bool.Decides.{nat_tests}
+use Rattle.std.specs.Prelude.{nat_lt, ◌↔◌, Result, Ok, Err, IfErr, IsSome}
 use Rattle.entry.specs.declared.entry.Object.{Object}
 use Rattle.entry.specs.Meaning.{versioned}
 use Rattle.master.specs.declared.command.Reply.{Reply}
@@ -40,8 +41,9 @@ returns-in_err-version-clause-spent c =
     let met : is_met c.args.when (Some (versioned o)) ≡ true = sym (c.is_met.ensures o.value) ∙ c.if-not-is_met.false in
     let none : c.next.result ≡ None = search rules in
     let last : 2 ^ 62 < o.version + 1 = last_version c.next.result o.version none c.next.ensures.valid in
+    let over : nat_lt (2 ^ 62) (o.version + 1) ≡ true = grind (arith, nat_tests) in
     rw (← c.self.view_is)
-    (if_spent c.from_residual.result _ (λ k at. let has = slot_has os k c.args.slot o c.self.invariant at c.index.ensures in rw has (met, last)))
+    (if_spent c.from_residual.result _ (λ k at. let has = slot_has os k c.args.slot o c.self.invariant at c.index.ensures in rw (has, met, over) refl))
 
 pub returns-clause-reply : goal.returns-clause-reply
 returns-clause-reply c =
