@@ -1,5 +1,5 @@
 -- What a recovery gives back, and why it may give nothing back.
-use Rattle.std.specs.Prelude.{◌≡◌, ℕ, ◌≤◌, ◌↔◌, List, map, take, length}
+use Rattle.std.specs.Prelude.{◌≡◌, ℕ, ◌<◌, ◌≤◌, ◌↔◌, List, map, take, length}
 use Rattle.std.specs.List.Sorted.{IsStrictlySortedBy}
 use Rattle.entry.specs.declared.entry.Object.{Object}
 use Rattle.entry.specs.Bag.{IsAmong}
@@ -30,6 +30,17 @@ pub record IsRecovered (d : MasterData) (count : ℕ) (r : Rebuilt) : Type 0 whe
   -- each key once, by table and then key bytes
   pub order : IsStrictlySortedBy key_cmp (map (λ (o : Object). o.key) r.objects)
   pub safe : IsSafeAfter (opening_state d) (take count (commands_of d.history)) r.safe
+
+-- ---- acknowledged
+
+-- the record at this place, or a later one, was answered
+abbrev pub IsAcknowledged : List ℕ → ℕ → Type 0
+IsAcknowledged answered place = (later : ℕ) × IsAmong later answered × (place ≤ later)
+
+-- Where durable records alone are answered, each acknowledged one is among those that are recovered.
+abbrev pub AcknowledgedAreRecovered : Type 0
+AcknowledgedAreRecovered = (d : MasterData) (count : ℕ) (r : Rebuilt) (answered : List ℕ) → IsRecovered d count r
+    → ((place : ℕ) → IsAmong place answered → place < durable_of d) → (place : ℕ) → IsAcknowledged answered place → place < count
 
 -- ---- refusals
 

@@ -1,0 +1,8 @@
+use Rattle.std.proofs.Common.{arith}
+use Rattle.script.proofs.laws.acknowledged_recovered.Goals as goal
+
+pub returns : goal.returns
+returns c = λ d count r answered recovered durable place acknowledged.
+    let below = durable acknowledged.0 acknowledged.1 in
+    let late = acknowledged.2 in
+    let within = recovered.durable in omega arith

@@ -1,0 +1,8 @@
+//! Laws about what a recovery gives back.
+
+ghost use Rattle.script.specs.Recovered.{AcknowledgedAreRecovered};
+
+/// A recovered prefix holds every acknowledged command.
+pub fn acknowledged_recovered()
+    ensures { AcknowledgedAreRecovered }
+{}
