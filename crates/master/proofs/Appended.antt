@@ -6,6 +6,7 @@ use Rattle.std.proofs.lemmas.List.{append-nil, length-append, take-append-le}
 use Rattle.std.proofs.lemmas.Grind.{flat_map-append}
 use Rattle.entry.specs.declared.key.Key.{Key}
 use Rattle.entry.specs.declared.entry.Entry.{Entry}
+use Rattle.entry.specs.Tablet.{have_key}
 use Rattle.entry.specs.Text.{text_of}
 use Rattle.entry.specs.Meaning.{Versioned}
 use Rattle.segment.proofs.RowLemmas.{text_of-append}
@@ -13,18 +14,23 @@ use Rattle.replica.specs.Picture.{Replica, FleetState}
 use Rattle.master.specs.declared.command.Command.{Command}
 use Rattle.master.specs.declared.command.Command.TheVariants.{Get, Put, Delete}
 use Rattle.master.specs.declared.command.If.{If}
+use Rattle.master.specs.declared.command.Record.{Record}
 use Rattle.master.specs.declared.config.Config.{Config}
 use Rattle.master.specs.declared.head.UnitEnd.{UnitEnd}
 use Rattle.master.specs.Change.{appended}
+use Rattle.master.specs.Command.{command_key}
 use Rattle.master.specs.Head.{HeadValue, IsHead, EndAt, end_of}
-use Rattle.master.specs.HeadSteps.{with_unit}
-use Rattle.master.specs.Log.{ends_of, Names}
+use Rattle.master.specs.HeadSteps.{first_opening, with_unit}
+use Rattle.master.specs.Log.{ends_of, commands_of, opening_state, state_of, Names, IsLog}
+use Rattle.master.specs.Master.{MasterData}
 use Rattle.master.specs.Mirror.{head_replica, IsMirrored, IsOpenedHome}
 use Rattle.master.specs.Represents.{AreUnitsOf, joined, unit_of}
 use Rattle.master.specs.Steps.{home}
 use Rattle.master.specs.Units.{put_unit, delete_unit}
 use Rattle.master.specs.Versioned.{State, is_met, after_command}
+use Rattle.master.proofs.Durables.{units_of_history}
 use Rattle.master.proofs.Heads.{end_of_le}
+use Rattle.master.proofs.Units.{units_pushed}
 
 -- ---- lists
 
@@ -110,6 +116,42 @@ pub unit_names : (st : State) (segment : ℕ) (c : Command) → AllByRecursion (
 unit_names st segment (Get k) = tt
 unit_names st segment (Put k value when) = if_names segment k (is_met when (st.contents k)) _ (put_names segment k st.safe value (st.contents k))
 unit_names st segment (Delete k) = delete_names segment k (st.contents k)
+
+-- ---- the log
+
+-- a log goes on with the record of a command and its unit
+module _ (d e : MasterData) (units : List (List Entry)) (r : Record) (log : IsLog d units) (key : have_key d.config.tablets (command_key r.command) ≡ true)
+    (config : e.config ≡ d.config) (history : e.history ≡ d.history ++ r ∷ [])
+    (head : e.head ≡ appended d.head (length d.history) (unit_of (state_of d) d.head.id r.command)) where
+  abbrev unit : List Entry
+  unit = unit_of (state_of d) d.head.id r.command
+
+  commands_then : commands_of e.history ≡ commands_of d.history ++ r.command ∷ []
+  commands_then = ap commands_of history ∙ map-push (λ (x : Record). x.command) d.history r
+
+  id_then : e.head.id ≡ d.head.id
+  id_then = ap (λ (h : HeadValue). h.id) head ∙ (same-appended d.head (length d.history) unit).0
+
+  opening_then : e.head.opening ≡ d.head.opening
+  opening_then = ap (λ (h : HeadValue). h.opening) head ∙ (same-appended d.head (length d.history) unit).1
+
+  abbrev front_of : Config → List Entry
+  front_of c = first_opening c.master 1
+
+  pub log_applied : IsLog e (units ++ unit ∷ [])
+  log_applied = record {
+    appended = rw commands_then (units_pushed (opening_state d) (commands_of d.history) units d.head.id r.command log.appended);
+    first = id_then ∙ log.first;
+    image = ap (λ (h : HeadValue). h.image) head ∙ image_then d.head (front_of d.config) units log.image log.opening (length d.history) unit
+        ∙ ap (λ (c : Config). front_of c ++ joined (units ++ unit ∷ [])) (sym config);
+    opening = opening_then ∙ log.opening ∙ ap (λ (c : Config). length (text_of (front_of c))) (sym config);
+    ends = ap (λ (h : HeadValue). h.units) head
+        ∙ ends-appended d.head (front_of d.config) units log.image log.opening (length d.history) unit log.ends (sym (units_of_history d units log))
+        ∙ ap (λ (from : ℕ). ends_of 0 from (units ++ unit ∷ [])) (sym opening_then);
+    names = rw (id_then, joined-push units unit) (all-append (Names d.head.id) (joined units) unit log.names (unit_names (state_of d) d.head.id r.command));
+    keys = rw (config, commands_then)
+        (all-append (λ (c : Command). have_key d.config.tablets (command_key c) ≡ true) (commands_of d.history) (r.command ∷ []) log.keys (key, tt));
+  }
 
 -- ---- the backups
 

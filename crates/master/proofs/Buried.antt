@@ -15,12 +15,7 @@ use Rattle.master.specs.Represents.{unit_of, AreUnitsOf, joined}
 use Rattle.master.specs.Units.{put_unit, delete_unit, object_entry, tombstone_entry}
 use Rattle.master.specs.Versioned.{State, is_met, with_contents, after_command, after_put, after_delete, after}
 use Rattle.master.proofs.Keys.{key_eq-tells, at_key, at_other}
-use Rattle.master.proofs.Tops.{among_left}
-
-among_either : (e : Entry) (xs ys : List Entry) → among (xs ++ ys) e → among xs e ⊎ among ys e
-among_either e [] ys m = inr m
-among_either e (x ∷ xs) ys (inl p) = inl (inl p)
-among_either e (x ∷ xs) ys (inr m) = elim (among_either e xs ys m) [ inl l ↦ inl (inr l) | inr r ↦ inr r ]
+use Rattle.master.proofs.Tops.{among_left, among_either}
 
 among_right : (e : Entry) (xs ys : List Entry) → among ys e → among (xs ++ ys) e
 among_right e [] ys m = m

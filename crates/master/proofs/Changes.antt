@@ -60,7 +60,8 @@ front_of_none [] e is = cc
 front_of_none (d ∷ front) e is = cc
 
 pub front_of_replacing : (segment : ℕ) (command : Command) (dead version : ℕ) (front : List Entry) (o : Object)
-    → unit_of_change segment command (change.Replace dead version) ≡ front ++ entry.Object o ∷ [] → length (text_of front) ≡ 27 + length (command_key command).bytes
+    → unit_of_change segment command (change.Replace dead version) ≡ front ++ entry.Object o ∷ []
+    → length (text_of front) ≡ 27 + length (command_key command).bytes
 front_of_replacing segment (Get k) dead version front o is = absurd (front_of_none front (entry.Object o) is)
 front_of_replacing segment (Put k value when) dead version front o is = front_of_two k dead segment (object_entry k version value) front o is
 front_of_replacing segment (Delete k) dead version front o is = absurd (front_of_none front (entry.Object o) is)
@@ -151,11 +152,13 @@ replaced safe (Some x) (Put k value when) dead version c = go (is_met when (Some
 replaced safe None (Delete k) dead version c = let e = c.nothing 0 in cc
 replaced safe (Some x) (Delete k) dead version c = let e = c.unit 0 in cc
 
+-- no unit and some unit
+pub clashes : {es : List Entry} → [] ≡ es → false ≡ is_empty es → ⊥
+clashes is some = cc
+
 pub deletes : (safe : ℕ) (x : Option Versioned) (command : Command) (dead : ℕ) → IsChangeOf safe x command (change.Delete dead) → reply_given safe x command ≡ reply.Ok dead
 deletes safe x (Get k) dead c = let e = c.nothing 0 in cc
-deletes safe x (Put k value when) dead c = absurd (clash (c.unit 0) (c.nothing 0)) where
-  clash : {es : List Entry} → [] ≡ es → false ≡ is_empty es → ⊥
-  clash is some = cc
+deletes safe x (Put k value when) dead c = absurd (clashes (c.unit 0) (c.nothing 0))
 deletes safe None (Delete k) dead c = let e = c.nothing 0 in cc
 deletes safe (Some x) (Delete k) dead c =
     let e = c.unit 0 in

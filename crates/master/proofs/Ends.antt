@@ -48,30 +48,18 @@ number_at k from ((e ∷ es) ∷ us) zero next is = omega arith
 number_at k from ((e ∷ es) ∷ us) (suc n) next is =
     let h = number_at (suc k) (from + length (text_of (e ∷ es))) us n next (omega arith) in omega arith
 
-pub number_is : (k from : ℕ) (us : List (List Entry)) (n : ℕ) (u : UnitEnd) → slice_get (ends_of k from us) n ≡ Some u
+number_is : (k from : ℕ) (us : List (List Entry)) (n : ℕ) (u : UnitEnd) → slice_get (ends_of k from us) n ≡ Some u
     → u.number ≡ k + records_before us n
 number_is k from us n u is =
     sym (ap (λ o. option_map_or (λ (v : UnitEnd). v.number) o (k + length us)) is) ∙ number_at k from us n (k + length us) refl
 
--- there are no fewer records before a unit than units
-pub number_above : (k from : ℕ) (us : List (List Entry)) (n : ℕ) (u : UnitEnd) → slice_get (ends_of k from us) n ≡ Some u
-    → k + n ≤ u.number
-number_above k from [] n u is = absurd (cc)
-number_above k from ([] ∷ us) n u is = let h = number_above (suc k) from us n u is in omega arith
-number_above k from ((e ∷ es) ∷ us) zero u is = let h = number_is k from ((e ∷ es) ∷ us) zero u is in omega arith
-number_above k from ((e ∷ es) ∷ us) (suc n) u is = let h = number_above (suc k) (from + length (text_of (e ∷ es))) us n u is in omega arith
-
--- a later unit is of a later record
-pub numbers_rise : (k from : ℕ) (us : List (List Entry)) (m n : ℕ) (u v : UnitEnd) → m < n
-    → slice_get (ends_of k from us) m ≡ Some u → slice_get (ends_of k from us) n ≡ Some v → u.number < v.number
-numbers_rise k from [] m n u v lt here there = absurd (cc)
-numbers_rise k from ([] ∷ us) m n u v lt here there = numbers_rise (suc k) from us m n u v lt here there
-numbers_rise k from ((e ∷ es) ∷ us) m zero u v lt here there = absurd (omega arith)
-numbers_rise k from ((e ∷ es) ∷ us) zero (suc n) u v lt here there =
-    let first = number_is k from ((e ∷ es) ∷ us) zero u here in
-    let later = number_above (suc k) (from + length (text_of (e ∷ es))) us n v there in omega arith
-numbers_rise k from ((e ∷ es) ∷ us) (suc m) (suc n) u v lt here there =
-    numbers_rise (suc k) (from + length (text_of (e ∷ es))) us m n u v (omega arith) here there
+-- a later unit is of no earlier record
+pub numbers_rise : (k from : ℕ) (us : List (List Entry)) (m n : ℕ) (u v : UnitEnd) → m ≤ n
+    → slice_get (ends_of k from us) m ≡ Some u → slice_get (ends_of k from us) n ≡ Some v → u.number ≤ v.number
+numbers_rise k from us m n u v le here there =
+    let first = number_is k from us m u here in
+    let later = number_is k from us n v there in
+    let rise = records_before-rise us m n le in omega arith
 
 -- ---- ends
 

@@ -24,16 +24,10 @@ use Rattle.master.specs.Units.{put_unit, delete_unit}
 use Rattle.master.specs.Represents.{unit_of, AreUnitsOf, joined}
 use Rattle.master.specs.Sound.{IsTextOfSegment}
 use Rattle.master.proofs.Heads.{text_more}
-use Rattle.master.proofs.Tops.{one_key}
+use Rattle.master.proofs.Tops.{among_either, one_key}
 use Rattle.master.proofs.Units.{units_data}
 
 -- ---- the first units
-
-pub length-units : (st : State) (commands : List Command) (units : List (List Entry)) → AreUnitsOf st commands units → length units ≡ length commands
-length-units st [] [] are = refl
-length-units st [] (u ∷ us) are = absurd are
-length-units st (c ∷ cs) [] are = absurd are
-length-units st (c ∷ cs) (u ∷ us) are = ap suc (length-units (after_command st c) cs us are.1)
 
 -- the first units are those of the first commands
 pub units_front : (st : State) (commands : List Command) (units : List (List Entry)) (count : ℕ) → AreUnitsOf st commands units
@@ -44,16 +38,11 @@ units_front st [] (u ∷ us) (suc count) are = absurd are
 units_front st (c ∷ cs) [] (suc count) are = absurd are
 units_front st (c ∷ cs) (u ∷ us) (suc count) are = (are.0, units_front (after_command st c) cs us count are.1)
 
-joined_split : (units : List (List Entry)) (count : ℕ) → joined (take count units) ++ joined (drop count units) ≡ joined units
+pub joined_split : (units : List (List Entry)) (count : ℕ) → joined (take count units) ++ joined (drop count units) ≡ joined units
 joined_split units count =
     sym (flat_map-append (λ (u : List Entry). u) (take count units) (drop count units)) ∙ ap joined (take-append-drop count units)
 
 -- ---- keys
-
-among_either : (e : Entry) (xs ys : List Entry) → among (xs ++ ys) e → among xs e ⊎ among ys e
-among_either e [] ys m = inr m
-among_either e (x ∷ xs) ys (inl p) = inl (inl p)
-among_either e (x ∷ xs) ys (inr m) = elim (among_either e xs ys m) [ inl l ↦ inl (inr l) | inr r ↦ inr r ]
 
 same_key : (f e : Entry) (k q : Key) → f ≡ e → IsOfKey k f → IsOfKey q e → q ≡ k
 same_key f e k q is own at = one_key e k q (subst (λ (g : Entry). IsOfKey k g) is own) at

@@ -1,14 +1,16 @@
 -- Heads: where units end, and what replicas have taken.
-use Rattle.std.proofs.Common.{◌≡◌, ℕ, zero, suc, ◌+◌, ◌-◌, ◌<◌, ◌≤◌, List, [], ◌∷◌, ◌++◌, length, take, drop, get_or, Some, None, refl, sym, ◌∙◌, add-one, arith}
-use Rattle.std.specs.Prelude.{slice_get, slice_set}
+use Rattle.std.proofs.Common.{◌≡◌, ℕ, zero, suc, ◌+◌, ◌-◌, ◌<◌, ◌≤◌, ◌⊎◌, inl, inr, Bool, true, false, List, [], ◌∷◌, ◌++◌, length, take, drop, get_or, Some, None, refl, sym, ◌∙◌, add-one, arith}
+use Rattle.std.specs.Prelude.{slice_get, slice_set, unwrap_or, nat_lt}
 use Rattle.std.specs.List.{AllByRecursion}
 use Rattle.std.proofs.Common.{sub-one}
+use Rattle.std.proofs.lemmas.Bool.Decides.{nat_tests}
 use Rattle.std.proofs.lemmas.List.{length-append, take_all}
+use Rattle.std.proofs.lemmas.Option.{same_Some, slice_get-get_or, slice_get_within}
 use Rattle.entry.specs.declared.entry.Entry.{Entry}
 use Rattle.entry.specs.Text.{text_of}
 use Rattle.segment.proofs.RowLemmas.{text_of-append}
 use Rattle.master.specs.declared.head.UnitEnd.{UnitEnd}
-use Rattle.master.specs.Head.{end_of, EndAt, IsLagging, fewest}
+use Rattle.master.specs.Head.{HeadValue, end_of, EndAt, IsLagging, fewest, everywhere}
 
 pub EndAt_le : (us : List UnitEnd) (from len : ℕ) → EndAt from us len → from ≤ len
 EndAt_le [] from len e = omega arith
@@ -61,11 +63,6 @@ pub all_more : (ns : List ℕ) (a b : ℕ) → a ≤ b → AllByRecursion (λ n.
 all_more [] a b le all = tt
 all_more (n ∷ ns) a b le all = let here = all.0 in (omega arith, all_more ns a b le all.1)
 
-pub slice_get_at : {X : Type 0} (xs : List X) (j : ℕ) (d : X) → j < length xs → slice_get xs j ≡ Some (get_or xs j d)
-slice_get_at [] j d lt = absurd (omega arith)
-slice_get_at (x ∷ xs) zero d lt = refl
-slice_get_at (x ∷ xs) (suc j) d lt = slice_get_at xs j d (omega arith)
-
 pub text_more : (xs ys : List Entry) → length (text_of (xs ++ ys)) ≡ length (text_of xs) + length (text_of ys)
 text_more xs ys = rw (text_of-append xs ys, length-append) refl
 
@@ -90,21 +87,13 @@ pub lagging_none : (units : ℕ) (ns : List ℕ) → 1 ≤ length ns → IsLaggi
 lagging_none units [] some rest le = absurd (omega arith)
 lagging_none units (n ∷ ns) some rest le = (le, rw rest_of at rest)
 
-pub within_get : (ns : List ℕ) (j n : ℕ) → slice_get ns j ≡ Some n → j < length ns
-within_get [] j n e = absurd (cc)
-within_get (m ∷ ns) zero n e = omega arith
-within_get (m ∷ ns) (suc j) n e = let later = within_get ns j n e in omega arith
-
-pub some-same : (m n : ℕ) → Some m ≡ Some n → m ≡ n
-some-same m n e = cc
-
 pub lagging_before : (units place : ℕ) (ns : List ℕ) → 1 ≤ length ns → IsLagging units (rest_in ns) (Some place) → get_or ns 0 0 ≤ get_or (rest_in ns) place 0
     → IsLagging units ns (Some 0)
 lagging_before units place [] some rest le = absurd (omega arith)
 lagging_before units place (n ∷ ns) some rest le =
     let later = rw rest_of at rest in
-    let within = within_get ns place later.0 later.1 in
-    let value : get_or ns place 0 ≡ later.0 = some-same (get_or ns place 0) later.0 (sym (slice_get_at ns place 0 within) ∙ later.1) in
+    let within = slice_get_within ns place later.0 later.1 in
+    let value : get_or ns place 0 ≡ later.0 = same_Some (get_or ns place 0) later.0 (sym (slice_get-get_or ns place 0 within) ∙ later.1) in
     let order : n ≤ get_or ns place 0 = rw rest_of at le in
     let below : later.0 < units = later.2 in
     (n, refl, omega arith, (omega arith, all_above ns n later.0 (omega arith) later.3), tt)
@@ -114,8 +103,8 @@ pub lagging_later : (units place : ℕ) (ns : List ℕ) → 1 ≤ length ns → 
 lagging_later units place [] some rest le = absurd (omega arith)
 lagging_later units place (n ∷ ns) some rest le =
     let later = rw rest_of at rest in
-    let within = within_get ns place later.0 later.1 in
-    let value : get_or ns place 0 ≡ later.0 = some-same (get_or ns place 0) later.0 (sym (slice_get_at ns place 0 within) ∙ later.1) in
+    let within = slice_get_within ns place later.0 later.1 in
+    let value : get_or ns place 0 ≡ later.0 = same_Some (get_or ns place 0) later.0 (sym (slice_get-get_or ns place 0 within) ∙ later.1) in
     let order : get_or ns place 0 < n = rw rest_of at le in
     let below : later.0 < units = later.2 in
     rw add-one (later.0, later.1, below, (omega arith, later.3), (omega arith, later.4))
@@ -131,7 +120,7 @@ fewest_above units n (m ∷ ns) le all = let here = all.0 in let later = fewest_
 
 pub fewest_below : (units n j : ℕ) (ns : List ℕ) → slice_get ns j ≡ Some n → fewest units ns ≤ n
 fewest_below units n j [] e = absurd (cc)
-fewest_below units n zero (m ∷ ns) e = let same = some-same m n e in omega arith
+fewest_below units n zero (m ∷ ns) e = let same = same_Some m n e in omega arith
 fewest_below units n (suc j) (m ∷ ns) e = let later = fewest_below units n j ns e in omega arith
 
 pub fewest_at : (units n j : ℕ) (ns : List ℕ) → slice_get ns j ≡ Some n → n < units → AllByRecursion (λ m. n ≤ m) ns → fewest units ns ≡ n
@@ -139,3 +128,35 @@ fewest_at units n j ns e lt all =
     let low = fewest_above units n ns (omega arith) all in
     let high = fewest_below units n j ns e in
     omega arith
+
+-- ---- what every replica has
+
+-- each of these has more than this many
+abbrev pub HaveMore : ℕ → List ℕ → Type 0
+HaveMore w ns = (j : ℕ) → j < length ns → (n : ℕ) × (slice_get ns j ≡ Some n) × (w < n)
+
+pub fewest_more : (units w : ℕ) (ns : List ℕ) → w < units → HaveMore w ns → w < fewest units ns
+fewest_more units w [] lt more = lt
+fewest_more units w (n ∷ ns) lt more =
+    let first = more 0 (omega arith) in
+    let same : n ≡ first.0 = same_Some n first.0 first.1 in
+    let above : w < first.0 = first.2 in
+    let later = fewest_more units w ns lt (λ j le. more (suc j) (omega arith)) in omega arith
+
+pub fewest-rise : (a b : ℕ) (ns : List ℕ) → a ≤ b → fewest a ns ≤ fewest b ns
+fewest-rise a b [] le = le
+fewest-rise a b (n ∷ ns) le = let later = fewest-rise a b ns le in omega arith
+
+pub fewest-taken : (units : ℕ) (ns : List ℕ) (j : ℕ) → fewest units ns ≤ fewest units (slice_set ns j (unwrap_or (slice_get ns j) 0 + 1))
+fewest-taken units [] j = omega arith
+fewest-taken units (n ∷ ns) zero = omega arith
+fewest-taken units (n ∷ ns) (suc j) = let later = fewest-taken units ns j in omega arith
+
+-- whether each replica was opened
+module _ (h : HeadValue) where
+  pub everywhere_closed : length h.taken < h.replicas → everywhere h ≡ 0
+  everywhere_closed lt = let test : nat_lt (length h.taken) h.replicas ≡ true = grind (arith, nat_tests) in rw test refl
+
+  pub everywhere_open : h.replicas ≤ length h.taken → everywhere h ≡ fewest (length h.units) h.taken
+  everywhere_open le = let test : nat_lt (length h.taken) h.replicas ≡ false = grind (arith, nat_tests) in rw test refl
+

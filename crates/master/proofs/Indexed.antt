@@ -19,7 +19,7 @@ use Rattle.master.specs.Index.{Stands, AreAt, slot_in, placed}
 use Rattle.master.specs.Log.{AreDistinct}
 use Rattle.master.specs.Units.{object_entry, tombstone_entry, put_unit, safe_given, safe_after_put}
 use Rattle.master.specs.Versioned.{State, is_met, put_version, with_contents, after_command, after_put, after_delete}
-use Rattle.master.proofs.Changes.{unmet, undeleted}
+use Rattle.master.proofs.Changes.{unmet, undeleted, clashes}
 use Rattle.master.proofs.Keys.{key_eq-tells}
 use Rattle.master.proofs.Places.{contents_of-no_slot, found-at}
 use Rattle.master.proofs.Indexing.{AreAt-more, AreAt-push, AreAt-set, AreAt-remove, distinct-push, distinct-set, distinct-remove, contents-push, contents-set, contents-remove}
@@ -95,9 +95,6 @@ replaced_at safe (Some x) k value when dead version c = (λ e. cc, go (is_met wh
       → (if b then now (x.version + 1) value else Some x) ≡ now version value
   go true e = let same : object_entry k version value ≡ object_entry k (x.version + 1) value = cc in ap (λ (n : ℕ). now n value) (sym (ap version_of same))
   go false e = absurd (cc)
-
-clashes : {es : List Entry} → [] ≡ es → false ≡ is_empty es → ⊥
-clashes is some = cc
 
 -- ---- an index
 

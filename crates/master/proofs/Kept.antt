@@ -32,12 +32,11 @@ use Rattle.master.specs.Represents.{unit_of, joined}
 use Rattle.master.specs.Steps.{AppliesTo}
 use Rattle.master.specs.Units.{safe_given}
 use Rattle.master.specs.Versioned.{State, with_contents, reply_given, reply_to, replies, after, after_command}
-use Rattle.master.proofs.Appended.{all-append, map-push, joined-push, same-appended, ends-appended, image_then, image-appended, unit_names, mirrored-appended}
-use Rattle.master.proofs.Durables.{units_of_history}
+use Rattle.master.proofs.Appended.{map-push, image-appended, log_applied, mirrored-appended}
 use Rattle.master.proofs.Indexed.{given, command_at, Indexes, IsPut, goes_on}
 use Rattle.master.proofs.Numbers.{AreOf-appended, replicas-appended}
 use Rattle.master.proofs.Refusals.{IsAdmitted, is_admitted, passed_early, unit_fits}
-use Rattle.master.proofs.Units.{units_pushed, states_pushed}
+use Rattle.master.proofs.Units.{states_pushed}
 
 pub fresh_kept : (c : Config) (f : FleetState) → config_fault c ≡ None → c.backups ≤ f.backups → ((b s : ℕ) → f.picture b c.master s ≡ None) → IsKept (fresh_data c) f
 fresh_kept c f ok backups none = record {
@@ -73,7 +72,9 @@ IsJudged d command change slot = (os : List Object) → AreAt d.head.image d.pla
 
 -- where a change puts its object, if it makes one
 abbrev pub IsPlaced : MasterData → Command → Change → ℕ → Type 0
-IsPlaced d command change at = (segment : ℕ) (front : List Entry) (o : Object) → unit_of_change segment command change ≡ front ++ entry.Object o ∷ [] → at ≡ length (text_of d.head.image) + length (text_of front)
+IsPlaced d command change at =
+    (segment : ℕ) (front : List Entry) (o : Object) → unit_of_change segment command change ≡ front ++ entry.Object o ∷ []
+    → at ≡ length (text_of d.head.image) + length (text_of front)
 
 -- the change is that of the versioned map, and its unit fits
 module _ (d : MasterData) (f : FleetState) (command : Command) (change : Change) (slot : Option ℕ) (kept : IsKept d f) (judged : IsJudged d command change slot) where
@@ -124,6 +125,9 @@ module _ (d : MasterData) (f : FleetState) (seat : ℕ) (command : Command) (cha
   unit_is : unit ≡ unit_of st d.head.id command
   unit_is = is_change.unit d.head.id
 
+  head_then : e.head ≡ appended d.head (length d.history) (unit_of st d.head.id command)
+  head_then = ap (appended d.head (length d.history)) unit_is
+
   commands_then : commands_of e.history ≡ commands_of d.history ++ command ∷ []
   commands_then = map-push (λ (r : Record). r.command) d.history _
 
@@ -138,23 +142,8 @@ module _ (d : MasterData) (f : FleetState) (seat : ℕ) (command : Command) (cha
   abbrev more : List (List Entry)
   more = units ++ unit_of st d.head.id command ∷ []
 
-  number : length d.history ≡ length units
-  number = sym (units_of_history d units log)
-
   log_then : IsLog e more
-  log_then =
-      let same = same-appended d.head (length d.history) unit in
-      record {
-        appended = rw commands_then (units_pushed (opening_state d) (commands_of d.history) units d.head.id command log.appended);
-        first = same.0 ∙ log.first;
-        image = image_then d.head (first_opening d.config.master 1) units log.image log.opening (length d.history) unit
-            ∙ ap (λ (u : List Entry). first_opening d.config.master 1 ++ joined (units ++ u ∷ [])) unit_is;
-        opening = same.1 ∙ log.opening;
-        ends = ends-appended d.head (first_opening d.config.master 1) units log.image log.opening (length d.history) unit log.ends number
-            ∙ (λ i. ends_of 0 (sym same.1 i) (units ++ unit_is i ∷ []));
-        names = rw (same.0, joined-push units (unit_of st d.head.id command)) (all-append (Names d.head.id) (joined units) _ log.names (unit_names st d.head.id command));
-        keys = rw commands_then (all-append (λ (c : Command). have_key d.config.tablets (command_key c) ≡ true) (commands_of d.history) (command ∷ []) log.keys (admitted.key, tt));
-      }
+  log_then = log_applied d e units (record { seat = seat; command = command; reply = reply_to st command }) log admitted.key refl refl head_then
 
   index_on : Indexes (d.head.image ++ unit) (placed d.places change slot at)
       (with_contents (contents_of os) (command_key command) (given d.safe (contents_of os (command_key command)) command))
@@ -183,7 +172,12 @@ module _ (d : MasterData) (f : FleetState) (seat : ℕ) (command : Command) (cha
   mirrors_then =
       let here : kept.mirrors.next ≡ d.head = kept.mirrors.running admitted.running in
       let mirrored : IsMirrored d.config d.head f = subst (λ h. IsMirrored d.config h f) here kept.mirrors.mirrored in
-      record { next = e.head; ahead = inl refl; running = λ going. refl; mirrored = mirrored-appended d.config d.head f (length d.history) unit valid mirrored }
+      record {
+        next = e.head;
+        ahead = inl refl;
+        running = λ going. refl;
+        mirrored = mirrored-appended d.config d.head f (length d.history) unit valid mirrored;
+      }
 
   valid_then : IsMaster e
   valid_then =
@@ -198,7 +192,11 @@ module _ (d : MasterData) (f : FleetState) (seat : ℕ) (command : Command) (cha
       }
 
   pub command_kept : IsKept e f
-  command_kept = record { valid = valid_then; logged = record { legal = legal_then; log = (more, log_then); index = index_then }; mirrors = mirrors_then }
+  command_kept = record {
+    valid = valid_then;
+    logged = record { legal = legal_then; log = (more, log_then); index = index_then };
+    mirrors = mirrors_then;
+  }
 
   pub command_applies : (answer : _) → answer ≡ Applied (length d.history) (reply_to st command)
       → AppliesTo (record { knows = d; fleet = f }) seat command answer (record { knows = e; fleet = f })
@@ -209,12 +207,13 @@ module _ (d : MasterData) (f : FleetState) (seat : ℕ) (command : Command) (cha
     config = refl;
     running = admitted.running;
     history = refl;
-    head = ap (appended d.head (length d.history)) unit_is;
+    head = head_then;
   }
 
   -- the reply that is right for what the index says is the versioned map's
   pub reply_is : (reply : Reply) → ((o : List Object) → AreAt d.head.image d.places o → slot ≡ slot_in o (command_key command)
-      → IsChangeOf d.safe (contents_of o (command_key command)) command change → reply ≡ reply_given d.safe (contents_of o (command_key command)) command) → reply ≡ reply_to st command
+      → IsChangeOf d.safe (contents_of o (command_key command)) command change
+      → reply ≡ reply_given d.safe (contents_of o (command_key command)) command) → reply ≡ reply_to st command
   reply_is reply right =
       right os index.places (judged os index.places).0 (judged os index.places).1
       ∙ (λ i. reply_given (index.safe i) (index.contents i (command_key command)) command)

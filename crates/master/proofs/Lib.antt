@@ -17,6 +17,7 @@ pub mod Refusals
 pub mod Appended
 pub mod Kept
 pub mod Pushes
+pub mod Keeping
 pub mod Durables
 pub mod Buried
 pub mod Coverings

@@ -1,8 +1,9 @@
 -- One bag has one meaning, and each key in it has a highest entry.
 use Rattle.std.proofs.Common.{◌≡◌, ◌+◌, ◌*◌, ◌≤◌, ◌⊎◌, inl, inr, List, [], ◌∷◌, refl, sym, subst, ◌∙◌, arith}
-use Rattle.std.specs.Prelude.{Option, Some, None, Bool, true, false, nat_lt}
+use Rattle.std.specs.Prelude.{◌↔◌, Option, Some, None, Bool, true, false, nat_lt}
 use Rattle.std.proofs.lemmas.Bool.Decides.{nat_tests}
 use Rattle.entry.specs.declared.key.Key.{Key}
+use Rattle.entry.specs.declared.entry.Object.{Object}
 use Rattle.entry.specs.declared.entry.Entry.{Entry}
 use Rattle.entry.specs.declared.entry.Entry.TheVariants as entry
 use Rattle.entry.specs.Meaning.{Versioned, Contents, IsOfKey, rank_of, IsTop, object_at, IsMeaning, IsClean, among, versioned}
@@ -19,6 +20,22 @@ module _ (bag : Entry → Type 0) (c d : Contents) (is : IsMeaning bag c) (also 
 
 pub one_contents : (bag : Entry → Type 0) (c d : Contents) → IsMeaning bag c → IsMeaning bag d → c ≡ d
 one_contents bag c d is also = λ i k. same_at bag c d is also k (c k) (d k) refl refl i
+
+-- ---- members carry a meaning
+
+module _ (bag other : Entry → Type 0) (same : (e : Entry) → bag e ↔ other e) where
+  top_carried : (k : Key) (e : Entry) → IsTop k bag e → IsTop k other e
+  top_carried k e top = record { held = (same e).0 top.held; of_key = top.of_key; highest = λ f m at. top.highest f ((same f).1 m) at }
+
+  pub clean_carried : IsClean bag → IsClean other
+  clean_carried clean o p a b at v = clean o p ((same (entry.Object o)).1 a) ((same (entry.Object p)).1 b) at v
+
+pub meaning_carried : (bag other : Entry → Type 0) (contents : Contents) → ((e : Entry) → bag e ↔ other e) → IsMeaning bag contents
+    → IsMeaning other contents
+meaning_carried bag other contents same is k x = (
+  λ h. top_carried bag other same k (object_at k x) ((is k x).0 h),
+  λ top. (is k x).1 (top_carried other bag (λ e. ((same e).1, (same e).0)) k (object_at k x) top),
+)
 
 -- ---- highest entries
 

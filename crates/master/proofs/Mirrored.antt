@@ -3,6 +3,7 @@ use Rattle.std.proofs.Common.{◌≡◌, ℕ, zero, suc, ◌+◌, ◌<◌, ◌�
 use Rattle.std.specs.Prelude.{nat_lt, slice_get, slice_set, unwrap_or}
 use Rattle.std.proofs.lemmas.Bool.Decides.{nat_tests}
 use Rattle.std.proofs.lemmas.List.{length-take}
+use Rattle.std.proofs.lemmas.Option.{same_Some}
 use Rattle.entry.specs.declared.entry.Entry.{Entry}
 use Rattle.entry.specs.Text.{text_of}
 use Rattle.replica.specs.Picture.{Replica, FleetState}
@@ -12,7 +13,7 @@ use Rattle.master.specs.Log.{IsLog}
 use Rattle.master.specs.Master.{MasterData}
 use Rattle.master.specs.Mirror.{head_replica, IsAtMostOneAhead, Mirrors}
 use Rattle.master.specs.Represents.{joined}
-use Rattle.master.proofs.Heads.{fewest_below}
+use Rattle.master.proofs.Heads.{fewest_below, fewest-taken, everywhere_closed}
 use Rattle.master.proofs.Ends.{records_before, end_at}
 use Rattle.master.proofs.Fronts.{front, front_len, front_text}
 
@@ -31,29 +32,20 @@ zero_if false m n le = le
 everywhere-le : (h : HeadValue) (n : ℕ) → fewest (length h.units) h.taken ≤ n → everywhere h ≤ n
 everywhere-le h n le = zero_if (nat_lt (length h.taken) h.replicas) (fewest (length h.units) h.taken) n le
 
--- no unit is everywhere where not all replicas were opened
-everywhere-few : (h : HeadValue) (n : ℕ) → length h.taken < h.replicas → everywhere h ≤ n
-everywhere-few h n lt = let t : nat_lt (length h.taken) h.replicas ≡ true = grind (arith, nat_tests) in rw t (omega arith)
-
-some-same : (m n : ℕ) → Some m ≡ Some n → m ≡ n
-some-same m n e = cc
-
--- one more for one of them leaves none with fewer than the fewest
-fewest_set : (units i j n : ℕ) (ns : List ℕ) → slice_get (slice_set ns i (unwrap_or (slice_get ns i) 0 + 1)) j ≡ Some n → fewest units ns ≤ n
-fewest_set units i j n [] is = absurd (cc)
-fewest_set units zero zero n (m ∷ ns) is = let same = some-same (m + 1) n is in omega arith
-fewest_set units zero (suc j) n (m ∷ ns) is = let later = fewest_below units n j ns is in omega arith
-fewest_set units (suc i) zero n (m ∷ ns) is = let same = some-same m n is in omega arith
-fewest_set units (suc i) (suc j) n (m ∷ ns) is = let later = fewest_set units i j n ns is in omega arith
-
 over_same : (h : HeadValue) → IsOver h h
 over_same h = record { id = refl; replica = λ n. refl; reached = λ j n is. everywhere-le h n (fewest_below (length h.units) n j h.taken is) }
 
 over_replica : (h : HeadValue) → length h.taken < h.replicas → IsOver h (with_replica h)
-over_replica h lt = record { id = refl; replica = λ n. refl; reached = λ j n is. everywhere-few h n lt }
+over_replica h lt = record { id = refl; replica = λ n. refl; reached = λ j n is. (let none = everywhere_closed h lt in omega arith) }
 
 over_taken : (h : HeadValue) (i : ℕ) → IsOver h (with_taken h i)
-over_taken h i = record { id = refl; replica = λ n. refl; reached = λ j n is. everywhere-le h n (fewest_set (length h.units) i j n h.taken is) }
+over_taken h i = record {
+  id = refl;
+  replica = λ n. refl;
+  reached = λ j n is. everywhere-le h n
+      (let more = fewest-taken (length h.units) h.taken i in
+      let least = fewest_below (length h.units) n j (with_taken h i).taken is in omega arith);
+}
 
 over : (h next : HeadValue) → IsAtMostOneAhead h next → IsOver h next
 over h next (inl same) = subst (λ (x : HeadValue). IsOver h x) (sym same) (over_same h)

@@ -5,6 +5,7 @@ use Rattle.std.specs.List.{AllByRecursion}
 use Rattle.std.proofs.lemmas.Bool.Decides.{nat_tests}
 use Rattle.std.proofs.lemmas.Nat.{mod_below}
 use Rattle.std.proofs.lemmas.List.{length-append, length-take, take-append-le, length-set}
+use Rattle.std.proofs.lemmas.Option.{same_Some, slice_get_within}
 use Rattle.entry.specs.declared.entry.Entry.{Entry}
 use Rattle.entry.specs.Text.{text_of}
 use Rattle.segment.proofs.RowLemmas.{text_of-append}
@@ -17,13 +18,13 @@ use Rattle.master.specs.Head.{HeadValue, IsHead, EndAt, end_of, IsLagging}
 use Rattle.master.specs.HeadSteps.{with_replica, with_taken}
 use Rattle.master.specs.Mirror.{head_replica, IsOpenedHome, IsMirrored}
 use Rattle.master.specs.Steps.{home}
-use Rattle.master.proofs.Heads.{end_of_le, end_of_next, within_get}
+use Rattle.master.proofs.Heads.{end_of_le, end_of_next}
 use Rattle.master.proofs.Homes.{homes_apart}
 
 same_place-true : (b m s c n t : ℕ) → b ≡ c → m ≡ n → s ≡ t → is_same_place b m s c n t ≡ true
 same_place-true b m s c n t p q r = grind (arith, nat_tests)
 
-same_place-tells : (b m s c n t : ℕ) → ((is_same_place b m s c n t ≡ true) × (b ≡ c) × (m ≡ n) × (s ≡ t)) ⊎ ((is_same_place b m s c n t ≡ false) × ((b ≡ c) × (m ≡ n) × (s ≡ t) → ⊥))
+pub same_place-tells : (b m s c n t : ℕ) → ((is_same_place b m s c n t ≡ true) × (b ≡ c) × (m ≡ n) × (s ≡ t)) ⊎ ((is_same_place b m s c n t ≡ false) × ((b ≡ c) × (m ≡ n) × (s ≡ t) → ⊥))
 same_place-tells b m s c n t = grind (arith, nat_tests)
 
 -- ---- lists
@@ -77,9 +78,6 @@ placed c h f b r = record { backups = f.backups; picture = replaced f.picture b 
 abbrev pub with_counts : HeadValue → List ℕ → HeadValue
 with_counts h ks = record { id = h.id; replicas = h.replicas; image = h.image; opening = h.opening; units = h.units; taken = ks }
 
-some_numbers : (m n : ℕ) → Some m ≡ Some n → m ≡ n
-some_numbers m n e = cc
-
 module _ (c : Config) (h : HeadValue) (f : FleetState) (m : IsMirrored c h f) (many : h.replicas ≤ c.backups) (few : length h.taken ≤ h.replicas) where
   changed : (r : Option Replica) (b d : ℕ) → b ≡ d → (placed c h f b r).picture d c.master h.id ≡ r
   changed r b d same = let t = same_place-true b c.master h.id d c.master h.id same refl refl in rw t refl
@@ -103,7 +101,7 @@ module _ (c : Config) (h : HeadValue) (f : FleetState) (m : IsMirrored c h f) (m
       none None e = refl
       none (Some r) e =
           let o = m.each (home c h.id j) h.id r e in
-          let w = within_get h.taken o.j o.units o.opened in
+          let w = slice_get_within h.taken o.j o.units o.opened in
           absurd (homes_apart c h.id j o.j lt (omega arith) (λ same. omega arith) o.backup)
 
   home_within : (j : ℕ) → 0 < c.backups → nat_lt (home c h.id j) f.backups ≡ true
@@ -123,10 +121,10 @@ module _ (c : Config) (h : HeadValue) (f : FleetState) (m : IsMirrored c h f) (m
     held_then i k e = elim (same_or_not i j) as (λ _. (placed c h f (home c h.id j) own).picture (home c h.id i) c.master h.id ≡ Some (head_replica h k)) [
       | inl same ↦ (
         let both : Some n ≡ Some k = sym at ∙ ap (slice_get ks) (sym same) ∙ e in
-        changed own (home c h.id j) (home c h.id i) (ap (home c h.id) (sym same)) ∙ ap (λ (x : ℕ). Some (head_replica h x)) (some_numbers n k both))
+        changed own (home c h.id j) (home c h.id i) (ap (home c h.id) (sym same)) ∙ ap (λ (x : ℕ). Some (head_replica h x)) (same_Some n k both))
       | inr other ↦ (
-        let in_ks = within_get ks i k e in
-        let j_in = within_get ks j n at in
+        let in_ks = slice_get_within ks i k e in
+        let j_in = slice_get_within ks j n at in
         unchanged own (home c h.id j) (home c h.id i) h.id (λ o. homes_apart c h.id j i (omega arith) (omega arith) (λ x. other (sym x)) o.0) ∙ m.held i k (others i k e other))
     ]
 
@@ -190,7 +188,8 @@ module _ (c : Config) (h : HeadValue) (f : FleetState) (m : IsMirrored c h f) (m
         let e : suc b - suc a ≡ b - a = omega arith in
         ap (λ (ys : List ℕ). x ∷ ys) (ap (λ (k : ℕ). take a xs ++ take k (drop a xs)) e ∙ parts a b xs (omega arith))
 
-    grown : effect (Extend start (take (stop - start) (drop start (text_of h.image)))) (Some (head_replica h n)) ≡ Some (Some (head_replica h (n + 1)))
+    grown : effect (Extend start (take (stop - start) (drop start (text_of h.image)))) (Some (head_replica h n))
+        ≡ Some (Some (head_replica h (n + 1)))
     grown =
         let le = end_of_le h.units h.opening (length (text_of h.image)) n valid.units in
         let up = end_of_next h.units h.opening (length (text_of h.image)) n valid.units in
@@ -200,13 +199,13 @@ module _ (c : Config) (h : HeadValue) (f : FleetState) (m : IsMirrored c h f) (m
 
     pub extend_taken : taken f (home c h.id j) extending_op ≡ Some extended_fleet
     extend_taken =
-        let w = within_get h.taken j n at in
+        let w = slice_get_within h.taken j n at in
         let i = home_within j (omega arith) in
         let some = m.held j n at in rw (i, some, grown) refl
 
     pub extend_mirrored : IsMirrored c (with_taken h j) extended_fleet
     extend_mirrored =
-        let w = within_get h.taken j n at in
+        let w = slice_get_within h.taken j n at in
         let value : unwrap_or (slice_get h.taken j) 0 + 1 ≡ n + 1 = rw at refl in
         subst (λ (k : ℕ). IsMirrored c (with_counts h (slice_set h.taken j k)) extended_fleet) (sym value)
         (counted (slice_set h.taken j (n + 1)) j (n + 1) (slice_get-set_same h.taken j (n + 1) w) (let l = length-set h.taken j (n + 1) in omega arith)

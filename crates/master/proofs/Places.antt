@@ -1,6 +1,7 @@
 -- Places and the objects that stand at them.
 use Rattle.std.proofs.Common.{◌≡◌, ℕ, zero, suc, ◌+◌, ◌<◌, ◌≤◌, Bool, true, false, List, [], ◌∷◌, length, drop, get_or, Option, Some, None, refl, sym, ap, subst, ◌∙◌, arith}
 use Rattle.std.specs.Option.{option_map}
+use Rattle.std.proofs.lemmas.Option.{same_Some}
 use Rattle.entry.specs.declared.key.Key.{Key}
 use Rattle.entry.specs.declared.entry.Object.{Object}
 use Rattle.entry.specs.declared.entry.Entry.{Entry}
@@ -52,9 +53,6 @@ pub record IsFound (image : List Entry) (places : List ℕ) (os : List Object) (
   pub stands : (d : ℕ) → Stands image (get_or places j d) (entry.Object o)
   pub has : contents_of os k ≡ Some (versioned o)
 
-some-same : (m n : ℕ) → Some m ≡ Some n → m ≡ n
-some-same m n e = cc
-
 some-none : (n : ℕ) → Some n ≡ None → ⊥
 some-none n e = cc
 
@@ -68,7 +66,7 @@ none_before (Some n) e = absurd (cc)
 
 pub some_before : (slot : Option ℕ) (j : ℕ) → next_slot slot ≡ Some j → (i : ℕ) × (slot ≡ Some i) × (j ≡ suc i)
 some_before None j e = absurd (cc)
-some_before (Some i) j e = (i, refl, sym (some-same (suc i) j e))
+some_before (Some i) j e = (i, refl, sym (same_Some (suc i) j e))
 
 no_slot-step : (b : Bool) (o : Object) (os : List Object) (k : Key) → key_eq k o.key ≡ b → slot_in (o ∷ os) k ≡ None → (slot_in os k ≡ None → contents_of os k ≡ None)
     → contents_of (o ∷ os) k ≡ None
@@ -86,7 +84,7 @@ found-step : (b : Bool) (image : List Entry) (at : ℕ) (places : List ℕ) (o :
     → slot_in (o ∷ os) k ≡ Some j → ((i : ℕ) → slot_in os k ≡ Some i → IsFound image places os k i) → IsFound image (at ∷ places) (o ∷ os) k j
 found-step true image at places o os k j is stands e later =
     let here : slot_in (o ∷ os) k ≡ Some 0 = rw is refl in
-    let first : 0 ≡ j = some-same 0 j (sym here ∙ e) in
+    let first : 0 ≡ j = same_Some 0 j (sym here ∙ e) in
     record { o = o; stands = λ d. subst (λ (i : ℕ). Stands image (get_or (at ∷ places) i d) (entry.Object o)) first stands; has = rw is refl }
 found-step false image at places o os k j is stands e later =
     let further_on : slot_in (o ∷ os) k ≡ next_slot (slot_in os k) = rw is refl in

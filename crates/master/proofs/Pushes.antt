@@ -1,6 +1,7 @@
 -- A push keeps what holds of every master, whatever the fleet answers.
 use Rattle.std.proofs.Common.{◌≡◌, ℕ, ◌+◌, ◌<◌, ◌≤◌, ◌⊎◌, inl, inr, Bool, true, false, length, refl, sym, ap, subst, ◌∙◌, arith}
 use Rattle.std.specs.Prelude.{Option, Some, None, Result, Ok, Err, slice_get}
+use Rattle.std.proofs.lemmas.Option.{same_Some}
 use Rattle.replica.specs.Op.{OpValue}
 use Rattle.replica.specs.Picture.{FleetState}
 use Rattle.replica.specs.Take.{TakeGives, Refuses, taken, faulted, limited}
@@ -15,9 +16,8 @@ use Rattle.master.specs.Master.{MasterData, IsMaster}
 use Rattle.master.specs.Mirror.{head_replica, IsMirrored, IsAtMostOneAhead, Mirrors}
 use Rattle.master.specs.Causes.{push_refusal}
 use Rattle.master.specs.Steps.{World, with_head, home, open_op, extend_op, Opens, Extends, IsNextOp, FailsTake, Declines, refusal_of, is_halting, halted}
-use Rattle.master.proofs.Heads.{within_get}
 use Rattle.master.proofs.Mirroring.{placed, open_taken, open_mirrored, extend_taken, extend_mirrored}
-use Rattle.master.proofs.Refusals.{HasHomes, has_homes, push_waits, push_lags}
+use Rattle.master.proofs.Refusals.{has_homes, push_waits, push_lags}
 
 -- the same knowledge, halted or not
 abbrev pub with_halt : MasterData → Bool → MasterData
@@ -26,7 +26,15 @@ with_halt d b = record { config = d.config; head = d.head; places = d.places; sa
 same_logged : (d : MasterData) (b : Bool) → IsLogged d → IsLogged (with_halt d b)
 same_logged d b l = record {
   legal = l.legal;
-  log = (l.log.0, (let a = l.log.1 in record { appended = a.appended; first = a.first; image = a.image; opening = a.opening; ends = a.ends; names = a.names; keys = a.keys }));
+  log = (l.log.0, (let a = l.log.1 in record {
+    appended = a.appended;
+    first = a.first;
+    image = a.image;
+    opening = a.opening;
+    ends = a.ends;
+    names = a.names;
+    keys = a.keys;
+  }));
   index = (l.index.0, (let a = l.index.1 in record { places = a.places; distinct = a.distinct; contents = a.contents; safe = a.safe }));
 }
 
@@ -49,8 +57,13 @@ counted_logged d h id image opening units l = record {
 none_some : {o : Option FleetState} {g : FleetState} → o ≡ Some g → o ≡ None → ⊥
 none_some a b = let both = sym a ∙ b in cc
 
-some_same : {f g : FleetState} → Some f ≡ Some g → f ≡ g
-some_same e = cc
+module _ (d : MasterData) (f : FleetState) (kept : IsKept d f) where
+  many : d.head.replicas ≤ d.config.backups
+  many = let same = kept.valid.replicas in let homes = (has_homes d.config kept.valid.config).many in omega arith
+
+  -- the backups mirror the head of a master that is running
+  mirrored_now : d.is_halted ≡ false → IsMirrored d.config d.head f
+  mirrored_now running = subst (λ (h : HeadValue). IsMirrored d.config h f) (kept.mirrors.running running) kept.mirrors.mirrored
 
 -- an op that fits, and the head once it is taken
 module _ (d : MasterData) (f : FleetState) (b : ℕ) (op : OpValue) (next : HeadValue) (placed : FleetState) (kept : IsKept d f) (running : d.is_halted ≡ false)
@@ -60,10 +73,10 @@ module _ (d : MasterData) (f : FleetState) (b : ℕ) (op : OpValue) (next : Head
   never_wrong g fault refused is = none_some fits (subst (λ (x : TakeFault). Refuses f b op x g) is refused).0
 
   before : IsMirrored d.config d.head f
-  before = subst (λ (h : HeadValue). IsMirrored d.config h f) (kept.mirrors.running running) kept.mirrors.mirrored
+  before = mirrored_now d f kept running
 
   pub taken_mirrors : (g : FleetState) → taken f b op ≡ Some g → IsMirrored d.config next g
-  taken_mirrors g took = subst (IsMirrored d.config next) (some_same (sym fits ∙ took)) mirrored
+  taken_mirrors g took = subst (IsMirrored d.config next) (same_Some placed g (sym fits ∙ took)) mirrored
 
   -- after a fault the backups are as before, or have the op
   fault_mirrors : (g : FleetState) → Refuses f b op take_fault.Fault g → Mirrors (with_halt d true) g
@@ -115,15 +128,6 @@ module _ (d : MasterData) (f : FleetState) (b : ℕ) (op : OpValue) (next : Head
 -- ---- Open
 
 module _ (d : MasterData) (f : FleetState) (kept : IsKept d f) (running : d.is_halted ≡ false) (valid : IsHead d.head) (waiting : length d.head.taken < d.head.replicas) where
-  homes : HasHomes d.config
-  homes = has_homes d.config kept.valid.config
-
-  here : IsMirrored d.config d.head f
-  here = subst (λ (h : HeadValue). IsMirrored d.config h f) (kept.mirrors.running running) kept.mirrors.mirrored
-
-  many : d.head.replicas ≤ d.config.backups
-  many = let r = kept.valid.replicas in let m = homes.many in omega arith
-
   abbrev spot : ℕ
   spot = home d.config d.head.id (length d.head.taken)
 
@@ -131,10 +135,10 @@ module _ (d : MasterData) (f : FleetState) (kept : IsKept d f) (running : d.is_h
   opens_to = placed d.config d.head f (home d.config d.head.id (length d.head.taken)) (Some (head_replica d.head 0))
 
   opens_fits : taken f spot (open_op d) ≡ Some opens_to
-  opens_fits = open_taken d.config d.head f here many valid.opened waiting
+  opens_fits = open_taken d.config d.head f (mirrored_now d f kept running) (many d f kept) valid.opened waiting
 
   opens_mirrored : IsMirrored d.config (with_replica d.head) opens_to
-  opens_mirrored = open_mirrored d.config d.head f here many valid.opened waiting
+  opens_mirrored = open_mirrored d.config d.head f (mirrored_now d f kept running) (many d f kept) valid.opened waiting
 
   ahead : IsAtMostOneAhead d.head (with_replica d.head)
   ahead = inr (inl (waiting, refl))
@@ -167,20 +171,8 @@ module _ (d : MasterData) (f : FleetState) (kept : IsKept d f) (running : d.is_h
 
 module _ (d : MasterData) (f : FleetState) (kept : IsKept d f) (running : d.is_halted ≡ false) (valid : IsHead d.head) (j units : ℕ)
     (lagging : IsLagging (length d.head.units) d.head.taken (Some j)) (has : slice_get d.head.taken j ≡ Some units) where
-  homes' : HasHomes d.config
-  homes' = has_homes d.config kept.valid.config
-
-  here' : IsMirrored d.config d.head f
-  here' = subst (λ (h : HeadValue). IsMirrored d.config h f) (kept.mirrors.running running) kept.mirrors.mirrored
-
-  many' : d.head.replicas ≤ d.config.backups
-  many' = let r = kept.valid.replicas in let m = homes'.many in omega arith
-
-  some_number : (m n : ℕ) → Some m ≡ Some n → m ≡ n
-  some_number m n e = cc
-
   fewer : units < length d.head.units
-  fewer = subst (λ (n : ℕ). n < length d.head.units) (some_number lagging.0 units (sym lagging.1 ∙ has)) lagging.2
+  fewer = subst (λ (n : ℕ). n < length d.head.units) (same_Some lagging.0 units (sym lagging.1 ∙ has)) lagging.2
 
   abbrev spot' : ℕ
   spot' = home d.config d.head.id j
@@ -189,10 +181,10 @@ module _ (d : MasterData) (f : FleetState) (kept : IsKept d f) (running : d.is_h
   extends_to = placed d.config d.head f (home d.config d.head.id j) (Some (head_replica d.head (units + 1)))
 
   extends_fits : taken f spot' (extend_op d units) ≡ Some extends_to
-  extends_fits = extend_taken d.config d.head f here' many' valid.opened valid j units has fewer
+  extends_fits = extend_taken d.config d.head f (mirrored_now d f kept running) (many d f kept) valid.opened valid j units has fewer
 
   extends_mirrored : IsMirrored d.config (with_taken d.head j) extends_to
-  extends_mirrored = extend_mirrored d.config d.head f here' many' valid.opened valid j units has fewer
+  extends_mirrored = extend_mirrored d.config d.head f (mirrored_now d f kept running) (many d f kept) valid.opened valid j units has fewer
 
   ahead' : IsAtMostOneAhead d.head (with_taken d.head j)
   ahead' = inr (inr (j, lagging, refl))

@@ -12,6 +12,7 @@ use Rattle.master.specs.Versioned.{State, is_met, with_contents, after_command, 
 use Rattle.master.specs.Units.{put_unit, delete_unit, object_entry, tombstone_entry}
 use Rattle.master.specs.Represents.{Represents, unit_of, AreUnitsOf, joined, empty_state}
 use Rattle.master.proofs.Keys.{key_eq-tells, at_key, at_other, at_twice}
+use Rattle.master.proofs.Meanings.{clean_carried, meaning_carried}
 use Rattle.master.proofs.Tops.{among_push, one_key, rank_bound, version_bound, Leaves, raised, raised_clean, object_leaves, tombstone_leaves}
 
 pub bound-push : (bag : List Entry) (e : Entry) → bound_of (bag ++ e ∷ []) ≡ max (bound_of bag) (version_of e + 1)
@@ -191,16 +192,10 @@ bound_least [] n all = omega arith
 bound_least (e ∷ es) n all = let here = all e (inl refl) in let rest = bound_least es n (λ f m. all f (inr m)) in omega arith
 
 module _ (recorded : ℕ) (bag other : List Entry) (st : State) (r : Represents recorded bag st) (same : (e : Entry) → among bag e ↔ among other e) where
-  top_there : (k : Key) (e : Entry) → IsTop k (among bag) e → IsTop k (among other) e
-  top_there k e top = record { held = (same e).0 top.held; of_key = top.of_key; highest = λ f m at. top.highest f ((same f).1 m) at }
-
-  top_back : (k : Key) (e : Entry) → IsTop k (among other) e → IsTop k (among bag) e
-  top_back k e top = record { held = (same e).1 top.held; of_key = top.of_key; highest = λ f m at. top.highest f ((same f).0 m) at }
-
   pub same_members : Represents recorded other st
   same_members = record {
-    meaning = λ k x. (λ h. top_there k (object_at k x) ((r.meaning k x).0 h), λ top. (r.meaning k x).1 (top_back k (object_at k x) top));
-    clean = λ o p a b at v. r.clean o p ((same (entry.Object o)).1 a) ((same (entry.Object p)).1 b) at v;
+    meaning = meaning_carried (among bag) (among other) st.contents same r.meaning;
+    clean = clean_carried (among bag) (among other) same r.clean;
     below = λ k e none m at. r.below k e none ((same e).1 m) at;
     safe = (let s = r.safe in let le = bound_least bag (bound_of other) (λ e m. bound_above e other ((same e).0 m)) in omega arith);
   }

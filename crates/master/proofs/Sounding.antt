@@ -24,8 +24,9 @@ use Rattle.master.specs.Mirror.{Mirrors}
 use Rattle.master.specs.Represents.{Represents, joined}
 use Rattle.master.specs.Sound.{IsTextOfSegment, IsHome, IsSurvivingChoice, IsPrefix, IsSound}
 use Rattle.master.specs.Versioned.{IsSafeAfter}
-use Rattle.master.proofs.Ends.{records_before, records_before-le, records_before-rise, number_at}
-use Rattle.master.proofs.Fronts.{length-units, units_front, joined_key, all_front, front, front_opening, front_bears, front_data, front_is}
+use Rattle.master.proofs.Durables.{units_of_history, durable_records}
+use Rattle.master.proofs.Ends.{records_before, records_before-le, records_before-rise}
+use Rattle.master.proofs.Fronts.{units_front, joined_key, all_front, front, front_opening, front_bears, front_data, front_is}
 use Rattle.master.proofs.Mirrored.{IsFront, held_is_front}
 use Rattle.master.proofs.Represented.{nothing_yet, units_added}
 use Rattle.master.proofs.Versions.{safe_after}
@@ -59,16 +60,6 @@ module _ (d : MasterData) (f : FleetState) (units : List (List Entry)) (log : Is
   whole : IsSegment (first_opening d.config.master 1 ++ joined units)
   whole = subst IsSegment log.image segment
 
-  size : length d.history ≡ length units
-  size = sym (length-map d.history (λ (r : Record). r.command)) ∙ sym (length-units (opening_state d) commands units log.appended)
-
-  -- the durable records are those before the first unit that some replica lacks
-  durable_is : durable_of d ≡ records_before units (everywhere d.head)
-  durable_is =
-      let number : durable_of d ≡ 0 + records_before units (everywhere d.head) =
-      ap (λ (us : List UnitEnd). option_map_or (λ (u : UnitEnd). u.number) (slice_get us (everywhere d.head)) (length d.history)) log.ends
-      ∙ number_at 0 d.head.opening units (everywhere d.head) (length d.history) (let same = size in omega arith) in omega arith
-
   -- ---- a replica
 
   module _ (s : ℕ) (r : Replica) (at : IsFront d units s r) where
@@ -92,10 +83,10 @@ module _ (d : MasterData) (f : FleetState) (units : List (List Entry)) (log : Is
         subst (λ (t : ℕ). IsTextOfSegment r.bytes d.config.master t) (sym at.segment) one
 
     durable_within : durable_of d ≤ count
-    durable_within = let same = durable_is in let rise = records_before-rise units (everywhere d.head) at.places at.reached in omega arith
+    durable_within = let same = durable_records d units log in let rise = records_before-rise units (everywhere d.head) at.places at.reached in omega arith
 
     count_within : count ≤ length d.history
-    count_within = let same = size in let le = records_before-le units at.places in omega arith
+    count_within = let same = units_of_history d units log in let le = records_before-le units at.places in omega arith
 
     represented : Represents 1 (data_in r.bytes) (state_after d count)
     represented = subst (λ (bag : List Entry). Represents 1 bag (state_after d count)) (sym holds_data)
@@ -191,6 +182,6 @@ module _ (d : MasterData) (f : FleetState) (units : List (List Entry)) (log : Is
     choice = λ keep survive. (let left = head_left (IsHome d.config) f.picture d.config.master keep survive.head in left_choice keep left.0 left.1);
   }
 
-pub mirrored_is_sound : (d : MasterData) (f : FleetState) → IsMaster d → IsHead d.head → IsSegment d.head.image
-    → length (text_of d.head.image) ≤ 8388608 → IsLogged d → Mirrors d f → IsSound d f.picture
-mirrored_is_sound d f master head segment limit logged m = log_is_sound d f logged.log.0 logged.log.1 m segment limit
+pub mirrored_is_sound : (d : MasterData) (f : FleetState) → IsSegment d.head.image → length (text_of d.head.image) ≤ 8388608
+    → IsLogged d → Mirrors d f → IsSound d f.picture
+mirrored_is_sound d f segment limit logged m = log_is_sound d f logged.log.0 logged.log.1 m segment limit

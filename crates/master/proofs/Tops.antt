@@ -17,6 +17,11 @@ among_left e [] ys h = absurd h
 among_left e (z ∷ xs) ys (inl p) = inl p
 among_left e (z ∷ xs) ys (inr h) = inr (among_left e xs ys h)
 
+pub among_either : (e : Entry) (xs ys : List Entry) → IsAmong e (xs ++ ys) → IsAmong e xs ⊎ IsAmong e ys
+among_either e [] ys h = inr h
+among_either e (z ∷ xs) ys (inl p) = inl (inl p)
+among_either e (z ∷ xs) ys (inr h) = elim (among_either e xs ys h) [ inl l ↦ inl (inr l) | inr r ↦ inr r ]
+
 pub among_last : (xs : List Entry) (e : Entry) → IsAmong e (xs ++ e ∷ [])
 among_last [] e = inl refl
 among_last (z ∷ xs) e = inr (among_last xs e)

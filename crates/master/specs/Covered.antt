@@ -1,14 +1,13 @@
 -- What a master's memory and the replicas of its log hold together.
-use Rattle.std.specs.Prelude.{◌≡◌, ℕ, ◌≤◌, ◌⊎◌, length, filter, Some}
+use Rattle.std.specs.Prelude.{◌≡◌, ℕ, ◌⊎◌, filter, Some}
 use Rattle.entry.specs.declared.entry.Object.{Object}
 use Rattle.entry.specs.declared.entry.Entry.{Entry}
 use Rattle.entry.specs.declared.entry.Entry.TheVariants as entry
-use Rattle.entry.specs.Text.{text_of, is_data, data_in, IsSegment}
+use Rattle.entry.specs.Text.{is_data, data_in, IsSegment}
 use Rattle.entry.specs.Meaning.{IsMeaning, IsClean, among, versioned}
 use Rattle.replica.specs.Picture.{Replica, Picture, FleetState}
-use Rattle.master.specs.Head.{IsHead}
 use Rattle.master.specs.Log.{state_of, IsLogged}
-use Rattle.master.specs.Master.{MasterData, IsMaster}
+use Rattle.master.specs.Master.{MasterData}
 use Rattle.master.specs.Mirror.{Mirrors}
 use Rattle.master.specs.Units.{tombstone_entry}
 
@@ -48,5 +47,4 @@ pub record IsCovered (d : MasterData) (p : Picture) : Type 0 where
 
 -- So it is where the backups mirror the head of a master whose log is that of its history.
 abbrev pub LogsAreCovered : Type 0
-LogsAreCovered = (d : MasterData) (f : FleetState) → IsMaster d → IsHead d.head → IsSegment d.head.image
-    → length (text_of d.head.image) ≤ 8388608 → IsLogged d → Mirrors d f → IsCovered d f.picture
+LogsAreCovered = (d : MasterData) (f : FleetState) → IsSegment d.head.image → IsLogged d → Mirrors d f → IsCovered d f.picture

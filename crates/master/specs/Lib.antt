@@ -17,3 +17,5 @@ pub mod Sound
 pub mod Durable
 pub mod Covered
 pub mod Invariant
+pub mod Keeps
+pub mod Names

@@ -11,9 +11,8 @@ use Rattle.replica.specs.Picture.{Replica, Picture, FleetState, survivors, IsHel
 use Rattle.replica.specs.Choice.{Choice, IsChoice, bag_of}
 use Rattle.replica.specs.Survival.{BothSurvive}
 use Rattle.master.specs.declared.config.Config.{Config}
-use Rattle.master.specs.Head.{IsHead}
 use Rattle.master.specs.Log.{commands_of, opening_state, state_after, IsLogged}
-use Rattle.master.specs.Master.{MasterData, IsMaster, durable_of}
+use Rattle.master.specs.Master.{MasterData, durable_of}
 use Rattle.master.specs.Mirror.{Mirrors}
 use Rattle.master.specs.Steps.{home}
 use Rattle.master.specs.Versioned.{IsSafeAfter}
@@ -57,5 +56,5 @@ pub record IsSound (d : MasterData) (p : Picture) : Type 0 where
 
 -- Backups that mirror a master hold a sound picture of it.
 abbrev pub MirroredIsSound : Type 0
-MirroredIsSound = (d : MasterData) (f : FleetState) → IsMaster d → IsHead d.head → IsSegment d.head.image
-    → length (text_of d.head.image) ≤ 8388608 → IsLogged d → Mirrors d f → IsSound d f.picture
+MirroredIsSound = (d : MasterData) (f : FleetState) → IsSegment d.head.image → length (text_of d.head.image) ≤ 8388608
+    → IsLogged d → Mirrors d f → IsSound d f.picture

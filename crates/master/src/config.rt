@@ -1,11 +1,13 @@
 //! What a master is made with.
 
-ghost use Rattle.std.specs.Prelude.{◌≡◌};
+ghost use Rattle.std.specs.Prelude.{◌≡◌, Some};
 ghost use Rattle.std.specs.Result.{result_err};
 ghost use Rattle.master.specs.Config.{config_fault};
+ghost use Rattle.master.specs.Names.{config_fault_name};
 
 use entry::Tablets;
-use thiserror::Error;
+use std::error::Error;
+use std::fmt;
 
 /// What a master is made with. `check` says whether the numbers are within their limits.
 #[derive(Clone, Debug, Drop)]
@@ -31,22 +33,33 @@ pub struct Config {
 }
 
 /// What is wrong with a configuration.
-#[derive(Clone, Copy, Debug, PartialEq, Eq, Error)]
+#[derive(Clone, Copy, Debug, PartialEq, Eq)]
 pub enum ConfigFault {
-    #[error("BadBackups")]
     BadBackups,
-    #[error("BadStep")]
     BadStep,
-    #[error("BadSegment")]
     BadSegment,
-    #[error("BadSeglet")]
     BadSeglet,
-    #[error("BadBudget")]
     BadBudget,
-    #[error("BadTablets")]
     BadTablets,
-    #[error("BadHistory")]
     BadHistory,
+}
+
+impl Error for ConfigFault {}
+
+impl fmt::Display for ConfigFault {
+    ghost output = { λ fault. Some (config_fault_name fault) };
+
+    fn fmt<W: fmt::Write>(&self, f: &mut fmt::Formatter<W>) -> fmt::Result {
+        f.write_str(match self {
+            ConfigFault::BadBackups => "BadBackups",
+            ConfigFault::BadStep => "BadStep",
+            ConfigFault::BadSegment => "BadSegment",
+            ConfigFault::BadSeglet => "BadSeglet",
+            ConfigFault::BadBudget => "BadBudget",
+            ConfigFault::BadTablets => "BadTablets",
+            ConfigFault::BadHistory => "BadHistory",
+        })
+    }
 }
 
 impl Config {

@@ -4,6 +4,8 @@ ghost use Rattle.std.specs.Prelude.{List, ◌≡◌, ◌≤◌, ◌<◌, ◌^◌
 ghost use Rattle.master.specs.Config.{config_fault};
 ghost use Rattle.master.specs.Covered.{IsCovered};
 ghost use Rattle.master.specs.Durable.{IsDurable};
+ghost use Rattle.master.specs.Invariant.{IsKept};
+ghost use Rattle.master.specs.Keeps.{Keeps};
 ghost use Rattle.master.specs.Log.{IsLegal};
 ghost use Rattle.master.specs.Master.{fresh_data, durable_of};
 ghost use Rattle.master.specs.Sound.{IsSound};
@@ -307,16 +309,25 @@ impl<F: Fleet> Master<F> {
     /// One step. It makes at most one take. After it, as before, what any backups hold stands for a prefix of the commands.
     pub fn step(&mut self, step: Step) -> Result<StepAnswer, Refusal>
         ensures gives { Steps (world F.state self.old) step result (world F.state self.new) }
+        ensures keeps { Keeps 1 (world F.state self.old) (world F.state self.new) }
         ensures sound { IsSound self.new.knows (F.state self.new.fleet).picture }
         ensures covered { IsCovered self.new.knows (F.state self.new.fleet).picture }
         ensures legal { IsLegal self.new.knows }
     {
+        self.show_kept();
         let result = match step {
             Step::Apply(seat, command) => self.apply(seat, command),
             Step::Push => self.push(),
         };
         self.show_sound();
         result
+    }
+
+    /// What each method of a master finds and leaves.
+    fn show_kept(&self)
+        ensures { IsKept self.now.knows (F.state self.now.fleet) }
+    {
+        let _is_halted = self.is_halted;
     }
 
     /// What holds of every master. Whichever backups are left, what they hold of it stands for the first commands of its
@@ -333,6 +344,7 @@ impl<F: Fleet> Master<F> {
     /// Steps in order, with their answers. Memory for the steps and the answers is taken before the first step.
     pub fn run(&mut self, steps: &[Step]) -> Result<Vec<Result<StepAnswer, Refusal>>, NoMemory>
         ensures ran { IfOk result (λ answers. IsRun (world F.state self.old) steps.now answers.items (world F.state self.new)) }
+        ensures keeps { Keeps (length steps.now) (world F.state self.old) (world F.state self.new) }
         ensures sound { IsSound self.new.knows (F.state self.new.fleet).picture }
         ensures covered { IsCovered self.new.knows (F.state self.new.fleet).picture }
         ensures refused { OnErr result (world F.state self.new ≡ world F.state self.old) }

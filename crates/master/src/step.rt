@@ -1,13 +1,15 @@
 //! What a master is asked to do, and what it answers.
 
-ghost use Rattle.std.specs.Prelude.{◌≡◌, IfOk};
+ghost use Rattle.std.specs.Prelude.{◌≡◌, IfOk, Some};
 ghost use Rattle.master.specs.declared.step.Refusal.TheVariants as refusal;
+ghost use Rattle.master.specs.Names.{refusal_name};
 
 use crate::command::{Command, Reply};
 use entry::NoMemory;
 use replica::Bytes;
 use std::alloc::{AllocError, AllocFailed};
-use thiserror::Error;
+use std::error::Error;
+use std::fmt;
 
 /// A step of a master.
 #[derive(Clone, Debug, Drop)]
@@ -39,38 +41,49 @@ pub enum StepAnswer {
 }
 
 /// Why a step was refused. The numbers are fixed; those that are missing belong to steps that don't exist yet.
-#[derive(Clone, Copy, Debug, PartialEq, Eq, Error)]
+#[derive(Clone, Copy, Debug, PartialEq, Eq)]
 pub enum Refusal {
     /// 1: the key and the value of a put are too big for a quarter of a segment.
-    #[error("TooBig")]
     TooBig,
     /// 2: the unit doesn't fit the head, and no other head may begin.
-    #[error("Full")]
     Full,
     /// 3: no version is left for the put.
-    #[error("VersionsSpent")]
     VersionsSpent,
     /// 4: the history has as many records as it takes.
-    #[error("HistoryFull")]
     HistoryFull,
     /// 5: memory ran out, and nothing changed.
-    #[error("NoMemory")]
     NoMemory,
     /// 6: a backup failed, in this step or an earlier one.
-    #[error("Halted")]
     Halted,
     /// 7: the head is not open yet.
-    #[error("Rolling")]
     Rolling,
     /// 8: nothing waits.
-    #[error("Nothing")]
     Nothing,
     /// 10: the fleet takes no more ops.
-    #[error("Spent")]
     Spent,
     /// 12: no tablet of the master has the key's place.
-    #[error("NoTablet")]
     NoTablet,
+}
+
+impl Error for Refusal {}
+
+impl fmt::Display for Refusal {
+    ghost output = { λ refusal. Some (refusal_name refusal) };
+
+    fn fmt<W: fmt::Write>(&self, f: &mut fmt::Formatter<W>) -> fmt::Result {
+        f.write_str(match self {
+            Refusal::TooBig => "TooBig",
+            Refusal::Full => "Full",
+            Refusal::VersionsSpent => "VersionsSpent",
+            Refusal::HistoryFull => "HistoryFull",
+            Refusal::NoMemory => "NoMemory",
+            Refusal::Halted => "Halted",
+            Refusal::Rolling => "Rolling",
+            Refusal::Nothing => "Nothing",
+            Refusal::Spent => "Spent",
+            Refusal::NoTablet => "NoTablet",
+        })
+    }
 }
 
 impl From<AllocError> for Refusal {

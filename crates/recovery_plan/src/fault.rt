@@ -1,27 +1,40 @@
 //! Why there is no plan.
 
-ghost use Rattle.std.specs.Prelude.{◌≡◌};
+ghost use Rattle.std.specs.Prelude.{◌≡◌, Some};
 ghost use Rattle.recovery_plan.specs.declared.fault.PlanFault.TheVariants as plan_fault;
+ghost use Rattle.recovery_plan.specs.Texts.{plan_fault_text};
 
 use std::alloc::{AllocError, AllocFailed};
-use thiserror::Error;
+use std::error::Error;
+use std::fmt;
 
 /// Why there is no plan.
-#[derive(Clone, Copy, Debug, PartialEq, Eq, Error)]
+#[derive(Clone, Copy, Debug, PartialEq, Eq)]
 pub enum PlanFault {
-    #[error("NoHead")]
     NoHead,
     /// The newest head.
-    #[error("HeadClosed {0}")]
     HeadClosed(u64),
     /// The lowest segment of the digest that is lost.
-    #[error("Missing {0}")]
     Missing(u64),
     /// The backup and the segment of the first bad replica.
-    #[error("BadReplica {0} {1}")]
     BadReplica(u64, u64),
-    #[error("NoMemory")]
     NoMemory,
+}
+
+impl Error for PlanFault {}
+
+impl fmt::Display for PlanFault {
+    ghost output = { λ fault. Some (plan_fault_text fault) };
+
+    fn fmt<W: fmt::Write>(&self, f: &mut fmt::Formatter<W>) -> fmt::Result {
+        match self {
+            PlanFault::NoHead => write!(f, "NoHead"),
+            PlanFault::HeadClosed(segment) => write!(f, "HeadClosed {segment}"),
+            PlanFault::Missing(segment) => write!(f, "Missing {segment}"),
+            PlanFault::BadReplica(backup, segment) => write!(f, "BadReplica {backup} {segment}"),
+            PlanFault::NoMemory => write!(f, "NoMemory"),
+        }
+    }
 }
 
 impl From<AllocError> for PlanFault {

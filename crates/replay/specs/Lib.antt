@@ -1,3 +1,4 @@
 pub mod Claims
 pub mod Bags
 pub mod Rebuilt
+pub mod Texts

@@ -1,32 +1,45 @@
 //! Why a log is not replayed.
 
-ghost use Rattle.std.specs.Prelude.{◌≡◌};
+ghost use Rattle.std.specs.Prelude.{◌≡◌, Some};
 ghost use Rattle.replay.specs.declared.fault.ReplayFault.TheVariants as replay_fault;
+ghost use Rattle.replay.specs.Texts.{replay_fault_text};
 
 use entry::Key;
 use std::alloc::{AllocError, AllocFailed};
-use thiserror::Error;
+use std::error::Error;
+use std::fmt;
 
 /// Why a replay is refused. A number is that of a segment.
-#[derive(Debug, Drop, Error)]
+#[derive(Debug, Drop)]
 pub enum ReplayFault {
     /// The group of this segment was taken before.
-    #[error("Double {0}")]
     Double(u64),
     /// The group is none of the partition's.
-    #[error("Stranger")]
     Stranger,
     /// The group of this segment never came.
-    #[error("MissingGroup {0}")]
     MissingGroup(u64),
-    #[error("NoMemory")]
     NoMemory,
     /// Two objects of one key and version have different values.
-    #[error("Clash")]
     Clash,
     /// This key lies outside the partition.
-    #[error("Stray")]
     Stray(Key),
+}
+
+impl Error for ReplayFault {}
+
+impl fmt::Display for ReplayFault {
+    ghost output = { λ fault. Some (replay_fault_text fault) };
+
+    fn fmt<W: fmt::Write>(&self, f: &mut fmt::Formatter<W>) -> fmt::Result {
+        match self {
+            ReplayFault::Double(segment) => write!(f, "Double {segment}"),
+            ReplayFault::Stranger => write!(f, "Stranger"),
+            ReplayFault::MissingGroup(segment) => write!(f, "MissingGroup {segment}"),
+            ReplayFault::NoMemory => write!(f, "NoMemory"),
+            ReplayFault::Clash => write!(f, "Clash"),
+            ReplayFault::Stray(_) => write!(f, "Stray"),
+        }
+    }
 }
 
 impl From<AllocError> for ReplayFault {

@@ -1,3 +1,4 @@
 pub mod Configuration
 pub mod Recovered
 pub mod Kept
+pub mod Texts

@@ -1,6 +1,11 @@
 //! What a line answers, and its text.
 
+ghost use Rattle.std.specs.Prelude.{OnOk};
+ghost use Rattle.std.specs.Io.KnownBytes.{Appends};
+ghost use Rattle.script.specs.Texts.{answer_text, hex_text, object_text, rebuilt_text, reply_text};
+
 use crate::recovery::RecoveryFault;
+use entry::Object;
 use master::{Refusal, Reply};
 use replay::Rebuilt;
 use replica::Bytes;
@@ -33,7 +38,9 @@ pub enum Answer {
 }
 
 /// Writes the lines of an answer, each with its line feed.
-pub fn write_answer<W: Write>(writer: &mut W, answer: &Answer) -> io::Result<()> {
+pub fn write_answer<W: Write>(writer: &mut W, answer: &Answer) -> io::Result<()>
+    ensures { OnOk result (Appends (W.contents writer.old) (W.contents writer.new) (answer_text answer.now)) }
+{
     match answer {
         Answer::Silent => Ok(()),
         Answer::Reply(reply) => write_reply(writer, reply),
@@ -51,7 +58,9 @@ pub fn write_answer<W: Write>(writer: &mut W, answer: &Answer) -> io::Result<()>
     }
 }
 
-fn write_reply<W: Write>(writer: &mut W, reply: &Reply) -> io::Result<()> {
+fn write_reply<W: Write>(writer: &mut W, reply: &Reply) -> io::Result<()>
+    ensures { OnOk result (Appends (W.contents writer.old) (W.contents writer.new) (reply_text reply.now)) }
+{
     match reply {
         Reply::Found(version, value) => {
             let version = version.get();
@@ -72,24 +81,35 @@ fn write_reply<W: Write>(writer: &mut W, reply: &Reply) -> io::Result<()> {
     }
 }
 
-fn write_hex<W: Write>(writer: &mut W, bytes: &[u8]) -> io::Result<()> {
+fn write_hex<W: Write>(writer: &mut W, bytes: &[u8]) -> io::Result<()>
+    ensures { OnOk result (Appends (W.contents writer.old) (W.contents writer.new) (hex_text bytes.now)) }
+{
     for byte in bytes {
         write!(writer, "{byte:02x}")?;
     }
     writer.write_all(b"\n")
 }
 
+/// The line of an object.
+fn write_object<W: Write>(writer: &mut W, object: &Object) -> io::Result<()>
+    ensures { OnOk result (Appends (W.contents writer.old) (W.contents writer.new) (object_text object.now)) }
+{
+    let table = object.key.table;
+    let version = object.version.get();
+    write!(writer, "{table} ")?;
+    writer.write_all(object.key.bytes.as_slice())?;
+    write!(writer, " {version} ")?;
+    writer.write_all(object.value.as_slice())?;
+    writer.write_all(b"\n")
+}
+
 /// A line for each object, in order, and their number.
-fn write_rebuilt<W: Write>(writer: &mut W, rebuilt: &Rebuilt) -> io::Result<()> {
+fn write_rebuilt<W: Write>(writer: &mut W, rebuilt: &Rebuilt) -> io::Result<()>
+    ensures { OnOk result (Appends (W.contents writer.old) (W.contents writer.new) (rebuilt_text rebuilt.now)) }
+{
     let objects = rebuilt.objects.as_slice();
     for object in objects {
-        let table = object.key.table;
-        let version = object.version.get();
-        write!(writer, "{table} ")?;
-        writer.write_all(object.key.bytes.as_slice())?;
-        write!(writer, " {version} ")?;
-        writer.write_all(object.value.as_slice())?;
-        writer.write_all(b"\n")?;
+        write_object(writer, object)?;
     }
     let count = objects.len();
     writeln!(writer, "recovered {count}")

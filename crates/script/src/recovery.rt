@@ -1,25 +1,38 @@
 //! Recovery from the replicas that are left, and from nothing else.
 
-ghost use Rattle.std.specs.Prelude.{◌≡◌, ℕ, Bool, IfOk, IfErr};
+ghost use Rattle.std.specs.Prelude.{◌≡◌, ℕ, Bool, IfOk, IfErr, Some};
 ghost use Rattle.replica.specs.Picture.{Picture, survivors};
 ghost use Rattle.replica.specs.Survival.{BothSurvive};
 ghost use Rattle.master.specs.Master.{MasterData};
 ghost use Rattle.master.specs.Sound.{IsHome, IsSound};
 ghost use Rattle.script.specs.Recovered.{Shows, IsRecovered, IsLossOrMemory, IsWant};
+ghost use Rattle.script.specs.Texts.{recovery_fault_text};
 
 use recovery_plan::{PlanFault, plan};
 use replay::{Rebuilt, ReplayFault, rebuild_plain};
 use replica::Inventory;
 use std::alloc::Global;
-use thiserror::Error;
+use std::error::Error;
+use std::fmt;
 
 /// Why nothing was recovered.
-#[derive(Debug, Drop, Error)]
+#[derive(Debug, Drop)]
 pub enum RecoveryFault {
-    #[error("{0}")]
     Plan(PlanFault),
-    #[error("{0}")]
     Replay(ReplayFault),
+}
+
+impl Error for RecoveryFault {}
+
+impl fmt::Display for RecoveryFault {
+    ghost output = { λ fault. Some (recovery_fault_text fault) };
+
+    fn fmt<W: fmt::Write>(&self, f: &mut fmt::Formatter<W>) -> fmt::Result {
+        match self {
+            RecoveryFault::Plan(fault) => write!(f, "{fault}"),
+            RecoveryFault::Replay(fault) => write!(f, "{fault}"),
+        }
+    }
 }
 
 /// The objects of a master, and a safe version for what follows, from what some backups hold.

@@ -23,12 +23,17 @@ fn extend(segment: u64, at: usize, bytes: &[u8]) -> Op<'_> {
 #[test]
 fn an_op_is_taken_where_it_fits(rt: HostRuntime) -> Result<(), Fail> {
     let mut fleet = MemoryFleet::new(rt.alloc(), 2)?;
-    assert_eq!(rt; fleet.take(0, &open(7, b"ab")), Ok(()));
-    assert_eq!(rt; fleet.take(0, &extend(7, 2, b"c")), Ok(()));
-    assert_eq!(rt; fleet.take(0, &open(7, b"")), Err(TakeFault::Wrong));
-    assert_eq!(rt; fleet.take(0, &extend(7, 2, b"c")), Err(TakeFault::Wrong));
-    assert_eq!(rt; fleet.take(1, &extend(7, 3, b"c")), Err(TakeFault::Wrong));
-    assert_eq!(rt; fleet.take(2, &open(7, b"ab")), Err(TakeFault::Wrong));
+    let rows: [(u64, Op<'_>, Result<(), TakeFault>); 6] = [
+        (0, open(7, b"ab"), Ok(())),
+        (0, extend(7, 2, b"c"), Ok(())),
+        (0, open(7, b""), Err(TakeFault::Wrong)),
+        (0, extend(7, 2, b"c"), Err(TakeFault::Wrong)),
+        (1, extend(7, 3, b"c"), Err(TakeFault::Wrong)),
+        (2, open(7, b"ab"), Err(TakeFault::Wrong)),
+    ];
+    for (backup, op, want) in rows.as_slice() {
+        assert!(rt; fleet.take(*backup, op) == *want, "{backup}");
+    }
     assert_eq!(rt; (fleet.takes(), fleet.faults(), fleet.backups()), (2, 0, 2));
     let holdings = fleet.holdings(rt.alloc(), 0)?;
     assert_eq!(rt; holdings.len(), 1);

@@ -6,6 +6,10 @@
 #[cfg(test)]
 mod backups;
 #[cfg(test)]
+mod comparisons;
+#[cfg(test)]
+mod drills;
+#[cfg(test)]
 mod entries;
 #[cfg(test)]
 mod lines_of_scripts;
@@ -15,6 +19,8 @@ mod options;
 mod plans;
 #[cfg(test)]
 mod rebuilds;
+#[cfg(test)]
+mod runs;
 #[cfg(test)]
 mod scripts;
 #[cfg(test)]

@@ -1,10 +1,10 @@
 //! What short logs stand for.
 
-use replay::*;
 use entry::{
     Entry, Header, Key, Object, Role, SafeVersion, Tombstone, Value, Version, write_entry,
 };
 use recovery_plan::{Plan, Segments};
+use replay::*;
 use segment::{Segment, read_segment};
 use std::alloc::Global;
 use std::fmt::Write;

@@ -1,9 +1,6 @@
 //! Whole scripts, and faults of lines, of reading and of writing.
 
 use script::*;
-use entry::{Key, Value};
-use master::{Command, If, Look, Master, Refusal, Shown, Step, StepAnswer};
-use replica::Fleet;
 use std::io::{self, ErrorKind, Read, Write};
 use std::test::Fail;
 
@@ -220,48 +217,5 @@ fn a_fault_in_mid_stream_ends_the_run(rt: HostRuntime) -> Result<(), Fail> {
     let mut writer = Full { room: 5 };
     let ran = run(&rt, "ramlog", &mut script.as_bytes(), &mut writer)?;
     assert!(rt; ran == Err(ScriptFault::WriteFailed));
-    Ok(())
-}
-
-#[test]
-fn a_run_answers_step_by_step(rt: HostRuntime) -> Result<(), Fail> {
-    let config = configuration(rt.alloc(), &options_of(&rt, "ramlog")?, 1)?;
-    config.check()?;
-    let fleet = MemoryFleet::new(rt.alloc(), config.backups)?;
-    let Ok(mut master) = Master::new(rt.alloc(), config, fleet) else {
-        panic!(rt; "no memory");
-    };
-    let value = Value::new(Vec::from_slice(rt.alloc(), b"x")?);
-    let put = Command::Put(Key::new(rt.alloc(), 1, b"a")?, value, If::Any);
-    let get = Command::Get(Key::new(rt.alloc(), 1, b"a")?);
-    let mut steps = vec![in rt.alloc(); Step::Push, Step::Push]?;
-    steps.push(Step::Apply(0, put))?;
-    steps.push(Step::Apply(0, get))?;
-    for _ in 0..3 {
-        steps.push(Step::Push)?;
-    }
-    let answers = master.run(steps.as_slice())?;
-    match answers.as_slice() {
-        [first, second, third, fourth, fifth, sixth, last] => {
-            assert!(rt; matches!(first, Ok(StepAnswer::Opened(1, 1))));
-            assert!(rt; matches!(second, Ok(StepAnswer::Opened(2, 1))));
-            assert!(rt; matches!(third, Ok(StepAnswer::Applied(0, _))));
-            assert!(rt; matches!(fourth, Ok(StepAnswer::Applied(1, _))));
-            assert!(rt; matches!(fifth, Ok(StepAnswer::Extended(1, 1))));
-            assert!(rt; matches!(sixth, Ok(StepAnswer::Extended(2, 1))));
-            assert!(rt; matches!(last, Err(Refusal::Nothing)));
-        }
-        _ => panic!(rt; "an answer for each step"),
-    }
-    assert_eq!(rt; master.durable(), 2);
-    assert_eq!(rt; master.history().len(), 2);
-    assert!(rt; matches!(master.look(Look::Image(2))?, Shown::Image(None)));
-    let fleet = master.crash();
-    assert_eq!(rt; fleet.takes(), 4);
-    assert_eq!(rt; fleet.faults(), 0);
-    let inventory = fleet.inventory(rt.alloc())?;
-    let rebuilt = recover(rt.alloc(), &inventory, 1)?;
-    assert_eq!(rt; rebuilt.objects.as_slice().len(), 1);
-    assert_eq!(rt; rebuilt.safe.get(), 2);
     Ok(())
 }

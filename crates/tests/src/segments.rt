@@ -1,7 +1,8 @@
 //! The vectors of the format, and a head that is made and grows.
 
-use segment::*;
 use entry::{EntryRef, Ids, SafeVersion};
+use segment::*;
+use std::alloc::Global;
 use std::test::Fail;
 
 const HEAD: &str =
@@ -54,26 +55,34 @@ fn segments_are_read(rt: HostRuntime) -> Result<(), Fail> {
     Ok(())
 }
 
-#[test]
-fn a_head_begins_and_grows(rt: HostRuntime) -> Result<(), Fail> {
-    let ids = Ids::new(Vec::from_slice(rt.alloc(), &[1])?);
-    let Some(safe) = SafeVersion::new(1) else {
-        panic!(rt; "1 is a safe version");
-    };
-    let mut segment = Segment::begin_head(rt.alloc(), 1, 1, &ids, safe)?;
-    let head = hex::decode(rt.alloc(), HEAD)?;
-    assert_eq!(rt; segment.bytes(), head.as_slice());
+/// The head of master 1 whose id is 1.
+fn new_head(alloc: Global) -> Result<Segment, Fail> {
+    let ids = Ids::new(Vec::from_slice(alloc, &[1])?);
+    let safe = SafeVersion::new(1).ok_or("1 is a safe version")?;
+    Ok(Segment::begin_head(alloc, 1, 1, &ids, safe)?)
+}
 
-    let bytes = hex::decode(rt.alloc(), OBJECT)?;
-    if let Ok((EntryRef::Object(object), _)) = EntryRef::read(&bytes) {
-        let unit = [EntryRef::Object(object)];
-        assert_eq!(rt; segment.append_unit(&unit, 64), Err(AppendFault::Full));
-        assert_eq!(rt; segment.bytes(), head.as_slice());
-        assert_eq!(rt; segment.append_unit(&unit, 65), Ok(40));
-    } else {
-        panic!(rt; "no object");
-    }
+#[test]
+fn a_head_begins(rt: HostRuntime) -> Result<(), Fail> {
+    let segment = new_head(rt.alloc())?;
+    let head = hex::decode(rt.alloc(), HEAD)?;
+    assert!(rt; segment.bytes() == head.as_slice());
+    Ok(())
+}
+
+#[test]
+fn a_head_grows(rt: HostRuntime) -> Result<(), Fail> {
+    let mut segment = new_head(rt.alloc())?;
+    let head = hex::decode(rt.alloc(), HEAD)?;
     let grown = hex::decode(rt.alloc(), HEAD_WITH_OBJECT)?;
-    assert_eq!(rt; segment.bytes(), grown.as_slice());
+    let bytes = hex::decode(rt.alloc(), OBJECT)?;
+    let Ok((EntryRef::Object(object), _)) = EntryRef::read(&bytes) else {
+        panic!(rt; "no object");
+    };
+    let unit = [EntryRef::Object(object)];
+    assert!(rt; segment.append_unit(&unit, 64) == Err(AppendFault::Full));
+    assert!(rt; segment.bytes() == head.as_slice());
+    assert!(rt; segment.append_unit(&unit, 65) == Ok(40));
+    assert!(rt; segment.bytes() == grown.as_slice());
     Ok(())
 }

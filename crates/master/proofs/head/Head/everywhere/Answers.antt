@@ -1,16 +1,14 @@
 use Rattle.std.proofs.Common.{◌≡◌, ℕ, true, false, Some, length, sym, ◌∙◌, ap, refl, arith}
 use Rattle.std.specs.Prelude.{nat_lt, ◌==◌}
 use Rattle.std.proofs.lemmas.Bool.{le-ltb, eqb-true}
+use Rattle.std.proofs.lemmas.Option.{same_Some}
 use Rattle.master.specs.Head.{HeadValue, everywhere, fewest}
-use Rattle.master.proofs.Heads.{fewest_all, fewest_at}
+use Rattle.master.proofs.Heads.{everywhere_open, fewest_all, fewest_at}
 use Rattle.master.proofs.head.Head.everywhere.Goals as goal
 
 -- where all replicas were opened, the fewest units that one has
 opened : (h : HeadValue) → (length h.taken == h.replicas) ≡ true → everywhere h ≡ fewest (length h.units) h.taken
-opened h is_open =
-    let same = eqb-true (length h.taken) h.replicas is_open in
-    let test : nat_lt (length h.taken) h.replicas ≡ false = le-ltb (length h.taken) h.replicas (omega arith) in
-    rw test refl
+opened h is_open = let same = eqb-true (length h.taken) h.replicas is_open in everywhere_open h (omega arith)
 
 pub returns-in-None : goal.returns-in-None
 returns-in-None c =
@@ -23,8 +21,5 @@ pub returns-in-Some : goal.returns-in-Some
 returns-in-Some c =
     let is_open = sym c.is_open.ensures.open ∙ c.if-not-is_open.false in
     let least = c.in-Some.ensures in
-    let same : c.units_of.result ≡ least.0 = some-same c.units_of.result least.0 (sym c.units_of.ensures.units ∙ least.1) in
+    let same : c.units_of.result ≡ least.0 = same_Some c.units_of.result least.0 (sym c.units_of.ensures.units ∙ least.1) in
     same ∙ sym (opened c.args.self.now is_open ∙ fewest_at (length c.args.self.now.units) least.0 c.in-Some.replica c.args.self.now.taken least.1 least.2 least.3)
-  where
-    some-same : (m n : ℕ) → Some m ≡ Some n → m ≡ n
-    some-same m n e = cc

@@ -2,6 +2,7 @@ use Rattle.std.proofs.Common.{◌≡◌, ℕ, ◌+◌, ◌++◌, ◌∷◌, [], 
 use Rattle.std.specs.Prelude.{Err}
 use Rattle.entry.specs.Text.{text_of}
 use Rattle.replica.specs.Picture.{FleetState}
+use Rattle.master.specs.declared.command.Record.{Record}
 use Rattle.master.specs.Causes.{command_refusal}
 use Rattle.master.specs.Change.{unit_of_change, appended}
 use Rattle.master.specs.Index.{placed}
@@ -35,7 +36,8 @@ invariant_of-self-2 g c =
     let number : c.len-number.result ≡ length d.history = search rules in
     let head : c.append_change.new.head ≡ appended d.head (length d.history) (unit_of_change d.head.id c.args.command change) = rw (c.in-Ok.ensures.ok, number) refl in
     let places : c.place_change.new.places.items ≡ placed d.places change slot at = rw (c.place_change.ensures, c.reserve-2.ensures.items) refl in
-    let items : c.push.new.self.items ≡ d.history ++ record { seat = c.args.seat; command = c.args.command; reply = reply_to (state_of d) c.args.command } ∷ [] =
+    let record_of : Record = record { seat = c.args.seat; command = c.args.command; reply = reply_to (state_of d) c.args.command } in
+    let items : c.push.new.self.items ≡ d.history ++ record_of ∷ [] =
     rw (c.push.ensures.items, c.unwrap.ensures, c.reserve.ensures.items, reply) refl in
     rw (head, places, items, c.safe_after-self-inside.ensures)
     (command_kept d f c.args.seat c.args.command change slot at c.self.invariant c.image.ensures.valid passed judged is_placed)
@@ -64,7 +66,8 @@ returns-clause-accepted g c =
     let number : c.len-number.result ≡ length d.history = search rules in
     let head : c.append_change.new.head ≡ appended d.head (length d.history) (unit_of_change d.head.id c.args.command change) = rw (c.in-Ok.ensures.ok, number) refl in
     let places : c.place_change.new.places.items ≡ placed d.places change slot at = rw (c.place_change.ensures, c.reserve-2.ensures.items) refl in
-    let items : c.push.new.self.items ≡ d.history ++ record { seat = c.args.seat; command = c.args.command; reply = reply_to (state_of d) c.args.command } ∷ [] =
+    let record_of : Record = record { seat = c.args.seat; command = c.args.command; reply = reply_to (state_of d) c.args.command } in
+    let items : c.push.new.self.items ≡ d.history ++ record_of ∷ [] =
     rw (c.push.ensures.items, c.unwrap.ensures, c.reserve.ensures.items, reply) refl in
     rw (← c.self.view_is, head, places, items, c.safe_after-self-inside.ensures, number, c.in_ok-answer.ensures, reply)
     (command_applies d f c.args.seat c.args.command change slot at c.self.invariant c.image.ensures.valid passed judged is_placed _ refl)

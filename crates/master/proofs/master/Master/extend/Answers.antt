@@ -1,17 +1,17 @@
 use Rattle.std.proofs.Common.{◌≡◌, length, false, refl, sym, ◌∙◌}
 use Rattle.std.specs.Prelude.{Some}
+use Rattle.std.proofs.lemmas.Option.{slice_get_within}
 use Rattle.replica.specs.Op.{Extend}
 use Rattle.replica.specs.Picture.{FleetState}
 use Rattle.replica.specs.Take.{Refuses, taken}
 use Rattle.master.specs.Head.{IsLagging}
 use Rattle.master.specs.Master.{MasterData}
 use Rattle.master.specs.Steps.{home, extend_op}
-use Rattle.master.proofs.Heads.{within_get}
 use Rattle.master.proofs.Pushes.{extend_kept, extend_right, extend_failed_kept, extend_declines}
 use Rattle.master.proofs.master.Master.extend.Goals as goal
 
 pub extend-requires-clause-opened : goal.extend-requires-clause-opened
-extend-requires-clause-opened g c = within_get c.self.inside.head.taken c.args.replica c.units_of-units.result c.units_of-units.ensures.units
+extend-requires-clause-opened g c = slice_get_within c.self.inside.head.taken c.args.replica c.units_of-units.result c.units_of-units.ensures.units
 
 pub invariant_of-self : goal.invariant_of-self
 invariant_of-self g c =

@@ -1,6 +1,7 @@
 use Rattle.std.proofs.Common.{◌≡◌, ◌+◌, ◌++◌, ◌∷◌, [], vec_len, refl, ◌∙◌, arith}
 use Rattle.std.proofs.lemmas.List.{length-append}
 use Rattle.master.specs.Steps.{world}
+use Rattle.master.proofs.Keeping.{keeps_same, keeps_pushed}
 use Rattle.master.proofs.Runs.{run_pushed}
 use Rattle.master.proofs.master.Master.run.Goals as goal
 
@@ -14,6 +15,8 @@ loop-step-preserved g c =
     record {
       ran = run_pushed (world g.F.Fleet.state c.args.self.now) (world g.F.Fleet.state c.loop-step.self) (world g.F.Fleet.state c.step-answer.new.self)
           c.loop-step.yielded c.loop-step.answers.items c.push.new.self.items c.in-Some.step c.step-answer.result items before.ran c.step-answer.ensures.gives;
+      keeps = keeps_pushed (world g.F.Fleet.state c.args.self.now) (world g.F.Fleet.state c.loop-step.self)
+          (world g.F.Fleet.state c.step-answer.new.self) c.loop-step.yielded c.in-Some.step before.keeps c.step-answer.ensures.keeps;
       count = omega (arith, length-append c.loop-step.yielded (c.in-Some.step ∷ []));
       room = omega (arith, c.push.ensures.lower_bound);
     }

@@ -20,7 +20,7 @@ returns-clause-sound g c =
     let segment : IsSegment d.head.image = rw (c.image.ensures.image) at c.bytes-bytes.ensures.valid in
     let limit : length (text_of d.head.image) ≤ 8388608 = rw (c.bytes-bytes.ensures.text, c.image.ensures.image) at c.bytes-bytes.ensures.limit in
     rw (← c.self.view_is)
-    (mirrored_is_sound d f c.self.invariant.valid c.image.ensures.valid segment limit c.self.invariant.logged c.self.invariant.mirrors)
+    (mirrored_is_sound d f segment limit c.self.invariant.logged c.self.invariant.mirrors)
 
 pub returns-clause-covered : goal.returns-clause-covered
 returns-clause-covered g c =
@@ -34,6 +34,5 @@ returns-clause-covered g c =
     } in
     let f : FleetState = g.F.Fleet.state c.self.inside.fleet in
     let segment : IsSegment d.head.image = rw (c.image.ensures.image) at c.bytes-bytes.ensures.valid in
-    let limit : length (text_of d.head.image) ≤ 8388608 = rw (c.bytes-bytes.ensures.text, c.image.ensures.image) at c.bytes-bytes.ensures.limit in
     rw (← c.self.view_is)
-    (is_covered d f c.self.invariant.valid c.image.ensures.valid segment limit c.self.invariant.logged c.self.invariant.mirrors)
+    (is_covered d f segment c.self.invariant.logged c.self.invariant.mirrors)

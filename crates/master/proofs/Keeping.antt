@@ -1,0 +1,186 @@
+-- What every step keeps.
+use Rattle.std.proofs.Common.{◌≡◌, ℕ, ◌+◌, ◌≤◌, inl, inr, Bool, true, false, List, [], ◌∷◌, ◌++◌, length, refl, sym, ap, subst, ◌∙◌}
+use Rattle.std.proofs.Common.{append_assoc, arith}
+use Rattle.std.specs.Prelude.{Option, Some, None, Result, Ok, Err, nat_lt}
+use Rattle.std.proofs.lemmas.List.{append-nil, length-append}
+use Rattle.std.proofs.lemmas.Option.{same_Some}
+use Rattle.replica.specs.Op.{OpValue}
+use Rattle.replica.specs.Picture.{Replica, FleetState, is_same_place}
+use Rattle.replica.specs.Take.{Refuses, taken, with_effect, effect, faulted}
+use Rattle.replica.specs.declared.op.TakeFault.TheVariants as take_fault
+use Rattle.master.specs.declared.command.Command.{Command}
+use Rattle.master.specs.declared.step.Refusal.{Refusal}
+use Rattle.master.specs.declared.step.Refusal.TheVariants as refusal
+use Rattle.master.specs.declared.step.Step.{Step}
+use Rattle.master.specs.declared.step.Step.TheVariants.{Apply, Push}
+use Rattle.master.specs.declared.step.StepAnswer.{StepAnswer}
+use Rattle.master.specs.declared.step.StepAnswer.TheVariants.{Applied, Opened, Extended}
+use Rattle.master.specs.Head.{HeadValue}
+use Rattle.master.specs.Keeps.{Keeps}
+use Rattle.master.specs.Log.{state_of, IsLog, IsLogged}
+use Rattle.master.specs.Master.{MasterData, durable_of}
+use Rattle.master.specs.Represents.{unit_of}
+use Rattle.master.specs.Steps.{World, open_op, extend_op, AppliesTo, IsNextOp, FailsTake, Declines, Accepts, Steps}
+use Rattle.master.proofs.Appended.{same-appended, log_applied}
+use Rattle.master.proofs.Durables.{durable-units, durable-replica, durable-taken}
+use Rattle.master.proofs.Mirroring.{same_place-tells}
+use Rattle.master.proofs.Refusals.{is_admitted, passed_early}
+
+-- ---- many steps
+
+pub keeps_same : (most : ℕ) (w : World) → Keeps most w w
+keeps_same most w = record {
+  config = refl;
+  takes = (omega arith, omega arith);
+  others = λ b m s other. refl;
+  durable = omega arith;
+  history = ([], sym (append-nil w.knows.history));
+}
+
+pub keeps_on : (m n : ℕ) (a b c : World) → Keeps m a b → Keeps n b c → Keeps (m + n) a c
+keeps_on m n a b c first later =
+    let low = first.takes.0 in let high = first.takes.1 in
+    let low' = later.takes.0 in let high' = later.takes.1 in
+    let rise = first.durable in let rise' = later.durable in
+    record {
+      config = later.config ∙ first.config;
+      takes = (omega arith, omega arith);
+      others = λ k o s other. later.others k o s (λ is. other (is ∙ ap (λ c. c.master) first.config)) ∙ first.others k o s other;
+      durable = omega arith;
+      history = (
+        first.history.0 ++ later.history.0,
+        later.history.1 ∙ ap (λ rs. rs ++ later.history.0) first.history.1 ∙ append_assoc a.knows.history first.history.0 later.history.0,
+      );
+    }
+
+-- one more step
+pub keeps_pushed : (a b c : World) (steps : List Step) (s : Step) → Keeps (length steps) a b → Keeps 1 b c → Keeps (length (steps ++ s ∷ [])) a c
+keeps_pushed a b c steps s first last =
+    subst (λ (n : ℕ). Keeps n a c) (sym (length-append steps (s ∷ []))) (keeps_on (length steps) 1 a b c first last)
+
+-- ---- an op
+
+-- The other fleet has at most one more op taken, and of other masters the same replicas.
+record IsBeside (master : ℕ) (f g : FleetState) : Type 0 where
+  takes : (f.takes ≤ g.takes) × (g.takes ≤ f.takes + 1)
+  others : (b m s : ℕ) → (m ≡ master → ⊥) → g.picture b m s ≡ f.picture b m s
+
+beside_same : (master : ℕ) (f : FleetState) → IsBeside master f f
+beside_same master f = record { takes = (omega arith, omega arith); others = λ b m s other. refl }
+
+elsewhere : (b m s c n t : ℕ) → (n ≡ m → ⊥) → is_same_place b m s c n t ≡ false
+elsewhere b m s c n t other = elim (same_place-tells b m s c n t) as (λ _. is_same_place b m s c n t ≡ false) [
+  | inl same ↦ absurd (other (sym same.2))
+  | inr apart ↦ apart.0
+]
+
+module _ (f : FleetState) (b : ℕ) (op : OpValue) where
+  effect_beside : (g : FleetState) (r : Option (Option Replica)) → with_effect f b op r ≡ Some g → IsBeside op.master f g
+  effect_beside g None is = absurd (cc)
+  effect_beside g (Some r) is = subst (IsBeside op.master f) (same_Some _ g is) (record {
+    takes = (omega arith, omega arith);
+    others = λ c n t other. (let away = elsewhere b op.master op.segment c n t other in rw away refl);
+  })
+
+  taken_beside : (g : FleetState) → taken f b op ≡ Some g → IsBeside op.master f g
+  taken_beside g is = told (nat_lt b f.backups) refl
+    where
+      told : (test : Bool) → nat_lt b f.backups ≡ test → IsBeside op.master f g
+      told true within = effect_beside g (effect op.act (f.picture b op.master op.segment)) (rw within at is)
+      told false past = (let never : None ≡ Some g = rw past at is in absurd (cc))
+
+  fault_beside : (g : FleetState) → Refuses f b op take_fault.Fault g → IsBeside op.master f g
+  fault_beside g (inl same) = subst (IsBeside op.master f) (sym same) (record { takes = (omega arith, omega arith); others = λ c m s other. refl })
+  fault_beside g (inr took) =
+      let taken = taken_beside took.0 took.1 in
+      subst (IsBeside op.master f) (sym took.2) (record { takes = taken.takes; others = taken.others })
+
+-- ---- a step
+
+module _ (old new : World) (logged : IsLogged old.knows) where
+  -- a step that adds no record
+  silent : new.knows.config ≡ old.knows.config → new.knows.history ≡ old.knows.history → IsBeside old.knows.config.master old.fleet new.fleet
+      → durable_of old.knows ≤ durable_of new.knows → Keeps 1 old new
+  silent config history beside durable = record {
+    config = config;
+    takes = beside.takes;
+    others = beside.others;
+    durable = durable;
+    history = ([], history ∙ sym (append-nil old.knows.history));
+  }
+
+  unchanged : new ≡ old → Keeps 1 old new
+  unchanged same = subst (Keeps 1 old) (sym same) (keeps_same 1 old)
+
+  applied : (seat : ℕ) (command : Command) (answer : StepAnswer) → AppliesTo old seat command answer new → Keeps 1 old new
+  applied seat command answer a =
+      let d = old.knows in
+      let unit = unit_of (state_of d) d.head.id command in
+      let same = same-appended d.head (length d.history) unit in
+      let beside = subst (IsBeside d.config.master old.fleet) (sym a.fleet) (beside_same d.config.master old.fleet) in
+      let key = (is_admitted d command (passed_early d command a.passed)).key in
+      record {
+        config = a.config;
+        takes = beside.takes;
+        others = beside.others;
+        durable = durable-units d new.knows logged.log.0 (unit ∷ []) logged.log.1
+            (log_applied d new.knows logged.log.0 _ logged.log.1 key a.config a.history a.head)
+            (ap (λ (h : HeadValue). h.taken) a.head ∙ same.2) (ap (λ (h : HeadValue). h.replicas) a.head ∙ same.3);
+        history = (_, a.history);
+      }
+
+  opened : (b s : ℕ) → Accepts old Push (Opened b s) new → Keeps 1 old new
+  opened b s t =
+      let is = t.4 in
+      silent (ap (λ (d : MasterData). d.config) is) (ap (λ (d : MasterData). d.history) is)
+      (taken_beside old.fleet b (open_op old.knows) new.fleet t.3)
+      (durable-replica old.knows new.knows logged.log.0 logged.log.1 (ap (λ (d : MasterData). d.history) is) t.1.waiting
+      (ap (λ (d : MasterData). d.head) is))
+
+  extended : (b s : ℕ) → Accepts old Push (Extended b s) new → Keeps 1 old new
+  extended b s t =
+      let j = t.1.0 in
+      let units = t.1.1 in
+      let is = t.1.5 in
+      silent (ap (λ (d : MasterData). d.config) is) (ap (λ (d : MasterData). d.history) is)
+      (taken_beside old.fleet b (extend_op old.knows units) new.fleet t.1.4)
+      (durable-taken old.knows new.knows logged.log.0 j logged.log.1 (ap (λ (d : MasterData). d.history) is)
+      (ap (λ (d : MasterData). d.head) is))
+
+  -- a push hands out ops of its own master
+  own_op : (b : ℕ) (op : OpValue) → IsNextOp old.knows b op → op.master ≡ old.knows.config.master
+  own_op b op (inl t) = ap (λ (o : OpValue). o.master) t.1
+  own_op b op (inr t) = ap (λ (o : OpValue). o.master) t.3
+
+  halts : FailsTake old refusal.Halted new → Keeps 1 old new
+  halts t =
+      let is = t.0 in
+      let b = t.1.0 in
+      let op = t.1.1 in
+      silent (ap (λ (d : MasterData). d.config) is) (ap (λ (d : MasterData). d.history) is)
+      (subst (λ (m : ℕ). IsBeside m old.fleet new.fleet) (own_op b op t.1.2) (fault_beside old.fleet b op new.fleet t.1.3))
+      (subst (λ (d : MasterData). durable_of old.knows ≤ durable_of d) (sym is) (omega arith))
+
+  failed : (r : Refusal) → FailsTake old r new → Keeps 1 old new
+  failed refusal.NoMemory t = unchanged t
+  failed refusal.Spent t = unchanged t.1
+  failed refusal.Halted t = halts t
+  failed refusal.TooBig t = absurd t
+  failed refusal.Full t = absurd t
+  failed refusal.VersionsSpent t = absurd t
+  failed refusal.HistoryFull t = absurd t
+  failed refusal.Rolling t = absurd t
+  failed refusal.Nothing t = absurd t
+  failed refusal.NoTablet t = absurd t
+
+  step_keeps : (step : Step) (result : Result StepAnswer Refusal) → Steps old step result new → Keeps 1 old new
+  step_keeps (Apply seat command) (Ok answer) t = applied seat command answer t
+  step_keeps (Apply seat command) (Err r) t = unchanged t.0
+  step_keeps Push (Ok (Opened b s)) t = opened b s t
+  step_keeps Push (Ok (Extended b s)) t = extended b s t
+  step_keeps Push (Ok (Applied place reply)) t = absurd t
+  step_keeps Push (Err r) (inl t) = unchanged t.1
+  step_keeps Push (Err r) (inr t) = failed r t.1
+
+pub steps_keep : (old new : World) (step : Step) (result : Result StepAnswer Refusal) → IsLogged old.knows → Steps old step result new → Keeps 1 old new
+steps_keep old new step result logged t = step_keeps old new logged step result t

@@ -1,0 +1,16 @@
+-- What steps keep, whatever they answer.
+use Rattle.std.specs.Prelude.{◌≡◌, ℕ, ◌+◌, ◌≤◌, List, ◌++◌}
+use Rattle.master.specs.declared.command.Record.{Record}
+use Rattle.master.specs.Master.{durable_of}
+use Rattle.master.specs.Steps.{World}
+
+pub record Keeps (most : ℕ) (old new : World) : Type 0 where
+  pub config : new.knows.config ≡ old.knows.config
+  -- at most this many ops were taken
+  pub takes : (old.fleet.takes ≤ new.fleet.takes) × (new.fleet.takes ≤ old.fleet.takes + most)
+  -- no replica of another master changed
+  pub others : (b m s : ℕ) → (m ≡ old.knows.config.master → ⊥) → new.fleet.picture b m s ≡ old.fleet.picture b m s
+  -- what was durable is durable
+  pub durable : durable_of old.knows ≤ durable_of new.knows
+  -- the history goes on from what it was
+  pub history : (more : List Record) × (new.knows.history ≡ old.knows.history ++ more)

@@ -1,0 +1,80 @@
+-- What is printed. Each line ends with a line feed, byte 10; byte 32 is a space.
+use Rattle.std.specs.Prelude.{ℕ, ◌/◌, ◌%◌, List, [], ◌∷◌, ◌++◌, length, false, codes, Some}
+use Rattle.std.specs.Prelude.{None as nothing}
+use Rattle.std.specs.List.{flat_map}
+use Rattle.std.specs.Fmt.{decimal, digit_glyph}
+use Rattle.entry.specs.declared.entry.Object.{Object}
+use Rattle.recovery_plan.specs.Texts.{plan_fault_text}
+use Rattle.replay.specs.declared.rebuilt.Rebuilt.{Rebuilt}
+use Rattle.replay.specs.Texts.{replay_fault_text}
+use Rattle.master.specs.declared.command.Reply.{Reply}
+use Rattle.master.specs.declared.command.Reply.TheVariants as reply
+use Rattle.master.specs.Names.{refusal_name}
+use Rattle.script.specs.declared.answer.Answer.{Answer}
+use Rattle.script.specs.declared.answer.Answer.TheVariants as answer
+use Rattle.script.specs.declared.fault.ScriptFault.{ScriptFault}
+use Rattle.script.specs.declared.fault.ScriptFault.TheVariants.{BadLine, ReadFailed, WriteFailed, NoMemory}
+use Rattle.script.specs.declared.recovery.RecoveryFault.{RecoveryFault}
+use Rattle.script.specs.declared.recovery.RecoveryFault.TheVariants.{Plan, Replay}
+
+-- ---- the parts of an answer
+
+abbrev pub reply_text : Reply → List ℕ
+reply_text (reply.Found version value) = decimal version ++ 32 ∷ value ++ 10 ∷ []
+reply_text reply.None = codes "none" ++ 10 ∷ []
+reply_text (reply.Ok version) = codes "ok " ++ decimal version ++ 10 ∷ []
+reply_text (reply.Mismatch nothing) = codes "mismatch none" ++ 10 ∷ []
+reply_text (reply.Mismatch (Some version)) = codes "mismatch " ++ decimal version ++ 10 ∷ []
+
+-- two lower case hexadecimal digits
+abbrev pub hex_digits : ℕ → List ℕ
+hex_digits byte = digit_glyph false (byte / 16) ∷ digit_glyph false (byte % 16) ∷ []
+
+abbrev pub hex_text : List ℕ → List ℕ
+hex_text bytes = flat_map hex_digits bytes ++ 10 ∷ []
+
+-- table, key, version and value
+abbrev pub object_text : Object → List ℕ
+object_text o = decimal o.key.table ++ 32 ∷ o.key.bytes ++ 32 ∷ decimal o.version ++ 32 ∷ o.value ++ 10 ∷ []
+
+-- a line for each object, in order, and their number
+abbrev pub rebuilt_text : Rebuilt → List ℕ
+rebuilt_text r = flat_map object_text r.objects ++ codes "recovered " ++ decimal (length r.objects) ++ 10 ∷ []
+
+abbrev pub recovery_fault_text : RecoveryFault → List ℕ
+recovery_fault_text (Plan fault) = plan_fault_text fault
+recovery_fault_text (Replay fault) = replay_fault_text fault
+
+-- ---- answers
+
+abbrev pub answer_text : Answer → List ℕ
+answer_text answer.Silent = []
+answer_text (answer.Reply reply) = reply_text reply
+answer_text (answer.Refused refusal) = codes "refused " ++ refusal_name refusal ++ 10 ∷ []
+answer_text (answer.Hex bytes) = hex_text bytes
+answer_text (answer.NotInLog segment) = codes "refused NotInLog " ++ decimal segment ++ 10 ∷ []
+answer_text (answer.Stop takes) = codes "stop " ++ decimal takes ++ 10 ∷ []
+answer_text answer.Stopped = codes "stopped" ++ 10 ∷ []
+answer_text answer.Crashed = codes "crashed" ++ 10 ∷ []
+answer_text (answer.Lost backup) = codes "lost " ++ decimal backup ++ 10 ∷ []
+answer_text (answer.Recovered rebuilt) = rebuilt_text rebuilt
+answer_text (answer.NotRecovered fault) = codes "refused " ++ recovery_fault_text fault ++ 10 ∷ []
+answer_text answer.Down = codes "refused Down" ++ 10 ∷ []
+answer_text answer.Up = codes "refused Up" ++ 10 ∷ []
+
+-- ---- faults of a run
+
+abbrev pub script_fault_text : ScriptFault → List ℕ
+script_fault_text (BadLine number) = codes "bad line " ++ decimal number
+script_fault_text ReadFailed = codes "cannot read"
+script_fault_text WriteFailed = codes "cannot write"
+script_fault_text NoMemory = codes "no memory"
+
+-- the line of a fault
+abbrev pub fault_line : ScriptFault → List ℕ
+fault_line fault = codes "ramlog: " ++ script_fault_text fault ++ 10 ∷ []
+
+-- the exit status of a fault
+abbrev pub exit_status : ScriptFault → ℕ
+exit_status (BadLine number) = 2
+exit_status _ = 1
