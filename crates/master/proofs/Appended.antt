@@ -1,9 +1,8 @@
 -- A command's unit goes onto the log.
-use Rattle.std.proofs.Common.{◌≡◌, ℕ, zero, suc, ◌+◌, ◌<◌, ◌≤◌, Bool, true, false, cond, List, [], ◌∷◌, ◌++◌, map, length, take, refl, sym, ap, subst, ◌∙◌, append_assoc, add-one, arith}
+use Rattle.std.proofs.Common.{◌≡◌, ℕ, zero, suc, ◌+◌, ◌≤◌, Bool, true, false, cond, List, [], ◌∷◌, ◌++◌, map, length, take, refl, sym, ap, subst, ◌∙◌, append_assoc, arith}
 use Rattle.std.specs.Prelude.{Option, Some, None, slice_get}
-use Rattle.std.specs.List.{AllByRecursion, flat_map}
+use Rattle.std.specs.List.{AllByRecursion}
 use Rattle.std.proofs.lemmas.List.{append-nil, length-append, take-append-le}
-use Rattle.std.proofs.lemmas.Grind.{flat_map-append}
 use Rattle.entry.specs.declared.key.Key.{Key}
 use Rattle.entry.specs.declared.entry.Entry.{Entry}
 use Rattle.entry.specs.Tablet.{have_key}
@@ -13,21 +12,19 @@ use Rattle.segment.proofs.RowLemmas.{text_of-append}
 use Rattle.replica.specs.Picture.{Replica, FleetState}
 use Rattle.master.specs.declared.command.Command.{Command}
 use Rattle.master.specs.declared.command.Command.TheVariants.{Get, Put, Delete}
-use Rattle.master.specs.declared.command.If.{If}
 use Rattle.master.specs.declared.command.Record.{Record}
 use Rattle.master.specs.declared.config.Config.{Config}
 use Rattle.master.specs.declared.head.UnitEnd.{UnitEnd}
 use Rattle.master.specs.Change.{appended}
 use Rattle.master.specs.Command.{command_key}
-use Rattle.master.specs.Head.{HeadValue, IsHead, EndAt, end_of}
+use Rattle.master.specs.Head.{HeadValue, IsHead, end_of}
 use Rattle.master.specs.HeadSteps.{first_opening, with_unit}
 use Rattle.master.specs.Log.{ends_of, commands_of, opening_state, state_of, Names, IsLog}
 use Rattle.master.specs.Master.{MasterData}
-use Rattle.master.specs.Mirror.{head_replica, IsMirrored, IsOpenedHome}
-use Rattle.master.specs.Represents.{AreUnitsOf, joined, unit_of}
-use Rattle.master.specs.Steps.{home}
+use Rattle.master.specs.Mirror.{head_replica, IsMirrored}
+use Rattle.master.specs.Represents.{joined, unit_of}
 use Rattle.master.specs.Units.{put_unit, delete_unit}
-use Rattle.master.specs.Versioned.{State, is_met, after_command}
+use Rattle.master.specs.Versioned.{State, is_met}
 use Rattle.master.proofs.Durables.{units_of_history}
 use Rattle.master.proofs.Heads.{end_of_le}
 use Rattle.master.proofs.Units.{units_pushed}

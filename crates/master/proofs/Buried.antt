@@ -81,7 +81,7 @@ module _ (bag : List Entry) (st : State) (segment : ℕ) (all : AreBuried bag st
       let new = put_unit st.safe segment k value (Some x) in
       elim (among_either (entry.Object o) bag new m) as (λ _. IsBuried (bag ++ new) (after_put st k value (Some x)).contents o) [
         | inl old ↦ still_ended bag new st.contents k (Some (record { version = x.version + 1; value = value })) o x segment some
-          (inl refl) (all o old)
+            (inl refl) (all o old)
         | inr (inl p) ↦ absurd (cc)
         | inr (inr (inl p)) ↦ given_now (bag ++ new) st.contents k (x.version + 1) value o p
         | inr (inr (inr none)) ↦ absurd none

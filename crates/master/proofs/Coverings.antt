@@ -1,26 +1,19 @@
 -- What the head's image and the replicas of the log hold, and what that means.
-use Rattle.std.proofs.Common.{◌≡◌, ℕ, zero, suc, ◌+◌, ◌≤◌, ◌⊎◌, inl, inr, take, drop, length, List, [], ◌∷◌, ◌++◌, refl, sym, ap, subst, ◌∙◌, append_assoc, arith}
+use Rattle.std.proofs.Common.{◌≡◌, ℕ, ◌⊎◌, inl, inr, take, drop, length, List, [], ◌++◌, refl, sym, ap, subst, ◌∙◌, arith}
 use Rattle.std.specs.Prelude.{◌↔◌, Some, filter}
-use Rattle.std.specs.List.{AllByRecursion}
-use Rattle.std.proofs.lemmas.List.{take_at, take_all, length-append}
-use Rattle.std.proofs.lemmas.List.Elements.{filter-append}
-use Rattle.entry.specs.declared.key.Key.{Key}
+use Rattle.std.proofs.lemmas.List.{take_all}
 use Rattle.entry.specs.declared.entry.Object.{Object}
 use Rattle.entry.specs.declared.entry.Entry.{Entry}
 use Rattle.entry.specs.declared.entry.Entry.TheVariants as entry
-use Rattle.entry.specs.Format.{IsEntry}
-use Rattle.entry.specs.Meaning.{Contents, IsTop, IsMeaning, IsClean, object_at, among, versioned}
-use Rattle.entry.specs.Text.{text_of, is_data, entries_in, data_in, IsSegment}
-use Rattle.entry.proofs.TextLemmas.{entries_in-text}
-use Rattle.segment.proofs.RowLemmas.{text_of-append, each-split}
-use Rattle.replica.specs.Picture.{Replica, FleetState}
+use Rattle.entry.specs.Meaning.{among, versioned}
+use Rattle.entry.specs.Text.{is_data, data_in, IsSegment}
+use Rattle.replica.specs.Picture.{FleetState}
 use Rattle.master.specs.declared.command.Command.{Command}
 use Rattle.master.specs.Covered.{IsInImage, IsInReplica, IsInLogBag, image_bag, log_bag, IsCovered}
-use Rattle.master.specs.Head.{HeadValue, IsHead, end_of}
 use Rattle.master.specs.HeadSteps.{first_opening}
-use Rattle.master.specs.Log.{IsLog, IsLogged, ends_of, commands_of, opening_state, state_of}
-use Rattle.master.specs.Master.{MasterData, IsMaster}
-use Rattle.master.specs.Mirror.{Mirrors, IsAtMostOneAhead, head_replica}
+use Rattle.master.specs.Log.{IsLog, IsLogged, commands_of, opening_state, state_of}
+use Rattle.master.specs.Master.{MasterData}
+use Rattle.master.specs.Mirror.{Mirrors}
 use Rattle.master.specs.Represents.{Represents, joined, empty_state}
 use Rattle.master.specs.Units.{tombstone_entry}
 use Rattle.master.specs.Versioned.{after}
@@ -88,8 +81,8 @@ module _ (d : MasterData) (f : FleetState) (units : List (List Entry)) (log : Is
     | inr t ↦ inr (
       d.head.id,
       subst (λ (n : ℕ). IsInImage d d.head.id (tombstone_entry o.key o.version n))
-      (tombstone_names d.head.id (joined units) o.key o.version t.0 log.names t.1 ∙ sym (bag_segment s (entry.Object o) m))
-      (in_image (tombstone_entry o.key o.version t.0) t.1),
+          (tombstone_names d.head.id (joined units) o.key o.version t.0 log.names t.1 ∙ sym (bag_segment s (entry.Object o) m))
+          (in_image (tombstone_entry o.key o.version t.0) t.1),
     )
   ]
 

@@ -1,10 +1,10 @@
 -- The durable count is right, and never falls.
-use Rattle.std.proofs.Common.{◌≡◌, ℕ, zero, suc, ◌+◌, ◌<◌, ◌≤◌, ◌⊎◌, inl, inr, Bool, true, false, List, [], ◌∷◌, ◌++◌, length, get_or, Some, None, refl, sym, ap, subst, ◌∙◌, arith}
-use Rattle.std.specs.Prelude.{Option, slice_get, slice_set, unwrap_or, nat_lt}
+use Rattle.std.proofs.Common.{◌≡◌, ℕ, suc, ◌+◌, ◌<◌, ◌≤◌, inl, inr, List, [], ◌∷◌, ◌++◌, length, get_or, Some, None, refl, sym, ap, subst, ◌∙◌, arith}
+use Rattle.std.specs.Prelude.{Option, slice_get, unwrap_or}
 use Rattle.std.specs.Option.{option_map_or}
 use Rattle.std.proofs.lemmas.Bool.{cases_lt}
 use Rattle.std.proofs.lemmas.List.{length-map, length-set}
-use Rattle.std.proofs.lemmas.Option.{same_Some, slice_get-get_or, slice_get_within}
+use Rattle.std.proofs.lemmas.Option.{slice_get-get_or, slice_get_within}
 use Rattle.entry.specs.declared.entry.Entry.{Entry}
 use Rattle.entry.specs.Text.{text_of}
 use Rattle.master.specs.declared.command.Record.{Record}
@@ -33,12 +33,12 @@ module _ (h : HeadValue) (total : ℕ) (is_head : IsHead h) (from : ℕ) (units 
   taken_everywhere : (place j : ℕ) → place < everywhere h → j < h.replicas → (units : ℕ) × (slice_get h.taken j ≡ Some units) × (place < units)
   taken_everywhere place j lt in_replicas = elim (cases_lt (length h.taken) h.replicas)
       as (λ _. (units : ℕ) × (slice_get h.taken j ≡ Some units) × (place < units)) [
-    | inl fewer ↦ (let none = everywhere_closed h fewer in absurd (omega arith))
-    | inr enough ↦ (let is = everywhere_open h enough in
-        let at = slice_get-get_or h.taken j 0 (omega arith) in
-        let least = fewest_below (length h.units) (get_or h.taken j 0) j h.taken at in
-        (get_or h.taken j 0, at, omega arith))
-  ]
+        | inl fewer ↦ (let none = everywhere_closed h fewer in absurd (omega arith))
+        | inr enough ↦ (let is = everywhere_open h enough in
+            let at = slice_get-get_or h.taken j 0 (omega arith) in
+            let least = fewest_below (length h.units) (get_or h.taken j 0) j h.taken at in
+            (get_or h.taken j 0, at, omega arith))
+      ]
 
   -- a unit of an earlier record than the first unit that some replica lacks stands before that one
   place_before : (place : ℕ) (u : UnitEnd) → slice_get h.units place ≡ Some u → (x : Option UnitEnd) → slice_get h.units (everywhere h) ≡ x

@@ -1,6 +1,5 @@
 -- What a change does to an index and to what it leads to.
 use Rattle.std.proofs.Common.{◌≡◌, ℕ, ◌+◌, inl, inr, Bool, true, false, cond, List, [], ◌∷◌, ◌++◌, length, refl, sym, ap, subst, ◌∙◌, append_assoc}
-use Rattle.std.proofs.lemmas.List.{append-nil}
 use Rattle.std.specs.Prelude.{Option, Some, None, if◌then◌else◌}
 use Rattle.entry.specs.declared.key.Key.{Key}
 use Rattle.entry.specs.declared.entry.Object.{Object}
@@ -14,7 +13,7 @@ use Rattle.master.specs.declared.command.Command.{Command}
 use Rattle.master.specs.declared.command.Command.TheVariants.{Get, Put, Delete}
 use Rattle.master.specs.declared.command.If.{If}
 use Rattle.master.specs.Command.{command_key}
-use Rattle.master.specs.Change.{unit_of_change, is_empty, IsChangeOf}
+use Rattle.master.specs.Change.{unit_of_change, IsChangeOf}
 use Rattle.master.specs.Index.{Stands, AreAt, slot_in, placed}
 use Rattle.master.specs.Log.{AreDistinct}
 use Rattle.master.specs.Units.{object_entry, tombstone_entry, put_unit, safe_given, safe_after_put}

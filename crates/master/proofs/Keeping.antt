@@ -6,7 +6,7 @@ use Rattle.std.proofs.lemmas.List.{append-nil, length-append}
 use Rattle.std.proofs.lemmas.Option.{same_Some}
 use Rattle.replica.specs.Op.{OpValue}
 use Rattle.replica.specs.Picture.{Replica, FleetState, is_same_place}
-use Rattle.replica.specs.Take.{Refuses, taken, with_effect, effect, faulted}
+use Rattle.replica.specs.Take.{Refuses, taken, with_effect, effect}
 use Rattle.replica.specs.declared.op.TakeFault.TheVariants as take_fault
 use Rattle.master.specs.declared.command.Command.{Command}
 use Rattle.master.specs.declared.step.Refusal.{Refusal}
@@ -17,10 +17,10 @@ use Rattle.master.specs.declared.step.StepAnswer.{StepAnswer}
 use Rattle.master.specs.declared.step.StepAnswer.TheVariants.{Applied, Opened, Extended}
 use Rattle.master.specs.Head.{HeadValue}
 use Rattle.master.specs.Keeps.{Keeps}
-use Rattle.master.specs.Log.{state_of, IsLog, IsLogged}
+use Rattle.master.specs.Log.{state_of, IsLogged}
 use Rattle.master.specs.Master.{MasterData, durable_of}
 use Rattle.master.specs.Represents.{unit_of}
-use Rattle.master.specs.Steps.{World, open_op, extend_op, AppliesTo, IsNextOp, FailsTake, Declines, Accepts, Steps}
+use Rattle.master.specs.Steps.{World, open_op, extend_op, AppliesTo, IsNextOp, FailsTake, Accepts, Steps}
 use Rattle.master.proofs.Appended.{same-appended, log_applied}
 use Rattle.master.proofs.Durables.{durable-units, durable-replica, durable-taken}
 use Rattle.master.proofs.Mirroring.{same_place-tells}

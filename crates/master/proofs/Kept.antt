@@ -1,14 +1,12 @@
 -- A new master, and a command, keep what holds of every master.
-use Rattle.std.proofs.Common.{◌≡◌, ℕ, zero, suc, ◌+◌, ◌<◌, ◌≤◌, inl, inr, Bool, true, false, List, [], ◌∷◌, ◌++◌, map, length, refl, sym, ap, subst, ◌∙◌, arith}
-use Rattle.std.specs.Prelude.{Option, Some, None}
-use Rattle.std.specs.List.{AllByRecursion}
-use Rattle.std.proofs.lemmas.List.{append-nil, length-append}
+use Rattle.std.proofs.Common.{◌≡◌, ℕ, ◌+◌, ◌<◌, ◌≤◌, inl, false, List, [], ◌∷◌, ◌++◌, length, refl, sym, ap, subst, ◌∙◌, arith}
+use Rattle.std.specs.Prelude.{Option, None}
+use Rattle.std.proofs.lemmas.List.{length-append}
 use Rattle.entry.specs.declared.entry.Object.{Object}
 use Rattle.entry.specs.declared.entry.Entry.{Entry}
 use Rattle.entry.specs.declared.entry.Entry.TheVariants as entry
-use Rattle.entry.specs.Tablet.{have_key}
 use Rattle.entry.specs.Text.{text_of}
-use Rattle.entry.specs.Meaning.{Versioned, Contents, contents_of}
+use Rattle.entry.specs.Meaning.{Contents, contents_of}
 use Rattle.segment.proofs.RowLemmas.{text_of-append}
 use Rattle.replica.specs.Picture.{FleetState}
 use Rattle.master.specs.declared.change.Change.{Change}
@@ -24,16 +22,15 @@ use Rattle.master.specs.Config.{config_fault}
 use Rattle.master.specs.Head.{IsHead}
 use Rattle.master.specs.Index.{AreAt, slot_in, placed}
 use Rattle.master.specs.Invariant.{IsKept}
-use Rattle.master.specs.Log.{ends_of, commands_of, replies_of, opening_state, state_of, Names, IsLegal, IsLog, IsIndex, IsLogged}
-use Rattle.master.specs.HeadSteps.{first_opening}
+use Rattle.master.specs.Log.{commands_of, opening_state, state_of, IsLegal, IsLog, IsIndex}
 use Rattle.master.specs.Master.{MasterData, IsMaster, fresh_data}
 use Rattle.master.specs.Mirror.{IsMirrored, Mirrors}
-use Rattle.master.specs.Represents.{unit_of, joined}
+use Rattle.master.specs.Represents.{unit_of}
 use Rattle.master.specs.Steps.{AppliesTo}
 use Rattle.master.specs.Units.{safe_given}
 use Rattle.master.specs.Versioned.{State, with_contents, reply_given, reply_to, replies, after, after_command}
 use Rattle.master.proofs.Appended.{map-push, image-appended, log_applied, mirrored-appended}
-use Rattle.master.proofs.Indexed.{given, command_at, Indexes, IsPut, goes_on}
+use Rattle.master.proofs.Indexed.{given, command_at, Indexes, goes_on}
 use Rattle.master.proofs.Numbers.{AreOf-appended, replicas-appended}
 use Rattle.master.proofs.Refusals.{IsAdmitted, is_admitted, passed_early, unit_fits}
 use Rattle.master.proofs.Units.{states_pushed}
@@ -157,16 +154,18 @@ module _ (d : MasterData) (f : FleetState) (seat : ℕ) (command : Command) (cha
 
   index_then : (o : List Object) × IsIndex e o
   index_then =
-      let at_command = command_at st command in
-      (index_on.os, record {
-        places = rw (image-appended d.head (length d.history) unit) index_on.at;
-        distinct = index_on.distinct;
-        contents = index_on.same ∙ (λ i. with_contents (index.contents i) (command_key command) (given_is st.safe st.contents index.safe index.contents i))
-            ∙ ap (λ (s : State). s.contents) (sym (state_then ∙ at_command));
-        safe = (judged os index.places).1.safe_after
-            ∙ (λ i. safe_given (index.safe i) (index.contents i (command_key command)) command)
-            ∙ ap (λ (s : State). s.safe) (sym (state_then ∙ at_command));
-      })
+      let at_command = command_at st command in (
+        index_on.os,
+        record {
+          places = rw (image-appended d.head (length d.history) unit) index_on.at;
+          distinct = index_on.distinct;
+          contents = index_on.same ∙ (λ i. with_contents (index.contents i) (command_key command) (given_is st.safe st.contents index.safe index.contents i))
+              ∙ ap (λ (s : State). s.contents) (sym (state_then ∙ at_command));
+          safe = (judged os index.places).1.safe_after
+              ∙ (λ i. safe_given (index.safe i) (index.contents i (command_key command)) command)
+              ∙ ap (λ (s : State). s.safe) (sym (state_then ∙ at_command));
+        },
+      )
 
   mirrors_then : Mirrors e f
   mirrors_then =

@@ -1,20 +1,16 @@
 -- An op that a head's next replica takes keeps the backups mirrored.
-use Rattle.std.proofs.Common.{◌≡◌, ℕ, zero, suc, ◌+◌, ◌-◌, ◌*◌, ◌<◌, ◌≤◌, ◌⊎◌, inl, inr, Bool, true, false, cond, List, [], ◌∷◌, ◌++◌, length, take, drop, refl, sym, ap, subst, ◌∙◌, arith}
-use Rattle.std.specs.Prelude.{Option, Some, None, slice_get, slice_set, nat_lt, ◌==◌, ◌&&◌, unwrap_or}
-use Rattle.std.specs.List.{AllByRecursion}
+use Rattle.std.proofs.Common.{◌≡◌, ℕ, zero, suc, ◌+◌, ◌-◌, ◌<◌, ◌≤◌, ◌⊎◌, inl, inr, true, false, List, [], ◌∷◌, ◌++◌, length, take, drop, refl, sym, ap, subst, ◌∙◌, arith}
+use Rattle.std.specs.Prelude.{Option, Some, None, slice_get, slice_set, nat_lt, ◌==◌, unwrap_or}
 use Rattle.std.proofs.lemmas.Bool.Decides.{nat_tests}
 use Rattle.std.proofs.lemmas.Nat.{mod_below}
-use Rattle.std.proofs.lemmas.List.{length-append, length-take, take-append-le, length-set}
+use Rattle.std.proofs.lemmas.List.{length-append, length-take, length-set}
 use Rattle.std.proofs.lemmas.Option.{same_Some, slice_get_within}
-use Rattle.entry.specs.declared.entry.Entry.{Entry}
 use Rattle.entry.specs.Text.{text_of}
-use Rattle.segment.proofs.RowLemmas.{text_of-append}
-use Rattle.replica.specs.Op.{OpValue, ActValue, Open, Extend}
+use Rattle.replica.specs.Op.{OpValue, Open, Extend}
 use Rattle.replica.specs.Picture.{Replica, FleetState, with_replica as replaced, is_same_place}
-use Rattle.replica.specs.Take.{taken, effect, faulted}
+use Rattle.replica.specs.Take.{taken, effect}
 use Rattle.master.specs.declared.config.Config.{Config}
-use Rattle.master.specs.declared.head.UnitEnd.{UnitEnd}
-use Rattle.master.specs.Head.{HeadValue, IsHead, EndAt, end_of, IsLagging}
+use Rattle.master.specs.Head.{HeadValue, IsHead, end_of}
 use Rattle.master.specs.HeadSteps.{with_replica, with_taken}
 use Rattle.master.specs.Mirror.{head_replica, IsOpenedHome, IsMirrored}
 use Rattle.master.specs.Steps.{home}
@@ -120,12 +116,12 @@ module _ (c : Config) (h : HeadValue) (f : FleetState) (m : IsMirrored c h f) (m
     held_then : (i k : ℕ) → slice_get ks i ≡ Some k → (placed c h f (home c h.id j) own).picture (home c h.id i) c.master h.id ≡ Some (head_replica h k)
     held_then i k e = elim (same_or_not i j) as (λ _. (placed c h f (home c h.id j) own).picture (home c h.id i) c.master h.id ≡ Some (head_replica h k)) [
       | inl same ↦ (
-        let both : Some n ≡ Some k = sym at ∙ ap (slice_get ks) (sym same) ∙ e in
-        changed own (home c h.id j) (home c h.id i) (ap (home c h.id) (sym same)) ∙ ap (λ (x : ℕ). Some (head_replica h x)) (same_Some n k both))
+          let both : Some n ≡ Some k = sym at ∙ ap (slice_get ks) (sym same) ∙ e in
+          changed own (home c h.id j) (home c h.id i) (ap (home c h.id) (sym same)) ∙ ap (λ (x : ℕ). Some (head_replica h x)) (same_Some n k both))
       | inr other ↦ (
-        let in_ks = slice_get_within ks i k e in
-        let j_in = slice_get_within ks j n at in
-        unchanged own (home c h.id j) (home c h.id i) h.id (λ o. homes_apart c h.id j i (omega arith) (omega arith) (λ x. other (sym x)) o.0) ∙ m.held i k (others i k e other))
+          let in_ks = slice_get_within ks i k e in
+          let j_in = slice_get_within ks j n at in
+          unchanged own (home c h.id j) (home c h.id i) h.id (λ o. homes_apart c h.id j i (omega arith) (omega arith) (λ x. other (sym x)) o.0) ∙ m.held i k (others i k e other))
     ]
 
     each_then : (b s : ℕ) (r : Replica) → (placed c h f (home c h.id j) own).picture b c.master s ≡ Some r → IsOpenedHome c (with_counts h ks) b s

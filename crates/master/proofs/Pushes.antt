@@ -1,10 +1,10 @@
 -- A push keeps what holds of every master, whatever the fleet answers.
-use Rattle.std.proofs.Common.{◌≡◌, ℕ, ◌+◌, ◌<◌, ◌≤◌, ◌⊎◌, inl, inr, Bool, true, false, length, refl, sym, ap, subst, ◌∙◌, arith}
-use Rattle.std.specs.Prelude.{Option, Some, None, Result, Ok, Err, slice_get}
+use Rattle.std.proofs.Common.{◌≡◌, ℕ, ◌+◌, ◌<◌, ◌≤◌, inl, inr, Bool, true, false, length, refl, sym, subst, ◌∙◌, arith}
+use Rattle.std.specs.Prelude.{Option, Some, None, slice_get}
 use Rattle.std.proofs.lemmas.Option.{same_Some}
 use Rattle.replica.specs.Op.{OpValue}
 use Rattle.replica.specs.Picture.{FleetState}
-use Rattle.replica.specs.Take.{TakeGives, Refuses, taken, faulted, limited}
+use Rattle.replica.specs.Take.{Refuses, taken, limited}
 use Rattle.replica.specs.declared.op.TakeFault.{TakeFault}
 use Rattle.replica.specs.declared.op.TakeFault.TheVariants as take_fault
 use Rattle.master.specs.declared.step.Step.TheVariants.{Push}
@@ -12,10 +12,10 @@ use Rattle.master.specs.Head.{HeadValue, IsHead, IsLagging}
 use Rattle.master.specs.HeadSteps.{with_replica, with_taken}
 use Rattle.master.specs.Invariant.{IsKept}
 use Rattle.master.specs.Log.{IsLogged}
-use Rattle.master.specs.Master.{MasterData, IsMaster}
+use Rattle.master.specs.Master.{MasterData}
 use Rattle.master.specs.Mirror.{head_replica, IsMirrored, IsAtMostOneAhead, Mirrors}
 use Rattle.master.specs.Causes.{push_refusal}
-use Rattle.master.specs.Steps.{World, with_head, home, open_op, extend_op, Opens, Extends, IsNextOp, FailsTake, Declines, refusal_of, is_halting, halted}
+use Rattle.master.specs.Steps.{World, with_head, home, open_op, extend_op, IsNextOp, Declines, refusal_of, is_halting}
 use Rattle.master.proofs.Mirroring.{placed, open_taken, open_mirrored, extend_taken, extend_mirrored}
 use Rattle.master.proofs.Refusals.{has_homes, push_waits, push_lags}
 
@@ -26,15 +26,18 @@ with_halt d b = record { config = d.config; head = d.head; places = d.places; sa
 same_logged : (d : MasterData) (b : Bool) → IsLogged d → IsLogged (with_halt d b)
 same_logged d b l = record {
   legal = l.legal;
-  log = (l.log.0, (let a = l.log.1 in record {
-    appended = a.appended;
-    first = a.first;
-    image = a.image;
-    opening = a.opening;
-    ends = a.ends;
-    names = a.names;
-    keys = a.keys;
-  }));
+  log = (
+    l.log.0,
+    (let a = l.log.1 in record {
+      appended = a.appended;
+      first = a.first;
+      image = a.image;
+      opening = a.opening;
+      ends = a.ends;
+      names = a.names;
+      keys = a.keys;
+    }),
+  );
   index = (l.index.0, (let a = l.index.1 in record { places = a.places; distinct = a.distinct; contents = a.contents; safe = a.safe }));
 }
 
@@ -42,15 +45,18 @@ same_logged d b l = record {
 counted_logged : (d : MasterData) (h : HeadValue) → h.id ≡ d.head.id → h.image ≡ d.head.image → h.opening ≡ d.head.opening → h.units ≡ d.head.units → IsLogged d → IsLogged (with_head d h)
 counted_logged d h id image opening units l = record {
   legal = l.legal;
-  log = (l.log.0, (let a = l.log.1 in record {
-    appended = a.appended;
-    first = id ∙ a.first;
-    image = image ∙ a.image;
-    opening = opening ∙ a.opening;
-    ends = rw (units, opening) a.ends;
-    names = rw id a.names;
-    keys = a.keys;
-  }));
+  log = (
+    l.log.0,
+    (let a = l.log.1 in record {
+      appended = a.appended;
+      first = id ∙ a.first;
+      image = image ∙ a.image;
+      opening = opening ∙ a.opening;
+      ends = rw (units, opening) a.ends;
+      names = rw id a.names;
+      keys = a.keys;
+    }),
+  );
   index = (l.index.0, (let a = l.index.1 in record { places = rw image a.places; distinct = a.distinct; contents = a.contents; safe = a.safe }));
 }
 

@@ -1,6 +1,6 @@
 -- Which test refuses a step.
-use Rattle.std.proofs.Common.{◌≡◌, ℕ, ◌+◌, ◌<◌, ◌≤◌, Bool, true, false, cond, List, [], ◌∷◌, length, refl, sym, ap, ◌∙◌, arith}
-use Rattle.std.specs.Prelude.{Option, Some, None, not, nat_lt, nat_le, ◌==◌, ◌&&◌, is_none}
+use Rattle.std.proofs.Common.{◌≡◌, ℕ, ◌+◌, ◌<◌, ◌≤◌, Bool, true, false, cond, List, length, refl, arith}
+use Rattle.std.specs.Prelude.{Option, Some, None, not, nat_le, ◌==◌, ◌&&◌, is_none}
 use Rattle.std.proofs.lemmas.Bool.{and_parts, leb-true, leb-false}
 use Rattle.std.proofs.lemmas.Bool.Decides.{nat_tests}
 use Rattle.entry.specs.declared.entry.Entry.{Entry}
@@ -10,7 +10,7 @@ use Rattle.master.specs.declared.command.Command.{Command}
 use Rattle.master.specs.declared.config.Config.{Config}
 use Rattle.master.specs.declared.step.Refusal.{Refusal}
 use Rattle.master.specs.declared.step.Refusal.TheVariants.{Halted, TooBig, NoTablet, HistoryFull, VersionsSpent, Full, Rolling, Nothing}
-use Rattle.master.specs.Causes.{early_refusal, late_refusal, command_refusal, unit_refusal, has_room, is_open, is_pushed, push_refusal}
+use Rattle.master.specs.Causes.{early_refusal, late_refusal, command_refusal, unit_refusal, has_room, is_open, push_refusal}
 use Rattle.master.specs.Change.{is_too_big, is_spent, is_empty}
 use Rattle.master.specs.Command.{command_key}
 use Rattle.master.specs.Config.{config_fault, has_backups}

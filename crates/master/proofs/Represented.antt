@@ -4,8 +4,7 @@ use Rattle.std.proofs.lemmas.List.{append-nil}
 use Rattle.std.specs.Prelude.{◌↔◌, Option, Some, None}
 use Rattle.entry.specs.declared.key.Key.{Key}
 use Rattle.entry.specs.declared.entry.Entry.{Entry}
-use Rattle.entry.specs.declared.entry.Entry.TheVariants as entry
-use Rattle.entry.specs.Meaning.{Versioned, Contents, IsOfKey, version_of, rank_of, IsTop, object_at, IsMeaning, among, bound_of}
+use Rattle.entry.specs.Meaning.{Versioned, Contents, IsOfKey, version_of, rank_of, IsMeaning, among, bound_of}
 use Rattle.master.specs.declared.command.Command.{Command}
 use Rattle.master.specs.declared.command.Command.TheVariants.{Get, Put, Delete}
 use Rattle.master.specs.Versioned.{State, is_met, with_contents, after_command, after_put, after_delete, after}

@@ -1,9 +1,8 @@
 -- Backups that mirror a master hold a sound picture of it.
-use Rattle.std.proofs.Common.{◌≡◌, ℕ, ◌+◌, ◌≤◌, inl, inr, max, Bool, true, false, cond, List, [], ◌∷◌, ◌++◌, length, map, take, Some, refl, sym, ap, subst, ◌∙◌, arith}
-use Rattle.std.specs.Prelude.{Option, None, IsSomeAnd, slice_get}
+use Rattle.std.proofs.Common.{◌≡◌, ℕ, ◌≤◌, inl, inr, max, Bool, true, false, cond, List, [], ◌∷◌, ◌++◌, length, map, take, Some, refl, sym, ap, subst, ◌∙◌, arith}
+use Rattle.std.specs.Prelude.{Option, None, IsSomeAnd}
 use Rattle.std.specs.List.{flat_map}
-use Rattle.std.specs.Option.{option_map_or}
-use Rattle.std.proofs.lemmas.List.{append-nil, length-append, length-map}
+use Rattle.std.proofs.lemmas.List.{append-nil, length-append}
 use Rattle.entry.specs.declared.key.Key.{Key}
 use Rattle.entry.specs.declared.entry.Entry.{Entry}
 use Rattle.entry.specs.Tablet.{have_key}
@@ -14,12 +13,10 @@ use Rattle.replica.specs.Picture.{Replica, Picture, FleetState, survivors, IsHel
 use Rattle.replica.specs.Choice.{Choice, bag_of}
 use Rattle.replica.specs.Survival.{IsHeadLeft, HeadSurvives}
 use Rattle.master.specs.declared.command.Command.{Command}
-use Rattle.master.specs.declared.command.Record.{Record}
-use Rattle.master.specs.declared.head.UnitEnd.{UnitEnd}
-use Rattle.master.specs.Head.{IsHead, everywhere}
+use Rattle.master.specs.Head.{everywhere}
 use Rattle.master.specs.HeadSteps.{first_opening}
 use Rattle.master.specs.Log.{commands_of, opening_state, state_after, IsLog, IsLogged}
-use Rattle.master.specs.Master.{MasterData, IsMaster, durable_of}
+use Rattle.master.specs.Master.{MasterData, durable_of}
 use Rattle.master.specs.Mirror.{Mirrors}
 use Rattle.master.specs.Represents.{Represents, joined}
 use Rattle.master.specs.Sound.{IsTextOfSegment, IsHome, IsSurvivingChoice, IsPrefix, IsSound}
@@ -152,8 +149,7 @@ module _ (d : MasterData) (f : FleetState) (units : List (List Entry)) (log : Is
       let at = held_is_front d units log f m left.0 s r given.1 in
       let there : f.picture left.0 d.config.master 1 ≡ Some (record { bytes = r.bytes; is_open = true }) =
       ap (λ (t : ℕ). f.picture left.0 d.config.master t) (sym at.segment) ∙ given.1
-      ∙ ap (λ (b : Bool). Some (record { bytes = r.bytes; is_open = b })) at.is_open in
-      (
+      ∙ ap (λ (b : Bool). Some (record { bytes = r.bytes; is_open = b })) at.is_open in (
         record {
           opening = front_opening;
           head = record { backup = left.0; master = d.config.master; segment = 1; bytes = r.bytes; is_open = true };

@@ -1,9 +1,8 @@
 -- Why a step is refused.
-use Rattle.std.specs.Prelude.{◌≡◌, ℕ, ◌+◌, ◌^◌, ◌==◌, ◌&&◌, length, Bool, true, false, nat_le, nat_lt, not, Option, Some, None, List, is_none, if◌then◌else◌}
+use Rattle.std.specs.Prelude.{◌+◌, ◌==◌, ◌&&◌, length, Bool, nat_le, not, Option, Some, None, List, is_none, if◌then◌else◌}
 use Rattle.entry.specs.declared.entry.Entry.{Entry}
 use Rattle.entry.specs.Tablet.{have_key}
 use Rattle.entry.specs.Text.{text_of}
-use Rattle.entry.specs.Meaning.{Versioned}
 use Rattle.master.specs.declared.command.Command.{Command}
 use Rattle.master.specs.declared.step.Refusal.{Refusal}
 use Rattle.master.specs.declared.step.Refusal.TheVariants.{Halted, TooBig, NoTablet, HistoryFull, VersionsSpent, Full, Rolling, Nothing}

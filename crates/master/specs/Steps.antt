@@ -7,7 +7,6 @@ use Rattle.replica.specs.Take.{Refuses, taken, limited}
 use Rattle.replica.specs.declared.op.TakeFault.{TakeFault}
 use Rattle.replica.specs.declared.op.TakeFault.TheVariants as take_fault
 use Rattle.master.specs.declared.command.Command.{Command}
-use Rattle.master.specs.declared.command.Record.{Record}
 use Rattle.master.specs.declared.config.Config.{Config}
 use Rattle.master.specs.declared.step.Step.{Step}
 use Rattle.master.specs.declared.step.Step.TheVariants.{Apply, Push}

@@ -1,5 +1,5 @@
 -- What an inventory shows of a sound state: its choices, and what each replica is.
-use Rattle.std.proofs.Common.{◌≡◌, ℕ, Bool, true, false, cond, List, [], ◌∷◌, ◌++◌, map, sym, ap, subst, ◌∙◌}
+use Rattle.std.proofs.Common.{◌≡◌, ℕ, Bool, true, false, cond, List, [], ◌∷◌, ◌++◌, sym, ap, subst, ◌∙◌}
 use Rattle.std.specs.Prelude.{◌↔◌, filter, Option, Some, None}
 use Rattle.std.proofs.lemmas.List.Folds.{flat_map-map}
 use Rattle.entry.specs.Bag.{IsAmong}

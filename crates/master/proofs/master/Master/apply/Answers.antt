@@ -1,4 +1,4 @@
-use Rattle.std.proofs.Common.{◌≡◌, ℕ, ◌+◌, ◌++◌, ◌∷◌, [], None, length, rules, refl, ap, sym, ◌∙◌}
+use Rattle.std.proofs.Common.{◌≡◌, ℕ, ◌+◌, ◌++◌, ◌∷◌, [], None, length, rules, refl, ap}
 use Rattle.std.specs.Prelude.{Err}
 use Rattle.entry.specs.Text.{text_of}
 use Rattle.replica.specs.Picture.{FleetState}

@@ -1,4 +1,4 @@
-use Rattle.std.proofs.Common.{◌≡◌, sym, subst}
+use Rattle.std.proofs.Common.{sym, subst}
 use Rattle.replica.specs.Picture.{FleetState}
 use Rattle.master.specs.Invariant.{IsKept}
 use Rattle.master.specs.Master.{MasterData}

@@ -1,4 +1,4 @@
-use Rattle.std.proofs.Common.{◌≡◌, refl, inl, sym, ◌∙◌}
+use Rattle.std.proofs.Common.{refl, inl, sym, ◌∙◌}
 use Rattle.master.specs.Master.{MasterData}
 use Rattle.master.proofs.Refusals.{push_done}
 use Rattle.master.proofs.master.Master.push.Goals as goal

@@ -1,7 +1,7 @@
 use Rattle.std.proofs.Common.{◌≡◌, ◌+◌, ◌++◌, ◌∷◌, [], vec_len, refl, ◌∙◌, arith}
 use Rattle.std.proofs.lemmas.List.{length-append}
 use Rattle.master.specs.Steps.{world}
-use Rattle.master.proofs.Keeping.{keeps_same, keeps_pushed}
+use Rattle.master.proofs.Keeping.{keeps_pushed}
 use Rattle.master.proofs.Runs.{run_pushed}
 use Rattle.master.proofs.master.Master.run.Goals as goal
 

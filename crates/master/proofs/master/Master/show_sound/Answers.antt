@@ -1,4 +1,4 @@
-use Rattle.std.proofs.Common.{◌≡◌, ◌≤◌, length, sym, ◌∙◌, ap, subst}
+use Rattle.std.proofs.Common.{◌≤◌, length}
 use Rattle.entry.specs.Text.{text_of, IsSegment}
 use Rattle.replica.specs.Picture.{FleetState}
 use Rattle.master.specs.Master.{MasterData}

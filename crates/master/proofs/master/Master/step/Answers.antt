@@ -1,4 +1,4 @@
-use Rattle.std.proofs.Common.{◌≡◌, rules, sym, ap, subst, ◌∙◌}
+use Rattle.std.proofs.Common.{rules}
 use Rattle.master.specs.Steps.{world, Steps}
 use Rattle.master.proofs.Keeping.{steps_keep}
 use Rattle.master.proofs.master.Master.step.Goals.{in-Apply, in-Push}
