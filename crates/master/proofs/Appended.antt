@@ -1,5 +1,6 @@
 -- A command's unit goes onto the log.
-use Rattle.std.proofs.Common.{◌≡◌, ℕ, zero, suc, ◌+◌, ◌≤◌, Bool, true, false, cond, List, [], ◌∷◌, ◌++◌, map, length, take, refl, sym, ap, subst, ◌∙◌, append_assoc, arith}
+use Rattle.std.proofs.Common.{◌≡◌, ℕ, zero, suc, ◌+◌, ◌≤◌, Bool, true, false, cond, List, [], ◌∷◌, ◌++◌, map, length, take, refl, sym, ap, subst, ◌∙◌}
+use Rattle.std.proofs.Common.{append_assoc, arith}
 use Rattle.std.specs.Prelude.{Option, Some, None, slice_get}
 use Rattle.std.specs.List.{AllByRecursion}
 use Rattle.std.proofs.lemmas.List.{append-nil, length-append, take-append-le}
@@ -50,7 +51,8 @@ image-appended h n [] = sym (append-nil h.image)
 image-appended h n (e ∷ es) = refl
 
 pub same-appended : (h : HeadValue) (n : ℕ) (u : List Entry)
-    → ((appended h n u).id ≡ h.id) × ((appended h n u).opening ≡ h.opening) × ((appended h n u).taken ≡ h.taken) × ((appended h n u).replicas ≡ h.replicas)
+    → ((appended h n u).id ≡ h.id) × ((appended h n u).opening ≡ h.opening) × ((appended h n u).taken ≡ h.taken) ×
+    ((appended h n u).replicas ≡ h.replicas)
 same-appended h n [] = (refl, refl, refl, refl)
 same-appended h n (e ∷ es) = (refl, refl, refl, refl)
 
@@ -76,23 +78,29 @@ ends-push k from ((e ∷ es) ∷ us) u =
     ∙ (λ i. ends_of (suc k) (from + length (text_of (e ∷ es))) us ++ ends_of (a i) (b i) (u ∷ [])))
 
 -- an opening and units make up the image
-module _ (h : HeadValue) (front : List Entry) (us : List (List Entry)) (image : h.image ≡ front ++ joined us) (opening : h.opening ≡ length (text_of front)) where
+module _ (h : HeadValue) (front : List Entry) (us : List (List Entry)) (image : h.image ≡ front ++ joined us)
+    (opening : h.opening ≡ length (text_of front)) where
   whole : length (text_of h.image) ≡ h.opening + length (text_of (joined us))
-  whole = ap (λ (es : List Entry). length (text_of es)) image ∙ ap length (text_of-append front (joined us)) ∙ length-append (text_of front) (text_of (joined us))
+  whole =
+      ap (λ (es : List Entry). length (text_of es)) image ∙ ap length (text_of-append front (joined us))
+      ∙ length-append (text_of front) (text_of (joined us))
       ∙ ap (λ (k : ℕ). k + length (text_of (joined us))) (sym opening)
 
   end_then : (u : List Entry) → length (text_of (h.image ++ u)) ≡ h.opening + length (text_of (joined us)) + length (text_of u)
   end_then u = ap length (text_of-append h.image u) ∙ length-append (text_of h.image) (text_of u) ∙ ap (λ (k : ℕ). k + length (text_of u)) whole
 
   -- the ends of the units with one more
-  pub ends-appended : (n : ℕ) (u : List Entry) → h.units ≡ ends_of 0 h.opening us → n ≡ length us → (appended h n u).units ≡ ends_of 0 h.opening (us ++ u ∷ [])
+  pub ends-appended : (n : ℕ) (u : List Entry) → h.units ≡ ends_of 0 h.opening us → n ≡ length us
+      → (appended h n u).units ≡ ends_of 0 h.opening (us ++ u ∷ [])
   ends-appended n [] units number = units ∙ sym (append-nil (ends_of 0 h.opening us)) ∙ sym (ends-push 0 h.opening us [])
   ends-appended n (e ∷ es) units number =
       let at : n ≡ 0 + length us = omega arith in
       (λ i. units i ++ record { number = at i; end = end_then (e ∷ es) i } ∷ []) ∙ sym (ends-push 0 h.opening us (e ∷ es))
 
   pub image_then : (n : ℕ) (u : List Entry) → (appended h n u).image ≡ front ++ joined (us ++ u ∷ [])
-  image_then n u = image-appended h n u ∙ ap (λ (es : List Entry). es ++ u) image ∙ append_assoc front (joined us) u ∙ ap (λ (es : List Entry). front ++ es) (sym (joined-push us u))
+  image_then n u =
+      image-appended h n u ∙ ap (λ (es : List Entry). es ++ u) image ∙ append_assoc front (joined us) u
+      ∙ ap (λ (es : List Entry). front ++ es) (sym (joined-push us u))
 
 -- ---- names
 
@@ -117,7 +125,8 @@ unit_names st segment (Delete k) = delete_names segment k (st.contents k)
 -- ---- the log
 
 -- a log goes on with the record of a command and its unit
-module _ (d e : MasterData) (units : List (List Entry)) (r : Record) (log : IsLog d units) (key : have_key d.config.tablets (command_key r.command) ≡ true)
+module _ (d e : MasterData) (units : List (List Entry)) (r : Record) (log : IsLog d units)
+    (key : have_key d.config.tablets (command_key r.command) ≡ true)
     (config : e.config ≡ d.config) (history : e.history ≡ d.history ++ r ∷ [])
     (head : e.head ≡ appended d.head (length d.history) (unit_of (state_of d) d.head.id r.command)) where
   abbrev unit : List Entry
@@ -145,7 +154,8 @@ module _ (d e : MasterData) (units : List (List Entry)) (r : Record) (log : IsLo
     ends = ap (λ (h : HeadValue). h.units) head
         ∙ ends-appended d.head (front_of d.config) units log.image log.opening (length d.history) unit log.ends (sym (units_of_history d units log))
         ∙ ap (λ (from : ℕ). ends_of 0 from (units ++ unit ∷ [])) (sym opening_then);
-    names = rw (id_then, joined-push units unit) (all-append (Names d.head.id) (joined units) unit log.names (unit_names (state_of d) d.head.id r.command));
+    names = rw (id_then, joined-push units unit)
+        (all-append (Names d.head.id) (joined units) unit log.names (unit_names (state_of d) d.head.id r.command));
     keys = rw (config, commands_then)
         (all-append (λ (c : Command). have_key d.config.tablets (command_key c) ≡ true) (commands_of d.history) (r.command ∷ []) log.keys (key, tt));
   }
@@ -158,13 +168,16 @@ end_of-push us from zero u le = refl
 end_of-push [] from (suc n) u le = absurd (omega arith)
 end_of-push (v ∷ us) from (suc n) u le = end_of-push us v.end n u (omega arith)
 
-front_kept : (h : HeadValue) (e : Entry) (es : List Entry) (number n : ℕ) → IsHead h → n ≤ length h.units → head_replica (with_unit h number (e ∷ es)) n ≡ head_replica h n
+front_kept : (h : HeadValue) (e : Entry) (es : List Entry) (number n : ℕ) → IsHead h → n ≤ length h.units
+    → head_replica (with_unit h number (e ∷ es)) n ≡ head_replica h n
 front_kept h e es number n valid le =
     let at = end_of-push h.units h.opening n (record { number = number; end = length (text_of (h.image ++ (e ∷ es))) }) le in
     let within = end_of_le h.units h.opening (length (text_of h.image)) n valid.units in
     let bytes : take (end_of h.opening h.units n) (text_of (h.image ++ (e ∷ es))) ≡ take (end_of h.opening h.units n) (text_of h.image) =
-    ap (take (end_of h.opening h.units n)) (text_of-append h.image (e ∷ es)) ∙ take-append-le (end_of h.opening h.units n) (text_of h.image) (text_of (e ∷ es)) within in
-    (λ i. record { bytes = take (at i) (text_of (h.image ++ (e ∷ es))); is_open = true }) ∙ ap (λ (bs : List ℕ). record { bytes = bs; is_open = true }) bytes
+    ap (take (end_of h.opening h.units n)) (text_of-append h.image (e ∷ es))
+    ∙ take-append-le (end_of h.opening h.units n) (text_of h.image) (text_of (e ∷ es)) within in
+    (λ i. record { bytes = take (at i) (text_of (h.image ++ (e ∷ es))); is_open = true })
+    ∙ ap (λ (bs : List ℕ). record { bytes = bs; is_open = true }) bytes
 
 all_at : (units : ℕ) (ns : List ℕ) (j n : ℕ) → AllByRecursion (λ (m : ℕ). m ≤ units) ns → slice_get ns j ≡ Some n → n ≤ units
 all_at units [] j n all e = absurd (cc)
@@ -172,10 +185,12 @@ all_at units (m ∷ ns) zero n all e = let same : m ≡ n = cc in subst (λ (k :
 all_at units (m ∷ ns) (suc j) n all e = all_at units ns j n all.1 e
 
 -- the backups hold nothing else once the head has one more unit
-pub mirrored-appended : (c : Config) (h : HeadValue) (f : FleetState) (number : ℕ) (u : List Entry) → IsHead h → IsMirrored c h f → IsMirrored c (appended h number u) f
+pub mirrored-appended : (c : Config) (h : HeadValue) (f : FleetState) (number : ℕ) (u : List Entry) → IsHead h → IsMirrored c h f
+    → IsMirrored c (appended h number u) f
 mirrored-appended c h f number [] valid m = m
 mirrored-appended c h f number (e ∷ es) valid m = record {
   backups = m.backups;
-  held = λ j n at. m.held j n at ∙ ap (λ (r : Replica). Some r) (sym (front_kept h e es number n valid (all_at (length h.units) h.taken j n valid.taken at)));
+  held = λ j n at. m.held j n at
+      ∙ ap (λ (r : Replica). Some r) (sym (front_kept h e es number n valid (all_at (length h.units) h.taken j n valid.taken at)));
   each = λ b s r at. (let o = m.each b s r at in record { segment = o.segment; j = o.j; units = o.units; opened = o.opened; backup = o.backup });
 }

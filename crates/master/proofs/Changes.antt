@@ -1,5 +1,6 @@
 -- The change that a command makes: the reply, and the length of its unit.
-use Rattle.std.proofs.Common.{◌≡◌, ℕ, ◌+◌, List, [], ◌∷◌, ◌++◌, length, Bool, true, false, Option, Some, None, if◌then◌else◌, refl, sym, ap, ◌∙◌, arith}
+use Rattle.std.proofs.Common.{◌≡◌, ℕ, ◌+◌, List, [], ◌∷◌, ◌++◌, length, Bool, true, false, Option, Some, None, if◌then◌else◌, refl, sym, ap, ◌∙◌}
+use Rattle.std.proofs.Common.{arith}
 use Rattle.std.specs.Prelude.{Result, Ok, Err, IfOk, IfErr}
 use Rattle.std.proofs.lemmas.List.{length-append}
 use Rattle.entry.specs.declared.key.Key.{Key}
@@ -30,11 +31,13 @@ length-one e = simp length-append (omega arith)
 length-two : (d e : Entry) → length (text_of (d ∷ e ∷ [])) ≡ length (spelling d) + length (spelling e)
 length-two d e = simp length-append (omega arith)
 
-pub length-object_entry : (k : Key) (version : ℕ) (value : List ℕ) → length (text_of (object_entry k version value ∷ [])) ≡ 23 + length k.bytes + length value
+pub length-object_entry : (k : Key) (version : ℕ) (value : List ℕ)
+    → length (text_of (object_entry k version value ∷ [])) ≡ 23 + length k.bytes + length value
 length-object_entry k version value = length-one (object_entry k version value) ∙ length-object (record { key = k; version = version; value = value })
 
 pub length-tombstone_entry : (k : Key) (version segment : ℕ) → length (text_of (tombstone_entry k version segment ∷ [])) ≡ 27 + length k.bytes
-length-tombstone_entry k version segment = length-one (tombstone_entry k version segment) ∙ length-tombstone (record { key = k; version = version; segment = segment })
+length-tombstone_entry k version segment =
+    length-one (tombstone_entry k version segment) ∙ length-tombstone (record { key = k; version = version; segment = segment })
 
 pub length-replacing : (k : Key) (dead version segment : ℕ) (value : List ℕ) →
     length (text_of (tombstone_entry k dead segment ∷ object_entry k version value ∷ [])) ≡ 27 + length k.bytes + (23 + length k.bytes + length value)
@@ -46,7 +49,8 @@ length-replacing k dead version segment value =
 pub ruleset unit_lengths = (length-object_entry, length-tombstone_entry, length-replacing)
 
 -- the front of a unit that ends in an object
-front_of_two : (k : Key) (dead segment : ℕ) (e : Entry) (front : List Entry) (o : Object) → tombstone_entry k dead segment ∷ e ∷ [] ≡ front ++ entry.Object o ∷ []
+front_of_two : (k : Key) (dead segment : ℕ) (e : Entry) (front : List Entry) (o : Object)
+    → tombstone_entry k dead segment ∷ e ∷ [] ≡ front ++ entry.Object o ∷ []
     → length (text_of front) ≡ 27 + length k.bytes
 front_of_two k dead segment e [] o is = cc
 front_of_two k dead segment e (t ∷ []) o is =
@@ -72,7 +76,8 @@ absent : (P : Option Versioned → Type 0) → P None → (x : Option Versioned)
 absent P p None is = p
 absent P p (Some x) is = absurd (cc)
 
-present : (P : Option Versioned → Type 0) (dead : ℕ) → ((x : Versioned) → x.version ≡ dead → P (Some x)) → (x : Option Versioned) → version_in x ≡ Some dead → P x
+present : (P : Option Versioned → Type 0) (dead : ℕ) → ((x : Versioned) → x.version ≡ dead → P (Some x)) → (x : Option Versioned)
+    → version_in x ≡ Some dead → P x
 present P dead p None is = absurd (cc)
 present P dead p (Some x) is = p x (cc)
 
@@ -98,11 +103,13 @@ pub replace_spent : (safe dead : ℕ) (k : Key) (value : List ℕ) (when : If) (
     → IfErr r (λ _. (safe : ℕ) (x : Versioned) (k : Key) (value : List ℕ) → x.version ≡ dead → is_spent safe (Some x) (Put k value when) ≡ true)
     → IfErr r (λ _. (x : Option Versioned) → version_in x ≡ Some dead → is_spent safe x (Put k value when) ≡ true)
 replace_spent safe dead k value when (Ok c) spent = tt
-replace_spent safe dead k value when (Err e) spent = present (λ x. is_spent safe x (Put k value when) ≡ true) dead (λ (x : Versioned). spent safe x k value)
+replace_spent safe dead k value when (Err e) spent =
+    present (λ x. is_spent safe x (Put k value when) ≡ true) dead (λ (x : Versioned). spent safe x k value)
 
 -- ---- replies
 
-pub unmet : (safe : ℕ) (x : Option Versioned) (k : Key) (value : List ℕ) (when : If) → IsChangeOf safe x (Put k value when) change.Nothing → is_met when x ≡ false
+pub unmet : (safe : ℕ) (x : Option Versioned) (k : Key) (value : List ℕ) (when : If) → IsChangeOf safe x (Put k value when) change.Nothing
+    → is_met when x ≡ false
 unmet safe None k value when c = go (is_met when None) (c.nothing 0) where
   go : (b : Bool) → true ≡ is_empty (if b then put_unit safe 0 k value None else []) → b ≡ false
   go true e = cc
@@ -116,21 +123,25 @@ pub undeleted : (safe : ℕ) (x : Option Versioned) (k : Key) → IsChangeOf saf
 undeleted safe None k c = refl
 undeleted safe (Some x) k c = let e = c.nothing 0 in cc
 
-pub not_deleted : (safe : ℕ) (x : Option Versioned) (k : Key) → IsChangeOf safe x (Delete k) change.Nothing → reply_given safe x (Delete k) ≡ reply.None
+pub not_deleted : (safe : ℕ) (x : Option Versioned) (k : Key) → IsChangeOf safe x (Delete k) change.Nothing
+    → reply_given safe x (Delete k) ≡ reply.None
 not_deleted safe x k c = rw (undeleted safe x k c) refl
 
 pub not_put : (safe : ℕ) (x : Option Versioned) (k : Key) (value : List ℕ) (when : If) → IsChangeOf safe x (Put k value when) change.Nothing
     → reply_given safe x (Put k value when) ≡ reply.Mismatch (version_in x)
 not_put safe x k value when c = rw (unmet safe x k value when c) refl
 
-pub created : (safe : ℕ) (x : Option Versioned) (command : Command) (version : ℕ) → IsChangeOf safe x command (change.Create version) → reply_given safe x command ≡ reply.Ok version
+pub created : (safe : ℕ) (x : Option Versioned) (command : Command) (version : ℕ) → IsChangeOf safe x command (change.Create version)
+    → reply_given safe x command ≡ reply.Ok version
 created safe x (Get k) version c = let e = c.nothing 0 in cc
 created safe None (Put k value when) version c = go (is_met when None) (c.unit 0) where
-  go : (b : Bool) → object_entry k version value ∷ [] ≡ (if b then put_unit safe 0 k value None else []) → (if b then reply.Ok safe else reply.Mismatch None) ≡ reply.Ok version
+  go : (b : Bool) → object_entry k version value ∷ [] ≡ (if b then put_unit safe 0 k value None else [])
+      → (if b then reply.Ok safe else reply.Mismatch None) ≡ reply.Ok version
   go true e = let same : object_entry k version value ≡ object_entry k safe value = cc in ap reply.Ok (sym (ap version_of same))
   go false e = cc
 created safe (Some x) (Put k value when) version c = go (is_met when (Some x)) (c.unit 0) where
-  go : (b : Bool) → object_entry k version value ∷ [] ≡ (if b then put_unit safe 0 k value (Some x) else []) → (if b then reply.Ok (x.version + 1) else reply.Mismatch (Some x.version)) ≡ reply.Ok version
+  go : (b : Bool) → object_entry k version value ∷ [] ≡ (if b then put_unit safe 0 k value (Some x) else [])
+      → (if b then reply.Ok (x.version + 1) else reply.Mismatch (Some x.version)) ≡ reply.Ok version
   go true e = cc
   go false e = cc
 created safe None (Delete k) version c = let e = c.nothing 0 in cc
@@ -156,7 +167,8 @@ replaced safe (Some x) (Delete k) dead version c = let e = c.unit 0 in cc
 pub clashes : {es : List Entry} → [] ≡ es → false ≡ is_empty es → ⊥
 clashes is some = cc
 
-pub deletes : (safe : ℕ) (x : Option Versioned) (command : Command) (dead : ℕ) → IsChangeOf safe x command (change.Delete dead) → reply_given safe x command ≡ reply.Ok dead
+pub deletes : (safe : ℕ) (x : Option Versioned) (command : Command) (dead : ℕ) → IsChangeOf safe x command (change.Delete dead)
+    → reply_given safe x command ≡ reply.Ok dead
 deletes safe x (Get k) dead c = let e = c.nothing 0 in cc
 deletes safe x (Put k value when) dead c = absurd (clashes (c.unit 0) (c.nothing 0))
 deletes safe None (Delete k) dead c = let e = c.nothing 0 in cc

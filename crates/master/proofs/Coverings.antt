@@ -28,7 +28,8 @@ use Rattle.master.proofs.Buried.{buried_by_units, tombstone_names}
 
 -- ---- a master's log
 
-module _ (d : MasterData) (f : FleetState) (units : List (List Entry)) (log : IsLog d units) (segment : IsSegment d.head.image) (mirrors : Mirrors d f) where
+module _ (d : MasterData) (f : FleetState) (units : List (List Entry)) (log : IsLog d units) (segment : IsSegment d.head.image)
+    (mirrors : Mirrors d f) where
   image_data : filter is_data d.head.image ≡ joined units
   image_data = ap (filter is_data) log.image ∙ (units_data (opening_state d) (commands_of d.history) units log.appended).1
 

@@ -51,7 +51,8 @@ module _ (h : HeadValue) (total : ℕ) (is_head : IsHead h) (from : ℕ) (units 
   ]
   place_before place u at (Some v) some lt = elim (cases_lt place (everywhere h)) as (λ _. place < everywhere h) [
     | inl before ↦ before
-    | inr behind ↦ (let le = numbers_rise 0 from units (everywhere h) place v u behind (in_ends (everywhere h) v some) (in_ends place u at) in absurd (omega arith))
+    | inr behind ↦ (let le = numbers_rise 0 from units (everywhere h) place v u behind (in_ends (everywhere h) v some) (in_ends place u at) in
+        absurd (omega arith))
   ]
 
   all_taken : AreTaken h (number_at_or h.units (everywhere h) total)

@@ -1,5 +1,6 @@
 -- Heads: where units end, and what replicas have taken.
-use Rattle.std.proofs.Common.{◌≡◌, ℕ, zero, suc, ◌+◌, ◌-◌, ◌<◌, ◌≤◌, true, false, List, [], ◌∷◌, ◌++◌, length, take, drop, get_or, Some, None, refl, sym, ◌∙◌, add-one, arith}
+use Rattle.std.proofs.Common.{◌≡◌, ℕ, zero, suc, ◌+◌, ◌-◌, ◌<◌, ◌≤◌, true, false, List, [], ◌∷◌, ◌++◌, length, take, drop, get_or, Some, None, refl}
+use Rattle.std.proofs.Common.{sym, ◌∙◌, add-one, arith}
 use Rattle.std.specs.Prelude.{slice_get, slice_set, unwrap_or, nat_lt}
 use Rattle.std.specs.List.{AllByRecursion}
 use Rattle.std.proofs.Common.{sub-one}
@@ -79,7 +80,8 @@ all_above : (ns : List ℕ) (a b : ℕ) → a ≤ b → AllByRecursion (λ m. b 
 all_above [] a b le all = tt
 all_above (n ∷ ns) a b le all = let here = all.0 in (omega arith, all_above ns a b le all.1)
 
-pub lagging_first : (units : ℕ) (ns : List ℕ) → 1 ≤ length ns → IsLagging units (rest_in ns) None → get_or ns 0 0 < units → IsLagging units ns (Some 0)
+pub lagging_first : (units : ℕ) (ns : List ℕ) → 1 ≤ length ns → IsLagging units (rest_in ns) None → get_or ns 0 0 < units
+    → IsLagging units ns (Some 0)
 lagging_first units [] some rest lt = absurd (omega arith)
 lagging_first units (n ∷ ns) some rest lt = (n, refl, lt, (omega arith, all_above ns n units (omega arith) (rw rest_of at rest)), tt)
 
@@ -87,7 +89,8 @@ pub lagging_none : (units : ℕ) (ns : List ℕ) → 1 ≤ length ns → IsLaggi
 lagging_none units [] some rest le = absurd (omega arith)
 lagging_none units (n ∷ ns) some rest le = (le, rw rest_of at rest)
 
-pub lagging_before : (units place : ℕ) (ns : List ℕ) → 1 ≤ length ns → IsLagging units (rest_in ns) (Some place) → get_or ns 0 0 ≤ get_or (rest_in ns) place 0
+pub lagging_before : (units place : ℕ) (ns : List ℕ) → 1 ≤ length ns → IsLagging units (rest_in ns) (Some place)
+    → get_or ns 0 0 ≤ get_or (rest_in ns) place 0
     → IsLagging units ns (Some 0)
 lagging_before units place [] some rest le = absurd (omega arith)
 lagging_before units place (n ∷ ns) some rest le =
@@ -98,7 +101,8 @@ lagging_before units place (n ∷ ns) some rest le =
     let below : later.0 < units = later.2 in
     (n, refl, omega arith, (omega arith, all_above ns n later.0 (omega arith) later.3), tt)
 
-pub lagging_later : (units place : ℕ) (ns : List ℕ) → 1 ≤ length ns → IsLagging units (rest_in ns) (Some place) → get_or (rest_in ns) place 0 < get_or ns 0 0
+pub lagging_later : (units place : ℕ) (ns : List ℕ) → 1 ≤ length ns → IsLagging units (rest_in ns) (Some place)
+    → get_or (rest_in ns) place 0 < get_or ns 0 0
     → IsLagging units ns (Some (place + 1))
 lagging_later units place [] some rest le = absurd (omega arith)
 lagging_later units place (n ∷ ns) some rest le =

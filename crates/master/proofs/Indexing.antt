@@ -44,7 +44,8 @@ module _ (image : List Entry) (at : ℕ) (o : Object) (here : Stands image at (e
   AreAt-set (x ∷ places) (p ∷ os) zero all = (here, all.1)
   AreAt-set (x ∷ places) (p ∷ os) (suc j) all = (all.0, AreAt-set places os j all.1)
 
-pub AreAt-remove : (image : List Entry) (places : List ℕ) (os : List Object) (j : ℕ) → AreAt image places os → AreAt image (remove places j) (remove os j)
+pub AreAt-remove : (image : List Entry) (places : List ℕ) (os : List Object) (j : ℕ) → AreAt image places os
+    → AreAt image (remove places j) (remove os j)
 AreAt-remove image [] [] zero all = tt
 AreAt-remove image [] [] (suc j) all = tt
 AreAt-remove image [] (p ∷ os) j all = absurd all
@@ -161,12 +162,14 @@ module _ (o : Object) where
       passed : key_eq q p.key ≡ false → with_contents (contents_of os) o.key has q ≡ with_contents (contents_of (p ∷ os)) o.key has q
       passed other = rw other refl
 
-  set-at : (os : List Object) (j : ℕ) → slot_in os o.key ≡ Some j → (q : Key) → contents_of (slice_set os j o) q ≡ with_contents (contents_of os) o.key has q
+  set-at : (os : List Object) (j : ℕ) → slot_in os o.key ≡ Some j → (q : Key)
+      → contents_of (slice_set os j o) q ≡ with_contents (contents_of os) o.key has q
   set-at [] j found q = absurd (cc)
-  set-at (p ∷ os) j found q = elim (slot-tells p os o.key j found) as (λ _. contents_of (slice_set (p ∷ os) j o) q ≡ with_contents (contents_of (p ∷ os)) o.key has q) [
-    | inl t ↦ (let first = t.1 in rw first (replaced t.0))
-    | inr t ↦ (let later = t.1 in let next = later.next in rw next (behind t.0 later.i (set-at os later.i later.found q)))
-  ]
+  set-at (p ∷ os) j found q =
+      elim (slot-tells p os o.key j found) as (λ _. contents_of (slice_set (p ∷ os) j o) q ≡ with_contents (contents_of (p ∷ os)) o.key has q) [
+        | inl t ↦ (let first = t.1 in rw first (replaced t.0))
+        | inr t ↦ (let later = t.1 in let next = later.next in rw next (behind t.0 later.i (set-at os later.i later.found q)))
+      ]
     where
       replaced : key_eq o.key p.key ≡ true → contents_of (o ∷ os) q ≡ with_contents (contents_of (p ∷ os)) o.key has q
       replaced same = elim (key_eq-tells q o.key) as (λ _. contents_of (o ∷ os) q ≡ with_contents (contents_of (p ∷ os)) o.key has q) [
@@ -177,21 +180,24 @@ module _ (o : Object) where
 
       behind : key_eq o.key p.key ≡ false → (i : ℕ) → contents_of (slice_set os i o) q ≡ with_contents (contents_of os) o.key has q
           → contents_of (p ∷ slice_set os i o) q ≡ with_contents (contents_of (p ∷ os)) o.key has q
-      behind other i later = elim (key_eq-tells q p.key) as (λ _. contents_of (p ∷ slice_set os i o) q ≡ with_contents (contents_of (p ∷ os)) o.key has q) [
-        | inl s ↦ first_has p (slice_set os i o) q s.0 ∙ sym (first_has p os q s.0)
-            ∙ sym (at_other (contents_of (p ∷ os)) o.key has q (λ same. not_same o.key p.key other (sym same ∙ s.1)))
-        | inr s ↦ others_have p (slice_set os i o) q s.0 ∙ later ∙ passed s.0
-      ]
+      behind other i later =
+          elim (key_eq-tells q p.key) as (λ _. contents_of (p ∷ slice_set os i o) q ≡ with_contents (contents_of (p ∷ os)) o.key has q) [
+            | inl s ↦ first_has p (slice_set os i o) q s.0 ∙ sym (first_has p os q s.0)
+                ∙ sym (at_other (contents_of (p ∷ os)) o.key has q (λ same. not_same o.key p.key other (sym same ∙ s.1)))
+            | inr s ↦ others_have p (slice_set os i o) q s.0 ∙ later ∙ passed s.0
+          ]
         where
           passed : key_eq q p.key ≡ false → with_contents (contents_of os) o.key has q ≡ with_contents (contents_of (p ∷ os)) o.key has q
           passed beside = rw beside refl
 
-remove-at : (os : List Object) (k : Key) (j : ℕ) → AreDistinct os → slot_in os k ≡ Some j → (q : Key) → contents_of (remove os j) q ≡ with_contents (contents_of os) k None q
+remove-at : (os : List Object) (k : Key) (j : ℕ) → AreDistinct os → slot_in os k ≡ Some j → (q : Key)
+    → contents_of (remove os j) q ≡ with_contents (contents_of os) k None q
 remove-at [] k j all found q = absurd (cc)
-remove-at (p ∷ os) k j all found q = elim (slot-tells p os k j found) as (λ _. contents_of (remove (p ∷ os) j) q ≡ with_contents (contents_of (p ∷ os)) k None q) [
-  | inl t ↦ (let first = t.1 in rw first (gone t.0))
-  | inr t ↦ (let later = t.1 in let next = later.next in rw next (behind t.0 later.i (remove-at os k later.i all.1 later.found q)))
-]
+remove-at (p ∷ os) k j all found q =
+    elim (slot-tells p os k j found) as (λ _. contents_of (remove (p ∷ os) j) q ≡ with_contents (contents_of (p ∷ os)) k None q) [
+      | inl t ↦ (let first = t.1 in rw first (gone t.0))
+      | inr t ↦ (let later = t.1 in let next = later.next in rw next (behind t.0 later.i (remove-at os k later.i all.1 later.found q)))
+    ]
   where
     gone : key_eq k p.key ≡ true → contents_of os q ≡ with_contents (contents_of (p ∷ os)) k None q
     gone same = elim (key_eq-tells q k) as (λ _. contents_of os q ≡ with_contents (contents_of (p ∷ os)) k None q) [
@@ -212,11 +218,14 @@ remove-at (p ∷ os) k j all found q = elim (slot-tells p os k j found) as (λ _
         passed : key_eq q p.key ≡ false → with_contents (contents_of os) k None q ≡ with_contents (contents_of (p ∷ os)) k None q
         passed beside = rw beside refl
 
-pub contents-push : (os : List Object) (o : Object) → slot_in os o.key ≡ None → contents_of (os ++ o ∷ []) ≡ with_contents (contents_of os) o.key (Some (versioned o))
+pub contents-push : (os : List Object) (o : Object) → slot_in os o.key ≡ None
+    → contents_of (os ++ o ∷ []) ≡ with_contents (contents_of os) o.key (Some (versioned o))
 contents-push os o none = λ i q. push-at o os none q i
 
-pub contents-set : (os : List Object) (j : ℕ) (o : Object) → slot_in os o.key ≡ Some j → contents_of (slice_set os j o) ≡ with_contents (contents_of os) o.key (Some (versioned o))
+pub contents-set : (os : List Object) (j : ℕ) (o : Object) → slot_in os o.key ≡ Some j
+    → contents_of (slice_set os j o) ≡ with_contents (contents_of os) o.key (Some (versioned o))
 contents-set os j o found = λ i q. set-at o os j found q i
 
-pub contents-remove : (os : List Object) (k : Key) (j : ℕ) → AreDistinct os → slot_in os k ≡ Some j → contents_of (remove os j) ≡ with_contents (contents_of os) k None
+pub contents-remove : (os : List Object) (k : Key) (j : ℕ) → AreDistinct os → slot_in os k ≡ Some j
+    → contents_of (remove os j) ≡ with_contents (contents_of os) k None
 contents-remove os k j all found = λ i q. remove-at os k j all found q i

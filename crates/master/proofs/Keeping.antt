@@ -182,5 +182,6 @@ module _ (old new : World) (logged : IsLogged old.knows) where
   step_keeps Push (Err r) (inl t) = unchanged t.1
   step_keeps Push (Err r) (inr t) = failed r t.1
 
-pub steps_keep : (old new : World) (step : Step) (result : Result StepAnswer Refusal) → IsLogged old.knows → Steps old step result new → Keeps 1 old new
+pub steps_keep : (old new : World) (step : Step) (result : Result StepAnswer Refusal) → IsLogged old.knows → Steps old step result new
+    → Keeps 1 old new
 steps_keep old new step result logged t = step_keeps old new logged step result t

@@ -35,7 +35,8 @@ use Rattle.master.proofs.Numbers.{AreOf-appended, replicas-appended}
 use Rattle.master.proofs.Refusals.{IsAdmitted, is_admitted, passed_early, unit_fits}
 use Rattle.master.proofs.Units.{states_pushed}
 
-pub fresh_kept : (c : Config) (f : FleetState) → config_fault c ≡ None → c.backups ≤ f.backups → ((b s : ℕ) → f.picture b c.master s ≡ None) → IsKept (fresh_data c) f
+pub fresh_kept : (c : Config) (f : FleetState) → config_fault c ≡ None → c.backups ≤ f.backups → ((b s : ℕ) → f.picture b c.master s ≡ None)
+    → IsKept (fresh_data c) f
 fresh_kept c f ok backups none = record {
   valid = record { config = ok; replicas = refl; history = omega arith; numbers = tt };
   logged = record {
@@ -74,12 +75,14 @@ IsPlaced d command change at =
     → at ≡ length (text_of d.head.image) + length (text_of front)
 
 -- the change is that of the versioned map, and its unit fits
-module _ (d : MasterData) (f : FleetState) (command : Command) (change : Change) (slot : Option ℕ) (kept : IsKept d f) (judged : IsJudged d command change slot) where
+module _ (d : MasterData) (f : FleetState) (command : Command) (change : Change) (slot : Option ℕ) (kept : IsKept d f)
+    (judged : IsJudged d command change slot) where
   change_is : IsChangeOf (state_of d).safe ((state_of d).contents (command_key command)) command change
   change_is =
       let index = kept.logged.index.1 in
       subst (λ (s : ℕ). IsChangeOf s ((state_of d).contents (command_key command)) command change) index.safe
-      (subst (λ (contents : Contents). IsChangeOf d.safe (contents (command_key command)) command change) index.contents (judged kept.logged.index.0 index.places).1)
+      (subst (λ (contents : Contents). IsChangeOf d.safe (contents (command_key command)) command change) index.contents
+      (judged kept.logged.index.0 index.places).1)
 
   own_unit : unit_of_change d.head.id command change ≡ unit_of (state_of d) d.head.id command
   own_unit = change_is.unit d.head.id
@@ -90,7 +93,8 @@ module _ (d : MasterData) (f : FleetState) (command : Command) (change : Change)
       unit_fits d command passed (ap is_empty (sym own_unit) ∙ over.0)
       (subst (λ (u : List Entry). d.config.segment < length (text_of d.head.image) + length (text_of u)) own_unit over.1)
 
-module _ (d : MasterData) (f : FleetState) (seat : ℕ) (command : Command) (change : Change) (slot : Option ℕ) (at : ℕ) (kept : IsKept d f) (valid : IsHead d.head)
+module _ (d : MasterData) (f : FleetState) (seat : ℕ) (command : Command) (change : Change) (slot : Option ℕ) (at : ℕ) (kept : IsKept d f)
+    (valid : IsHead d.head)
     (passed : command_refusal d command ≡ None) (judged : IsJudged d command change slot) (is_placed : IsPlaced d command change at) where
   abbrev st : State
   st = state_of d
@@ -145,11 +149,14 @@ module _ (d : MasterData) (f : FleetState) (seat : ℕ) (command : Command) (cha
   index_on : Indexes (d.head.image ++ unit) (placed d.places change slot at)
       (with_contents (contents_of os) (command_key command) (given d.safe (contents_of os (command_key command)) command))
   index_on =
-      goes_on d.head.image d.head.id at d.places os d.safe index.places index.distinct command change slot (judged os index.places).0 (judged os index.places).1
-      (λ front o is. is_placed d.head.id front o is ∙ sym (ap length (text_of-append d.head.image front) ∙ length-append (text_of d.head.image) (text_of front)))
+      goes_on d.head.image d.head.id at d.places os d.safe index.places index.distinct command change slot (judged os index.places).0
+      (judged os index.places).1
+      (λ front o is. is_placed d.head.id front o is
+      ∙ sym (ap length (text_of-append d.head.image front) ∙ length-append (text_of d.head.image) (text_of front)))
 
   -- what the index and the versioned map say of the key is one
-  given_is : (s : ℕ) (contents : Contents) → d.safe ≡ s → contents_of os ≡ contents → given d.safe (contents_of os (command_key command)) command ≡ given s (contents (command_key command)) command
+  given_is : (s : ℕ) (contents : Contents) → d.safe ≡ s → contents_of os ≡ contents
+      → given d.safe (contents_of os (command_key command)) command ≡ given s (contents (command_key command)) command
   given_is s contents a b = λ i. given (a i) (b i (command_key command)) command
 
   index_then : (o : List Object) × IsIndex e o
@@ -159,7 +166,8 @@ module _ (d : MasterData) (f : FleetState) (seat : ℕ) (command : Command) (cha
         record {
           places = rw (image-appended d.head (length d.history) unit) index_on.at;
           distinct = index_on.distinct;
-          contents = index_on.same ∙ (λ i. with_contents (index.contents i) (command_key command) (given_is st.safe st.contents index.safe index.contents i))
+          contents =
+              index_on.same ∙ (λ i. with_contents (index.contents i) (command_key command) (given_is st.safe st.contents index.safe index.contents i))
               ∙ ap (λ (s : State). s.contents) (sym (state_then ∙ at_command));
           safe = (judged os index.places).1.safe_after
               ∙ (λ i. safe_given (index.safe i) (index.contents i (command_key command)) command)

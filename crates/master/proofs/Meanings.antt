@@ -110,13 +110,15 @@ highest_is k (e ∷ es) = elim (of_key-tells k e) [
 
 -- ---- membership
 
-module _ (bag : List Entry) (contents : Contents) (is : IsMeaning (among bag) contents) (k : Key) (x : Versioned) (none : contents k ≡ None) (held : among bag (object_at k x)) where
+module _ (bag : List Entry) (contents : Contents) (is : IsMeaning (among bag) contents) (k : Key) (x : Versioned) (none : contents k ≡ None)
+    (held : among bag (object_at k x)) where
   outranked_by : (t : Entry) → IsTop k (among bag) t → IsOutranked (among bag) k x.version
   outranked_by (entry.Header h) top = absurd top.of_key
   outranked_by (entry.Digest ids) top = absurd top.of_key
   outranked_by (entry.Safe version) top = absurd top.of_key
   outranked_by (entry.Object o) top =
-      let same : entry.Object o ≡ object_at k (versioned o) = λ i. entry.Object (record { key = top.of_key i; version = o.version; value = o.value }) in
+      let same : entry.Object o ≡ object_at k (versioned o) =
+      λ i. entry.Object (record { key = top.of_key i; version = o.version; value = o.value }) in
       let some : contents k ≡ Some (versioned o) = (is k (versioned o)).1 (subst (λ (f : Entry). IsTop k (among bag) f) same top) in absurd (cc)
   outranked_by (entry.Tombstone u) top =
       (entry.Tombstone u, top.held, top.of_key, let le : 2 * x.version ≤ 2 * u.version + 1 = top.highest (object_at k x) held refl in omega arith)
@@ -127,7 +129,8 @@ module _ (bag : List Entry) (contents : Contents) (is : IsMeaning (among bag) co
 pub by_membership : (bag : List Entry) (contents : Contents) → IsMeaning (among bag) contents → IsMeaningBy (among bag) contents
 by_membership bag contents is = record { present = λ k x h. (is k x).0 h; absent = λ k x none held. outranked bag contents is k x none held }
 
-module _ (bag : Entry → Type 0) (contents : Contents) (clean : IsClean bag) (is : IsMeaningBy bag contents) (k : Key) (x : Versioned) (top : IsTop k bag (object_at k x)) where
+module _ (bag : Entry → Type 0) (contents : Contents) (clean : IsClean bag) (is : IsMeaningBy bag contents) (k : Key) (x : Versioned)
+    (top : IsTop k bag (object_at k x)) where
   had : (c : Option Versioned) → contents k ≡ c → c ≡ Some x
   had None e =
       let h = is.absent k x e top.held in
@@ -137,7 +140,9 @@ module _ (bag : Entry → Type 0) (contents : Contents) (clean : IsClean bag) (i
       let le : 2 * x.version ≤ 2 * y.version = t.highest (object_at k x) top.held refl in
       let ge : 2 * y.version ≤ 2 * x.version = top.highest (object_at k y) t.held refl in
       let same : y.version ≡ x.version = omega arith in
-      let value : y.value ≡ x.value = clean (record { key = k; version = y.version; value = y.value }) (record { key = k; version = x.version; value = x.value }) t.held top.held refl same in
+      let value : y.value ≡ x.value =
+      clean (record { key = k; version = y.version; value = y.value })
+      (record { key = k; version = x.version; value = x.value }) t.held top.held refl same in
       λ i. Some (record { version = same i; value = value i })
 
 pub from_membership : (bag : Entry → Type 0) (contents : Contents) → IsClean bag → IsMeaningBy bag contents → IsMeaning bag contents

@@ -1,5 +1,6 @@
 -- An op that a head's next replica takes keeps the backups mirrored.
-use Rattle.std.proofs.Common.{◌≡◌, ℕ, zero, suc, ◌+◌, ◌-◌, ◌<◌, ◌≤◌, ◌⊎◌, inl, inr, true, false, List, [], ◌∷◌, ◌++◌, length, take, drop, refl, sym, ap, subst, ◌∙◌, arith}
+use Rattle.std.proofs.Common.{◌≡◌, ℕ, zero, suc, ◌+◌, ◌-◌, ◌<◌, ◌≤◌, ◌⊎◌, inl, inr, true, false, List, [], ◌∷◌, ◌++◌, length, take, drop, refl, sym}
+use Rattle.std.proofs.Common.{ap, subst, ◌∙◌, arith}
 use Rattle.std.specs.Prelude.{Option, Some, None, slice_get, slice_set, nat_lt, ◌==◌, unwrap_or}
 use Rattle.std.proofs.lemmas.Bool.Decides.{nat_tests}
 use Rattle.std.proofs.lemmas.Nat.{mod_below}
@@ -20,12 +21,14 @@ use Rattle.master.proofs.Homes.{homes_apart}
 same_place-true : (b m s c n t : ℕ) → b ≡ c → m ≡ n → s ≡ t → is_same_place b m s c n t ≡ true
 same_place-true b m s c n t p q r = grind (arith, nat_tests)
 
-pub same_place-tells : (b m s c n t : ℕ) → ((is_same_place b m s c n t ≡ true) × (b ≡ c) × (m ≡ n) × (s ≡ t)) ⊎ ((is_same_place b m s c n t ≡ false) × ((b ≡ c) × (m ≡ n) × (s ≡ t) → ⊥))
+pub same_place-tells : (b m s c n t : ℕ)
+    → ((is_same_place b m s c n t ≡ true) × (b ≡ c) × (m ≡ n) × (s ≡ t)) ⊎ ((is_same_place b m s c n t ≡ false) × ((b ≡ c) × (m ≡ n) × (s ≡ t) → ⊥))
 same_place-tells b m s c n t = grind (arith, nat_tests)
 
 -- ---- lists
 
-pub slice_get-push : {A : Type 0} (xs : List A) (y : A) (j : ℕ) (l : A) → slice_get (xs ++ y ∷ []) j ≡ Some l → (slice_get xs j ≡ Some l) ⊎ ((j ≡ length xs) × (y ≡ l))
+pub slice_get-push : {A : Type 0} (xs : List A) (y : A) (j : ℕ) (l : A) → slice_get (xs ++ y ∷ []) j ≡ Some l
+    → (slice_get xs j ≡ Some l) ⊎ ((j ≡ length xs) × (y ≡ l))
 slice_get-push [] y zero l h = inr (refl, cc)
 slice_get-push [] y (suc j) l h = absurd (cc)
 slice_get-push (x ∷ xs) y zero l h = inl h
@@ -74,12 +77,14 @@ placed c h f b r = record { backups = f.backups; picture = replaced f.picture b 
 abbrev pub with_counts : HeadValue → List ℕ → HeadValue
 with_counts h ks = record { id = h.id; replicas = h.replicas; image = h.image; opening = h.opening; units = h.units; taken = ks }
 
-module _ (c : Config) (h : HeadValue) (f : FleetState) (m : IsMirrored c h f) (many : h.replicas ≤ c.backups) (few : length h.taken ≤ h.replicas) where
+module _ (c : Config) (h : HeadValue) (f : FleetState) (m : IsMirrored c h f) (many : h.replicas ≤ c.backups)
+    (few : length h.taken ≤ h.replicas) where
   changed : (r : Option Replica) (b d : ℕ) → b ≡ d → (placed c h f b r).picture d c.master h.id ≡ r
   changed r b d same = let t = same_place-true b c.master h.id d c.master h.id same refl refl in rw t refl
 
   unchanged : (r : Option Replica) (b d s : ℕ) → ((b ≡ d) × (h.id ≡ s) → ⊥) → (placed c h f b r).picture d c.master s ≡ f.picture d c.master s
-  unchanged r b d s other = elim (same_place-tells b c.master h.id d c.master s) [ inl t ↦ absurd (other (t.1, t.3)) | inr t ↦ (let e = t.0 in rw e refl) ]
+  unchanged r b d s other =
+      elim (same_place-tells b c.master h.id d c.master s) [ inl t ↦ absurd (other (t.1, t.3)) | inr t ↦ (let e = t.0 in rw e refl) ]
 
   -- each replica is the changed one or one from before
   either : (r : Option Replica) (b d s : ℕ) (x : Replica) → (placed c h f b r).picture d c.master s ≡ Some x
@@ -113,16 +118,20 @@ module _ (c : Config) (h : HeadValue) (f : FleetState) (m : IsMirrored c h f) (m
     abbrev own : Option Replica
     own = Some (head_replica h n)
 
-    held_then : (i k : ℕ) → slice_get ks i ≡ Some k → (placed c h f (home c h.id j) own).picture (home c h.id i) c.master h.id ≡ Some (head_replica h k)
-    held_then i k e = elim (same_or_not i j) as (λ _. (placed c h f (home c h.id j) own).picture (home c h.id i) c.master h.id ≡ Some (head_replica h k)) [
-      | inl same ↦ (
-          let both : Some n ≡ Some k = sym at ∙ ap (slice_get ks) (sym same) ∙ e in
-          changed own (home c h.id j) (home c h.id i) (ap (home c h.id) (sym same)) ∙ ap (λ (x : ℕ). Some (head_replica h x)) (same_Some n k both))
-      | inr other ↦ (
-          let in_ks = slice_get_within ks i k e in
-          let j_in = slice_get_within ks j n at in
-          unchanged own (home c h.id j) (home c h.id i) h.id (λ o. homes_apart c h.id j i (omega arith) (omega arith) (λ x. other (sym x)) o.0) ∙ m.held i k (others i k e other))
-    ]
+    held_then : (i k : ℕ) → slice_get ks i ≡ Some k
+        → (placed c h f (home c h.id j) own).picture (home c h.id i) c.master h.id ≡ Some (head_replica h k)
+    held_then i k e =
+        elim (same_or_not i j) as (λ _. (placed c h f (home c h.id j) own).picture (home c h.id i) c.master h.id ≡ Some (head_replica h k)) [
+          | inl same ↦ (
+              let both : Some n ≡ Some k = sym at ∙ ap (slice_get ks) (sym same) ∙ e in
+              changed own (home c h.id j) (home c h.id i) (ap (home c h.id) (sym same))
+              ∙ ap (λ (x : ℕ). Some (head_replica h x)) (same_Some n k both))
+          | inr other ↦ (
+              let in_ks = slice_get_within ks i k e in
+              let j_in = slice_get_within ks j n at in
+              unchanged own (home c h.id j) (home c h.id i) h.id (λ o. homes_apart c h.id j i (omega arith) (omega arith) (λ x. other (sym x)) o.0)
+              ∙ m.held i k (others i k e other))
+        ]
 
     each_then : (b s : ℕ) (r : Replica) → (placed c h f (home c h.id j) own).picture b c.master s ≡ Some r → IsOpenedHome c (with_counts h ks) b s
     each_then b s r e = elim (either own (home c h.id j) b s r e) as (λ _. IsOpenedHome c (with_counts h ks) b s) [
@@ -204,6 +213,7 @@ module _ (c : Config) (h : HeadValue) (f : FleetState) (m : IsMirrored c h f) (m
         let w = slice_get_within h.taken j n at in
         let value : unwrap_or (slice_get h.taken j) 0 + 1 ≡ n + 1 = rw at refl in
         subst (λ (k : ℕ). IsMirrored c (with_counts h (slice_set h.taken j k)) extended_fleet) (sym value)
-        (counted (slice_set h.taken j (n + 1)) j (n + 1) (slice_get-set_same h.taken j (n + 1) w) (let l = length-set h.taken j (n + 1) in omega arith)
+        (counted (slice_set h.taken j (n + 1)) j (n + 1) (slice_get-set_same h.taken j (n + 1) w)
+        (let l = length-set h.taken j (n + 1) in omega arith)
         (λ i k e other. sym (slice_get-set_other h.taken j i (n + 1) (λ x. other (sym x))) ∙ e)
         (λ i k e other. slice_get-set_other h.taken j i (n + 1) (λ x. other (sym x)) ∙ e))

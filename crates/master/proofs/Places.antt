@@ -1,5 +1,6 @@
 -- Places and the objects that stand at them.
-use Rattle.std.proofs.Common.{◌≡◌, ℕ, zero, suc, ◌+◌, ◌<◌, ◌≤◌, Bool, true, false, List, [], ◌∷◌, length, drop, get_or, Option, Some, None, refl, sym, ap, subst, ◌∙◌, arith}
+use Rattle.std.proofs.Common.{◌≡◌, ℕ, zero, suc, ◌+◌, ◌<◌, ◌≤◌, Bool, true, false, List, [], ◌∷◌, length, drop, get_or, Option, Some, None, refl, sym}
+use Rattle.std.proofs.Common.{ap, subst, ◌∙◌, arith}
 use Rattle.std.specs.Option.{option_map}
 use Rattle.std.proofs.lemmas.Option.{same_Some}
 use Rattle.entry.specs.declared.key.Key.{Key}
@@ -44,7 +45,8 @@ shifted i (Some n) = let e : suc n + i ≡ n + (i + 1) = omega arith in ap (λ (
 pub slot_in-here : (i : ℕ) (os rest : List Object) (o : Object) (k : Key) → os ≡ o ∷ rest → key_eq k o.key ≡ true → further i (slot_in os k) ≡ Some i
 slot_in-here i os rest o k is same = let e : 0 + i ≡ i = omega arith in rw (is, same) (ap (λ (m : ℕ). Some m) e)
 
-pub slot_in-later : (i : ℕ) (os rest : List Object) (o : Object) (k : Key) → os ≡ o ∷ rest → key_eq k o.key ≡ false → further i (slot_in os k) ≡ further (i + 1) (slot_in rest k)
+pub slot_in-later : (i : ℕ) (os rest : List Object) (o : Object) (k : Key) → os ≡ o ∷ rest → key_eq k o.key ≡ false
+    → further i (slot_in os k) ≡ further (i + 1) (slot_in rest k)
 slot_in-later i os rest o k is other = rw (is, other) (shifted i (slot_in rest k))
 
 -- the object that a slot names, and what the key has
@@ -68,10 +70,12 @@ pub some_before : (slot : Option ℕ) (j : ℕ) → next_slot slot ≡ Some j �
 some_before None j e = absurd (cc)
 some_before (Some i) j e = (i, refl, sym (same_Some (suc i) j e))
 
-no_slot-step : (b : Bool) (o : Object) (os : List Object) (k : Key) → key_eq k o.key ≡ b → slot_in (o ∷ os) k ≡ None → (slot_in os k ≡ None → contents_of os k ≡ None)
+no_slot-step : (b : Bool) (o : Object) (os : List Object) (k : Key) → key_eq k o.key ≡ b → slot_in (o ∷ os) k ≡ None
+    → (slot_in os k ≡ None → contents_of os k ≡ None)
     → contents_of (o ∷ os) k ≡ None
 no_slot-step true o os k is e later = let here : slot_in (o ∷ os) k ≡ Some 0 = rw is refl in let none = sym here ∙ e in absurd (some-none 0 none)
-no_slot-step false o os k is e later = let further_on : slot_in (o ∷ os) k ≡ next_slot (slot_in os k) = rw is refl in rw is (later (none_before (slot_in os k) (sym further_on ∙ e)))
+no_slot-step false o os k is e later =
+    let further_on : slot_in (o ∷ os) k ≡ next_slot (slot_in os k) = rw is refl in rw is (later (none_before (slot_in os k) (sym further_on ∙ e)))
 
 pub contents_of-no_slot : (os : List Object) (k : Key) → slot_in os k ≡ None → contents_of os k ≡ None
 contents_of-no_slot [] k e = refl
@@ -80,7 +84,8 @@ contents_of-no_slot (o ∷ os) k e = no_slot-step (key_eq k o.key) o os k refl e
 passed_over : (o : Object) (os : List Object) (k : Key) → key_eq k o.key ≡ false → contents_of (o ∷ os) k ≡ contents_of os k
 passed_over o os k other = rw other refl
 
-found-step : (b : Bool) (image : List Entry) (at : ℕ) (places : List ℕ) (o : Object) (os : List Object) (k : Key) (j : ℕ) → key_eq k o.key ≡ b → Stands image at (entry.Object o)
+found-step : (b : Bool) (image : List Entry) (at : ℕ) (places : List ℕ) (o : Object) (os : List Object) (k : Key) (j : ℕ) → key_eq k o.key ≡ b
+    → Stands image at (entry.Object o)
     → slot_in (o ∷ os) k ≡ Some j → ((i : ℕ) → slot_in os k ≡ Some i → IsFound image places os k i) → IsFound image (at ∷ places) (o ∷ os) k j
 found-step true image at places o os k j is stands e later =
     let here : slot_in (o ∷ os) k ≡ Some 0 = rw is refl in
@@ -97,8 +102,10 @@ found-step false image at places o os k j is stands e later =
     }
 
 -- the slot of a key names a place where its object stands
-pub found-at : (image : List Entry) (places : List ℕ) (os : List Object) (k : Key) (j : ℕ) → AreAt image places os → slot_in os k ≡ Some j → IsFound image places os k j
+pub found-at : (image : List Entry) (places : List ℕ) (os : List Object) (k : Key) (j : ℕ) → AreAt image places os → slot_in os k ≡ Some j
+    → IsFound image places os k j
 found-at image [] [] k j all e = absurd (cc)
 found-at image [] (o ∷ os) k j all e = absurd all
 found-at image (at ∷ places) [] k j all e = absurd all
-found-at image (at ∷ places) (o ∷ os) k j all e = found-step (key_eq k o.key) image at places o os k j refl all.0 e (λ i h. found-at image places os k i all.1 h)
+found-at image (at ∷ places) (o ∷ os) k j all e =
+    found-step (key_eq k o.key) image at places o os k j refl all.0 e (λ i h. found-at image places os k i all.1 h)

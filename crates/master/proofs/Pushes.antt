@@ -42,7 +42,8 @@ same_logged d b l = record {
 }
 
 -- replicas that took more change nothing of the log
-counted_logged : (d : MasterData) (h : HeadValue) → h.id ≡ d.head.id → h.image ≡ d.head.image → h.opening ≡ d.head.opening → h.units ≡ d.head.units → IsLogged d → IsLogged (with_head d h)
+counted_logged : (d : MasterData) (h : HeadValue) → h.id ≡ d.head.id → h.image ≡ d.head.image → h.opening ≡ d.head.opening → h.units ≡ d.head.units
+    → IsLogged d → IsLogged (with_head d h)
 counted_logged d h id image opening units l = record {
   legal = l.legal;
   log = (
@@ -72,7 +73,8 @@ module _ (d : MasterData) (f : FleetState) (kept : IsKept d f) where
   mirrored_now running = subst (λ (h : HeadValue). IsMirrored d.config h f) (kept.mirrors.running running) kept.mirrors.mirrored
 
 -- an op that fits, and the head once it is taken
-module _ (d : MasterData) (f : FleetState) (b : ℕ) (op : OpValue) (next : HeadValue) (placed : FleetState) (kept : IsKept d f) (running : d.is_halted ≡ false)
+module _ (d : MasterData) (f : FleetState) (b : ℕ) (op : OpValue) (next : HeadValue) (placed : FleetState) (kept : IsKept d f)
+    (running : d.is_halted ≡ false)
     (fits : taken f b op ≡ Some placed) (mirrored : IsMirrored d.config next placed) (ahead : IsAtMostOneAhead d.head next) where
   -- the op is never wrong
   pub never_wrong : (g : FleetState) (fault : TakeFault) → Refuses f b op fault g → fault ≡ take_fault.Wrong → ⊥
@@ -133,7 +135,8 @@ module _ (d : MasterData) (f : FleetState) (b : ℕ) (op : OpValue) (next : Head
 
 -- ---- Open
 
-module _ (d : MasterData) (f : FleetState) (kept : IsKept d f) (running : d.is_halted ≡ false) (valid : IsHead d.head) (waiting : length d.head.taken < d.head.replicas) where
+module _ (d : MasterData) (f : FleetState) (kept : IsKept d f) (running : d.is_halted ≡ false) (valid : IsHead d.head)
+    (waiting : length d.head.taken < d.head.replicas) where
   abbrev spot : ℕ
   spot = home d.config d.head.id (length d.head.taken)
 
@@ -203,14 +206,16 @@ module _ (d : MasterData) (f : FleetState) (kept : IsKept d f) (running : d.is_h
       next = with_taken d.head j;
       ahead = inl refl;
       running = λ go. refl;
-      mirrored = taken_mirrors d f spot' (extend_op d units) (with_taken d.head j) extends_to kept running extends_fits extends_mirrored ahead' g took;
+      mirrored = taken_mirrors d f spot' (extend_op d units)
+          (with_taken d.head j) extends_to kept running extends_fits extends_mirrored ahead' g took;
     };
   }
 
   pub extend_right : (g : FleetState) (fault : TakeFault) → Refuses f spot' (extend_op d units) fault g → fault ≡ take_fault.Wrong → ⊥
   extend_right = never_wrong d f spot' (extend_op d units) (with_taken d.head j) extends_to kept running extends_fits extends_mirrored ahead'
 
-  pub extend_failed_kept : (g : FleetState) (fault : TakeFault) → Refuses f spot' (extend_op d units) fault g → IsKept (with_halt d (is_halting fault)) g
+  pub extend_failed_kept : (g : FleetState) (fault : TakeFault) → Refuses f spot' (extend_op d units) fault g
+      → IsKept (with_halt d (is_halting fault)) g
   extend_failed_kept = failed_kept d f spot' (extend_op d units) (with_taken d.head j) extends_to kept running extends_fits extends_mirrored ahead'
 
   pub extend_declines : (g : FleetState) (fault : TakeFault) → Refuses f spot' (extend_op d units) fault g

@@ -80,7 +80,8 @@ module _ (d : MasterData) (command : Command) where
   pub refused_spent : early_refusal d command ≡ None → spent ≡ true → command_refusal d command ≡ Some VersionsSpent
   refused_spent e s = rw (e, s) refl
 
-  pub refused_late : (o : Option Refusal) → early_refusal d command ≡ None → spent ≡ false → unit_refusal d own_unit ≡ o → command_refusal d command ≡ o
+  pub refused_late : (o : Option Refusal) → early_refusal d command ≡ None → spent ≡ false → unit_refusal d own_unit ≡ o
+      → command_refusal d command ≡ o
   refused_late o e s u = rw (e, s, u) refl
 
 -- a unit that is appended is within the segment
@@ -110,7 +111,8 @@ push_waits d running lt = let closed = is_open-false d.head lt in rw (running, c
 pub push_lags : (d : MasterData) (j : ℕ) → d.is_halted ≡ false → IsLagging (length d.head.units) d.head.taken (Some j) → push_refusal d ≡ None
 push_lags d j running lagging =
     let some = lagging.2 in
-    let few : fewest (length d.head.units) d.head.taken ≡ lagging.0 = fewest_at (length d.head.units) lagging.0 j d.head.taken lagging.1 lagging.2 lagging.3 in
+    let few : fewest (length d.head.units) d.head.taken ≡ lagging.0 =
+    fewest_at (length d.head.units) lagging.0 j d.head.taken lagging.1 lagging.2 lagging.3 in
     let less : (fewest (length d.head.units) d.head.taken == length d.head.units) ≡ false = grind (arith, nat_tests) in
     rw (running, less, and_false (is_open d.head)) refl
   where
@@ -118,7 +120,8 @@ push_lags d j running lagging =
     and_false true = refl
     and_false false = refl
 
-pub push_done : (d : MasterData) → d.is_halted ≡ false → is_open d.head ≡ true → IsLagging (length d.head.units) d.head.taken None → push_refusal d ≡ Some Nothing
+pub push_done : (d : MasterData) → d.is_halted ≡ false → is_open d.head ≡ true → IsLagging (length d.head.units) d.head.taken None
+    → push_refusal d ≡ Some Nothing
 push_done d running opened all =
     let few : fewest (length d.head.units) d.head.taken ≡ length d.head.units = fewest_all (length d.head.units) d.head.taken all in
     let same : (fewest (length d.head.units) d.head.taken == length d.head.units) ≡ true = grind (arith, nat_tests) in

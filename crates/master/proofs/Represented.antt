@@ -1,5 +1,6 @@
 -- A unit takes a bag from what one state means to what the next means.
-use Rattle.std.proofs.Common.{◌≡◌, ℕ, ◌+◌, ◌*◌, ◌<◌, ◌≤◌, inl, inr, max, Bool, true, false, cond, zero, suc, take, List, [], ◌∷◌, ◌++◌, refl, sym, subst, ◌∙◌, arith, append_assoc}
+use Rattle.std.proofs.Common.{◌≡◌, ℕ, ◌+◌, ◌*◌, ◌<◌, ◌≤◌, inl, inr, max, Bool, true, false, cond, zero, suc, take, List, [], ◌∷◌, ◌++◌, refl, sym}
+use Rattle.std.proofs.Common.{subst, ◌∙◌, arith, append_assoc}
 use Rattle.std.proofs.lemmas.List.{append-nil}
 use Rattle.std.specs.Prelude.{◌↔◌, Option, Some, None}
 use Rattle.entry.specs.declared.key.Key.{Key}
@@ -78,7 +79,8 @@ module _ (recorded : ℕ) (bag : List Entry) (st : State) (k : Key) (r : Represe
       (object_leaves k st.safe value) (absent_above none)
       (record { no_lower = omega arith; own = λ h. absurd (cc); others = λ f m at h. absurd (cc); small = omega arith })
 
-  ended : (x : Versioned) (segment : ℕ) → st.contents k ≡ Some x → Represents recorded (bag ++ tombstone_entry k x.version segment ∷ []) (after_delete st k (Some x))
+  ended : (x : Versioned) (segment : ℕ) → st.contents k ≡ Some x
+      → Represents recorded (bag ++ tombstone_entry k x.version segment ∷ []) (after_delete st k (Some x))
   ended x segment some =
       one_more recorded bag st k (tombstone_entry k x.version segment) None (max st.safe (x.version + 1)) r
       (tombstone_leaves k x.version segment) (λ f m at. let le = present_rank x some f m at in omega arith)
@@ -122,7 +124,8 @@ module _ (recorded : ℕ) (bag : List Entry) (st : State) (k : Key) (x : Version
       subst (λ (c : Contents). IsMeaning (among (buried ++ fresh ∷ [])) c) (at_twice st.contents k left None)
       (raised buried without k fresh left (object_leaves k (x.version + 1) value) fresh_above without_represented.meaning)
 
-  renewed_below : (q : Key) (f : Entry) → with_contents st.contents k left q ≡ None → among (buried ++ fresh ∷ []) f → IsOfKey q f → version_of f < st.safe
+  renewed_below : (q : Key) (f : Entry) → with_contents st.contents k left q ≡ None → among (buried ++ fresh ∷ []) f → IsOfKey q f
+      → version_of f < st.safe
   renewed_below q f gone m at = elim (key_eq-tells q k) as (λ _. version_of f < st.safe) [
     | inl t ↦ (let never : left ≡ None = sym (at_key st.contents k left q t.1) ∙ gone in absurd (cc))
     | inr t ↦ elim (among_push f buried fresh m) as (λ _. version_of f < st.safe) [
@@ -151,7 +154,8 @@ module _ (recorded : ℕ) (bag : List Entry) (st : State) (segment : ℕ) (r : R
   nothing_more : Represents recorded (bag ++ []) st
   nothing_more = subst (λ (b : List Entry). Represents recorded b st) (sym (append-nil bag)) r
 
-  put_given : (k : Key) (value : List ℕ) (x : Option Versioned) → st.contents k ≡ x → Represents recorded (bag ++ put_unit st.safe segment k value x) (after_put st k value x)
+  put_given : (k : Key) (value : List ℕ) (x : Option Versioned) → st.contents k ≡ x
+      → Represents recorded (bag ++ put_unit st.safe segment k value x) (after_put st k value x)
   put_given k value None none = created recorded bag st k r value none
   put_given k value (Some x) some = renewed recorded bag st k x segment value r some
 
@@ -190,7 +194,8 @@ pub bound_least : (bag : List Entry) (n : ℕ) → ((e : Entry) → among bag e 
 bound_least [] n all = omega arith
 bound_least (e ∷ es) n all = let here = all e (inl refl) in let rest = bound_least es n (λ f m. all f (inr m)) in omega arith
 
-module _ (recorded : ℕ) (bag other : List Entry) (st : State) (r : Represents recorded bag st) (same : (e : Entry) → among bag e ↔ among other e) where
+module _ (recorded : ℕ) (bag other : List Entry) (st : State) (r : Represents recorded bag st)
+    (same : (e : Entry) → among bag e ↔ among other e) where
   pub same_members : Represents recorded other st
   same_members = record {
     meaning = meaning_carried (among bag) (among other) st.contents same r.meaning;

@@ -14,7 +14,9 @@ run_on old mid new (r ∷ rs) [] s a run step = absurd run
 run_on old mid new (r ∷ rs) (b ∷ bs) s a run step = (run.0, run.1, run_on run.0 mid new rs bs s a run.2 step)
 
 -- one more step, and its answer at the end of the answers
-pub run_pushed : (old mid new : World) (steps : List Step) (answers all : List (Result StepAnswer Refusal)) (s : Step) (a : Result StepAnswer Refusal) → all ≡ answers ++ a ∷ [] →
+pub run_pushed : (old mid new : World) (steps : List Step) (answers all : List (Result StepAnswer Refusal)) (s : Step) (a : Result StepAnswer Refusal)
+    → all ≡ answers ++ a ∷ [] →
     IsRun old steps answers mid → Steps mid s a new → IsRun old (steps ++ s ∷ []) all new
 run_pushed old mid new steps answers all s a is run step =
-    subst (λ (every : List (Result StepAnswer Refusal)). IsRun old (steps ++ s ∷ []) every new) (sym is) (run_on old mid new steps answers s a run step)
+    subst (λ (every : List (Result StepAnswer Refusal)). IsRun old (steps ++ s ∷ []) every new) (sym is)
+    (run_on old mid new steps answers s a run step)

@@ -1,5 +1,6 @@
 -- Backups that mirror a master hold a sound picture of it.
-use Rattle.std.proofs.Common.{◌≡◌, ℕ, ◌≤◌, inl, inr, max, Bool, true, false, cond, List, [], ◌∷◌, ◌++◌, length, map, take, Some, refl, sym, ap, subst, ◌∙◌, arith}
+use Rattle.std.proofs.Common.{◌≡◌, ℕ, ◌≤◌, inl, inr, max, Bool, true, false, cond, List, [], ◌∷◌, ◌++◌, length, map, take, Some, refl, sym, ap, subst}
+use Rattle.std.proofs.Common.{◌∙◌, arith}
 use Rattle.std.specs.Prelude.{Option, None, IsSomeAnd}
 use Rattle.std.specs.List.{flat_map}
 use Rattle.std.proofs.lemmas.List.{append-nil, length-append}
@@ -80,7 +81,8 @@ module _ (d : MasterData) (f : FleetState) (units : List (List Entry)) (log : Is
         subst (λ (t : ℕ). IsTextOfSegment r.bytes d.config.master t) (sym at.segment) one
 
     durable_within : durable_of d ≤ count
-    durable_within = let same = durable_records d units log in let rise = records_before-rise units (everywhere d.head) at.places at.reached in omega arith
+    durable_within =
+        let same = durable_records d units log in let rise = records_before-rise units (everywhere d.head) at.places at.reached in omega arith
 
     count_within : count ≤ length d.history
     count_within = let same = units_of_history d units log in let le = records_before-le units at.places in omega arith

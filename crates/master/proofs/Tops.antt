@@ -107,7 +107,8 @@ module _ (bag : List Entry) (contents : Contents) (k : Key) (e : Entry) (x : Opt
     highest = λ g m at. top.highest g (among_left g bag (e ∷ []) m) at;
   }
 
-  raised_there : IsMeaning (among bag) contents → (q : Key) → (q ≡ k → ⊥) → (y : Versioned) → (contents q ≡ Some y) ↔ IsTop q (among (bag ++ e ∷ [])) (object_at q y)
+  raised_there : IsMeaning (among bag) contents → (q : Key) → (q ≡ k → ⊥) → (y : Versioned)
+      → (contents q ≡ Some y) ↔ IsTop q (among (bag ++ e ∷ [])) (object_at q y)
   raised_there is q other y = (
     λ h. stays_there q other (object_at q y) ((is q y).0 h),
     λ top. (is q y).1 (was_there q other (object_at q y) top),
@@ -146,11 +147,13 @@ module _ (bag : List Entry) (contents : Contents) (k : Key) (e : Entry) (x : Opt
 -- ---- objects and tombstones
 
 object_left : (k : Key) (version : ℕ) (value : List ℕ) (y : Versioned) →
-    (◌≡◌ {A = Option Versioned} (Some (record { version = version; value = value })) (Some y)) ↔ (entry.Object (record { key = k; version = version; value = value }) ≡ object_at k y)
+    (◌≡◌ {A = Option Versioned} (Some (record { version = version; value = value })) (Some y)) ↔
+    (entry.Object (record { key = k; version = version; value = value }) ≡ object_at k y)
 object_left k version value y = (
   λ h. (let same : ◌≡◌ {A = Versioned} (record { version = version; value = value }) y = cc in
       λ i. entry.Object (record { key = k; version = (same i).version; value = (same i).value })),
-  λ h. (let same : ◌≡◌ {A = Object} (record { key = k; version = version; value = value }) (record { key = k; version = y.version; value = y.value }) = cc in
+  λ h. (let same : ◌≡◌ {A = Object} (record { key = k; version = version; value = value })
+      (record { key = k; version = y.version; value = y.value }) = cc in
       λ i. Some (versioned (same i))),
 )
 

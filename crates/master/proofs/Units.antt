@@ -54,7 +54,8 @@ joined_data st [] (u ∷ us) are = absurd are
 joined_data st (c ∷ cs) [] are = absurd are
 joined_data st (c ∷ cs) (u ∷ us) are =
     let unit = are.0 in
-    are_data-append u (joined us) (subst (λ (es : List Entry). are_data es ≡ true) (sym unit.1) (unit_data st unit.0 c)) (joined_data (after_command st c) cs us are.1)
+    are_data-append u (joined us) (subst (λ (es : List Entry). are_data es ≡ true) (sym unit.1) (unit_data st unit.0 c))
+    (joined_data (after_command st c) cs us are.1)
 
 pub units_data : (st : State) (commands : List Command) (units : List (List Entry)) → AreUnitsOf st commands units
     → (are_data (joined units) ≡ true) × (filter is_data (joined units) ≡ joined units)
@@ -66,7 +67,8 @@ after-push : (st : State) (commands : List Command) (c : Command) → after st (
 after-push st [] c = refl
 after-push st (b ∷ bs) c = after-push (after_command st b) bs c
 
-replies-push : (st : State) (commands : List Command) (c : Command) → replies st (commands ++ c ∷ []) ≡ replies st commands ++ reply_to (after st commands) c ∷ []
+replies-push : (st : State) (commands : List Command) (c : Command)
+    → replies st (commands ++ c ∷ []) ≡ replies st commands ++ reply_to (after st commands) c ∷ []
 replies-push st [] c = refl
 replies-push st (b ∷ bs) c = ap (λ (rs : List Reply). reply_to st b ∷ rs) (replies-push (after_command st b) bs c)
 

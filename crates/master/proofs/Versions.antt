@@ -1,5 +1,6 @@
 -- Versions that keys had, and what a bag means of them.
-use Rattle.std.proofs.Common.{◌≡◌, ℕ, ◌+◌, ◌<◌, ◌≤◌, ◌⊎◌, inl, inr, max, Bool, true, false, cond, zero, suc, take, List, [], ◌∷◌, refl, sym, ap, subst, ◌∙◌, arith}
+use Rattle.std.proofs.Common.{◌≡◌, ℕ, ◌+◌, ◌<◌, ◌≤◌, ◌⊎◌, inl, inr, max, Bool, true, false, cond, zero, suc, take, List, [], ◌∷◌, refl, sym, ap}
+use Rattle.std.proofs.Common.{subst, ◌∙◌, arith}
 use Rattle.std.specs.Prelude.{Option, Some, None, IsSomeAnd}
 use Rattle.entry.specs.declared.key.Key.{Key}
 use Rattle.entry.specs.declared.entry.Entry.{Entry}
@@ -38,25 +39,30 @@ module _ (k : Key) (version : ℕ) where
     ]
 
   -- what is known of the changed key itself
-  at_changed : (st : State) (q : Key) (x : Option Versioned) → st.contents q ≡ x → k ≡ q → IsBounded st k version → (version < st.safe) ⊎ Reaches version x
+  at_changed : (st : State) (q : Key) (x : Option Versioned) → st.contents q ≡ x → k ≡ q → IsBounded st k version
+      → (version < st.safe) ⊎ Reaches version x
   at_changed st q x h same b = elim b [
     | inl lt ↦ inl lt
     | inr up ↦ inr (subst (λ (o : Option Versioned). Reaches version o) (ap st.contents same ∙ h) up)
   ]
 
-  put_bounded : (st : State) (q : Key) (value : List ℕ) (x : Option Versioned) → st.contents q ≡ x → IsBounded st k version → IsBounded (after_put st q value x) k version
+  put_bounded : (st : State) (q : Key) (value : List ℕ) (x : Option Versioned) → st.contents q ≡ x → IsBounded st k version
+      → IsBounded (after_put st q value x) k version
   put_bounded st q value None none b =
-      changed st q (Some (record { version = st.safe; value = value })) (st.safe + 1) (omega arith) (λ same c. elim (at_changed st q None none same c) [
+      changed st q (Some (record { version = st.safe; value = value })) (st.safe + 1) (omega arith)
+      (λ same c. elim (at_changed st q None none same c) [
         | inl lt ↦ inl (omega arith)
         | inr up ↦ absurd up
       ]) b
   put_bounded st q value (Some x) some b =
-      changed st q (Some (record { version = x.version + 1; value = value })) st.safe (omega arith) (λ same c. elim (at_changed st q (Some x) some same c) [
+      changed st q (Some (record { version = x.version + 1; value = value })) st.safe (omega arith)
+      (λ same c. elim (at_changed st q (Some x) some same c) [
         | inl lt ↦ inl lt
         | inr up ↦ inr (omega arith)
       ]) b
 
-  delete_bounded : (st : State) (q : Key) (x : Option Versioned) → st.contents q ≡ x → IsBounded st k version → IsBounded (after_delete st q x) k version
+  delete_bounded : (st : State) (q : Key) (x : Option Versioned) → st.contents q ≡ x → IsBounded st k version
+      → IsBounded (after_delete st q x) k version
   delete_bounded st q None none b = b
   delete_bounded st q (Some x) some b =
       changed st q None (max st.safe (x.version + 1)) (omega arith) (λ same c. elim (at_changed st q (Some x) some same c) [
@@ -64,7 +70,8 @@ module _ (k : Key) (version : ℕ) where
         | inr up ↦ inl (omega arith)
       ]) b
 
-  put_if_bounded : (st : State) (q : Key) (value : List ℕ) (met : Bool) → IsBounded st k version → IsBounded (cond met (after_put st q value (st.contents q)) st) k version
+  put_if_bounded : (st : State) (q : Key) (value : List ℕ) (met : Bool) → IsBounded st k version
+      → IsBounded (cond met (after_put st q value (st.contents q)) st) k version
   put_if_bounded st q value true b = put_bounded st q value (st.contents q) refl b
   put_if_bounded st q value false b = b
 
@@ -108,7 +115,8 @@ run_safe st (c ∷ cs) = let a = command_safe st c in let b = run_safe (after_co
 
 -- ---- of a bag that represents
 
-module _ (recorded : ℕ) (bag : List Entry) (st : State) (k : Key) (e : Entry) (r : Represents recorded bag st) (m : among bag e) (at : IsOfKey k e) where
+module _ (recorded : ℕ) (bag : List Entry) (st : State) (k : Key) (e : Entry) (r : Represents recorded bag st) (m : among bag e)
+    (at : IsOfKey k e) where
   entry_given : (x : Option Versioned) → st.contents k ≡ x → (version_of e < st.safe) ⊎ Reaches (version_of e) x
   entry_given None none = inl (r.below k e none m at)
   entry_given (Some x) some = inr (version_bound e x.version (((r.meaning k x).0 some).highest e m at))
@@ -121,7 +129,8 @@ pub entry_bounded : (recorded : ℕ) (bag : List Entry) (st : State) (k : Key) (
 entry_bounded recorded bag st k e r m at = entry_reached recorded bag st k e r m at
 
 module _ (recorded : ℕ) (bag : List Entry) (opening : State) (commands : List Command) (r : Represents recorded bag (after opening commands)) where
-  reached : (k : Key) (version : ℕ) (x : Option Versioned) → (after opening commands).contents k ≡ x → Reaches version x → version < max recorded (bound_of bag)
+  reached : (k : Key) (version : ℕ) (x : Option Versioned) → (after opening commands).contents k ≡ x → Reaches version x
+      → version < max recorded (bound_of bag)
   reached k version None h up = absurd up
   reached k version (Some x) h up = let lt : x.version < bound_of bag = bound_above (object_at k x) bag ((r.meaning k x).0 h).held in omega arith
 

@@ -43,7 +43,8 @@ fewest units (n ∷ ns) = min n (fewest units ns)
 -- the replica that has the fewest units, the first of several; None where each has all of them
 abbrev pub IsLagging : ℕ → List ℕ → Option ℕ → Type 0
 IsLagging units ns None = AllByRecursion (λ m. units ≤ m) ns
-IsLagging units ns (Some j) = (n : ℕ) × (slice_get ns j ≡ Some n) × (n < units) × AllByRecursion (λ m. n ≤ m) ns × AllByRecursion (λ m. n < m) (take j ns)
+IsLagging units ns (Some j) =
+    (n : ℕ) × (slice_get ns j ≡ Some n) × (n < units) × AllByRecursion (λ m. n ≤ m) ns × AllByRecursion (λ m. n < m) (take j ns)
 
 -- how many units every replica has
 abbrev pub everywhere : HeadValue → ℕ

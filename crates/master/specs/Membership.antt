@@ -17,7 +17,8 @@ pub record IsMeaningBy (bag : Entry → Type 0) (contents : Contents) : Type 0 w
 
 -- In a clean list that is the meaning.
 abbrev pub MembershipIsMeaning : Type 0
-MembershipIsMeaning = (bag : List Entry) (contents : Contents) → IsClean (among bag) → IsMeaningBy (among bag) contents → IsMeaning (among bag) contents
+MembershipIsMeaning =
+    (bag : List Entry) (contents : Contents) → IsClean (among bag) → IsMeaningBy (among bag) contents → IsMeaning (among bag) contents
 
 -- The meaning of a list is so.
 abbrev pub MeaningIsMembership : Type 0

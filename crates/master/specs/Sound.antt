@@ -43,7 +43,8 @@ pub record IsSound (d : MasterData) (p : Picture) : Type 0 where
   -- each replica of the master is a segment's text whose header names it
   pub texts : (b s : ℕ) (r : Replica) → p b d.config.master s ≡ Some r → IsTextOfSegment r.bytes d.config.master s
   -- the replicas of a segment bear one digest
-  pub digests : (b c s : ℕ) (r q : Replica) → p b d.config.master s ≡ Some r → p c d.config.master s ≡ Some q → opening_in r.bytes ≡ opening_in q.bytes
+  pub digests : (b c s : ℕ) (r q : Replica) → p b d.config.master s ≡ Some r → p c d.config.master s ≡ Some q
+      → opening_in r.bytes ≡ opening_in q.bytes
   -- whichever backups are left, each choice is clean, holds the master's keys alone, and stands for a prefix
   pub clean : (keep : ℕ → Bool) (c : Choice) → IsSurvivingChoice d p keep c → IsClean (among (bag_of c))
   pub keys : (keep : ℕ → Bool) (c : Choice) → IsSurvivingChoice d p keep c → (e : Entry) (k : Key) → among (bag_of c) e → IsOfKey k e →

@@ -1,5 +1,6 @@
 -- A master with its fleet, and what a step makes of them.
-use Rattle.std.specs.Prelude.{◌≡◌, ℕ, ◌+◌, ◌*◌, ◌%◌, ◌-◌, ◌<◌, ◌⊎◌, List, [], ◌∷◌, ◌++◌, length, take, drop, Result, Ok, Err, Bool, false, true, Some, None, slice_get, ◌==◌, if◌then◌else◌}
+use Rattle.std.specs.Prelude.{◌≡◌, ℕ, ◌+◌, ◌*◌, ◌%◌, ◌-◌, ◌<◌, ◌⊎◌, List, [], ◌∷◌, ◌++◌, length, take, drop, Result, Ok, Err, Bool, false, true, Some}
+use Rattle.std.specs.Prelude.{None, slice_get, ◌==◌, if◌then◌else◌}
 use Rattle.entry.specs.Text.{text_of}
 use Rattle.replica.specs.Op.{OpValue, Open, Extend}
 use Rattle.replica.specs.Picture.{FleetState}
@@ -101,7 +102,8 @@ IsNextOp d b op = (Opens d b × (op ≡ open_op d)) ⊎ ((j units : ℕ) × Exte
 abbrev pub FailsTake : World → Refusal → World → Type 0
 FailsTake old refusal.NoMemory new = new ≡ old
 FailsTake old refusal.Spent new = (old.fleet.takes ≡ old.fleet.end) × (new ≡ old)
-FailsTake old refusal.Halted new = (new.knows ≡ halted old.knows) × ((b : ℕ) × (op : OpValue) × IsNextOp old.knows b op × Refuses old.fleet b op take_fault.Fault new.fleet)
+FailsTake old refusal.Halted new =
+    (new.knows ≡ halted old.knows) × ((b : ℕ) × (op : OpValue) × IsNextOp old.knows b op × Refuses old.fleet b op take_fault.Fault new.fleet)
 FailsTake old _ new = ⊥
 
 -- A refusal is that of the first test that fails, or comes of memory or the fleet where all are passed. It changes nothing,

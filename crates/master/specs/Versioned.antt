@@ -33,7 +33,8 @@ is_met (Version w) (Some x) = x.version == w
 
 abbrev pub after_put : State → Key → List ℕ → Option Versioned → State
 after_put st k value None = record { contents = with_contents st.contents k (Some (record { version = st.safe; value = value })); safe = st.safe + 1 }
-after_put st k value (Some x) = record { contents = with_contents st.contents k (Some (record { version = x.version + 1; value = value })); safe = st.safe }
+after_put st k value (Some x) =
+    record { contents = with_contents st.contents k (Some (record { version = x.version + 1; value = value })); safe = st.safe }
 
 abbrev pub after_delete : State → Key → Option Versioned → State
 after_delete st k None = st

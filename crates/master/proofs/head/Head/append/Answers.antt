@@ -17,7 +17,8 @@ invariant_of-self-2 c =
     let items : c.push.new.self.items ≡ units ++ unit ∷ [] =
     c.push.ensures.items ∙ rw (c.unwrap.ensures, c.reserve.ensures.items) refl in
     let count : length units ≤ length (units ++ unit ∷ []) = omega (arith, length-append units (unit ∷ [])) in
-    let ends : EndAt c.self.inside.opening (units ++ unit ∷ []) c.bytes_len-end.result = EndAt_push units c.self.inside.opening _ unit old.units more in (
+    let ends : EndAt c.self.inside.opening (units ++ unit ∷ []) c.bytes_len-end.result =
+    EndAt_push units c.self.inside.opening _ unit old.units more in (
       c.self.invariant.0,
       record {
         units = rw (items, ← c.bytes_len-end.ensures) ends;

@@ -22,4 +22,5 @@ returns-in-Some c =
     let is_open = sym c.is_open.ensures.open ∙ c.if-not-is_open.false in
     let least = c.in-Some.ensures in
     let same : c.units_of.result ≡ least.0 = same_Some c.units_of.result least.0 (sym c.units_of.ensures.units ∙ least.1) in
-    same ∙ sym (opened c.args.self.now is_open ∙ fewest_at (length c.args.self.now.units) least.0 c.in-Some.replica c.args.self.now.taken least.1 least.2 least.3)
+    same ∙ sym (opened c.args.self.now is_open
+    ∙ fewest_at (length c.args.self.now.units) least.0 c.in-Some.replica c.args.self.now.taken least.1 least.2 least.3)

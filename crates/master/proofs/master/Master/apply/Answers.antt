@@ -32,9 +32,11 @@ invariant_of-self-2 g c =
     let is_placed : IsPlaced d c.args.command change at =
     λ segment front o is. (λ i. length (text i) + c.object_offset.ensures.behind segment front o is i) in
     let reply : c.in_ok-reply.reply ≡ reply_to (state_of d) c.args.command =
-    reply_is d f c.args.seat c.args.command change slot at c.self.invariant c.image.ensures.valid passed judged is_placed c.in_ok-reply.reply (rw (← c.self.view_is) at c.in_ok-reply.ensures) in
+    reply_is d f c.args.seat c.args.command change slot at c.self.invariant c.image.ensures.valid passed judged is_placed c.in_ok-reply.reply
+    (rw (← c.self.view_is) at c.in_ok-reply.ensures) in
     let number : c.len-number.result ≡ length d.history = search rules in
-    let head : c.append_change.new.head ≡ appended d.head (length d.history) (unit_of_change d.head.id c.args.command change) = rw (c.in-Ok.ensures.ok, number) refl in
+    let head : c.append_change.new.head ≡ appended d.head (length d.history) (unit_of_change d.head.id c.args.command change) =
+    rw (c.in-Ok.ensures.ok, number) refl in
     let places : c.place_change.new.places.items ≡ placed d.places change slot at = rw (c.place_change.ensures, c.reserve-2.ensures.items) refl in
     let record_of : Record = record { seat = c.args.seat; command = c.args.command; reply = reply_to (state_of d) c.args.command } in
     let items : c.push.new.self.items ≡ d.history ++ record_of ∷ [] =
@@ -62,9 +64,11 @@ returns-clause-accepted g c =
     let is_placed : IsPlaced d c.args.command change at =
     λ segment front o is. (λ i. length (text i) + c.object_offset.ensures.behind segment front o is i) in
     let reply : c.in_ok-reply.reply ≡ reply_to (state_of d) c.args.command =
-    reply_is d f c.args.seat c.args.command change slot at c.self.invariant c.image.ensures.valid passed judged is_placed c.in_ok-reply.reply (rw (← c.self.view_is) at c.in_ok-reply.ensures) in
+    reply_is d f c.args.seat c.args.command change slot at c.self.invariant c.image.ensures.valid passed judged is_placed c.in_ok-reply.reply
+    (rw (← c.self.view_is) at c.in_ok-reply.ensures) in
     let number : c.len-number.result ≡ length d.history = search rules in
-    let head : c.append_change.new.head ≡ appended d.head (length d.history) (unit_of_change d.head.id c.args.command change) = rw (c.in-Ok.ensures.ok, number) refl in
+    let head : c.append_change.new.head ≡ appended d.head (length d.history) (unit_of_change d.head.id c.args.command change) =
+    rw (c.in-Ok.ensures.ok, number) refl in
     let places : c.place_change.new.places.items ≡ placed d.places change slot at = rw (c.place_change.ensures, c.reserve-2.ensures.items) refl in
     let record_of : Record = record { seat = c.args.seat; command = c.args.command; reply = reply_to (state_of d) c.args.command } in
     let items : c.push.new.self.items ≡ d.history ++ record_of ∷ [] =

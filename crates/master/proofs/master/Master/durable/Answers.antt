@@ -30,7 +30,8 @@ returns-in-None-clause-durable g c =
     let len : c.len.result ≡ length d.history = search rules in
     let is : durable_of d ≡ c.len.result =
     from_none (slice_get d.head.units (everywhere d.head)) (length d.history) (sym c.first_missing.ensures.missing ∙ c.in-None.is) ∙ sym len in
-    rw (← c.self.view_is) (subst (IsDurable d) is (durable_is d c.self.invariant.logged.log.0 c.self.invariant.valid c.first_missing.ensures.valid c.self.invariant.logged.log.1))
+    rw (← c.self.view_is) (subst (IsDurable d) is
+    (durable_is d c.self.invariant.logged.log.0 c.self.invariant.valid c.first_missing.ensures.valid c.self.invariant.logged.log.1))
 
 pub returns-in-Some-clause-durable : goal.returns-in-Some-clause-durable
 returns-in-Some-clause-durable g c =
@@ -44,4 +45,5 @@ returns-in-Some-clause-durable g c =
     } in
     let is : durable_of d ≡ c.in-Some.number =
     from_some (slice_get d.head.units (everywhere d.head)) (length d.history) c.in-Some.number (sym c.first_missing.ensures.missing ∙ c.in-Some.is) in
-    rw (← c.self.view_is) (subst (IsDurable d) is (durable_is d c.self.invariant.logged.log.0 c.self.invariant.valid c.first_missing.ensures.valid c.self.invariant.logged.log.1))
+    rw (← c.self.view_is) (subst (IsDurable d) is
+    (durable_is d c.self.invariant.logged.log.0 c.self.invariant.valid c.first_missing.ensures.valid c.self.invariant.logged.log.1))

@@ -1,7 +1,7 @@
 use Rattle.std.proofs.Common.{◌≡◌, length, false, refl, sym, ◌∙◌}
 use Rattle.std.specs.Prelude.{Some}
 use Rattle.std.proofs.lemmas.Option.{slice_get_within}
-use Rattle.replica.specs.Op.{Extend}
+use Rattle.replica.specs.Op.{OpValue, Extend}
 use Rattle.replica.specs.Picture.{FleetState}
 use Rattle.replica.specs.Take.{Refuses, taken}
 use Rattle.master.specs.Head.{IsLagging}
@@ -28,12 +28,13 @@ invariant_of-self g c =
     let running : d.is_halted ≡ false = rw (← c.self.view_is) at c.requires.running in
     let units = c.units_of-units.result in
     let lagging : IsLagging (length d.head.units) d.head.taken (Some c.args.replica) = rw (← c.self.view_is) at c.requires.lagging in
-    let op : record { master = d.config.master; segment = c.id-segment.result; act = Extend c.end_of.result c.unit_behind.result.now } ≡ extend_op d units =
-    rw (c.id-segment.ensures.id, c.end_of.ensures.end, c.unit_behind.ensures) refl in
+    let sent : OpValue = record { master = d.config.master; segment = c.id-segment.result; act = Extend c.end_of.result c.unit_behind.result.now } in
+    let op : sent ≡ extend_op d units = rw (c.id-segment.ensures.id, c.end_of.ensures.end, c.unit_behind.ensures) refl in
     let backup : c.home-backup.result ≡ home d.config d.head.id c.args.replica = rw (c.home-backup.ensures, c.id-segment.ensures.id) refl in
-    let raw : taken f c.home-backup.result (record { master = d.config.master; segment = c.id-segment.result; act = Extend c.end_of.result c.unit_behind.result.now }) ≡ Some after = c.in-Ok.ensures.1 in
+    let raw : taken f c.home-backup.result sent ≡ Some after = c.in-Ok.ensures.1 in
     let took : taken f (home d.config d.head.id c.args.replica) (extend_op d units) ≡ Some after = sym (λ i. taken f (backup i) (op i)) ∙ raw in
-    rw (c.extend.ensures) (extend_kept d f c.self.invariant running c.id-segment.ensures.valid c.args.replica units lagging c.units_of-units.ensures.units after took)
+    rw (c.extend.ensures)
+    (extend_kept d f c.self.invariant running c.id-segment.ensures.valid c.args.replica units lagging c.units_of-units.ensures.units after took)
 
 pub failed-refusal-requires : goal.failed-refusal-requires
 failed-refusal-requires g c =
@@ -50,11 +51,12 @@ failed-refusal-requires g c =
     let running : d.is_halted ≡ false = rw (← c.self.view_is) at c.requires.running in
     let units = c.units_of-units.result in
     let lagging : IsLagging (length d.head.units) d.head.taken (Some c.args.replica) = rw (← c.self.view_is) at c.requires.lagging in
-    let op : record { master = d.config.master; segment = c.id-segment.result; act = Extend c.end_of.result c.unit_behind.result.now } ≡ extend_op d units =
-    rw (c.id-segment.ensures.id, c.end_of.ensures.end, c.unit_behind.ensures) refl in
+    let sent : OpValue = record { master = d.config.master; segment = c.id-segment.result; act = Extend c.end_of.result c.unit_behind.result.now } in
+    let op : sent ≡ extend_op d units = rw (c.id-segment.ensures.id, c.end_of.ensures.end, c.unit_behind.ensures) refl in
     let backup : c.home-backup.result ≡ home d.config d.head.id c.args.replica = rw (c.home-backup.ensures, c.id-segment.ensures.id) refl in
     let refused : Refuses f (home d.config d.head.id c.args.replica) (extend_op d units) c.in-Err.fault after = rw (op, backup) at c.in-Err.ensures in
-    extend_right d f c.self.invariant running c.id-segment.ensures.valid c.args.replica units lagging c.units_of-units.ensures.units after c.in-Err.fault refused
+    extend_right d f c.self.invariant running c.id-segment.ensures.valid c.args.replica units lagging c.units_of-units.ensures.units after
+    c.in-Err.fault refused
 
 pub invariant_of-self-in-Err : goal.invariant_of-self-in-Err
 invariant_of-self-in-Err g c =
@@ -71,11 +73,13 @@ invariant_of-self-in-Err g c =
     let running : d.is_halted ≡ false = rw (← c.self.view_is) at c.requires.running in
     let units = c.units_of-units.result in
     let lagging : IsLagging (length d.head.units) d.head.taken (Some c.args.replica) = rw (← c.self.view_is) at c.requires.lagging in
-    let op : record { master = d.config.master; segment = c.id-segment.result; act = Extend c.end_of.result c.unit_behind.result.now } ≡ extend_op d units =
-    rw (c.id-segment.ensures.id, c.end_of.ensures.end, c.unit_behind.ensures) refl in
+    let sent : OpValue = record { master = d.config.master; segment = c.id-segment.result; act = Extend c.end_of.result c.unit_behind.result.now } in
+    let op : sent ≡ extend_op d units = rw (c.id-segment.ensures.id, c.end_of.ensures.end, c.unit_behind.ensures) refl in
     let backup : c.home-backup.result ≡ home d.config d.head.id c.args.replica = rw (c.home-backup.ensures, c.id-segment.ensures.id) refl in
     let refused : Refuses f (home d.config d.head.id c.args.replica) (extend_op d units) c.in-Err.fault after = rw (op, backup) at c.in-Err.ensures in
-    rw (c.failed-refusal.ensures.halts) (extend_failed_kept d f c.self.invariant running c.id-segment.ensures.valid c.args.replica units lagging c.units_of-units.ensures.units after c.in-Err.fault refused)
+    rw (c.failed-refusal.ensures.halts)
+    (extend_failed_kept d f c.self.invariant running c.id-segment.ensures.valid c.args.replica units lagging c.units_of-units.ensures.units after
+    c.in-Err.fault refused)
 
 pub returns-in-Err-clause-refused : goal.returns-in-Err-clause-refused
 returns-in-Err-clause-refused g c =
@@ -92,9 +96,10 @@ returns-in-Err-clause-refused g c =
     let running : d.is_halted ≡ false = rw (← c.self.view_is) at c.requires.running in
     let units = c.units_of-units.result in
     let lagging : IsLagging (length d.head.units) d.head.taken (Some c.args.replica) = rw (← c.self.view_is) at c.requires.lagging in
-    let op : record { master = d.config.master; segment = c.id-segment.result; act = Extend c.end_of.result c.unit_behind.result.now } ≡ extend_op d units =
-    rw (c.id-segment.ensures.id, c.end_of.ensures.end, c.unit_behind.ensures) refl in
+    let sent : OpValue = record { master = d.config.master; segment = c.id-segment.result; act = Extend c.end_of.result c.unit_behind.result.now } in
+    let op : sent ≡ extend_op d units = rw (c.id-segment.ensures.id, c.end_of.ensures.end, c.unit_behind.ensures) refl in
     let backup : c.home-backup.result ≡ home d.config d.head.id c.args.replica = rw (c.home-backup.ensures, c.id-segment.ensures.id) refl in
     let refused : Refuses f (home d.config d.head.id c.args.replica) (extend_op d units) c.in-Err.fault after = rw (op, backup) at c.in-Err.ensures in
     rw (← c.self.view_is, c.failed-refusal.ensures.answer, c.failed-refusal.ensures.halts)
-    (extend_declines d f c.self.invariant running c.id-segment.ensures.valid c.args.replica units lagging c.units_of-units.ensures.units after c.in-Err.fault refused)
+    (extend_declines d f c.self.invariant running c.id-segment.ensures.valid c.args.replica units lagging c.units_of-units.ensures.units after
+    c.in-Err.fault refused)

@@ -8,4 +8,5 @@ invariant_of-master g c =
     let safe : c.first-in-Ok.result ≡ 1 = search rules in
     let places : c.new.result.items ≡ [] = search rules in
     let history : c.new-in-Ok.result.items ≡ [] = search rules in
-    rw (c.in-Ok.ensures, first, safe, places, history) (fresh_kept c.args.config (g.F.Fleet.state c.args.fleet) c.requires.config c.requires.backups c.requires.none)
+    rw (c.in-Ok.ensures, first, safe, places, history)
+    (fresh_kept c.args.config (g.F.Fleet.state c.args.fleet) c.requires.config c.requires.backups c.requires.none)

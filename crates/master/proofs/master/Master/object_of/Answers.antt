@@ -16,5 +16,7 @@ returns-in-None g c = λ os k all slot. sym (contents_of-no_slot os k (sym (sym 
 
 pub returns-in-Some : goal.returns-in-Some
 returns-in-Some g c = λ os k all slot.
-    let there = found-at c.self.inside.head.image c.self.inside.places.items os k c.in-Some.slot (rw (← c.self.view_is) at all) (sym (sym c.in-Some.is ∙ slot)) in
-    shows c.object_at.result there.o (c.object_at.ensures there.o (rw (c.image.ensures.image, c.index.ensures) (there.stands c.index.result.now))) ∙ sym there.has
+    let there =
+    found-at c.self.inside.head.image c.self.inside.places.items os k c.in-Some.slot (rw (← c.self.view_is) at all) (sym (sym c.in-Some.is ∙ slot)) in
+    shows c.object_at.result there.o (c.object_at.ensures there.o (rw (c.image.ensures.image, c.index.ensures) (there.stands c.index.result.now)))
+    ∙ sym there.has

@@ -1,6 +1,6 @@
 use Rattle.std.proofs.Common.{◌≡◌, ◌<◌, length, false, refl, sym, ◌∙◌}
 use Rattle.std.specs.Prelude.{Some}
-use Rattle.replica.specs.Op.{Open}
+use Rattle.replica.specs.Op.{OpValue, Open}
 use Rattle.replica.specs.Picture.{FleetState}
 use Rattle.replica.specs.Take.{Refuses, taken}
 use Rattle.master.specs.Master.{MasterData}
@@ -22,10 +22,11 @@ invariant_of-self g c =
     let after : FleetState = g.F.Fleet.state c.take.new.self in
     let running : d.is_halted ≡ false = rw (← c.self.view_is) at c.requires.running in
     let waiting : length d.head.taken < d.head.replicas = rw (← c.self.view_is) at c.requires.waiting in
-    let op : record { master = d.config.master; segment = c.id-segment.result; act = Open c.opening.result.now } ≡ open_op d =
-    rw (c.id-segment.ensures.id, c.opening.ensures) refl in
-    let backup : c.home-backup.result ≡ home d.config d.head.id (length d.head.taken) = rw (c.home-backup.ensures, c.id-segment.ensures.id, c.opened.ensures) refl in
-    let raw : taken f c.home-backup.result (record { master = d.config.master; segment = c.id-segment.result; act = Open c.opening.result.now }) ≡ Some after = c.in-Ok.ensures.1 in
+    let sent : OpValue = record { master = d.config.master; segment = c.id-segment.result; act = Open c.opening.result.now } in
+    let op : sent ≡ open_op d = rw (c.id-segment.ensures.id, c.opening.ensures) refl in
+    let backup : c.home-backup.result ≡ home d.config d.head.id (length d.head.taken) =
+    rw (c.home-backup.ensures, c.id-segment.ensures.id, c.opened.ensures) refl in
+    let raw : taken f c.home-backup.result sent ≡ Some after = c.in-Ok.ensures.1 in
     let took : taken f (home d.config d.head.id (length d.head.taken)) (open_op d) ≡ Some after = sym (λ i. taken f (backup i) (op i)) ∙ raw in
     rw (c.open.ensures) (open_kept d f c.self.invariant running c.id-segment.ensures.valid waiting after took)
 
@@ -43,9 +44,10 @@ failed-refusal-requires g c =
     let after : FleetState = g.F.Fleet.state c.take.new.self in
     let running : d.is_halted ≡ false = rw (← c.self.view_is) at c.requires.running in
     let waiting : length d.head.taken < d.head.replicas = rw (← c.self.view_is) at c.requires.waiting in
-    let op : record { master = d.config.master; segment = c.id-segment.result; act = Open c.opening.result.now } ≡ open_op d =
-    rw (c.id-segment.ensures.id, c.opening.ensures) refl in
-    let backup : c.home-backup.result ≡ home d.config d.head.id (length d.head.taken) = rw (c.home-backup.ensures, c.id-segment.ensures.id, c.opened.ensures) refl in
+    let sent : OpValue = record { master = d.config.master; segment = c.id-segment.result; act = Open c.opening.result.now } in
+    let op : sent ≡ open_op d = rw (c.id-segment.ensures.id, c.opening.ensures) refl in
+    let backup : c.home-backup.result ≡ home d.config d.head.id (length d.head.taken) =
+    rw (c.home-backup.ensures, c.id-segment.ensures.id, c.opened.ensures) refl in
     let refused : Refuses f (home d.config d.head.id (length d.head.taken)) (open_op d) c.in-Err.fault after = rw (op, backup) at c.in-Err.ensures in
     open_right d f c.self.invariant running c.id-segment.ensures.valid waiting after c.in-Err.fault refused
 
@@ -63,11 +65,13 @@ invariant_of-self-in-Err g c =
     let after : FleetState = g.F.Fleet.state c.take.new.self in
     let running : d.is_halted ≡ false = rw (← c.self.view_is) at c.requires.running in
     let waiting : length d.head.taken < d.head.replicas = rw (← c.self.view_is) at c.requires.waiting in
-    let op : record { master = d.config.master; segment = c.id-segment.result; act = Open c.opening.result.now } ≡ open_op d =
-    rw (c.id-segment.ensures.id, c.opening.ensures) refl in
-    let backup : c.home-backup.result ≡ home d.config d.head.id (length d.head.taken) = rw (c.home-backup.ensures, c.id-segment.ensures.id, c.opened.ensures) refl in
+    let sent : OpValue = record { master = d.config.master; segment = c.id-segment.result; act = Open c.opening.result.now } in
+    let op : sent ≡ open_op d = rw (c.id-segment.ensures.id, c.opening.ensures) refl in
+    let backup : c.home-backup.result ≡ home d.config d.head.id (length d.head.taken) =
+    rw (c.home-backup.ensures, c.id-segment.ensures.id, c.opened.ensures) refl in
     let refused : Refuses f (home d.config d.head.id (length d.head.taken)) (open_op d) c.in-Err.fault after = rw (op, backup) at c.in-Err.ensures in
-    rw (c.failed-refusal.ensures.halts) (open_failed_kept d f c.self.invariant running c.id-segment.ensures.valid waiting after c.in-Err.fault refused)
+    rw (c.failed-refusal.ensures.halts)
+    (open_failed_kept d f c.self.invariant running c.id-segment.ensures.valid waiting after c.in-Err.fault refused)
 
 pub returns-in-Err-clause-refused : goal.returns-in-Err-clause-refused
 returns-in-Err-clause-refused g c =
@@ -83,9 +87,10 @@ returns-in-Err-clause-refused g c =
     let after : FleetState = g.F.Fleet.state c.take.new.self in
     let running : d.is_halted ≡ false = rw (← c.self.view_is) at c.requires.running in
     let waiting : length d.head.taken < d.head.replicas = rw (← c.self.view_is) at c.requires.waiting in
-    let op : record { master = d.config.master; segment = c.id-segment.result; act = Open c.opening.result.now } ≡ open_op d =
-    rw (c.id-segment.ensures.id, c.opening.ensures) refl in
-    let backup : c.home-backup.result ≡ home d.config d.head.id (length d.head.taken) = rw (c.home-backup.ensures, c.id-segment.ensures.id, c.opened.ensures) refl in
+    let sent : OpValue = record { master = d.config.master; segment = c.id-segment.result; act = Open c.opening.result.now } in
+    let op : sent ≡ open_op d = rw (c.id-segment.ensures.id, c.opening.ensures) refl in
+    let backup : c.home-backup.result ≡ home d.config d.head.id (length d.head.taken) =
+    rw (c.home-backup.ensures, c.id-segment.ensures.id, c.opened.ensures) refl in
     let refused : Refuses f (home d.config d.head.id (length d.head.taken)) (open_op d) c.in-Err.fault after = rw (op, backup) at c.in-Err.ensures in
     rw (← c.self.view_is, c.failed-refusal.ensures.answer, c.failed-refusal.ensures.halts)
     (open_declines d f c.self.invariant running c.id-segment.ensures.valid waiting after c.in-Err.fault refused)

@@ -14,7 +14,8 @@ loop-step-preserved g c =
     let room = before.room in
     record {
       ran = run_pushed (world g.F.Fleet.state c.args.self.now) (world g.F.Fleet.state c.loop-step.self) (world g.F.Fleet.state c.step-answer.new.self)
-          c.loop-step.yielded c.loop-step.answers.items c.push.new.self.items c.in-Some.step c.step-answer.result items before.ran c.step-answer.ensures.gives;
+          c.loop-step.yielded c.loop-step.answers.items c.push.new.self.items c.in-Some.step c.step-answer.result items before.ran
+          c.step-answer.ensures.gives;
       keeps = keeps_pushed (world g.F.Fleet.state c.args.self.now) (world g.F.Fleet.state c.loop-step.self)
           (world g.F.Fleet.state c.step-answer.new.self) c.loop-step.yielded c.in-Some.step before.keeps c.step-answer.ensures.keeps;
       count = omega (arith, length-append c.loop-step.yielded (c.in-Some.step ∷ []));

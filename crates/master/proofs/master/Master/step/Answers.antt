@@ -1,7 +1,6 @@
 use Rattle.std.proofs.Common.{rules}
 use Rattle.master.specs.Steps.{world, Steps}
 use Rattle.master.proofs.Keeping.{steps_keep}
-use Rattle.master.proofs.master.Master.step.Goals.{in-Apply, in-Push}
 use Rattle.master.proofs.master.Master.step.Goals as goal
 
 pub returns-clause-keeps : goal.returns-clause-keeps
