@@ -381,7 +381,9 @@ impl<F: Fleet> Master<F> {
 
     /// What is to be shown. Nothing changes.
     pub fn look(&self, look: Look) -> Result<Shown, NoMemory>
-        ensures { IfOk result (λ shown. IsShown self.now.knows look shown) }
+        ensures shown { IfOk result (λ shown. IsShown self.now.knows look shown) }
+        // Memory is wanted for the image alone.
+        ensures refused { OnErr result (look ≡ Look.Image self.now.knows.head.id) }
     {
         match look {
             Look::Image(id) => {
@@ -432,7 +434,8 @@ impl<F: Bench> Master<F> {
 
 /// The same steps, in memory of their own.
 fn copies(alloc: Global, steps: &[Step]) -> Result<Vec<Step>, NoMemory>
-    ensures { IfOk result (λ own. own.items ≡ steps.now) }
+    ensures copies { IfOk result (λ own. own.items ≡ steps.now) }
+    ensures refused { OnErr result (0 < length steps.now) }
 {
     let mut own = Vec::with_capacity(alloc, steps.len())?;
     for step in steps {

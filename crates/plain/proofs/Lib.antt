@@ -1,3 +1,4 @@
+pub mod Failing
 pub mod ObjectLists
 pub mod Listings
 pub mod Puts

@@ -1,7 +1,8 @@
 //! What a bag of entries means, by comparing each with each.
 
-ghost use Rattle.std.specs.Prelude.{◌≡◌, ◌<◌, ◌≤◌, ◌↔◌, IsTrue, IfOk, is_some};
+ghost use Rattle.std.specs.Prelude.{◌≡◌, ◌<◌, ◌≤◌, ◌↔◌, IsTrue, IfOk, OnErr, is_some};
 ghost use Rattle.entry.specs.declared.entry.Entry.{Entry as EntryValue};
+ghost use Rattle.entry.specs.declared.entry.Object.{Object as ObjectValue};
 ghost use Rattle.entry.specs.Meaning.{IsMeaning, IsClean, IsOfKey, rank_of, among, contents_of};
 ghost use Rattle.plain.specs.Map.{AreOfDifferentKeys};
 
@@ -38,6 +39,8 @@ fn is_listed(objects: &[Object], key: &Key) -> bool
 pub fn meaning(alloc: Global, bag: &[Entry]) -> Result<Vec<Object>, NoMemory>
     ensures meaning { IfOk result (λ objects. IsClean (among bag.now) → IsMeaning (among bag.now) (contents_of objects.items)) }
     ensures once { IfOk result (λ objects. AreOfDifferentKeys objects.items) }
+    // Memory is taken for objects alone.
+    ensures refused { OnErr result ((o : ObjectValue) × among bag.now (Entry.Object o)) }
 {
     let mut objects = Vec::new(alloc);
     for entry in bag {

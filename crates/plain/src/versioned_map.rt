@@ -7,7 +7,7 @@ ghost use Rattle.master.specs.Change.{is_spent};
 ghost use Rattle.master.specs.Command.{command_key};
 ghost use Rattle.master.specs.Represents.{empty_state};
 ghost use Rattle.master.specs.Versioned.{is_met, after_command, reply_to};
-ghost use Rattle.plain.specs.Map.{state_of, AreOfDifferentKeys, IsAtSlot};
+ghost use Rattle.plain.specs.Map.{state_of, AreOfDifferentKeys, IsAtSlot, may_fail};
 
 use crate::copies::{copy_key, copy_value};
 use crate::fault::ApplyFault;
@@ -66,6 +66,7 @@ impl VersionedMap {
         ensures reply { IfOk result (λ reply. reply ≡ reply_to (state_of self.old) command.now) }
         ensures state { OnOk result (state_of self.new ≡ after_command (state_of self.old) command.now) }
         ensures err { OnErr result (self.new ≡ self.old) }
+        ensures refused { OnErr result (may_fail (contents_of self.old.objects (command_key command.now)) command.now ≡ true) }
         ensures spent { IfErr result (λ fault. fault ≡ ApplyFault.VersionsSpent →
             is_spent self.old.safe (contents_of self.old.objects (command_key command.now)) command.now ≡ true) }
     {
@@ -87,6 +88,7 @@ impl VersionedMap {
     fn get(&self, key: &Key) -> Result<Reply, ApplyFault>
         ensures reply { IfOk result (λ reply. reply ≡ reply_to (state_of self.now) (Command.Get key.now)) }
         ensures err { IfErr result (λ fault. fault ≡ ApplyFault.NoMemory) }
+        ensures refused { OnErr result (may_fail (contents_of self.now.objects key.now) (Command.Get key.now) ≡ true) }
     {
         match self.slot_of(key) {
             None => Ok(Reply::None),
@@ -101,6 +103,7 @@ impl VersionedMap {
         ensures reply { IfOk result (λ reply. reply ≡ reply_to (state_of self.old) (Command.Put key.now value.now when)) }
         ensures state { OnOk result (state_of self.new ≡ after_command (state_of self.old) (Command.Put key.now value.now when)) }
         ensures err { OnErr result (self.new ≡ self.old) }
+        ensures refused { OnErr result (may_fail (contents_of self.old.objects key.now) (Command.Put key.now value.now when) ≡ true) }
         ensures spent { IfErr result (λ fault. fault ≡ ApplyFault.VersionsSpent →
             is_spent self.old.safe (contents_of self.old.objects key.now) (Command.Put key.now value.now when) ≡ true) }
     {
@@ -116,6 +119,7 @@ impl VersionedMap {
         ensures reply { IfOk result (λ reply. reply ≡ reply_to (state_of self.old) (Command.Put key.now value.now when)) }
         ensures state { OnOk result (state_of self.new ≡ after_command (state_of self.old) (Command.Put key.now value.now when)) }
         ensures err { OnErr result (self.new ≡ self.old) }
+        ensures refused { OnErr result (may_fail None (Command.Put key.now value.now when) ≡ true) }
         ensures spent { IfErr result (λ fault. fault ≡ ApplyFault.VersionsSpent →
             is_spent self.old.safe None (Command.Put key.now value.now when) ≡ true) }
     {
@@ -141,6 +145,8 @@ impl VersionedMap {
         ensures state { OnOk result ((k : KeyValue) → IsAtSlot self.old.objects k slot →
             state_of self.new ≡ after_command (state_of self.old) (Command.Put k value.now when)) }
         ensures err { OnErr result (self.new ≡ self.old) }
+        ensures refused { OnErr result ((k : KeyValue) → IsAtSlot self.old.objects k slot →
+            may_fail (contents_of self.old.objects k) (Command.Put k value.now when) ≡ true) }
         ensures spent { IfErr result (λ fault. fault ≡ ApplyFault.VersionsSpent → (k : KeyValue) → IsAtSlot self.old.objects k slot →
             is_spent self.old.safe (contents_of self.old.objects k) (Command.Put k value.now when) ≡ true) }
     {

@@ -15,7 +15,7 @@ pub record AreAll (p : Picture) (asked : List ℕ) (hs : List Holding) : Type 0 
   pub only : (h : Holding) → IsAmong h hs → (is_kept asked h.backup ≡ true) × IsHeld p h
   pub all : (h : Holding) → is_kept asked h.backup ≡ true → IsHeld p h → IsAmong h hs
 
-kept-push : (ks : List ℕ) (k b : ℕ) → is_kept (ks ++ k ∷ []) b ≡ (is_kept ks b || (k == b))
+pub kept-push : (ks : List ℕ) (k b : ℕ) → is_kept (ks ++ k ∷ []) b ≡ (is_kept ks b || (k == b))
 kept-push [] k b = or_false (k == b)
   where
     or_false : (x : Bool) → (x || false) ≡ x

@@ -1,5 +1,7 @@
 pub mod Choices
 pub mod Recoveries
 pub mod Asked
+pub mod AskedOnce
 pub mod Drilled
 pub mod Printed
+pub mod Serving

@@ -2,3 +2,5 @@ pub mod Configuration
 pub mod Recovered
 pub mod Kept
 pub mod Texts
+pub mod Told
+pub mod Served

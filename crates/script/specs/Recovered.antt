@@ -6,12 +6,16 @@ use Rattle.entry.specs.Bag.{IsAmong}
 use Rattle.entry.specs.Meaning.{contents_of}
 use Rattle.entry.specs.Order.{key_cmp}
 use Rattle.replica.specs.declared.holding.Holding.{Holding}
+use Rattle.replica.specs.Choice.{Choice}
 use Rattle.replica.specs.Picture.{Picture, IsHeld}
+use Rattle.recovery_plan.specs.declared.chosen.Plan.{Plan as PlanValue}
 use Rattle.recovery_plan.specs.declared.fault.PlanFault.{PlanFault}
 use Rattle.recovery_plan.specs.declared.fault.PlanFault.TheVariants as plan_fault
+use Rattle.recovery_plan.specs.Planned.{IsPlanOf, IsFault, NamesLoss}
 use Rattle.replay.specs.declared.fault.ReplayFault.{ReplayFault}
 use Rattle.replay.specs.declared.fault.ReplayFault.TheVariants as replay_fault
 use Rattle.replay.specs.declared.rebuilt.Rebuilt.{Rebuilt}
+use Rattle.replay.specs.Rebuilt.{IsRebuilt, IsRefusal}
 use Rattle.master.specs.Log.{commands_of, opening_state, state_after}
 use Rattle.master.specs.Master.{MasterData, durable_of}
 use Rattle.master.specs.Versioned.{IsSafeAfter}
@@ -69,3 +73,14 @@ IsLossOrMemory (Replay fault) = IsReplayWant fault
 abbrev pub IsWant : RecoveryFault → Type 0
 IsWant (Plan fault) = IsPlanWant fault
 IsWant (Replay fault) = IsReplayWant fault
+
+-- ---- any inventory, whatever it shows
+
+-- what the log of a plan of the inventory stands for
+abbrev pub IsRebuiltFrom : List Holding → ℕ → Rebuilt → Type 0
+IsRebuiltFrom inventory master r = (plan : PlanValue) × ((c : Choice) × IsPlanOf inventory master c plan) × IsRebuilt plan.segments plan.safe r
+
+-- The fault stands in the inventory: there is no plan of it, or the log of its plan is refused.
+abbrev pub IsRefusedFrom : List Holding → ℕ → RecoveryFault → Type 0
+IsRefusedFrom inventory master (Plan fault) = IsFault inventory master fault × NamesLoss inventory master fault
+IsRefusedFrom inventory master (Replay fault) = (plan : PlanValue) × ((c : Choice) × IsPlanOf inventory master c plan) × IsRefusal plan.segments fault

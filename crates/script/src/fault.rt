@@ -2,6 +2,7 @@
 
 ghost use Rattle.std.specs.Prelude.{◌≡◌, OnOk, Some};
 ghost use Rattle.std.specs.Io.KnownBytes.{Appends};
+ghost use Rattle.script.specs.declared.fault.ScriptFault.TheVariants as script_fault;
 ghost use Rattle.script.specs.Texts.{exit_status, fault_line, script_fault_text};
 
 use entry::NoMemory;
@@ -38,6 +39,8 @@ impl fmt::Display for ScriptFault {
 }
 
 impl From<NoMemory> for ScriptFault {
+    ghost from_gives = { λ _ e. e ≡ script_fault.NoMemory };
+
     fn from(_fault: NoMemory) -> ScriptFault {
         ScriptFault::NoMemory
     }

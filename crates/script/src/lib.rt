@@ -6,6 +6,7 @@ mod asking;
 mod drill;
 mod fault;
 mod laws;
+mod node;
 mod recovery;
 mod running;
 mod session;

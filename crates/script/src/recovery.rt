@@ -5,7 +5,7 @@ ghost use Rattle.replica.specs.Picture.{Picture, survivors};
 ghost use Rattle.replica.specs.Survival.{BothSurvive};
 ghost use Rattle.master.specs.Master.{MasterData};
 ghost use Rattle.master.specs.Sound.{IsHome, IsSound};
-ghost use Rattle.script.specs.Recovered.{Shows, IsRecovered, IsLossOrMemory, IsWant};
+ghost use Rattle.script.specs.Recovered.{Shows, IsRecovered, IsLossOrMemory, IsWant, IsRebuiltFrom, IsRefusedFrom};
 ghost use Rattle.script.specs.Texts.{recovery_fault_text};
 
 use recovery_plan::{PlanFault, plan};
@@ -45,6 +45,9 @@ pub fn recover(alloc: Global, inventory: &Inventory, master: u64) -> Result<Rebu
     ensures refused { IfErr result (λ e. (d : MasterData) (p : Picture) (keep : ℕ → Bool) →
         IsSound d p → d.config.master ≡ master → Shows inventory.now (survivors keep p) master →
         IsLossOrMemory e × (BothSurvive (IsHome d.config) p d.config.master keep → IsWant e)) }
+    // Of any inventory what comes back, or the fault, stands in it.
+    ensures rebuilt { IfOk result (IsRebuiltFrom inventory.now master) }
+    ensures fault { IfErr result (IsRefusedFrom inventory.now master) }
 {
     let plan = match plan(alloc, inventory, master) {
         Ok(plan) => plan,

@@ -1,19 +1,19 @@
 //! What a script drives: a fleet, and a master over it or none.
 
-ghost use Rattle.std.specs.Prelude.{◌≡◌, None};
+ghost use Rattle.std.specs.Prelude.{◌≡◌, None, IfOk};
+ghost use Rattle.lines.specs.Grammar.{IsLine, shown};
 ghost use Rattle.master.specs.Config.{config_fault};
 ghost use Rattle.script.specs.Configuration.{config_of};
+ghost use Rattle.script.specs.Served.{AnswersLine, SessionAnswers};
 
 use crate::answer::Answer;
-use crate::recovery::{RecoveryFault, recover};
+use crate::node::{Node, push_all};
 use crate::setup::configuration;
 use backup::MemoryFleet;
 use command_line::Options;
 use entry::{Key, KeyFault, MAX_VALUE_LEN, NoMemory, Value};
 use lines::Line;
-use master::{Command, If, Look, Master, Refusal, Reply, Shown, Step, StepAnswer};
-use recovery_plan::PlanFault;
-use replica::Bench;
+use master::{Command, If, Master, Refusal};
 use std::alloc::Global;
 
 /// Why a line was not run.
@@ -21,13 +21,6 @@ use std::alloc::Global;
 pub enum LineFault {
     Bad,
     NoMemory,
-}
-
-/// A fleet, and the master over it where there is one.
-#[derive(Drop)]
-enum Node {
-    Up(Master<MemoryFleet>),
-    Down(MemoryFleet),
 }
 
 /// The number of the first master.
@@ -67,120 +60,66 @@ impl Session {
     }
 
     /// Runs one line.
-    pub fn run_line(self, line: Line<'_>) -> Result<(Session, Answer), LineFault> {
-        match line {
-            Line::Idle => Ok((self, Answer::Silent)),
-            Line::Put { table, key, value } => {
-                let command = put_command(self.alloc, table, key, value)?;
-                Ok(self.serve(command))
-            }
-            Line::Get { table, key } => {
-                let key = make_key(self.alloc, table, key)?;
-                Ok(self.serve(Command::Get(key)))
-            }
-            Line::Hex { segment } => Ok(self.hex(segment)),
-            Line::Stop { takes } => Ok(self.stop(takes)),
-            Line::Crash => Ok(self.crash()),
-            Line::Lose { backup } => self.lose(backup),
-            Line::Recover => Ok(self.recover()),
-        }
-    }
-
-    /// One command, pushed until it is durable.
-    fn serve(mut self, command: Command) -> (Session, Answer) {
-        let outcome = match &mut self.node {
-            Node::Down(_) => None,
-            Node::Up(master) => Some(serve(master, command)),
-        };
-        match outcome {
-            None => (self, Answer::Down),
-            Some(Ok(reply)) => (self, Answer::Reply(reply)),
-            Some(Err(Refusal::Spent)) => (self.stopped(), Answer::Stopped),
-            Some(Err(refusal)) => (self, Answer::Refused(refusal)),
-        }
-    }
-
-    /// The limit is lifted, and the master dropped.
-    fn stopped(self) -> Session {
-        let (mut session, _) = self.crash();
-        if let Node::Down(fleet) = &mut session.node {
-            fleet.limit(u64::MAX);
-        }
-        session
-    }
-
-    fn hex(self, segment: u64) -> (Session, Answer) {
-        let answer = match &self.node {
-            Node::Down(_) => Answer::Down,
-            Node::Up(master) => match master.look(Look::Image(segment)) {
-                Ok(Shown::Image(Some(bytes))) => Answer::Hex(bytes),
-                Ok(Shown::Image(None)) => Answer::NotInLog(segment),
-                Err(NoMemory) => Answer::Refused(Refusal::NoMemory),
-            },
-        };
-        (self, answer)
-    }
-
-    fn stop(mut self, takes: u64) -> (Session, Answer) {
-        match &mut self.node {
-            Node::Down(fleet) => fleet.limit(takes),
-            Node::Up(master) => master.limit(takes),
-        }
-        (self, Answer::Stop(takes))
-    }
-
-    fn crash(self) -> (Session, Answer) {
+    pub fn run_line(self, line: Line<'_>) -> Result<(Session, Answer), LineFault>
+        requires { IsLine (shown line) }
+        ensures ran { IfOk result (λ r. SessionAnswers self (shown line.entry) r.0 r.1) }
+    {
         let Session {
             alloc,
             backups,
             master,
             node,
         } = self;
-        let (node, answer) = match node {
-            Node::Down(fleet) => (Node::Down(fleet), Answer::Down),
-            Node::Up(master) => (Node::Down(master.crash()), Answer::Crashed),
-        };
+        let (node, answer) = run_on(alloc, backups, master, node, line)?;
         let session = Session {
             alloc,
             backups,
             master,
             node,
         };
-        (session, answer)
-    }
-
-    fn lose(mut self, backup: u64) -> Result<(Session, Answer), LineFault> {
-        if backup >= self.backups {
-            return Err(LineFault::Bad);
-        }
-        let answer = match &mut self.node {
-            Node::Up(_) => Answer::Up,
-            Node::Down(fleet) => {
-                if backup < fleet.backups() {
-                    fleet.lose(backup);
-                }
-                Answer::Lost(backup)
-            }
-        };
-        Ok((self, answer))
-    }
-
-    fn recover(self) -> (Session, Answer) {
-        let answer = match &self.node {
-            Node::Up(_) => Answer::Up,
-            Node::Down(fleet) => match fleet.inventory(self.alloc) {
-                Err(NoMemory) => Answer::NotRecovered(RecoveryFault::Plan(PlanFault::NoMemory)),
-                Ok(inventory) => match recover(self.alloc, &inventory, self.master) {
-                    Ok(rebuilt) => Answer::Recovered(rebuilt),
-                    Err(fault) => Answer::NotRecovered(fault),
-                },
-            },
-        };
-        (self, answer)
+        Ok((session, answer))
     }
 }
 
-fn make_key(alloc: Global, table: u64, bytes: &[u8]) -> Result<Key, LineFault> {
+/// Runs a line on the node of a script with so many backups, for the master of this number.
+fn run_on(
+    alloc: Global,
+    backups: u64,
+    master: u64,
+    node: Node,
+    line: Line<'_>,
+) -> Result<(Node, Answer), LineFault>
+    requires { IsLine (shown line) }
+    ensures { IfOk result (λ r. AnswersLine node master (shown line.entry) r.0 r.1) }
+{
+    match line {
+        Line::Idle => Ok((node, Answer::Silent)),
+        Line::Put { table, key, value } => {
+            let command = put_command(alloc, table, key, value)?;
+            Ok(node.serve(command))
+        }
+        Line::Get { table, key } => {
+            let key = make_key(alloc, table, key)?;
+            Ok(node.serve(Command::Get(key)))
+        }
+        Line::Hex { segment } => {
+            let answer = node.hex(segment);
+            Ok((node, answer))
+        }
+        Line::Stop { takes } => Ok((node.stop(takes), Answer::Stop(takes))),
+        Line::Crash => Ok(node.crash()),
+        Line::Lose { backup } if backup >= backups => Err(LineFault::Bad),
+        Line::Lose { backup } => Ok(node.lose(backup)),
+        Line::Recover => {
+            let answer = node.recover(alloc, master);
+            Ok((node, answer))
+        }
+    }
+}
+
+fn make_key(alloc: Global, table: u64, bytes: &[u8]) -> Result<Key, LineFault>
+    ensures { IfOk result (λ key. key ≡ record { table = table; bytes = bytes.now }) }
+{
     match Key::new(alloc, table, bytes) {
         Ok(key) => Ok(key),
         Err(KeyFault::NoMemory) => Err(LineFault::NoMemory),
@@ -188,7 +127,9 @@ fn make_key(alloc: Global, table: u64, bytes: &[u8]) -> Result<Key, LineFault> {
     }
 }
 
-fn put_command(alloc: Global, table: u64, key: &[u8], value: &[u8]) -> Result<Command, LineFault> {
+fn put_command(alloc: Global, table: u64, key: &[u8], value: &[u8]) -> Result<Command, LineFault>
+    ensures { IfOk result (λ command. command ≡ Command.Put (record { table = table; bytes = key.now }) value.now If.Any) }
+{
     if value.len() > MAX_VALUE_LEN {
         return Err(LineFault::Bad);
     }
@@ -197,32 +138,4 @@ fn put_command(alloc: Global, table: u64, key: &[u8], value: &[u8]) -> Result<Co
         Ok(value) => Ok(Command::Put(key, Value::new(value), If::Any)),
         Err(_) => Err(LineFault::NoMemory),
     }
-}
-
-/// Pushes until a push is refused, and answers why; `Nothing` where nothing waits.
-fn push_all(master: &mut Master<MemoryFleet>) -> Refusal {
-    for _ in 0..u64::MAX {
-        if let Err(refusal) = master.step(Step::Push) {
-            return refusal;
-        }
-    }
-    Refusal::Nothing
-}
-
-/// Applies a command, and pushes until its record is durable.
-fn serve(master: &mut Master<MemoryFleet>, command: Command) -> Result<Reply, Refusal> {
-    let (place, reply) = match master.step(Step::Apply(0, command)) {
-        Ok(StepAnswer::Applied(place, reply)) => (place, reply),
-        Ok(_) => unreachable!(),
-        Err(refusal) => return Err(refusal),
-    };
-    for _ in 0..u64::MAX {
-        if place < master.durable() {
-            return Ok(reply);
-        }
-        if let Err(refusal) = master.step(Step::Push) {
-            return Err(refusal);
-        }
-    }
-    Err(Refusal::Nothing)
 }

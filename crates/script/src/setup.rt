@@ -1,6 +1,6 @@
 //! From the command line to a master's configuration.
 
-ghost use Rattle.std.specs.Prelude.{◌≡◌, IfOk};
+ghost use Rattle.std.specs.Prelude.{◌≡◌, ◌<◌, IfOk, OnErr};
 ghost use Rattle.script.specs.Configuration.{config_of, tables_to};
 
 use command_line::Options;
@@ -10,7 +10,8 @@ use std::alloc::Global;
 
 /// The tables from 1 to `count`, each as one whole tablet.
 fn tables(alloc: Global, count: u64) -> Result<Vec<Tablet>, NoMemory>
-    ensures { IfOk result (λ tablets. tablets.items ≡ tables_to count) }
+    ensures tables { IfOk result (λ tablets. tablets.items ≡ tables_to count) }
+    ensures refused { OnErr result (0 < count) }
 {
     let mut tablets = Vec::new(alloc);
     for before in 0..count {
@@ -25,7 +26,8 @@ fn tables(alloc: Global, count: u64) -> Result<Vec<Tablet>, NoMemory>
 
 /// The configuration of a master of this number. Each table of the options is one whole tablet.
 pub fn configuration(alloc: Global, options: &Options, master: u64) -> Result<Config, NoMemory>
-    ensures { IfOk result (λ config. config ≡ config_of options.now master) }
+    ensures config { IfOk result (λ config. config ≡ config_of options.now master) }
+    ensures refused { OnErr result (0 < options.now.tables) }
 {
     let tablets = tables(alloc, options.tables)?;
     Ok(Config {

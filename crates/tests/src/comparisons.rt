@@ -15,26 +15,26 @@ use std::test::Fail;
 #[derive(Clone, Copy)]
 enum Ask {
     Get,
-    Put(&'static str, If),
+    Put(u8, If),
     Delete,
 }
 
 /// Each command meets what those before it left.
 const ASKS: [(&str, Ask); 14] = [
     ("a", Ask::Get),
-    ("a", Ask::Put("x", If::Any)),
-    ("a", Ask::Put("y", If::Absent)),
-    ("a", Ask::Put("y", If::Version(1))),
-    ("a", Ask::Put("z", If::Version(7))),
-    ("b", Ask::Put("z", If::Version(1))),
-    ("b", Ask::Put("p", If::Absent)),
-    ("c", Ask::Put("q", If::Any)),
+    ("a", Ask::Put(b'x', If::Any)),
+    ("a", Ask::Put(b'y', If::Absent)),
+    ("a", Ask::Put(b'y', If::Version(1))),
+    ("a", Ask::Put(b'z', If::Version(7))),
+    ("b", Ask::Put(b'z', If::Version(1))),
+    ("b", Ask::Put(b'p', If::Absent)),
+    ("c", Ask::Put(b'q', If::Any)),
     ("a", Ask::Get),
     ("a", Ask::Delete),
     ("a", Ask::Delete),
     ("c", Ask::Delete),
-    ("a", Ask::Put("w", If::Any)),
-    ("b", Ask::Put("pp", If::Any)),
+    ("a", Ask::Put(b'w', If::Any)),
+    ("b", Ask::Put(b'p', If::Any)),
 ];
 
 fn command_of(alloc: Global, key: &str, ask: &Ask) -> Result<Command, Fail> {
@@ -42,8 +42,8 @@ fn command_of(alloc: Global, key: &str, ask: &Ask) -> Result<Command, Fail> {
     match ask {
         Ask::Get => Ok(Command::Get(key)),
         Ask::Delete => Ok(Command::Delete(key)),
-        Ask::Put(value, when) => {
-            let value = Value::new(Vec::from_slice(alloc, value.as_bytes())?);
+        Ask::Put(byte, when) => {
+            let value = Value::new(Vec::from_slice(alloc, &[*byte])?);
             Ok(Command::Put(key, value, *when))
         }
     }

@@ -1,7 +1,7 @@
 //! Lines read and parsed.
 
 use lines::*;
-use std::alloc::{AllocError, Global};
+use std::alloc::Global;
 use std::io::{self, ErrorKind, Read};
 use std::test::Fail;
 
@@ -85,20 +85,6 @@ fn bad_lines_are_none(rt: HostRuntime) {
     assert!(rt; parse_line(b"g\xfft 1 a").is_none());
 }
 
-/// A line of `get` with a key of this many bytes.
-fn get_line(alloc: Global, key_len: usize) -> Result<Vec<u8>, AllocError> {
-    let mut line = Vec::from_slice(alloc, b"get 1 ")?;
-    line.extend_from_slice(&vec![in alloc; b'k'; key_len]?)?;
-    Ok(line)
-}
-
-#[test]
-fn keys_are_bounded(rt: HostRuntime) -> Result<(), Fail> {
-    assert!(rt; parse_line(&get_line(rt.alloc(), 1024)?).is_some());
-    assert!(rt; parse_line(&get_line(rt.alloc(), 1025)?).is_none());
-    Ok(())
-}
-
 #[test]
 fn lines_are_read(rt: HostRuntime) -> Result<(), Fail> {
     let mut reader: &[u8] = b"crash\n\n# x\r\nlast";
@@ -115,23 +101,6 @@ fn lines_are_read(rt: HostRuntime) -> Result<(), Fail> {
         assert_eq!(rt; next_line(&mut reader, &mut line)?, taken, "{text}");
         assert_eq!(rt; line.as_slice(), text.as_bytes());
     }
-    Ok(())
-}
-
-#[test]
-fn long_lines_are_told(rt: HostRuntime) -> Result<(), Fail> {
-    for (len, taken) in [(4096, Taken::Ended), (4097, Taken::TooLong)] {
-        let mut bytes = vec![in rt.alloc(); b'#'; len]?;
-        bytes.push(b'\n')?;
-        let mut reader = bytes.as_slice();
-        let mut line = Vec::new(rt.alloc());
-        assert_eq!(rt; next_line(&mut reader, &mut line)?, taken);
-        assert_eq!(rt; line.len(), len);
-    }
-    let bytes = vec![in rt.alloc(); b'#'; 4096]?;
-    let mut reader = bytes.as_slice();
-    let mut line = Vec::new(rt.alloc());
-    assert_eq!(rt; next_line(&mut reader, &mut line)?, Taken::Last);
     Ok(())
 }
 

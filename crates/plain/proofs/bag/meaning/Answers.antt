@@ -4,6 +4,7 @@ use Rattle.std.specs.Prelude.{is_some}
 use Rattle.entry.specs.declared.entry.Object.{Object}
 use Rattle.entry.specs.declared.entry.Entry.{Entry}
 use Rattle.entry.specs.Meaning.{among, object_at, contents_of}
+use Rattle.plain.proofs.Failing.{failing_from_all}
 use Rattle.plain.proofs.Listings.{IsHighest, take_next, among_next, listing_passes, listing_takes, listing_means, listed_already, highest_from_top}
 use Rattle.plain.proofs.bag.meaning.Goals.{in-Object+then-is_top+then-not-is_listed+in_ok-copy_object+in_ok-push, in-Object+else-is_top, else-is_top-via-then-is_top+else-not-is_listed, else-is_top-via-else-is_top, in_default}
 use Rattle.plain.proofs.bag.meaning.Goals as goal
@@ -53,3 +54,15 @@ returns-clause-meaning c =
     let os = c.loop-entry.objects.items in
     let all : c.loop-entry.entry-index ≡ length bag = omega arith in
     listing_means bag os (rw all at c.loop-entry.invariant)
+
+pub returns-in_err-copy_object-clause-refused : goal.returns-in_err-copy_object-clause-refused
+returns-in_err-copy_object-clause-refused c =
+    let bag = c.args.bag.now in
+    let held = among_next bag c.loop-entry.entry-index c.entry-item.result (omega arith) c.entry-item.is in
+    failing_from_all c.from_residual.result _ (c.in-Object.object, subst (among bag) c.in-Object.is held)
+
+pub returns-in_err-push-clause-refused : goal.returns-in_err-push-clause-refused
+returns-in_err-push-clause-refused c =
+    let bag = c.args.bag.now in
+    let held = among_next bag c.loop-entry.entry-index c.entry-item.result (omega arith) c.entry-item.is in
+    failing_from_all c.from_residual-in_err-push.result _ (c.in-Object.object, subst (among bag) c.in-Object.is held)

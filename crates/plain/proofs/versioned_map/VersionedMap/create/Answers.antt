@@ -34,5 +34,6 @@ returns c =
           (state_of-push os c.self.inside.safe k value c.args.when o absent met c.in_ok-copy_key.ensures version c.in_ok-copy_value.ensures
           ∙ ap (λ (m : MapValue). after_command (state_of m) (Put k value c.args.when)) c.self.view_is);
       err = tt;
+      refused = tt;
       spent = tt;
     }

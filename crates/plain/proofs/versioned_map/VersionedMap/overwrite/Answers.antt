@@ -9,6 +9,7 @@ use Rattle.master.specs.Versioned.{is_met, after_command}
 use Rattle.plain.specs.declared.fault.ApplyFault.{ApplyFault}
 use Rattle.plain.specs.declared.fault.ApplyFault.TheVariants.{VersionsSpent}
 use Rattle.plain.specs.Map.{MapValue, IsAtSlot, state_of}
+use Rattle.plain.proofs.Failing.{failing_from_all}
 use Rattle.plain.proofs.Puts.{slot_has, state_of-set}
 use Rattle.plain.proofs.versioned_map.VersionedMap.overwrite.Goals as goal
 
@@ -66,3 +67,19 @@ returns-clause-state c =
     state_of-set os c.self.inside.safe k c.args.value.now c.args.when c.args.slot o p c.self.invariant there c.index.ensures met
     (ap (λ (q : Object). q.key) same ∙ there.of_key c.index_mut-object.result.now) next c.in_ok-value.ensures
     ∙ ap (λ (m : MapValue). after_command (state_of m) (Put k c.args.value.now c.args.when)) c.self.view_is
+
+pub returns-in_err-version-clause-refused : goal.returns-in_err-version-clause-refused
+returns-in_err-version-clause-refused c =
+    let os = c.self.inside.objects.items in
+    let o = c.index.result.now in
+    let met : is_met c.args.when (Some (versioned o)) ≡ true = sym (c.is_met.ensures o.value) ∙ c.if-not-is_met.false in
+    rw (← c.self.view_is)
+    (failing_from_all c.from_residual.result _ (λ k at. let has = slot_has os k c.args.slot o c.self.invariant at c.index.ensures in rw has met))
+
+pub returns-in_err-value-clause-refused : goal.returns-in_err-value-clause-refused
+returns-in_err-value-clause-refused c =
+    let os = c.self.inside.objects.items in
+    let o = c.index.result.now in
+    let met : is_met c.args.when (Some (versioned o)) ≡ true = sym (c.is_met.ensures o.value) ∙ c.if-not-is_met.false in
+    rw (← c.self.view_is)
+    (failing_from_all c.from_residual-in_err-value.result _ (λ k at. let has = slot_has os k c.args.slot o c.self.invariant at c.index.ensures in rw has met))

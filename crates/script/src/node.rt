@@ -1,0 +1,167 @@
+//! A fleet, and the master over it where there is one.
+
+ghost use Rattle.std.specs.Prelude.{◌≡◌, ◌<◌, ℕ, Some, IfOk};
+ghost use Rattle.lines.specs.Grammar.{LineValue};
+ghost use Rattle.master.specs.Master.{MasterData, durable_of};
+ghost use Rattle.script.specs.Served.{GoesOn, IsServed, IsOf, Stands, AnswersLine};
+ghost use Rattle.script.specs.Told.{command_of, IsOther, Tells};
+
+use crate::answer::Answer;
+use crate::recovery::{RecoveryFault, recover};
+use backup::MemoryFleet;
+use entry::NoMemory;
+use master::{Command, Look, Master, Refusal, Reply, Shown, Step, StepAnswer};
+use recovery_plan::PlanFault;
+use replica::{Bench, Fleet};
+use std::alloc::Global;
+
+/// A fleet, and the master over it where there is one.
+#[derive(Drop)]
+pub enum Node {
+    Up(Master<MemoryFleet>),
+    Down(MemoryFleet),
+}
+
+/// Pushes until a push is refused, and answers why; `Nothing` where nothing waits.
+pub fn push_all<F: Fleet>(master: &mut Master<F>) -> Refusal
+    ensures { GoesOn master.old.knows master.new.knows }
+{
+    for _ in 0..u64::MAX {
+        if let Err(refusal) = master.step(Step::Push) {
+            return refusal;
+        }
+    }
+    Refusal::Nothing
+}
+
+/// Pushes until the record at this place is durable, or a push is refused.
+fn push_until<F: Fleet>(master: &mut Master<F>, place: u64) -> Result<(), Refusal>
+    ensures goes_on { GoesOn master.old.knows master.new.knows }
+    ensures durable { IfOk result (λ _. place < durable_of master.new.knows) }
+{
+    for _ in 0..u64::MAX {
+        if place < master.durable() {
+            return Ok(());
+        }
+        if let Err(refusal) = master.step(Step::Push) {
+            return Err(refusal);
+        }
+    }
+    Err(Refusal::Nothing)
+}
+
+/// Applies a command of seat 0, and pushes until its record is durable.
+fn serve<F: Fleet>(master: &mut Master<F>, command: Command) -> Result<Reply, Refusal>
+    ensures goes_on { GoesOn master.old.knows master.new.knows }
+    ensures served { IfOk result (λ reply. IsServed master.old.knows master.new.knows command reply) }
+{
+    match master.step(Step::Apply(0, command)) {
+        Ok(StepAnswer::Applied(place, reply)) => match push_until(master, place) {
+            Ok(()) => Ok(reply),
+            Err(refusal) => Err(refusal),
+        },
+        Ok(_) => unreachable!(),
+        Err(refusal) => Err(refusal),
+    }
+}
+
+/// Drops a master whose fleet took no more ops, and lifts the limit.
+fn stopped(up: Master<MemoryFleet>) -> Node
+    ensures { IsOf result up.knows }
+{
+    let mut fleet = up.crash();
+    fleet.limit(u64::MAX);
+    Node::Down(fleet)
+}
+
+impl Node {
+    ghost use Rattle.lines.specs.Grammar.{Hex, Crash, Lose, Recover};
+
+    /// One command, pushed until it is durable. Where the fleet takes no more ops, the master is dropped.
+    pub fn serve(self, command: Command) -> (Node, Answer)
+        ensures { (master : ℕ) (line : LineValue) → command_of line ≡ Some command → AnswersLine self master line result.0 result.1 }
+    {
+        match self {
+            Node::Down(fleet) => (Node::Down(fleet), Answer::Down),
+            Node::Up(mut up) => match serve(&mut up, command) {
+                Ok(reply) => (Node::Up(up), Answer::Reply(reply)),
+                Err(Refusal::Spent) => (stopped(up), Answer::Stopped),
+                Err(refusal) => (Node::Up(up), Answer::Refused(refusal)),
+            },
+        }
+    }
+
+    /// The image of a segment.
+    pub fn hex(&self, segment: u64) -> Answer
+        ensures { IsOther (Hex segment) result }
+    {
+        match self {
+            Node::Down(_) => Answer::Down,
+            Node::Up(up) => match up.look(Look::Image(segment)) {
+                Ok(Shown::Image(Some(bytes))) => Answer::Hex(bytes),
+                Ok(Shown::Image(None)) => Answer::NotInLog(segment),
+                Err(NoMemory) => Answer::Refused(Refusal::NoMemory),
+            },
+        }
+    }
+
+    /// Lets the fleet take this many further ops.
+    pub fn stop(self, takes: u64) -> Node
+        ensures { (d : MasterData) → IsOf self d → IsOf result d }
+    {
+        match self {
+            Node::Down(mut fleet) => {
+                fleet.limit(takes);
+                Node::Down(fleet)
+            }
+            Node::Up(mut up) => {
+                up.limit(takes);
+                Node::Up(up)
+            }
+        }
+    }
+
+    /// Drops the master.
+    pub fn crash(self) -> (Node, Answer)
+        ensures same { (d : MasterData) → IsOf self d → IsOf result.0 d }
+        ensures answer { IsOther Crash result.1 }
+    {
+        match self {
+            Node::Down(fleet) => (Node::Down(fleet), Answer::Down),
+            Node::Up(up) => (Node::Down(up.crash()), Answer::Crashed),
+        }
+    }
+
+    /// A backup loses all that it holds.
+    pub fn lose(self, backup: u64) -> (Node, Answer)
+        ensures same { (d : MasterData) → IsOf self d → IsOf result.0 d }
+        ensures answer { IsOther (Lose backup) result.1 }
+    {
+        match self {
+            Node::Up(up) => (Node::Up(up), Answer::Up),
+            Node::Down(mut fleet) => {
+                if backup < fleet.backups() {
+                    fleet.lose(backup);
+                }
+                (Node::Down(fleet), Answer::Lost(backup))
+            }
+        }
+    }
+
+    /// What is recovered of the master of this number.
+    pub fn recover(&self, alloc: Global, master: u64) -> Answer
+        ensures { (d : MasterData) (from : ℕ) → Stands self.now master d from → Tells d.history from (record { line = Recover; answer = result }) from }
+    {
+        let fleet = match self {
+            Node::Up(_) => return Answer::Up,
+            Node::Down(fleet) => fleet,
+        };
+        let Ok(inventory) = fleet.inventory(alloc) else {
+            return Answer::NotRecovered(RecoveryFault::Plan(PlanFault::NoMemory));
+        };
+        match recover(alloc, &inventory, master) {
+            Ok(rebuilt) => Answer::Recovered(rebuilt),
+            Err(fault) => Answer::NotRecovered(fault),
+        }
+    }
+}
