@@ -5,3 +5,4 @@ pub mod AskedOnce
 pub mod Drilled
 pub mod Printed
 pub mod Serving
+pub mod Turning

@@ -1,8 +1,7 @@
 -- A line that was run, told of a history.
-use Rattle.std.proofs.Common.{◌≡◌, ℕ, suc, ◌≤◌, Bool, true, false, cond, List, [], ◌∷◌, ◌++◌, length, refl, sym, ap, subst, ◌∙◌, append_assoc, arith}
+use Rattle.std.proofs.Common.{◌≡◌, ℕ, suc, ◌≤◌, Bool, true, false, cond, List, [], ◌∷◌, ◌++◌, length, refl, sym, ap, subst, inl, inr, ◌∙◌, arith}
 use Rattle.std.proofs.lemmas.List.{append-nil, length-append}
-use Rattle.std.proofs.lemmas.Option.{slice_get_within}
-use Rattle.std.specs.Prelude.{Option, Some, None, slice_get, not, ◌==◌, ◌↔◌}
+use Rattle.std.specs.Prelude.{Option, Some, None, Result, Ok, Err, slice_get, not, ◌==◌, ◌↔◌}
 use Rattle.backup.specs.State.{state_of, lost}
 use Rattle.backup.specs.declared.fleet.MemoryFleet.{MemoryFleet}
 use Rattle.lines.specs.Grammar.{LineValue, Idle, Put, Get, Hex, Stop, Crash, Lose, Recover}
@@ -15,117 +14,116 @@ use Rattle.master.specs.declared.command.Record.{Record}
 use Rattle.master.specs.declared.config.Config.{Config}
 use Rattle.master.specs.declared.command.Reply.{Reply}
 use Rattle.master.specs.declared.step.Refusal.{Refusal}
+use Rattle.master.specs.declared.step.Refusal.TheVariants as refusal
+use Rattle.master.specs.declared.step.Step.TheVariants.{Apply, Push}
+use Rattle.master.specs.declared.step.StepAnswer.{StepAnswer}
+use Rattle.master.specs.declared.step.StepAnswer.TheVariants.{Applied, Opened, Extended}
 use Rattle.master.specs.Log.{IsLegal}
-use Rattle.master.specs.Master.{MasterData}
+use Rattle.master.specs.Master.{MasterData, durable_of}
 use Rattle.master.specs.Keeps.{Keeps}
 use Rattle.master.specs.Sound.{IsSound}
-use Rattle.master.specs.Steps.{World}
+use Rattle.master.specs.Steps.{World, Steps, FailsTake}
 use Rattle.script.specs.declared.answer.Answer.{Answer}
 use Rattle.script.specs.declared.answer.Answer.TheVariants as answer
 use Rattle.script.specs.declared.node.Node.{Node}
 use Rattle.script.specs.declared.node.Node.TheVariants.{Down}
-use Rattle.script.specs.Served.{GoesOn, IsServed, IsOf, Stands, AnswersLine}
+use Rattle.script.specs.Served.{GoesOn, IsServed, IsUnserved, IsOf, Stands, AnswersLine, is_up, record_of}
 use Rattle.script.specs.Recovered.{Shows, IsRecovered}
-use Rattle.script.specs.Told.{command_of, IsOther, Tells, TellsAnswer, IsTableAfter}
+use Rattle.script.specs.Told.{Position, command_of, is_for_master, IsInOrOut, IsRecoveredAt, Tells}
 
 -- ---- a master goes on
 
-pub goes-nowhere : (d : MasterData) → GoesOn d d
-goes-nowhere d = record { config = refl; durable = omega arith; legal = λ l. l; history = ([], sym (append-nil d.history)) }
-
-pub goes-further : (a b c : MasterData) → GoesOn a b → GoesOn b c → GoesOn a c
-goes-further a b c g h =
-    let first = g.durable in
-    let second = h.durable in
-    record {
-      config = h.config ∙ g.config;
-      durable = omega arith;
-      legal = λ l. h.legal (g.legal l);
-      history = (g.history.0 ++ h.history.0, h.history.1 ∙ ap (λ (rs : List Record). rs ++ h.history.0) g.history.1 ∙ append_assoc a.history g.history.0 h.history.0);
-    }
-
-slice_get-middle : (xs ys : List Record) (r : Record) → slice_get (xs ++ ((r ∷ []) ++ ys)) (length xs) ≡ Some r
-slice_get-middle [] ys r = refl
-slice_get-middle (x ∷ xs) ys r = slice_get-middle xs ys r
-
--- a record that was added at the end stays where it is
-pub told-there : (a b c : MasterData) (r : Record) → b.history ≡ a.history ++ r ∷ [] → GoesOn b c → slice_get c.history (length a.history) ≡ Some r
-told-there a b c r added g =
-    ap (λ (rs : List Record). slice_get rs (length a.history)) (g.history.1 ∙ ap (λ (rs : List Record). rs ++ g.history.0) added ∙ append_assoc a.history (r ∷ []) g.history.0)
-    ∙ slice_get-middle a.history g.history.0 r
+pub goes-nowhere : (d : MasterData) → GoesOn d d []
+goes-nowhere d = record { config = refl; durable = omega arith; legal = λ l. l; history = sym (append-nil d.history) }
 
 -- ---- what the node stands for goes on
 
-history-grows : (d e : MasterData) → GoesOn d e → length d.history ≤ length e.history
-history-grows d e g = let n = ap length g.history.1 in let m = length-append d.history g.history.0 in omega arith
+-- the record that was added is at the end of what was
+slice_get-end : (xs : List Record) (r : Record) → slice_get (xs ++ r ∷ []) (length xs) ≡ Some r
+slice_get-end [] r = refl
+slice_get-end (x ∷ xs) r = slice_get-end xs r
 
-module _ (d e : MasterData) (old new : Node) (master from : ℕ) (of : IsOf new e) (g : GoesOn d e) (legal : IsLegal e) (s : Stands old master d from) where
-  pub still_stands : Stands new master e from
-  still_stands =
+abbrev Answered : MasterData → Node → ℕ → Position → LineValue → Answer → Type 0
+Answered d new master at line a =
+    (e : MasterData) × (next : Position) × Stands new master e next × ((more : List Record) × (e.history ≡ d.history ++ more)) × Tells e.history at line a next
+
+module _ (d e : MasterData) (old new : Node) (master : ℕ) (at : Position) (of : IsOf new e) (s : Stands old master d at) where
+  -- the line made no record
+  still_stands : GoesOn d e [] → Stands new master e (record { made = at.made; acknowledged = at.acknowledged; is_up = is_up new })
+  still_stands g =
       let up = g.durable in
-      let told = s.told in
-      let placed = s.placed in
-      let longer = history-grows d e g in
-      record { node_of = of; number = ap (λ (c : Config). c.master) g.config ∙ s.number; legal = legal; told = omega arith; placed = omega arith }
+      let kept = s.acknowledged in
+      record {
+        node_of = of;
+        up = refl;
+        number = ap (λ (c : Config). c.master) g.config ∙ s.number;
+        legal = g.legal s.legal;
+        made = s.made ∙ ap length (sym (g.history ∙ append-nil d.history));
+        acknowledged = omega arith;
+      }
 
-  abbrev Answered : LineValue → Answer → Type 0
-  Answered line a = (e : MasterData) × (next : ℕ) × Stands new master e next × ((more : List Record) × (e.history ≡ d.history ++ more)) × Tells e.history from (record { line = line; answer = a }) next
+  -- the line made one
+  stands_longer : (command : Command) (reply : Reply) (acknowledged : ℕ) → GoesOn d e (record_of command reply) → acknowledged ≤ durable_of e
+      → Stands new master e (record { made = suc at.made; acknowledged = acknowledged; is_up = is_up new })
+  stands_longer command reply acknowledged g kept = record {
+    node_of = of;
+    up = refl;
+    number = ap (λ (c : Config). c.master) g.config ∙ s.number;
+    legal = g.legal s.legal;
+    made =
+        let longer = ap length g.history in
+        let count = length-append d.history (record_of command reply) in
+        let before = s.made in
+        omega arith;
+    acknowledged = kept;
+  }
 
-  -- a reply is that of the record that was added
-  pub reply_told : (line : LineValue) (command : Command) (reply : Reply) → command_of line ≡ Some command → IsServed d e command reply → Answered line (answer.Reply reply)
-  reply_told line command reply is served =
-      let lt = served.durable in
-      let placed = s.placed in
-      let within = slice_get_within e.history (length d.history) _ served.told in (
-        e,
-        suc (length d.history),
-        record { node_of = of; number = still_stands.number; legal = legal; told = omega arith; placed = omega arith },
-        g.history,
-        (length d.history, s.placed, (command, is, served.told), refl),
+  record_there : (command : Command) (reply : Reply) → GoesOn d e (record_of command reply)
+      → slice_get e.history at.made ≡ Some (record { seat = 0; command = command; reply = reply })
+  record_there command reply g = (λ i. slice_get (g.history i) (s.made i)) ∙ slice_get-end d.history _
+
+  in_or_out : (line : LineValue) (command : Command) → command_of line ≡ Some command → IsUnserved d e command
+      → (next : Position) × Stands new master e next × ((more : List Record) × (e.history ≡ d.history ++ more)) × IsInOrOut e.history at line (is_up new) next
+  in_or_out line command is (inl g) = (_, still_stands g, ([], g.history), inl (command, is, refl))
+  in_or_out line command is (inr (reply, g)) =
+      let up = g.durable in
+      let kept = s.acknowledged in (
+        _,
+        stands_longer command reply at.acknowledged g (omega arith),
+        (record_of command reply, g.history),
+        inr (reply, (command, is, record_there command reply g), refl),
       )
 
-  pub refused_told : (line : LineValue) (refusal : Refusal) → IsOther line (answer.Refused refusal) → Answered line (answer.Refused refusal)
-  refused_told line refusal other = (e, from, still_stands, g.history, (other, refl))
+  pub refused_told : (line : LineValue) (command : Command) (refusal : Refusal) → command_of line ≡ Some command → is_up old ≡ true → is_up new ≡ true
+      → IsUnserved d e command → Answered d new master at line (answer.Refused refusal)
+  refused_told line command refusal is was on u =
+      let t = in_or_out line command is u in
+      (e, t.0, t.1, t.2, (s.up ∙ was, inl (subst (λ (b : Bool). IsInOrOut e.history at line b t.0) on t.3)))
 
-  pub stopped_told : (line : LineValue) → IsOther line answer.Stopped → Answered line answer.Stopped
-  stopped_told line other = (e, from, still_stands, g.history, (other, refl))
+  pub stopped_told : (line : LineValue) (command : Command) → command_of line ≡ Some command → is_up old ≡ true → is_up new ≡ false
+      → IsUnserved d e command → Answered d new master at line answer.Stopped
+  stopped_told line command is was off u =
+      let t = in_or_out line command is u in
+      (e, t.0, t.1, t.2, (s.up ∙ was, subst (λ (b : Bool). IsInOrOut e.history at line b t.0) off t.3))
 
--- what a command may be answered beside a reply
-pub refused_other : (line : LineValue) (command : Command) (refusal : Refusal) → command_of line ≡ Some command → IsOther line (answer.Refused refusal)
-refused_other Idle command refusal is = absurd (cc)
-refused_other (Put table key value) command refusal is = tt
-refused_other (Get table key) command refusal is = tt
-refused_other (Hex segment) command refusal is = absurd (cc)
-refused_other (Stop takes) command refusal is = absurd (cc)
-refused_other Crash command refusal is = absurd (cc)
-refused_other (Lose backup) command refusal is = absurd (cc)
-refused_other Recover command refusal is = absurd (cc)
-
-pub stopped_other : (line : LineValue) (command : Command) → command_of line ≡ Some command → IsOther line answer.Stopped
-stopped_other Idle command is = absurd (cc)
-stopped_other (Put table key value) command is = tt
-stopped_other (Get table key) command is = tt
-stopped_other (Hex segment) command is = absurd (cc)
-stopped_other (Stop takes) command is = absurd (cc)
-stopped_other Crash command is = absurd (cc)
-stopped_other (Lose backup) command is = absurd (cc)
-stopped_other Recover command is = absurd (cc)
-
-pub down_other : (line : LineValue) (command : Command) → command_of line ≡ Some command → IsOther line answer.Down
-down_other Idle command is = absurd (cc)
-down_other (Put table key value) command is = tt
-down_other (Get table key) command is = tt
-down_other (Hex segment) command is = absurd (cc)
-down_other (Stop takes) command is = absurd (cc)
-down_other Crash command is = absurd (cc)
-down_other (Lose backup) command is = absurd (cc)
-down_other Recover command is = absurd (cc)
-
--- ---- lines that leave the history as it is
+-- ---- lines that make no record
 
 -- the node that is left stands for the same
-pub same_stands : (old new : Node) (master : ℕ) → ((d : MasterData) → IsOf old d → IsOf new d) → (d : MasterData) (from : ℕ) → Stands old master d from → Stands new master d from
-same_stands old new master keep d from s = record { node_of = keep d s.node_of; number = s.number; legal = s.legal; told = s.told; placed = s.placed }
+pub same_told : (old new : Node) (master : ℕ) (line : LineValue) (a : Answer) → ((d : MasterData) → IsOf old d → IsOf new d)
+    → ((history : List Record) (at : Position) → at.is_up ≡ is_up old → at.made ≡ length history
+    → Tells history at line a (record { made = at.made; acknowledged = at.acknowledged; is_up = is_up new }))
+    → AnswersLine old master line new a
+same_told old new master line a same tells d at s = (
+  d,
+  _,
+  still_stands d d old new master at (same d s.node_of) s (goes-nowhere d),
+  ([], sym (append-nil d.history)),
+  tells d.history at s.up s.made,
+)
+
+-- and stands where it stood
+pub rests : (at : Position) (b : Bool) → at.is_up ≡ b → record { made = at.made; acknowledged = at.acknowledged; is_up = b } ≡ at
+rests at b is = λ i. record { made = at.made; acknowledged = at.acknowledged; is_up = sym is i }
 
 -- ---- a backup is lost
 
@@ -151,47 +149,6 @@ same_picture d old new is of = (of.0, of.1, of.2, λ b s. (λ i. is i b d.config
 pub crashed_of : (d : MasterData) (fleet : MemoryFleet) → IsSound d (state_of fleet).picture → IsOf (Down fleet) d
 crashed_of d fleet sound = ((state_of fleet).picture, (λ c. true), sound, λ b s. refl)
 
--- ---- steps
-
-pub goes-step : (most : ℕ) (old new : World) → Keeps most old new → IsLegal new.knows → GoesOn old.knows new.knows
-goes-step most old new k legal = record { config = k.config; durable = k.durable; legal = λ before. legal; history = k.history }
-
--- ---- what tells nothing of the history
-
-other_tells : (history : List Record) (from : ℕ) (line : LineValue) (a : Answer) → IsOther line a → TellsAnswer history from line a from
-other_tells history from line answer.Silent other = (other, refl)
-other_tells history from Idle (answer.Reply reply) other = absurd other
-other_tells history from (Put table key value) (answer.Reply reply) other = absurd other
-other_tells history from (Get table key) (answer.Reply reply) other = absurd other
-other_tells history from (Hex segment) (answer.Reply reply) other = absurd other
-other_tells history from (Stop takes) (answer.Reply reply) other = absurd other
-other_tells history from Crash (answer.Reply reply) other = absurd other
-other_tells history from (Lose backup) (answer.Reply reply) other = absurd other
-other_tells history from Recover (answer.Reply reply) other = absurd other
-other_tells history from line (answer.Refused refusal) other = (other, refl)
-other_tells history from line (answer.Hex bytes) other = (other, refl)
-other_tells history from line (answer.NotInLog segment) other = (other, refl)
-other_tells history from line (answer.Stop takes) other = (other, refl)
-other_tells history from line answer.Stopped other = (other, refl)
-other_tells history from line answer.Crashed other = (other, refl)
-other_tells history from line (answer.Lost backup) other = (other, refl)
-other_tells history from Idle (answer.Recovered r) other = absurd other
-other_tells history from (Put table key value) (answer.Recovered r) other = absurd other
-other_tells history from (Get table key) (answer.Recovered r) other = absurd other
-other_tells history from (Hex segment) (answer.Recovered r) other = absurd other
-other_tells history from (Stop takes) (answer.Recovered r) other = absurd other
-other_tells history from Crash (answer.Recovered r) other = absurd other
-other_tells history from (Lose backup) (answer.Recovered r) other = absurd other
-other_tells history from Recover (answer.Recovered r) other = absurd other
-other_tells history from line (answer.NotRecovered fault) other = (other, refl)
-other_tells history from line answer.Down other = (other, refl)
-other_tells history from line answer.Up other = (other, refl)
-
--- a line that leaves the node standing for the same, and tells nothing
-pub other_told : (old new : Node) (master : ℕ) (line : LineValue) (a : Answer) → ((d : MasterData) → IsOf old d → IsOf new d) → IsOther line a → AnswersLine old master line new a
-other_told old new master line a same other =
-    λ d from s. (d, from, same_stands old new master same d from s, ([], sym (append-nil d.history)), other_tells d.history from line a other)
-
 -- ---- recovery
 
 -- the inventory of what is left of a picture shows it
@@ -203,9 +160,16 @@ shows_left hs p f keep d master number same shown h of =
     subst (λ (m : ℕ). f.picture h.backup m h.segment ≡ survivors keep p h.backup m h.segment) at (same h.backup h.segment) in
     (λ among. sym eq ∙ (shown h).0 among, λ held. (shown h).1 (eq ∙ held))
 
-pub table_told : (d : MasterData) (node : Node) (master from : ℕ) (r : Rebuilt) → Stands node master d from → ((count : ℕ) × IsRecovered d count r)
-    → (count : ℕ) × (from ≤ count) × IsTableAfter d.history count r
-table_told d node master from r s found =
-    let told = s.told in
+pub table_told : (d : MasterData) (node : Node) (master : ℕ) (at : Position) (r : Rebuilt) → Stands node master d at → ((count : ℕ) × IsRecovered d count r)
+    → IsRecoveredAt d.history at r
+table_told d node master at r s found =
+    let kept = s.acknowledged in
+    let made = s.made in
     let durable = found.1.durable in
-    (found.0, omega arith, record { within = found.1.within; exactly = found.1.exactly; order = found.1.order })
+    let within = found.1.within in
+    (found.0, omega arith, omega arith, record { within = found.1.within; exactly = found.1.exactly; order = found.1.order })
+
+-- a node that is down answers of what it stands for, and stays
+pub down_told : (node : Node) (master : ℕ) (line : LineValue) (a : Answer) → is_up node ≡ false
+    → ((d : MasterData) (at : Position) → Stands node master d at → at.is_up ≡ false → Tells d.history at line a at) → AnswersLine node master line node a
+down_told node master line a off tells d at s = (d, at, s, ([], sym (append-nil d.history)), tells d at s (s.up ∙ off))

@@ -4,3 +4,5 @@ pub mod Kept
 pub mod Texts
 pub mod Told
 pub mod Served
+pub mod Runs
+pub mod Turns

@@ -1,5 +1,5 @@
 -- What a session of lines stands for.
-use Rattle.std.specs.Prelude.{◌≡◌, ℕ, ◌<◌, ◌≤◌, List, ◌++◌, Bool, length, Some, slice_get}
+use Rattle.std.specs.Prelude.{◌≡◌, ◌⊎◌, ℕ, ◌<◌, ◌≤◌, List, [], ◌∷◌, ◌++◌, Bool, true, false, length}
 use Rattle.backup.specs.State.{state_of}
 use Rattle.lines.specs.Grammar.{LineValue}
 use Rattle.replica.specs.Picture.{Picture, survivors}
@@ -13,19 +13,25 @@ use Rattle.script.specs.declared.answer.Answer.{Answer}
 use Rattle.script.specs.declared.node.Node.{Node}
 use Rattle.script.specs.declared.node.Node.TheVariants.{Up, Down}
 use Rattle.script.specs.declared.session.Session.{Session}
-use Rattle.script.specs.Told.{Tells}
+use Rattle.script.specs.Told.{Position, Tells}
 
--- a master goes on: the same configuration, and no less durable; its history is legal still, and has more at its end, if anything
-pub record GoesOn (old new : MasterData) : Type 0 where
+-- a master goes on: the same configuration, no less durable, legal still, and with these records more
+pub record GoesOn (old new : MasterData) (more : List Record) : Type 0 where
   pub config : new.config ≡ old.config
   pub durable : durable_of old ≤ durable_of new
   pub legal : IsLegal old → IsLegal new
-  pub history : (more : List Record) × (new.history ≡ old.history ++ more)
+  pub history : new.history ≡ old.history ++ more
 
--- the command was served: its record is the next one, and durable
-pub record IsServed (old new : MasterData) (command : Command) (reply : Reply) : Type 0 where
-  pub told : slice_get new.history (length old.history) ≡ Some (record { seat = 0; command = command; reply = reply })
-  pub durable : length old.history < durable_of new
+abbrev pub record_of : Command → Reply → List Record
+record_of command reply = record { seat = 0; command = command; reply = reply } ∷ []
+
+-- the command was served: its record is added, and durable
+abbrev pub IsServed : MasterData → MasterData → Command → Reply → Type 0
+IsServed old new command reply = GoesOn old new (record_of command reply) × (length old.history < durable_of new)
+
+-- the command was not answered: its record may have been added or not
+abbrev pub IsUnserved : MasterData → MasterData → Command → Type 0
+IsUnserved old new command = GoesOn old new [] ⊎ ((reply : Reply) × GoesOn old new (record_of command reply))
 
 -- a master that is up knows this; of one that is down the fleet holds what is left of a sound picture
 abbrev pub IsOf : Node → MasterData → Type 0
@@ -33,19 +39,24 @@ IsOf (Up m) d = m.knows ≡ d
 IsOf (Down fleet) d = (p : Picture) × (keep : ℕ → Bool) × IsSound d p
     × ((b s : ℕ) → (state_of fleet).picture b d.config.master s ≡ survivors keep p b d.config.master s)
 
--- The node stands for this knowledge, of a master of this number, and what was told of its history is durable.
-pub record Stands (node : Node) (master : ℕ) (d : MasterData) (from : ℕ) : Type 0 where
+abbrev pub is_up : Node → Bool
+is_up (Up m) = true
+is_up (Down fleet) = false
+
+-- The node stands at this position for this knowledge, of a master of this number, and what was acknowledged is durable.
+pub record Stands (node : Node) (master : ℕ) (d : MasterData) (at : Position) : Type 0 where
   pub node_of : IsOf node d
+  pub up : at.is_up ≡ is_up node
   pub number : d.config.master ≡ master
   pub legal : IsLegal d
-  pub placed : from ≤ length d.history
-  pub told : from ≤ durable_of d
+  pub made : at.made ≡ length d.history
+  pub acknowledged : at.acknowledged ≤ durable_of d
 
 -- What a line answers is told of the history of whatever the node stands for, and the node that is left goes on with it.
 abbrev pub AnswersLine : Node → ℕ → LineValue → Node → Answer → Type 0
-AnswersLine old master line new answer = (d : MasterData) (from : ℕ) → Stands old master d from →
-    (e : MasterData) × (next : ℕ) × Stands new master e next × ((more : List Record) × (e.history ≡ d.history ++ more))
-    × Tells e.history from (record { line = line; answer = answer }) next
+AnswersLine old master line new answer = (d : MasterData) (at : Position) → Stands old master d at →
+    (e : MasterData) × (next : Position) × Stands new master e next × ((more : List Record) × (e.history ≡ d.history ++ more))
+    × Tells e.history at line answer next
 
 -- the same of a session
 pub record SessionAnswers (old : Session) (line : LineValue) (new : Session) (answer : Answer) : Type 0 where

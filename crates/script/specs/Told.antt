@@ -1,5 +1,5 @@
 -- What the lines of a script tell of a master's history.
-use Rattle.std.specs.Prelude.{◌≡◌, ℕ, suc, ◌≤◌, List, [], ◌∷◌, map, take, length, Option, Some, None, slice_get}
+use Rattle.std.specs.Prelude.{◌≡◌, ◌⊎◌, ℕ, suc, ◌≤◌, List, [], ◌∷◌, map, take, length, Bool, true, false, Option, Some, None, slice_get}
 use Rattle.std.specs.List.Sorted.{IsStrictlySortedBy}
 use Rattle.entry.specs.declared.entry.Object.{Object}
 use Rattle.entry.specs.Meaning.{contents_of}
@@ -16,13 +16,28 @@ use Rattle.master.specs.Versioned.{after}
 use Rattle.replay.specs.declared.rebuilt.Rebuilt.{Rebuilt}
 use Rattle.script.specs.declared.answer.Answer.{Answer}
 use Rattle.script.specs.declared.answer.Answer.TheVariants as answer
+use Rattle.script.specs.Recovered.{IsLossOrMemory}
 
--- a line that was run, and what it answered
+-- a line that was run: its text without the line feed, what it says, and what it answered
 pub record Told : Type 0 where
+  pub text : List ℕ
   pub line : LineValue
   pub answer : Answer
 
--- ---- replies
+-- where a script stands in the history of its master
+pub record Position : Type 0 where
+  -- how many records its lines have made
+  pub made : ℕ
+  -- how many of them, counted from the first, a recovery has to have: those up to the last that was answered
+  pub acknowledged : ℕ
+  -- whether there is a master
+  pub is_up : Bool
+
+-- at the start nothing is told, and there is a master
+abbrev pub at_start : Position
+at_start = record { made = 0; acknowledged = 0; is_up = true }
+
+-- ---- commands
 
 -- what a line asks of the map
 abbrev pub command_of : LineValue → Option Command
@@ -35,6 +50,17 @@ abbrev pub IsRecordAt : List Record → ℕ → LineValue → Reply → Type 0
 IsRecordAt history place line reply =
     (c : Command) × (command_of line ≡ Some c) × (slice_get history place ≡ Some (record { seat = 0; command = c; reply = reply }))
 
+-- the line made the next record, which is acknowledged with all before it
+abbrev pub IsReplied : List Record → Position → LineValue → Reply → Position → Type 0
+IsReplied history at line reply next =
+    IsRecordAt history at.made line reply × (next ≡ record { made = suc at.made; acknowledged = suc at.made; is_up = true })
+
+-- the line made no record, or the next one, and nobody was told which
+abbrev pub IsInOrOut : List Record → Position → LineValue → Bool → Position → Type 0
+IsInOrOut history at line is_up next =
+    ((c : Command) × (command_of line ≡ Some c) × (next ≡ record { made = at.made; acknowledged = at.acknowledged; is_up = is_up }))
+    ⊎ ((reply : Reply) × IsRecordAt history at.made line reply × (next ≡ record { made = suc at.made; acknowledged = at.acknowledged; is_up = is_up }))
+
 -- ---- recovered tables
 
 -- the objects are those of the versioned map after this many records, by table and then key bytes
@@ -43,43 +69,45 @@ pub record IsTableAfter (history : List Record) (count : ℕ) (r : Rebuilt) : Ty
   pub exactly : contents_of r.objects ≡ (after empty_state (take count (commands_of history))).contents
   pub order : IsStrictlySortedBy key_cmp (map (λ (o : Object). o.key) r.objects)
 
--- ---- other answers
+-- of a prefix of what the lines made that has all that was acknowledged
+abbrev pub IsRecoveredAt : List Record → Position → Rebuilt → Type 0
+IsRecoveredAt history at r = (count : ℕ) × (at.acknowledged ≤ count) × (count ≤ at.made) × IsTableAfter history count r
 
--- which answers a line may have that tell nothing of the history
-abbrev pub IsOther : LineValue → Answer → Type 0
-IsOther Idle answer.Silent = Unit {0}
-IsOther (Put table key value) (answer.Refused refusal) = Unit {0}
-IsOther (Put table key value) answer.Stopped = Unit {0}
-IsOther (Put table key value) answer.Down = Unit {0}
-IsOther (Get table key) (answer.Refused refusal) = Unit {0}
-IsOther (Get table key) answer.Stopped = Unit {0}
-IsOther (Get table key) answer.Down = Unit {0}
-IsOther (Hex segment) (answer.Hex bytes) = Unit {0}
-IsOther (Hex segment) (answer.NotInLog id) = id ≡ segment
-IsOther (Hex segment) (answer.Refused refusal) = Unit {0}
-IsOther (Hex segment) answer.Down = Unit {0}
-IsOther (Stop takes) (answer.Stop n) = n ≡ takes
-IsOther Crash answer.Crashed = Unit {0}
-IsOther Crash answer.Down = Unit {0}
-IsOther (Lose backup) (answer.Lost b) = b ≡ backup
-IsOther (Lose backup) answer.Up = Unit {0}
-IsOther Recover (answer.NotRecovered fault) = Unit {0}
-IsOther Recover answer.Up = Unit {0}
-IsOther _ _ = ⊥
+-- ---- lines
 
--- ---- the history
+-- the line works only while there is a master
+abbrev pub is_for_master : LineValue → Bool
+is_for_master (Put table key value) = true
+is_for_master (Get table key) = true
+is_for_master (Hex segment) = true
+is_for_master Crash = true
+is_for_master _ = false
 
--- What a line tells, where the records before `from` may have been told: a reply is that of a later record; a recovered
--- table is the map after a prefix that holds all of those. The next line is told from `next`.
-abbrev pub TellsAnswer : List Record → ℕ → LineValue → Answer → ℕ → Type 0
-TellsAnswer history from line (answer.Reply reply) next = (place : ℕ) × (from ≤ place) × IsRecordAt history place line reply × (next ≡ suc place)
-TellsAnswer history from line (answer.Recovered r) next = (line ≡ Recover) × ((count : ℕ) × (from ≤ count) × IsTableAfter history count r) × (next ≡ from)
-TellsAnswer history from line a next = IsOther line a × (next ≡ from)
+-- the line works only while there is none
+abbrev pub is_for_none : LineValue → Bool
+is_for_none (Lose backup) = true
+is_for_none Recover = true
+is_for_none _ = false
 
-abbrev pub Tells : List Record → ℕ → Told → ℕ → Type 0
-Tells history from t next = TellsAnswer history from t.line t.answer next
+-- What an answer of a line tells where the script stands at a position, and the position that it leads to.
+abbrev pub Tells : List Record → Position → LineValue → Answer → Position → Type 0
+Tells history at line answer.Silent next = (line ≡ Idle) × (next ≡ at)
+Tells history at line (answer.Reply reply) next = (at.is_up ≡ true) × IsReplied history at line reply next
+Tells history at line (answer.Refused refusal) next =
+    (at.is_up ≡ true) × (IsInOrOut history at line true next ⊎ ((segment : ℕ) × (line ≡ Hex segment) × (next ≡ at)))
+Tells history at line (answer.Hex bytes) next = (at.is_up ≡ true) × ((segment : ℕ) × (line ≡ Hex segment)) × (next ≡ at)
+Tells history at line (answer.NotInLog segment) next = (at.is_up ≡ true) × (line ≡ Hex segment) × (next ≡ at)
+Tells history at line (answer.Stop takes) next = (line ≡ Stop takes) × (next ≡ at)
+Tells history at line answer.Stopped next = (at.is_up ≡ true) × IsInOrOut history at line false next
+Tells history at line answer.Crashed next =
+    (at.is_up ≡ true) × (line ≡ Crash) × (next ≡ record { made = at.made; acknowledged = at.acknowledged; is_up = false })
+Tells history at line (answer.Lost backup) next = (at.is_up ≡ false) × (line ≡ Lose backup) × (next ≡ at)
+Tells history at line (answer.Recovered r) next = (at.is_up ≡ false) × (line ≡ Recover) × IsRecoveredAt history at r × (next ≡ at)
+Tells history at line (answer.NotRecovered fault) next = (at.is_up ≡ false) × (line ≡ Recover) × IsLossOrMemory fault × (next ≡ at)
+Tells history at line answer.Down next = (at.is_up ≡ false) × (is_for_master line ≡ true) × (next ≡ at)
+Tells history at line answer.Up next = (at.is_up ≡ true) × (is_for_none line ≡ true) × (next ≡ at)
 
 -- the lines, in order, tell of one history
-abbrev pub AreTelling : List Record → ℕ → List Told → ℕ → Type 0
-AreTelling history from [] last = last ≡ from
-AreTelling history from (t ∷ ts) last = (next : ℕ) × Tells history from t next × AreTelling history next ts last
+abbrev pub AreTelling : List Record → Position → List Told → Position → Type 0
+AreTelling history at [] last = last ≡ at
+AreTelling history at (t ∷ ts) last = (next : Position) × Tells history at t.line t.answer next × AreTelling history next ts last

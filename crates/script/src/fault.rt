@@ -2,10 +2,8 @@
 
 ghost use Rattle.std.specs.Prelude.{◌≡◌, OnOk, Some};
 ghost use Rattle.std.specs.Io.KnownBytes.{Appends};
-ghost use Rattle.script.specs.declared.fault.ScriptFault.TheVariants as script_fault;
 ghost use Rattle.script.specs.Texts.{exit_status, fault_line, script_fault_text};
 
-use entry::NoMemory;
 use std::error::Error;
 use std::fmt;
 use std::io::{self, Write};
@@ -35,14 +33,6 @@ impl fmt::Display for ScriptFault {
             ScriptFault::WriteFailed => write!(f, "cannot write"),
             ScriptFault::NoMemory => write!(f, "no memory"),
         }
-    }
-}
-
-impl From<NoMemory> for ScriptFault {
-    ghost from_gives = { λ _ e. e ≡ script_fault.NoMemory };
-
-    fn from(_fault: NoMemory) -> ScriptFault {
-        ScriptFault::NoMemory
     }
 }
 

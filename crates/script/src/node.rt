@@ -1,10 +1,10 @@
 //! A fleet, and the master over it where there is one.
 
-ghost use Rattle.std.specs.Prelude.{◌≡◌, ◌<◌, ℕ, Some, IfOk};
+ghost use Rattle.std.specs.Prelude.{◌≡◌, ◌<◌, ℕ, [], false, Some, IfOk, IfErr};
 ghost use Rattle.lines.specs.Grammar.{LineValue};
-ghost use Rattle.master.specs.Master.{MasterData, durable_of};
-ghost use Rattle.script.specs.Served.{GoesOn, IsServed, IsOf, Stands, AnswersLine};
-ghost use Rattle.script.specs.Told.{command_of, IsOther, Tells};
+ghost use Rattle.master.specs.Master.{durable_of};
+ghost use Rattle.script.specs.Served.{GoesOn, IsServed, IsUnserved, IsOf, AnswersLine, is_up};
+ghost use Rattle.script.specs.Told.{command_of};
 
 use crate::answer::Answer;
 use crate::recovery::{RecoveryFault, recover};
@@ -24,7 +24,7 @@ pub enum Node {
 
 /// Pushes until a push is refused, and answers why; `Nothing` where nothing waits.
 pub fn push_all<F: Fleet>(master: &mut Master<F>) -> Refusal
-    ensures { GoesOn master.old.knows master.new.knows }
+    ensures { GoesOn master.old.knows master.new.knows [] }
 {
     for _ in 0..u64::MAX {
         if let Err(refusal) = master.step(Step::Push) {
@@ -36,7 +36,7 @@ pub fn push_all<F: Fleet>(master: &mut Master<F>) -> Refusal
 
 /// Pushes until the record at this place is durable, or a push is refused.
 fn push_until<F: Fleet>(master: &mut Master<F>, place: u64) -> Result<(), Refusal>
-    ensures goes_on { GoesOn master.old.knows master.new.knows }
+    ensures goes_on { GoesOn master.old.knows master.new.knows [] }
     ensures durable { IfOk result (λ _. place < durable_of master.new.knows) }
 {
     for _ in 0..u64::MAX {
@@ -52,8 +52,8 @@ fn push_until<F: Fleet>(master: &mut Master<F>, place: u64) -> Result<(), Refusa
 
 /// Applies a command of seat 0, and pushes until its record is durable.
 fn serve<F: Fleet>(master: &mut Master<F>, command: Command) -> Result<Reply, Refusal>
-    ensures goes_on { GoesOn master.old.knows master.new.knows }
     ensures served { IfOk result (λ reply. IsServed master.old.knows master.new.knows command reply) }
+    ensures unserved { IfErr result (λ _. IsUnserved master.old.knows master.new.knows command) }
 {
     match master.step(Step::Apply(0, command)) {
         Ok(StepAnswer::Applied(place, reply)) => match push_until(master, place) {
@@ -67,7 +67,8 @@ fn serve<F: Fleet>(master: &mut Master<F>, command: Command) -> Result<Reply, Re
 
 /// Drops a master whose fleet took no more ops, and lifts the limit.
 fn stopped(up: Master<MemoryFleet>) -> Node
-    ensures { IsOf result up.knows }
+    ensures of { IsOf result up.knows }
+    ensures down { is_up result ≡ false }
 {
     let mut fleet = up.crash();
     fleet.limit(u64::MAX);
@@ -75,7 +76,7 @@ fn stopped(up: Master<MemoryFleet>) -> Node
 }
 
 impl Node {
-    ghost use Rattle.lines.specs.Grammar.{Hex, Crash, Lose, Recover};
+    ghost use Rattle.lines.specs.Grammar.{Hex, Stop, Crash, Lose, Recover};
 
     /// One command, pushed until it is durable. Where the fleet takes no more ops, the master is dropped.
     pub fn serve(self, command: Command) -> (Node, Answer)
@@ -93,7 +94,7 @@ impl Node {
 
     /// The image of a segment.
     pub fn hex(&self, segment: u64) -> Answer
-        ensures { IsOther (Hex segment) result }
+        ensures { (master : ℕ) → AnswersLine self.now master (Hex segment) self.now result }
     {
         match self {
             Node::Down(_) => Answer::Down,
@@ -106,25 +107,24 @@ impl Node {
     }
 
     /// Lets the fleet take this many further ops.
-    pub fn stop(self, takes: u64) -> Node
-        ensures { (d : MasterData) → IsOf self d → IsOf result d }
+    pub fn stop(self, takes: u64) -> (Node, Answer)
+        ensures { (master : ℕ) → AnswersLine self master (Stop takes) result.0 result.1 }
     {
         match self {
             Node::Down(mut fleet) => {
                 fleet.limit(takes);
-                Node::Down(fleet)
+                (Node::Down(fleet), Answer::Stop(takes))
             }
             Node::Up(mut up) => {
                 up.limit(takes);
-                Node::Up(up)
+                (Node::Up(up), Answer::Stop(takes))
             }
         }
     }
 
     /// Drops the master.
     pub fn crash(self) -> (Node, Answer)
-        ensures same { (d : MasterData) → IsOf self d → IsOf result.0 d }
-        ensures answer { IsOther Crash result.1 }
+        ensures { (master : ℕ) → AnswersLine self master Crash result.0 result.1 }
     {
         match self {
             Node::Down(fleet) => (Node::Down(fleet), Answer::Down),
@@ -134,8 +134,7 @@ impl Node {
 
     /// A backup loses all that it holds.
     pub fn lose(self, backup: u64) -> (Node, Answer)
-        ensures same { (d : MasterData) → IsOf self d → IsOf result.0 d }
-        ensures answer { IsOther (Lose backup) result.1 }
+        ensures { (master : ℕ) → AnswersLine self master (Lose backup) result.0 result.1 }
     {
         match self {
             Node::Up(up) => (Node::Up(up), Answer::Up),
@@ -150,7 +149,7 @@ impl Node {
 
     /// What is recovered of the master of this number.
     pub fn recover(&self, alloc: Global, master: u64) -> Answer
-        ensures { (d : MasterData) (from : ℕ) → Stands self.now master d from → Tells d.history from (record { line = Recover; answer = result }) from }
+        ensures { AnswersLine self.now master Recover self.now result }
     {
         let fleet = match self {
             Node::Up(_) => return Answer::Up,

@@ -2,13 +2,19 @@
 
 ghost use Rattle.std.specs.Prelude.{◌≡◌, None};
 ghost use Rattle.master.specs.Config.{config_fault};
+ghost use Rattle.master.specs.Master.{MasterData};
+ghost use Rattle.lines.specs.Reading.{IsLineText};
 ghost use Rattle.script.specs.Configuration.{config_of};
+ghost use Rattle.script.specs.Runs.{RunsScript};
+ghost use Rattle.script.specs.Served.{Stands};
+ghost use Rattle.script.specs.Told.{at_start};
+ghost use Rattle.script.specs.Turns.{IsNoMore, PrintsText, TakesTurn};
 
 use crate::answer::write_answer;
 use crate::fault::ScriptFault;
 use crate::session::{LineFault, Session};
 use command_line::Options;
-use lines::{ReadFault, Taken, next_line, parse_line};
+use lines::{ReadFault, Taken, next_line, one_line, parse_line};
 use std::alloc::Global;
 use std::io::{Read, Write};
 
@@ -20,8 +26,12 @@ pub fn run_script<R: Read, W: Write>(
     options: Options,
 ) -> Result<(), ScriptFault>
     requires { config_fault (config_of options 1) ≡ None }
+    // The lines tell of one legal history; what was written is their answers; a bad line is named.
+    ensures { RunsScript options.backups (R.remaining reader.old) (R.remaining reader.new) (W.contents writer.old) (W.contents writer.new) result }
 {
-    let session = Session::start(alloc, &options)?;
+    let Ok(session) = Session::start(alloc, &options) else {
+        return Err(ScriptFault::NoMemory);
+    };
     let ran = run_lines(alloc, reader, writer, session);
     let flushed = writer.flush();
     match ran {
@@ -30,39 +40,85 @@ pub fn run_script<R: Read, W: Write>(
     }
 }
 
+/// Runs all lines on a session at its start.
 fn run_lines<R: Read, W: Write>(
     alloc: Global,
     reader: &mut R,
     writer: &mut W,
     mut session: Session,
-) -> Result<(), ScriptFault> {
+) -> Result<(), ScriptFault>
+    requires { (d : MasterData) × Stands session.node session.master d at_start }
+    ensures { RunsScript session.backups (R.remaining reader.old) (R.remaining reader.new) (W.contents writer.old) (W.contents writer.new) result }
+{
     let mut text = Vec::new(alloc);
-    'lines: for number in 1..u64::MAX {
-        let taken = match next_line(reader, &mut text) {
-            Ok(taken) => taken,
-            Err(ReadFault::Failed) => return Err(ScriptFault::ReadFailed),
-            Err(ReadFault::NoMemory) => return Err(ScriptFault::NoMemory),
-        };
-        match taken {
-            Taken::Nothing => return Ok(()),
-            Taken::TooLong => return Err(ScriptFault::BadLine(number)),
-            Taken::Ended | Taken::Last => {}
-        }
-        let Some(line) = parse_line(text.as_slice()) else {
-            return Err(ScriptFault::BadLine(number));
-        };
-        match session.run_line(line) {
-            Ok((next, answer)) => {
-                session = next;
-                if write_answer(writer, &answer).is_err() {
-                    return Err(ScriptFault::WriteFailed);
-                }
-            }
-            Err(LineFault::Bad) => return Err(ScriptFault::BadLine(number)),
-            Err(LineFault::NoMemory) => return Err(ScriptFault::NoMemory),
+    for number in 1..u64::MAX {
+        match run_next(reader, writer, &mut text, session, number) {
+            Ok(Some(next)) => session = next,
+            Ok(None) => return Ok(()),
+            Err(fault) => return Err(fault),
         }
     }
-    match next_line(reader, &mut text) {
+    no_more(reader, &mut text)
+}
+
+/// Takes the next line, and runs it as the one of this number. `None` where no more can come.
+fn run_next<R: Read, W: Write>(
+    reader: &mut R,
+    writer: &mut W,
+    text: &mut Vec<u8>,
+    session: Session,
+    number: u64,
+) -> Result<Option<Session>, ScriptFault>
+    ensures { TakesTurn session number (R.remaining reader.old) (R.remaining reader.new) (W.contents writer.old) (W.contents writer.new) result }
+{
+    match next_line(reader, text) {
+        Ok(Taken::Ended) => match run_text(writer, session, text.as_slice(), number) {
+            Ok(next) => Ok(Some(next)),
+            Err(fault) => Err(fault),
+        },
+        Ok(Taken::Last) => match run_text(writer, session, text.as_slice(), number) {
+            Ok(_) => Ok(None),
+            Err(fault) => Err(fault),
+        },
+        Ok(Taken::Nothing) => Ok(None),
+        Ok(Taken::TooLong) => Err(ScriptFault::BadLine(number)),
+        Err(ReadFault::Failed) => Err(ScriptFault::ReadFailed),
+        Err(ReadFault::NoMemory) => Err(ScriptFault::NoMemory),
+    }
+}
+
+/// Runs the line of a text, and writes its answer.
+fn run_text<W: Write>(
+    writer: &mut W,
+    session: Session,
+    text: &[u8],
+    number: u64,
+) -> Result<Session, ScriptFault>
+    requires { IsLineText text.now }
+    ensures { PrintsText session text.now number (W.contents writer.old) (W.contents writer.new) result }
+{
+    let Some(line) = parse_line(text) else {
+        return Err(ScriptFault::BadLine(number));
+    };
+    match session.run_line(line) {
+        Ok((next, answer)) => match write_answer(writer, &answer) {
+            Ok(()) => Ok(next),
+            Err(_) => Err(ScriptFault::WriteFailed),
+        },
+        Err(LineFault::Bad) => {
+            // No other line is said by this text.
+            one_line();
+            Err(ScriptFault::BadLine(number))
+        }
+        Err(LineFault::NoMemory) => Err(ScriptFault::NoMemory),
+    }
+}
+
+/// Behind as many lines as a number can count there has to be none.
+fn no_more<R: Read>(reader: &mut R, text: &mut Vec<u8>) -> Result<(), ScriptFault>
+    ensures { IsNoMore (R.remaining reader.old) (R.remaining reader.new) result }
+{
+    match next_line(reader, text) {
         Ok(Taken::Nothing) => Ok(()),
         Ok(_) => Err(ScriptFault::BadLine(u64::MAX)),
         Err(ReadFault::Failed) => Err(ScriptFault::ReadFailed),

@@ -1,10 +1,15 @@
 //! What a script drives: a fleet, and a master over it or none.
 
-ghost use Rattle.std.specs.Prelude.{◌≡◌, None, IfOk};
-ghost use Rattle.lines.specs.Grammar.{IsLine, shown};
+ghost use Rattle.std.specs.Prelude.{◌≡◌, ◌≤◌, length, None, IfOk, IfErr};
+ghost use Rattle.lines.specs.Grammar.{IsKey, IsLine, shown};
 ghost use Rattle.master.specs.Config.{config_fault};
+ghost use Rattle.master.specs.Master.{MasterData};
 ghost use Rattle.script.specs.Configuration.{config_of};
-ghost use Rattle.script.specs.Served.{AnswersLine, SessionAnswers};
+ghost use Rattle.script.specs.declared.session.LineFault.TheVariants as line_fault;
+ghost use Rattle.script.specs.Runs.{IsOfFleet};
+ghost use Rattle.script.specs.Served.{AnswersLine, SessionAnswers, Stands};
+ghost use Rattle.script.specs.Told.{at_start};
+ghost use Rattle.script.specs.Turns.{HasValue, Refuses};
 
 use crate::answer::Answer;
 use crate::node::{Node, push_all};
@@ -21,6 +26,14 @@ use std::alloc::Global;
 pub enum LineFault {
     Bad,
     NoMemory,
+}
+
+impl From<NoMemory> for LineFault {
+    ghost from_gives = { λ _ e. e ≡ line_fault.NoMemory };
+
+    fn from(_fault: NoMemory) -> LineFault {
+        LineFault::NoMemory
+    }
 }
 
 /// The number of the first master.
@@ -41,6 +54,8 @@ impl Session {
     /// An empty fleet, and a master on it whose head is open.
     pub fn start(alloc: Global, options: &Options) -> Result<Session, NoMemory>
         requires { config_fault (config_of options.now 1) ≡ None }
+        ensures backups { IfOk result (λ s. s.backups ≡ options.now.backups) }
+        ensures stands { IfOk result (λ s. (d : MasterData) × Stands s.node s.master d at_start) }
     {
         let fleet = MemoryFleet::new(alloc, options.backups)?;
         let config = configuration(alloc, options, FIRST_MASTER)?;
@@ -61,8 +76,11 @@ impl Session {
 
     /// Runs one line.
     pub fn run_line(self, line: Line<'_>) -> Result<(Session, Answer), LineFault>
-        requires { IsLine (shown line) }
+        requires line { IsLine (shown line) }
+        requires value { HasValue (shown line) }
         ensures ran { IfOk result (λ r. SessionAnswers self (shown line.entry) r.0 r.1) }
+        ensures of_fleet { IfOk result (λ _. IsOfFleet self.backups (shown line.entry)) }
+        ensures refused { IfErr result (Refuses self.backups (shown line.entry)) }
     {
         let Session {
             alloc,
@@ -89,8 +107,11 @@ fn run_on(
     node: Node,
     line: Line<'_>,
 ) -> Result<(Node, Answer), LineFault>
-    requires { IsLine (shown line) }
-    ensures { IfOk result (λ r. AnswersLine node master (shown line.entry) r.0 r.1) }
+    requires line { IsLine (shown line) }
+    requires value { HasValue (shown line) }
+    ensures ran { IfOk result (λ r. AnswersLine node master (shown line.entry) r.0 r.1) }
+    ensures of_fleet { IfOk result (λ _. IsOfFleet backups (shown line.entry)) }
+    ensures refused { IfErr result (Refuses backups (shown line.entry)) }
 {
     match line {
         Line::Idle => Ok((node, Answer::Silent)),
@@ -106,7 +127,7 @@ fn run_on(
             let answer = node.hex(segment);
             Ok((node, answer))
         }
-        Line::Stop { takes } => Ok((node.stop(takes), Answer::Stop(takes))),
+        Line::Stop { takes } => Ok(node.stop(takes)),
         Line::Crash => Ok(node.crash()),
         Line::Lose { backup } if backup >= backups => Err(LineFault::Bad),
         Line::Lose { backup } => Ok(node.lose(backup)),
@@ -117,25 +138,23 @@ fn run_on(
     }
 }
 
-fn make_key(alloc: Global, table: u64, bytes: &[u8]) -> Result<Key, LineFault>
+fn make_key(alloc: Global, table: u64, bytes: &[u8]) -> Result<Key, NoMemory>
+    requires { IsKey bytes.now }
     ensures { IfOk result (λ key. key ≡ record { table = table; bytes = bytes.now }) }
 {
     match Key::new(alloc, table, bytes) {
         Ok(key) => Ok(key),
-        Err(KeyFault::NoMemory) => Err(LineFault::NoMemory),
-        Err(KeyFault::Empty | KeyFault::TooLong) => Err(LineFault::Bad),
+        Err(KeyFault::NoMemory) => Err(NoMemory),
+        Err(KeyFault::Empty | KeyFault::TooLong) => unreachable!(),
     }
 }
 
-fn put_command(alloc: Global, table: u64, key: &[u8], value: &[u8]) -> Result<Command, LineFault>
+fn put_command(alloc: Global, table: u64, key: &[u8], value: &[u8]) -> Result<Command, NoMemory>
+    requires key { IsKey key.now }
+    requires value { length value.now ≤ MAX_VALUE_LEN }
     ensures { IfOk result (λ command. command ≡ Command.Put (record { table = table; bytes = key.now }) value.now If.Any) }
 {
-    if value.len() > MAX_VALUE_LEN {
-        return Err(LineFault::Bad);
-    }
     let key = make_key(alloc, table, key)?;
-    match Vec::from_slice(alloc, value) {
-        Ok(value) => Ok(Command::Put(key, Value::new(value), If::Any)),
-        Err(_) => Err(LineFault::NoMemory),
-    }
+    let value = Vec::from_slice(alloc, value)?;
+    Ok(Command::Put(key, Value::new(value), If::Any))
 }

@@ -1,9 +1,16 @@
-use Rattle.lines.specs.Grammar.{Crash, Lose}
-use Rattle.script.proofs.Serving.{other_told}
 use Rattle.script.proofs.session.run_on.Goals as goal
 
-pub returns-in-Crash : goal.returns-in-Crash
-returns-in-Crash c = rw c.in-Crash.is (other_told c.args.node c.crash.result.0 c.args.master Crash c.crash.result.1 c.crash.ensures.same c.crash.ensures.answer)
+pub returns-in-Hex-clause-ran : goal.returns-in-Hex-clause-ran
+returns-in-Hex-clause-ran c = rw c.in-Hex.is (c.hex-answer.ensures c.args.master)
 
-pub returns-in-Lose-2 : goal.returns-in-Lose-2
-returns-in-Lose-2 c = rw c.in-Lose-2.is (other_told c.args.node c.lose.result.0 c.args.master (Lose c.in-Lose-2.backup) c.lose.result.1 c.lose.ensures.same c.lose.ensures.answer)
+pub returns-in-Stop-clause-ran : goal.returns-in-Stop-clause-ran
+returns-in-Stop-clause-ran c = rw c.in-Stop.is (c.stop.ensures c.args.master)
+
+pub returns-in-Crash-clause-ran : goal.returns-in-Crash-clause-ran
+returns-in-Crash-clause-ran c = rw c.in-Crash.is (c.crash.ensures c.args.master)
+
+pub returns-in-Lose-2-clause-ran : goal.returns-in-Lose-2-clause-ran
+returns-in-Lose-2-clause-ran c = rw c.in-Lose-2.is (c.lose.ensures c.args.master)
+
+pub returns-in-Recover-clause-ran : goal.returns-in-Recover-clause-ran
+returns-in-Recover-clause-ran c = rw c.in-Recover.is c.recover-answer.ensures

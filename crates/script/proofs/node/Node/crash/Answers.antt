@@ -1,12 +1,17 @@
-use Rattle.std.proofs.Common.{◌≡◌, subst}
+use Rattle.std.proofs.Common.{◌≡◌, refl, ap, subst, ◌∙◌}
+use Rattle.lines.specs.Grammar.{Crash}
 use Rattle.master.specs.Master.{MasterData}
+use Rattle.script.specs.declared.answer.Answer.TheVariants.{Crashed}
 use Rattle.script.specs.declared.node.Node.{Node}
 use Rattle.script.specs.declared.node.Node.TheVariants.{Down}
-use Rattle.script.specs.Served.{IsOf}
-use Rattle.script.proofs.Serving.{crashed_of}
+use Rattle.script.specs.Served.{IsOf, is_up}
+use Rattle.script.proofs.Serving.{crashed_of, same_told}
 use Rattle.script.proofs.node.Node.crash.Goals as goal
 
-pub returns-in-Up-clause-same : goal.returns-in-Up-clause-same
-returns-in-Up-clause-same c = λ d of.
+pub returns-in-Up : goal.returns-in-Up
+returns-in-Up c = λ master.
+    same_told c.args.self (Down c.crash.result) master Crash Crashed
+    (λ d of.
     let same : c.in-Up.up.knows ≡ d = subst (λ (n : Node). IsOf n d) c.in-Up.is of in
-    subst (λ (x : MasterData). IsOf (Down c.crash.result) x) same (crashed_of c.in-Up.up.knows c.crash.result c.crash.ensures.sound)
+    subst (λ (x : MasterData). IsOf (Down c.crash.result) x) same (crashed_of c.in-Up.up.knows c.crash.result c.crash.ensures.sound))
+    (λ history at up made. (up ∙ ap is_up c.in-Up.is, refl, refl))

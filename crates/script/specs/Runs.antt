@@ -1,0 +1,86 @@
+-- What a run of a script takes of its reader, what its lines tell, and what it prints.
+use Rattle.std.specs.Prelude.{◌≡◌, ◌⊎◌, ◌<◌, ◌≤◌, ◌-◌, ◌^◌, ℕ, suc, List, [], ◌∷◌, ◌++◌, length, Option, Result, Ok, Err}
+use Rattle.std.specs.List.{All, flat_map}
+use Rattle.std.specs.Io.KnownBytes.{Appends, Consumes, IsAtEnd}
+use Rattle.lines.specs.Grammar.{LineValue, Says, Lose}
+use Rattle.lines.specs.Reading.{IsUnbroken, IsLineText}
+use Rattle.master.specs.declared.command.Record.{Record}
+use Rattle.master.specs.Log.{commands_of, replies_of}
+use Rattle.master.specs.Represents.{empty_state}
+use Rattle.master.specs.Versioned.{replies}
+use Rattle.script.specs.declared.fault.ScriptFault.{ScriptFault}
+use Rattle.script.specs.declared.fault.ScriptFault.TheVariants.{BadLine, ReadFailed, WriteFailed, NoMemory}
+use Rattle.script.specs.Texts.{answer_text}
+use Rattle.script.specs.Told.{Told, Position, at_start, AreTelling}
+
+-- ---- lines
+
+-- a line names no backup but those of a fleet with so many
+abbrev pub IsOfFleet : ℕ → LineValue → Type 0
+IsOfFleet backups (Lose backup) = backup < backups
+IsOfFleet backups _ = Unit {0}
+
+-- a line that was run is one of the script
+pub record IsScriptLine (backups : ℕ) (t : Told) : Type 0 where
+  pub whole : IsLineText t.text
+  pub says : Says t.text t.line
+  pub of_fleet : IsOfFleet backups t.line
+
+-- the texts of the lines, each with its line feed
+abbrev pub texts_of : List Told → List ℕ
+texts_of told = flat_map (λ (t : Told). t.text ++ 10 ∷ []) told
+
+-- the texts of their answers
+abbrev pub answers_of : List Told → List ℕ
+answers_of told = flat_map (λ (t : Told). answer_text t.answer) told
+
+-- the bytes are those of the lines; the last may lack its line feed where it has a byte
+abbrev pub AreLines : List Told → List ℕ → Type 0
+AreLines told bytes = (bytes ≡ texts_of told)
+    ⊎ ((before : List Told) × (last : Told) × (told ≡ before ++ last ∷ []) × (bytes ≡ texts_of before ++ last.text) × (0 < length last.text))
+
+-- ---- bad lines
+
+-- what was taken of the reader for a line with this text
+abbrev pub IsTakenLine : List ℕ → List ℕ → Option (List ℕ) → Type 0
+IsTakenLine text taken left = (taken ≡ text ++ 10 ∷ []) ⊎ ((taken ≡ text) × (0 < length text) × IsAtEnd left)
+
+-- a line that is too long, or a text that says no line of the fleet, or any line after the first 2^64 - 2
+abbrev pub IsBadLine : ℕ → ℕ → List ℕ → Option (List ℕ) → Type 0
+IsBadLine backups number taken left =
+    (IsUnbroken taken × (length taken ≡ 4097))
+    ⊎ ((text : List ℕ) × IsLineText text × IsTakenLine text taken left
+    × ((number ≡ 2 ^ 64 - 1) ⊎ ((line : LineValue) → Says text line → IsOfFleet backups line → ⊥)))
+
+-- ---- a run
+
+-- the lines tell of one legal history, which has no records but theirs
+abbrev pub TellOneHistory : List Told → Type 0
+TellOneHistory told = (history : List Record) × (replies_of history ≡ replies empty_state (commands_of history))
+    × (last : Position) × AreTelling history at_start told last × (last.made ≡ length history)
+
+-- What was taken of the reader: the lines that were run, and behind them a bad line, which has the next number, or at a
+-- fault a part of a line.
+abbrev pub EndsWith : ℕ → List Told → List ℕ → Option (List ℕ) → Result (Unit {0}) ScriptFault → Type 0
+EndsWith backups told taken left (Ok done) = AreLines told taken × IsAtEnd left
+EndsWith backups told taken left (Err (BadLine number)) =
+    (number ≡ suc (length told)) × (bad : List ℕ) × (taken ≡ texts_of told ++ bad) × IsBadLine backups number bad left
+EndsWith backups told taken left (Err ReadFailed) = (part : List ℕ) × (taken ≡ texts_of told ++ part) × IsLineText part
+EndsWith backups told taken left (Err WriteFailed) = AreLines told taken
+EndsWith backups told taken left (Err NoMemory) = (part : List ℕ) × (taken ≡ texts_of told ++ part) × (length part ≤ 4097)
+
+-- what was written: the answers and nothing else, unless the writer failed
+abbrev pub Prints : Option (List ℕ) → Option (List ℕ) → List Told → Result (Unit {0}) ScriptFault → Type 0
+Prints old new told (Err WriteFailed) = Unit {0}
+Prints old new told result = Appends old new (answers_of told)
+
+-- A run of a script on a fleet with so many backups: what the reader had and has left, what the writer held and holds, and
+-- how the run ended.
+pub record RunsScript (backups : ℕ) (had left held holds : Option (List ℕ)) (result : Result (Unit {0}) ScriptFault) : Type 0 where
+  pub told : List Told
+  pub taken : List ℕ
+  pub consumed : Consumes had left taken
+  pub lines : All (IsScriptLine backups) told
+  pub tells : TellOneHistory told
+  pub ends : EndsWith backups told taken left result
+  pub prints : Prints held holds told result

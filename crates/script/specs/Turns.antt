@@ -1,0 +1,67 @@
+-- What one line of a script comes to.
+use Rattle.std.specs.Prelude.{◌≡◌, ◌⊎◌, ◌<◌, ◌≤◌, ◌-◌, ◌^◌, ℕ, List, [], ◌∷◌, ◌++◌, length, Option, Some, None, Result, Ok, Err}
+use Rattle.std.specs.Io.KnownBytes.{Appends, Consumes, IsAtEnd, Keeps}
+use Rattle.lines.specs.Grammar.{LineValue, Says, Put}
+use Rattle.lines.specs.Reading.{IsLineText}
+use Rattle.script.specs.declared.answer.Answer.{Answer}
+use Rattle.script.specs.declared.fault.ScriptFault.{ScriptFault}
+use Rattle.script.specs.declared.fault.ScriptFault.TheVariants as fault
+use Rattle.script.specs.declared.session.LineFault.{LineFault}
+use Rattle.script.specs.declared.session.LineFault.TheVariants as line_fault
+use Rattle.script.specs.declared.session.Session.{Session}
+use Rattle.script.specs.Runs.{IsOfFleet, IsTakenLine, IsBadLine}
+use Rattle.script.specs.Served.{SessionAnswers}
+use Rattle.script.specs.Texts.{answer_text}
+
+-- the value of a line is one that an object may have
+abbrev pub HasValue : LineValue → Type 0
+HasValue (Put table key value) = length value ≤ 2097152
+HasValue _ = Unit {0}
+
+-- why a line wasn't run
+abbrev pub Refuses : ℕ → LineValue → LineFault → Type 0
+Refuses backups line line_fault.Bad = IsOfFleet backups line → ⊥
+Refuses backups line line_fault.NoMemory = Unit {0}
+
+-- the line of a text was run on a session, and left another
+pub record RunsText (old : Session) (text : List ℕ) (new : Session) (answer : Answer) : Type 0 where
+  pub line : LineValue
+  pub says : Says text line
+  pub of_fleet : IsOfFleet old.backups line
+  pub answers : SessionAnswers old line new answer
+
+-- its answer was written, where the writer didn't fail
+abbrev pub PrintsText : Session → List ℕ → ℕ → Option (List ℕ) → Option (List ℕ) → Result Session ScriptFault → Type 0
+PrintsText old text number held holds (Ok new) = (answer : Answer) × RunsText old text new answer × Appends held holds (answer_text answer)
+PrintsText old text number held holds (Err (fault.BadLine n)) =
+    (n ≡ number) × ((line : LineValue) → Says text line → IsOfFleet old.backups line → ⊥) × Keeps held holds
+PrintsText old text number held holds (Err fault.ReadFailed) = ⊥
+PrintsText old text number held holds (Err fault.WriteFailed) = (new : Session) × (answer : Answer) × RunsText old text new answer
+PrintsText old text number held holds (Err fault.NoMemory) = Keeps held holds
+
+-- What the line of this number came to: it was run and more may come, it was the last, or there was none.
+abbrev pub TakesTurn : Session → ℕ → Option (List ℕ) → Option (List ℕ) → Option (List ℕ) → Option (List ℕ) → Result (Option Session) ScriptFault → Type 0
+TakesTurn old number had left held holds (Ok (Some new)) =
+    (text : List ℕ) × IsLineText text × Consumes had left (text ++ 10 ∷ [])
+    × (answer : Answer) × RunsText old text new answer × Appends held holds (answer_text answer)
+TakesTurn old number had left held holds (Ok None) =
+    ((text : List ℕ) × IsLineText text × Consumes had left text × IsAtEnd left × (0 < length text)
+    × (new : Session) × (answer : Answer) × RunsText old text new answer × Appends held holds (answer_text answer))
+    ⊎ (Consumes had left [] × IsAtEnd left × Keeps held holds)
+TakesTurn old number had left held holds (Err (fault.BadLine n)) =
+    (n ≡ number) × (bad : List ℕ) × Consumes had left bad × IsBadLine old.backups number bad left × Keeps held holds
+TakesTurn old number had left held holds (Err fault.ReadFailed) = (part : List ℕ) × Consumes had left part × IsLineText part × Keeps held holds
+TakesTurn old number had left held holds (Err fault.WriteFailed) =
+    (text : List ℕ) × (taken : List ℕ) × IsLineText text × Consumes had left taken × IsTakenLine text taken left
+    × (new : Session) × (answer : Answer) × RunsText old text new answer
+TakesTurn old number had left held holds (Err fault.NoMemory) =
+    (part : List ℕ) × Consumes had left part × (length part ≤ 4097) × Keeps held holds
+
+-- What stood behind the last line that can have a number.
+abbrev pub IsNoMore : Option (List ℕ) → Option (List ℕ) → Result (Unit {0}) ScriptFault → Type 0
+IsNoMore had left (Ok done) = Consumes had left [] × IsAtEnd left
+IsNoMore had left (Err (fault.BadLine n)) =
+    (n ≡ 2 ^ 64 - 1) × (bad : List ℕ) × Consumes had left bad × ((backups : ℕ) → IsBadLine backups n bad left)
+IsNoMore had left (Err fault.ReadFailed) = (part : List ℕ) × Consumes had left part × IsLineText part
+IsNoMore had left (Err fault.WriteFailed) = ⊥
+IsNoMore had left (Err fault.NoMemory) = (part : List ℕ) × Consumes had left part × (length part ≤ 4097)
