@@ -6,3 +6,4 @@ pub mod Drilled
 pub mod Printed
 pub mod Serving
 pub mod Turning
+pub mod Fronts

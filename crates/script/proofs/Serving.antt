@@ -1,10 +1,10 @@
 -- A line that was run, told of a history.
 use Rattle.std.proofs.Common.{◌≡◌, ℕ, suc, ◌≤◌, Bool, true, false, cond, List, [], ◌∷◌, ◌++◌, length, refl, sym, ap, subst, inl, inr, ◌∙◌, arith}
 use Rattle.std.proofs.lemmas.List.{append-nil, length-append}
-use Rattle.std.specs.Prelude.{Option, Some, None, Result, Ok, Err, slice_get, not, ◌==◌, ◌↔◌}
+use Rattle.std.specs.Prelude.{Option, Some, None, slice_get, not, ◌==◌, ◌↔◌}
 use Rattle.backup.specs.State.{state_of, lost}
 use Rattle.backup.specs.declared.fleet.MemoryFleet.{MemoryFleet}
-use Rattle.lines.specs.Grammar.{LineValue, Idle, Put, Get, Hex, Stop, Crash, Lose, Recover}
+use Rattle.lines.specs.Grammar.{LineValue}
 use Rattle.entry.specs.Bag.{IsAmong}
 use Rattle.replay.specs.declared.rebuilt.Rebuilt.{Rebuilt}
 use Rattle.replica.specs.declared.holding.Holding.{Holding}
@@ -14,22 +14,15 @@ use Rattle.master.specs.declared.command.Record.{Record}
 use Rattle.master.specs.declared.config.Config.{Config}
 use Rattle.master.specs.declared.command.Reply.{Reply}
 use Rattle.master.specs.declared.step.Refusal.{Refusal}
-use Rattle.master.specs.declared.step.Refusal.TheVariants as refusal
-use Rattle.master.specs.declared.step.Step.TheVariants.{Apply, Push}
-use Rattle.master.specs.declared.step.StepAnswer.{StepAnswer}
-use Rattle.master.specs.declared.step.StepAnswer.TheVariants.{Applied, Opened, Extended}
-use Rattle.master.specs.Log.{IsLegal}
 use Rattle.master.specs.Master.{MasterData, durable_of}
-use Rattle.master.specs.Keeps.{Keeps}
 use Rattle.master.specs.Sound.{IsSound}
-use Rattle.master.specs.Steps.{World, Steps, FailsTake}
 use Rattle.script.specs.declared.answer.Answer.{Answer}
 use Rattle.script.specs.declared.answer.Answer.TheVariants as answer
 use Rattle.script.specs.declared.node.Node.{Node}
 use Rattle.script.specs.declared.node.Node.TheVariants.{Down}
-use Rattle.script.specs.Served.{GoesOn, IsServed, IsUnserved, IsOf, Stands, AnswersLine, is_up, record_of}
+use Rattle.script.specs.Served.{GoesOn, IsUnserved, IsOf, Stands, AnswersLine, is_up, record_of}
 use Rattle.script.specs.Recovered.{Shows, IsRecovered}
-use Rattle.script.specs.Told.{Position, command_of, is_for_master, IsInOrOut, IsRecoveredAt, Tells}
+use Rattle.script.specs.Told.{Position, command_of, IsInOrOut, IsRecoveredAt, Tells}
 
 -- ---- a master goes on
 

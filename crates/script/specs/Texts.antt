@@ -1,8 +1,9 @@
 -- What is printed. Each line ends with a line feed, byte 10; byte 32 is a space.
-use Rattle.std.specs.Prelude.{ℕ, ◌/◌, ◌%◌, List, [], ◌∷◌, ◌++◌, length, false, codes, Some}
+use Rattle.std.specs.Prelude.{◌≡◌, ℕ, ◌/◌, ◌%◌, List, [], ◌∷◌, ◌++◌, length, false, codes, Option, Some}
 use Rattle.std.specs.Prelude.{None as nothing}
 use Rattle.std.specs.List.{flat_map}
 use Rattle.std.specs.Fmt.{decimal, digit_glyph}
+use Rattle.std.specs.Io.KnownBytes.{Appends}
 use Rattle.entry.specs.declared.entry.Object.{Object}
 use Rattle.recovery_plan.specs.Texts.{plan_fault_text}
 use Rattle.replay.specs.declared.rebuilt.Rebuilt.{Rebuilt}
@@ -70,6 +71,11 @@ script_fault_text ReadFailed = codes "cannot read"
 script_fault_text WriteFailed = codes "cannot write"
 script_fault_text NoMemory = codes "no memory"
 
+-- the number that stands behind a fault's words, if one does
+abbrev pub number_text : Option ℕ → List ℕ
+number_text nothing = []
+number_text (Some number) = decimal number
+
 -- the line of a fault
 abbrev pub fault_line : ScriptFault → List ℕ
 fault_line fault = codes "ramlog: " ++ script_fault_text fault ++ 10 ∷ []
@@ -78,3 +84,9 @@ fault_line fault = codes "ramlog: " ++ script_fault_text fault ++ 10 ∷ []
 abbrev pub exit_status : ScriptFault → ℕ
 exit_status (BadLine number) = 2
 exit_status _ = 1
+
+-- ---- as far as a writer takes it
+
+-- a front of the bytes was written, and nothing else
+abbrev pub AppendsFront : Option (List ℕ) → Option (List ℕ) → List ℕ → Type 0
+AppendsFront held holds bytes = (front : List ℕ) × (rest : List ℕ) × (bytes ≡ front ++ rest) × Appends held holds front
