@@ -1,29 +1,23 @@
 //! A master's whole life on a small fleet, and its recovery from what is left.
 
+use crate::asks::{Ask, steps_of};
 use backup::MemoryFleet;
-use entry::{Key, Value};
-use master::{Command, If, Step};
+use master::If;
 use script::{Drill, configuration, options, run_drill};
 use std::alloc::Global;
 use std::fmt::Write;
 use std::test::Fail;
 
-fn put(alloc: Global, key: &str) -> Result<Step, Fail> {
-    let value = Value::new(Vec::from_slice(alloc, b"x")?);
-    let key = Key::new(alloc, 1, key.as_bytes())?;
-    Ok(Step::Apply(0, Command::Put(key, value, If::Any)))
-}
-
 /// Opens the head on backups 1 and 2, puts `a` on both, and `b` on the first of them alone.
-fn steps(alloc: Global) -> Result<Vec<Step>, Fail> {
-    let mut steps = vec![in alloc; Step::Push, Step::Push]?;
-    steps.push(put(alloc, "a")?)?;
-    steps.push(Step::Push)?;
-    steps.push(Step::Push)?;
-    steps.push(put(alloc, "b")?)?;
-    steps.push(Step::Push)?;
-    Ok(steps)
-}
+const ASKS: [Ask; 7] = [
+    Ask::Push,
+    Ask::Push,
+    Ask::Put("a", b'x', If::Any),
+    Ask::Push,
+    Ask::Push,
+    Ask::Put("b", b'x', If::Any),
+    Ask::Push,
+];
 
 /// The keys that a drill recovers, or the fault.
 fn recovered(alloc: Global, drill: &Drill) -> Result<String, Fail> {
@@ -42,21 +36,25 @@ fn recovered(alloc: Global, drill: &Drill) -> Result<String, Fail> {
 
 /// What a drill that keeps these backups recovers.
 fn drilled(alloc: Global, kept: &[u64]) -> Result<String, Fail> {
+    let steps = steps_of(alloc, ASKS.as_slice())?;
     let config = configuration(alloc, &options(alloc, &["ramlog"])?, 1)?;
     config.check()?;
     let fleet = MemoryFleet::new(alloc, config.backups)?;
-    let drill = run_drill(alloc, config, fleet, steps(alloc)?.as_slice(), kept)?;
+    let drill = run_drill(alloc, config, fleet, steps.as_slice(), kept)?;
     recovered(alloc, &drill)
 }
 
+/// Backups that are kept, and what is recovered from them.
+const KEPT: [(&[u64], &str); 3] = [
+    (&[0, 1, 2], "a 1 b 2 "),
+    (&[2, 0], "a 1 "),
+    (&[0], "NoHead"),
+];
+
 #[test]
 fn a_drill_recovers_what_is_left(rt: HostRuntime) -> Result<(), Fail> {
-    for (kept, want) in [
-        ([0, 1, 2].as_slice(), "a 1 b 2 "),
-        ([2, 0].as_slice(), "a 1 "),
-        ([0].as_slice(), "NoHead"),
-    ] {
-        assert_eq!(rt; drilled(rt.alloc(), kept)?.as_str(), want);
+    for (kept, want) in KEPT.as_slice() {
+        assert!(rt; drilled(rt.alloc(), kept)?.as_str() == *want, "{want}");
     }
     Ok(())
 }

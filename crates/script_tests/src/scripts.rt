@@ -1,29 +1,39 @@
 //! Whole scripts, and faults of lines, of reading and of writing.
 
 use script::*;
+use std::alloc::Global;
 use std::io::{self, ErrorKind, Read, Write};
 use std::test::Fail;
 
 /// What a command line stands for.
-fn options_of(rt: &HostRuntime, line: &str) -> Result<Options, Fail> {
-    let mut words = Vec::new(rt.alloc());
-    for word in line.split_whitespace() {
-        words.push(word)?;
-    }
-    Ok(options(rt.alloc(), words.as_slice())?)
+fn options_of(alloc: Global, line: &str) -> Result<Options, Fail> {
+    let words: Vec<&str> = line.split_whitespace().collect(alloc)?;
+    Ok(options(alloc, words.as_slice())?)
 }
 
 /// Runs a script, and answers how the run ended.
 fn run<R: Read, W: Write>(
-    rt: &HostRuntime,
+    alloc: Global,
     line: &str,
     reader: &mut R,
     writer: &mut W,
 ) -> Result<Result<(), ScriptFault>, Fail> {
-    let options = options_of(rt, line)?;
-    let config = configuration(rt.alloc(), &options, 1)?;
-    config.check()?;
-    Ok(run_script(rt.alloc(), reader, writer, options))
+    let options = options_of(alloc, line)?;
+    configuration(alloc, &options, 1)?.check()?;
+    Ok(run_script(alloc, reader, writer, options))
+}
+
+/// Whether a run writes this, and ends so.
+fn writes<R: Read>(
+    alloc: Global,
+    line: &str,
+    reader: &mut R,
+    output: &str,
+    end: Result<(), ScriptFault>,
+) -> Result<bool, Fail> {
+    let mut written = Vec::new(alloc);
+    let ran = run(alloc, line, reader, &mut written)?;
+    Ok(ran == end && written.as_slice() == output.as_bytes())
 }
 
 /// A command line, a script, and what the run writes.
@@ -89,11 +99,12 @@ const SCRIPTS: [(&str, &str, &str); 13] = [
 
 #[test]
 fn scripts_print_their_answers(rt: HostRuntime) -> Result<(), Fail> {
-    for (line, script, output) in SCRIPTS {
-        let mut written = Vec::new(rt.alloc());
-        let ran = run(&rt, line, &mut script.as_bytes(), &mut written)?;
-        assert!(rt; ran.is_ok(), "{script}");
-        assert_eq!(rt; written.as_slice(), output.as_bytes(), "{script}");
+    for (line, script, output) in SCRIPTS.as_slice() {
+        let mut reader = script.as_bytes();
+        assert!(rt;
+            writes(rt.alloc(), line, &mut reader, output, Ok(()))?,
+            "{script}"
+        );
     }
     Ok(())
 }
@@ -111,54 +122,66 @@ const BAD_LINES: [(&str, &str, u64); 7] = [
 
 #[test]
 fn a_bad_line_ends_the_run(rt: HostRuntime) -> Result<(), Fail> {
-    for (script, output, number) in BAD_LINES {
-        let mut written = Vec::new(rt.alloc());
-        let ran = run(&rt, "ramlog", &mut script.as_bytes(), &mut written)?;
-        assert!(rt; ran == Err(ScriptFault::BadLine(number)), "{script}");
-        assert_eq!(rt; written.as_slice(), output.as_bytes(), "{script}");
+    for (script, output, number) in BAD_LINES.as_slice() {
+        let mut reader = script.as_bytes();
+        let end = Err(ScriptFault::BadLine(*number));
+        assert!(rt;
+            writes(rt.alloc(), "ramlog", &mut reader, output, end)?,
+            "{script}"
+        );
     }
     Ok(())
+}
+
+/// A put of a key and a value of these lengths.
+fn put_of(alloc: Global, key_len: usize, value_len: usize) -> Result<Vec<u8>, Fail> {
+    let mut script = Vec::from_slice(alloc, b"put 1 ")?;
+    for _ in 0..key_len {
+        script.push(b'k')?;
+    }
+    script.push(b' ')?;
+    for _ in 0..value_len {
+        script.push(b'v')?;
+    }
+    Ok(script)
+}
+
+/// Whether such a put is a bad line.
+fn is_bad(alloc: Global, key_len: usize, value_len: usize) -> Result<bool, Fail> {
+    let script = put_of(alloc, key_len, value_len)?;
+    let mut written = Vec::new(alloc);
+    let line = "ramlog --segment 65536 --seglets 4096";
+    let ran = run(alloc, line, &mut script.as_slice(), &mut written)?;
+    Ok(ran == Err(ScriptFault::BadLine(1)))
 }
 
 #[test]
 fn a_long_line_or_key_is_bad(rt: HostRuntime) -> Result<(), Fail> {
-    for (key_len, value_len, is_bad) in [
-        (1024, 1, false),
-        (1025, 1, true),
-        (1, 4088, false),
-        (1, 4089, true),
-    ] {
-        let mut script = Vec::new(rt.alloc());
-        script.extend_from_slice(b"put 1 ")?;
-        for _ in 0..key_len {
-            script.push(b'k')?;
-        }
-        script.push(b' ')?;
-        for _ in 0..value_len {
-            script.push(b'v')?;
-        }
-        script.push(b'\n')?;
-        let mut written = Vec::new(rt.alloc());
-        let line = "ramlog --segment 65536 --seglets 4096";
-        let ran = run(&rt, line, &mut script.as_slice(), &mut written)?;
-        assert_eq!(rt; ran.is_err(), is_bad, "{key_len} {value_len}");
-    }
+    assert!(rt; !is_bad(rt.alloc(), 1024, 1)?);
+    assert!(rt; is_bad(rt.alloc(), 1025, 1)?);
+    assert!(rt; !is_bad(rt.alloc(), 1, 4088)?);
+    assert!(rt; is_bad(rt.alloc(), 1, 4089)?);
     Ok(())
 }
 
+/// Faults, and the line and the exit status of each.
+const FAULTS: [(ScriptFault, &str, u8); 4] = [
+    (ScriptFault::BadLine(7), "ramlog: bad line 7\n", 2),
+    (ScriptFault::ReadFailed, "ramlog: cannot read\n", 1),
+    (ScriptFault::WriteFailed, "ramlog: cannot write\n", 1),
+    (ScriptFault::NoMemory, "ramlog: no memory\n", 1),
+];
+
+fn is_reported(alloc: Global, fault: &ScriptFault, line: &str, status: u8) -> bool {
+    let mut written = Vec::new(alloc);
+    report(fault, &mut written) == status && written.as_slice() == line.as_bytes()
+}
+
 #[test]
-fn each_fault_has_its_line(rt: HostRuntime) -> Result<(), Fail> {
-    for (fault, line, status) in [
-        (ScriptFault::BadLine(7), "ramlog: bad line 7\n", 2),
-        (ScriptFault::ReadFailed, "ramlog: cannot read\n", 1),
-        (ScriptFault::WriteFailed, "ramlog: cannot write\n", 1),
-        (ScriptFault::NoMemory, "ramlog: no memory\n", 1),
-    ] {
-        let mut written = Vec::new(rt.alloc());
-        assert_eq!(rt; report(&fault, &mut written), status, "{line}");
-        assert_eq!(rt; written.as_slice(), line.as_bytes());
+fn each_fault_has_its_line(rt: HostRuntime) {
+    for (fault, line, status) in FAULTS.as_slice() {
+        assert!(rt; is_reported(rt.alloc(), fault, line, *status), "{line}");
     }
-    Ok(())
 }
 
 /// Some bytes, and then a fault.
@@ -204,18 +227,20 @@ impl Write for Full {
 }
 
 #[test]
-fn a_fault_in_mid_stream_ends_the_run(rt: HostRuntime) -> Result<(), Fail> {
+fn a_reader_fails_in_mid_stream(rt: HostRuntime) -> Result<(), Fail> {
     let mut reader = Torn {
         bytes: b"put 1 a x\nput 1",
     };
-    let mut written = Vec::new(rt.alloc());
-    let ran = run(&rt, "ramlog", &mut reader, &mut written)?;
-    assert!(rt; ran == Err(ScriptFault::ReadFailed));
-    assert_eq!(rt; written.as_slice(), b"ok 1\n".as_slice());
+    let end = Err(ScriptFault::ReadFailed);
+    assert!(rt; writes(rt.alloc(), "ramlog", &mut reader, "ok 1\n", end)?);
+    Ok(())
+}
 
+#[test]
+fn a_writer_fails_in_mid_stream(rt: HostRuntime) -> Result<(), Fail> {
     let script = "put 1 a x\nput 1 a y\n";
     let mut writer = Full { room: 5 };
-    let ran = run(&rt, "ramlog", &mut script.as_bytes(), &mut writer)?;
+    let ran = run(rt.alloc(), "ramlog", &mut script.as_bytes(), &mut writer)?;
     assert!(rt; ran == Err(ScriptFault::WriteFailed));
     Ok(())
 }

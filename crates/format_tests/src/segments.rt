@@ -1,5 +1,7 @@
 //! The vectors of the format, and a head that is made and grows.
 
+ghost use Rattle.std.specs.Prelude.{◌≤◌};
+
 use entry::{EntryRef, Ids, SafeVersion};
 use segment::*;
 use std::alloc::Global;
@@ -42,15 +44,15 @@ const SEGMENTS: [(&str, Result<usize, SegmentFault>); 10] = [
     ),
 ];
 
+fn count(alloc: Global, bytes: &[u8]) -> Result<usize, SegmentFault> {
+    Ok(read_segment(alloc, bytes)?.entries().count())
+}
+
 #[test]
 fn segments_are_read(rt: HostRuntime) -> Result<(), Fail> {
-    for (text, want) in SEGMENTS {
+    for (text, want) in SEGMENTS.as_slice() {
         let bytes = hex::decode(rt.alloc(), text)?;
-        let found = match read_segment(rt.alloc(), &bytes) {
-            Ok(segment) => Ok(segment.entries().count()),
-            Err(fault) => Err(fault),
-        };
-        assert_eq!(rt; found, want, "{text}");
+        assert!(rt; count(rt.alloc(), &bytes) == *want, "{text}");
     }
     Ok(())
 }
@@ -62,27 +64,34 @@ fn new_head(alloc: Global) -> Result<Segment, Fail> {
     Ok(Segment::begin_head(alloc, 1, 1, &ids, safe)?)
 }
 
-#[test]
-fn a_head_begins(rt: HostRuntime) -> Result<(), Fail> {
-    let segment = new_head(rt.alloc())?;
-    let head = hex::decode(rt.alloc(), HEAD)?;
-    assert!(rt; segment.bytes() == head.as_slice());
-    Ok(())
+/// Whether these are the bytes of a segment.
+fn has_bytes(alloc: Global, segment: &Segment, text: &str) -> Result<bool, Fail> {
+    Ok(hex::decode(alloc, text)?.as_slice() == segment.bytes())
+}
+
+/// Appends the object to a segment within a limit, and answers where.
+fn append_object(
+    alloc: Global,
+    segment: &mut Segment,
+    limit: usize,
+) -> Result<Result<usize, AppendFault>, Fail>
+    requires { limit ≤ 8388608 }
+{
+    let bytes = hex::decode(alloc, OBJECT)?;
+    match EntryRef::read(&bytes) {
+        Ok((EntryRef::Object(object), _)) => {
+            Ok(segment.append_unit(&[EntryRef::Object(object)], limit))
+        }
+        _ => Err("no object")?,
+    }
 }
 
 #[test]
-fn a_head_grows(rt: HostRuntime) -> Result<(), Fail> {
+fn a_head_begins_and_grows(rt: HostRuntime) -> Result<(), Fail> {
     let mut segment = new_head(rt.alloc())?;
-    let head = hex::decode(rt.alloc(), HEAD)?;
-    let grown = hex::decode(rt.alloc(), HEAD_WITH_OBJECT)?;
-    let bytes = hex::decode(rt.alloc(), OBJECT)?;
-    let Ok((EntryRef::Object(object), _)) = EntryRef::read(&bytes) else {
-        panic!(rt; "no object");
-    };
-    let unit = [EntryRef::Object(object)];
-    assert!(rt; segment.append_unit(&unit, 64) == Err(AppendFault::Full));
-    assert!(rt; segment.bytes() == head.as_slice());
-    assert!(rt; segment.append_unit(&unit, 65) == Ok(40));
-    assert!(rt; segment.bytes() == grown.as_slice());
+    assert!(rt; append_object(rt.alloc(), &mut segment, 64)? == Err(AppendFault::Full));
+    assert!(rt; has_bytes(rt.alloc(), &segment, HEAD)?);
+    assert!(rt; append_object(rt.alloc(), &mut segment, 65)? == Ok(40));
+    assert!(rt; has_bytes(rt.alloc(), &segment, HEAD_WITH_OBJECT)?);
     Ok(())
 }

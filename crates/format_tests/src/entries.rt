@@ -1,6 +1,7 @@
 //! The vectors of the format, read and written.
 
 use entry::*;
+use std::alloc::Global;
 use std::test::Fail;
 
 /// The bytes of entries, and how many of them each takes.
@@ -19,16 +20,19 @@ const ENTRIES: [(&str, usize); 9] = [
     ("040000000000000001400000000000000000010000000061", 24),
 ];
 
+/// Whether an entry of this length is read from the bytes, and written as it is spelled there.
+fn is_entry(alloc: Global, bytes: &[u8], len: usize) -> Result<bool, Fail> {
+    let (entry, taken) = read_entry(alloc, bytes)?;
+    let mut out = Vec::new(alloc);
+    write_entry(&entry, &mut out)?;
+    Ok(taken == len && bytes.get(..len) == Some(out.as_slice()))
+}
+
 #[test]
 fn entries_are_read_and_written(rt: HostRuntime) -> Result<(), Fail> {
-    for (text, len) in ENTRIES {
+    for (text, len) in ENTRIES.as_slice() {
         let bytes = hex::decode(rt.alloc(), text)?;
-        let (entry, taken) = read_entry(rt.alloc(), &bytes)?;
-        assert_eq!(rt; taken, len, "{text}");
-        let mut out = Vec::new(rt.alloc());
-        write_entry(&entry, &mut out)?;
-        assert!(rt; bytes.as_slice().starts_with(out.as_slice()), "{text}");
-        assert_eq!(rt; out.len(), len, "{text}");
+        assert!(rt; is_entry(rt.alloc(), &bytes, *len)?, "{text}");
     }
     Ok(())
 }
@@ -78,45 +82,63 @@ const FAULTS: [(&str, EntryFault); 17] = [
     ),
 ];
 
+fn is_fault(alloc: Global, bytes: &[u8], fault: EntryFault) -> bool {
+    match read_entry(alloc, bytes) {
+        Ok(_) => false,
+        Err(found) => found == fault,
+    }
+}
+
 #[test]
 fn faults_are_the_first_that_a_test_names(rt: HostRuntime) -> Result<(), Fail> {
-    for (text, fault) in FAULTS {
+    for (text, fault) in FAULTS.as_slice() {
         let bytes = hex::decode(rt.alloc(), text)?;
-        assert!(rt;
-            read_entry(rt.alloc(), &bytes).is_err_and(|found| found == fault),
-            "{text}"
-        );
+        assert!(rt; is_fault(rt.alloc(), &bytes, *fault), "{text}");
     }
     Ok(())
+}
+
+/// Whether this is the object of table 1, key `a`, version 1 and value `x`.
+fn is_first_object(entry: &Entry) -> bool {
+    match entry {
+        Entry::Object(object) => {
+            object.key.table == 1
+                && object.key.bytes.as_slice() == b"a".as_slice()
+                && object.version.get() == 1
+                && object.value.as_slice() == b"x".as_slice()
+        }
+        _ => false,
+    }
 }
 
 #[test]
 fn an_object_has_its_fields(rt: HostRuntime) -> Result<(), Fail> {
     let bytes = hex::decode(rt.alloc(), ENTRIES[6].0)?;
     let (entry, _) = read_entry(rt.alloc(), &bytes)?;
-    if let Entry::Object(object) = &entry {
-        assert_eq!(rt; object.key.table, 1);
-        assert_eq!(rt; object.key.bytes.as_slice(), b"a".as_slice());
-        assert_eq!(rt; object.version.get(), 1);
-        assert_eq!(rt; object.value.as_slice(), b"x".as_slice());
-    } else {
-        panic!(rt; "no object");
-    }
+    assert!(rt; is_first_object(&entry));
     Ok(())
 }
 
+/// Keys and their places.
+const PLACES: [(&str, u64); 4] = [
+    ("a", 0x6100_0000_0000_0000),
+    ("b", 0x6200_0000_0000_0000),
+    ("ab", 0x6162_0000_0000_0000),
+    ("abcdefghi", 0x6162_6364_6566_6768),
+];
+
+fn place_of(alloc: Global, bytes: &[u8]) -> Result<u64, KeyFault> {
+    Ok(place(&Key::new(alloc, 1, bytes)?))
+}
+
 #[test]
-fn places(rt: HostRuntime) -> Result<(), Fail> {
-    for (bytes, want) in [
-        ("a", 0x6100_0000_0000_0000),
-        ("b", 0x6200_0000_0000_0000),
-        ("ab", 0x6162_0000_0000_0000),
-        ("abcdefghi", 0x6162_6364_6566_6768),
-    ] {
-        let key = Key::new(rt.alloc(), 1, bytes.as_bytes())?;
-        assert_eq!(rt; place(&key), want, "{bytes}");
+fn places(rt: HostRuntime) {
+    for (bytes, want) in PLACES.as_slice() {
+        assert!(rt;
+            place_of(rt.alloc(), bytes.as_bytes()) == Ok(*want),
+            "{bytes}"
+        );
     }
-    assert!(rt; Key::new(rt.alloc(), 1, b"").is_err_and(|fault| fault == KeyFault::Empty));
-    assert!(rt; Key::new(rt.alloc(), 1, &[0; 1025]).is_err_and(|fault| fault == KeyFault::TooLong));
-    Ok(())
+    assert!(rt; place_of(rt.alloc(), b"") == Err(KeyFault::Empty));
+    assert!(rt; place_of(rt.alloc(), &[0; 1025]) == Err(KeyFault::TooLong));
 }

@@ -1,7 +1,7 @@
 //! A master that is run step by step, and rebuilt from its fleet.
 
-use entry::{Key, Value};
-use master::{Command, If, Look, Master, Refusal, Shown, Step, StepAnswer};
+use crate::asks::{Ask, steps_of};
+use master::{If, Look, Master, Refusal, Shown, StepAnswer};
 use replica::Fleet;
 use script::*;
 use std::alloc::Global;
@@ -18,20 +18,6 @@ pub fn new_master(alloc: Global) -> Result<Master<MemoryFleet>, Fail> {
     }
 }
 
-/// Two pushes, a put, a get, and three pushes.
-fn steps(alloc: Global) -> Result<Vec<Step>, Fail> {
-    let value = Value::new(Vec::from_slice(alloc, b"x")?);
-    let put = Command::Put(Key::new(alloc, 1, b"a")?, value, If::Any);
-    let get = Command::Get(Key::new(alloc, 1, b"a")?);
-    let mut steps = vec![in alloc; Step::Push, Step::Push]?;
-    steps.push(Step::Apply(0, put))?;
-    steps.push(Step::Apply(0, get))?;
-    for _ in 0..3 {
-        steps.push(Step::Push)?;
-    }
-    Ok(steps)
-}
-
 /// What a step did, and its backup and segment, or its place in the history and 0.
 type Kind = (&'static str, u64, u64);
 
@@ -45,6 +31,17 @@ fn kind(answer: &Result<StepAnswer, Refusal>) -> Kind {
     }
 }
 
+/// Two pushes, a put, a get, and three pushes.
+const ASKS: [Ask; 7] = [
+    Ask::Push,
+    Ask::Push,
+    Ask::Put("a", b'x', If::Any),
+    Ask::Get("a"),
+    Ask::Push,
+    Ask::Push,
+    Ask::Push,
+];
+
 /// What each step answers.
 const KINDS: [Kind; 7] = [
     ("opened", 1, 1),
@@ -56,14 +53,16 @@ const KINDS: [Kind; 7] = [
     ("nothing", 0, 0),
 ];
 
-/// Runs the steps, and tells what each did.
-fn run(alloc: Global, master: &mut Master<MemoryFleet>) -> Result<Vec<Kind>, Fail> {
-    let answers = master.run(steps(alloc)?.as_slice())?;
-    let mut kinds = Vec::new(alloc);
-    for answer in answers.as_slice() {
-        kinds.push(kind(answer))?;
+/// Whether the steps are answered so.
+fn runs(alloc: Global, master: &mut Master<MemoryFleet>) -> Result<bool, Fail> {
+    let steps = steps_of(alloc, ASKS.as_slice())?;
+    let answers = master.run(steps.as_slice())?;
+    for (place, answer) in answers.as_slice().iter().enumerate() {
+        if KINDS.as_slice().get(place) != Some(&kind(answer)) {
+            return Ok(false);
+        }
     }
-    Ok(kinds)
+    Ok(answers.len() == KINDS.len())
 }
 
 /// Whether the master shows the image of a segment.
@@ -81,11 +80,9 @@ fn rebuilt(alloc: Global, fleet: &MemoryFleet) -> Result<(usize, u64), Fail> {
 #[test]
 fn a_run_answers_step_by_step(rt: HostRuntime) -> Result<(), Fail> {
     let mut master = new_master(rt.alloc())?;
-    assert!(rt; run(rt.alloc(), &mut master)?.as_slice() == KINDS.as_slice());
+    assert!(rt; runs(rt.alloc(), &mut master)?);
     assert!(rt; master.durable() == 2 && master.history().len() == 2);
     assert!(rt; !has_image(&master, 2)?);
-    let fleet = master.crash();
-    assert!(rt; fleet.takes() == 4 && fleet.faults() == 0);
-    assert!(rt; rebuilt(rt.alloc(), &fleet)? == (1, 2));
+    assert!(rt; rebuilt(rt.alloc(), &master.crash())? == (1, 2));
     Ok(())
 }

@@ -1,0 +1,155 @@
+//! Lines read and parsed.
+
+use lines::*;
+use std::alloc::Global;
+use std::io::{self, ErrorKind, Read};
+use std::test::Fail;
+
+/// Lines, and what each says.
+const GOOD: [(&str, &str); 14] = [
+    ("", "Idle"),
+    ("#", "Idle"),
+    ("# any\ttext  ", "Idle"),
+    ("put 1 a x", "Put { table: 1, key: [97], value: [120] }"),
+    ("put 0 ! ~", "Put { table: 0, key: [33], value: [126] }"),
+    ("get 2 put", "Get { table: 2, key: [112, 117, 116] }"),
+    (
+        "get 18446744073709551615 #",
+        "Get { table: 18446744073709551615, key: [35] }",
+    ),
+    ("hex 10", "Hex { segment: 10 }"),
+    ("stop 0", "Stop { takes: 0 }"),
+    ("stop 20", "Stop { takes: 20 }"),
+    ("crash", "Crash"),
+    ("lose 3", "Lose { backup: 3 }"),
+    ("lose 64", "Lose { backup: 64 }"),
+    ("recover", "Recover"),
+];
+
+/// Bad lines.
+const BAD: [&[u8]; 32] = [
+    b"hex 00",
+    b"hex 01",
+    b"hex +1",
+    b"hex -1",
+    b"hex 0x1",
+    b"hex 18446744073709551616",
+    b"get 01 a",
+    b"put 1  a x",
+    b"put 1 a  x",
+    b"put  1 a x",
+    b" crash",
+    b"crash ",
+    b"recover\r",
+    b"put 1 a x ",
+    b"put 1 a x\r",
+    b"put 1 a\0 x",
+    b"put 1 a \x7f",
+    b"put 1 \xc3\xa4 x",
+    b"get\t1 a",
+    b"get 1 a\n",
+    b"puts 1 a x",
+    b"PUT 1 a x",
+    b"put 1 a",
+    b"put 1 a x y",
+    b"get 1",
+    b"hex",
+    b"hex 1 2",
+    b"crash 1",
+    b"recover reverse",
+    b" # no comment",
+    b"get 1 \xff",
+    b"g\xfft 1 a",
+];
+
+/// Whether a line shows that it says this.
+fn says(alloc: Global, text: &str, want: &str) -> Result<bool, Fail> {
+    match parse_line(text.as_bytes()) {
+        Some(line) => Ok(format!(in alloc; "{line:?}")?.as_str() == want),
+        None => Ok(false),
+    }
+}
+
+#[test]
+fn good_lines_are_parsed(rt: HostRuntime) -> Result<(), Fail> {
+    for (text, want) in GOOD.as_slice() {
+        assert!(rt; says(rt.alloc(), text, want)?, "{text}");
+    }
+    Ok(())
+}
+
+#[test]
+fn bad_lines_are_none(rt: HostRuntime) {
+    for (place, text) in BAD.as_slice().iter().enumerate() {
+        assert!(rt; parse_line(text).is_none(), "{place}");
+    }
+}
+
+/// What a call took, and the bytes of the line.
+type Row<'a> = (Result<Taken, ReadFault>, &'a str);
+
+/// Whether a reader is read so, call by call.
+fn is_read<R: Read>(alloc: Global, reader: &mut R, rows: &[Row<'_>]) -> bool {
+    let mut line = Vec::new(alloc);
+    for (taken, text) in rows {
+        if next_line(reader, &mut line) != *taken || line.as_slice() != text.as_bytes() {
+            return false;
+        }
+    }
+    true
+}
+
+const LINES: [Row<'static>; 6] = [
+    (Ok(Taken::Ended), "crash"),
+    (Ok(Taken::Ended), ""),
+    (Ok(Taken::Ended), "# x\r"),
+    (Ok(Taken::Last), "last"),
+    (Ok(Taken::Nothing), ""),
+    (Ok(Taken::Nothing), ""),
+];
+
+#[test]
+fn lines_are_read(rt: HostRuntime) {
+    let mut reader: &[u8] = b"crash\n\n# x\r\nlast";
+    assert!(rt; is_read(rt.alloc(), &mut reader, LINES.as_slice()));
+}
+
+/// A reader that is interrupted before each byte, and fails after its bytes.
+#[derive(Drop)]
+struct Failing<'a> {
+    bytes: &'a [u8],
+    interrupts: bool,
+}
+
+impl<'a> Read for Failing<'a> {
+    fn read(&mut self, buf: &mut [u8]) -> io::Result<usize> {
+        self.interrupts = !self.interrupts;
+        if self.interrupts {
+            return Err(io::Error::from(ErrorKind::Interrupted));
+        }
+        match self.bytes {
+            [] => Err(io::Error::from(ErrorKind::Other)),
+            [first, rest @ ..] if !buf.is_empty() => {
+                buf[0] = *first;
+                self.bytes = rest;
+                Ok(1)
+            }
+            _ => Ok(0),
+        }
+    }
+}
+
+const FAULTS: [Row<'static>; 3] = [
+    (Ok(Taken::Ended), "crash"),
+    (Err(ReadFault::Failed), "rec"),
+    (Err(ReadFault::Failed), ""),
+];
+
+#[test]
+fn faults_are_told(rt: HostRuntime) {
+    let mut reader = Failing {
+        bytes: b"crash\nrec",
+        interrupts: false,
+    };
+    assert!(rt; is_read(rt.alloc(), &mut reader, FAULTS.as_slice()));
+}

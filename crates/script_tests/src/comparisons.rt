@@ -1,0 +1,137 @@
+//! The store against the plain slow programs.
+
+use crate::asks::{Ask, step_of};
+use crate::runs::new_master;
+use backup::MemoryFleet;
+use entry::{Entry, EntryRef, Object};
+use master::{If, Look, Master, Reply, Shown, Step, StepAnswer};
+use plain::{VersionedMap, meaning};
+use script::recover;
+use segment::read_segment;
+use std::alloc::Global;
+use std::test::Fail;
+
+/// Each command meets what those before it left.
+const ASKS: [Ask; 14] = [
+    Ask::Get("a"),
+    Ask::Put("a", b'x', If::Any),
+    Ask::Put("a", b'y', If::Absent),
+    Ask::Put("a", b'y', If::Version(1)),
+    Ask::Put("a", b'z', If::Version(7)),
+    Ask::Put("b", b'z', If::Version(1)),
+    Ask::Put("b", b'p', If::Absent),
+    Ask::Put("c", b'q', If::Any),
+    Ask::Get("a"),
+    Ask::Delete("a"),
+    Ask::Delete("a"),
+    Ask::Delete("c"),
+    Ask::Put("a", b'w', If::Any),
+    Ask::Put("b", b'p', If::Any),
+];
+
+fn are_same_replies(alloc: Global, one: &Reply, other: &Reply) -> Result<bool, Fail> {
+    Ok(format!(in alloc; "{one:?}")?.as_str() == format!(in alloc; "{other:?}")?.as_str())
+}
+
+fn has_object(objects: &[Object], want: &Object) -> bool {
+    for object in objects {
+        if object.key == want.key
+            && object.version == want.version
+            && object.value.as_slice() == want.value.as_slice()
+        {
+            return true;
+        }
+    }
+    false
+}
+
+/// Whether two lists, each of different keys, have the same objects.
+fn are_same_objects(some: &[Object], others: &[Object]) -> bool {
+    for object in some {
+        if !has_object(others, object) {
+            return false;
+        }
+    }
+    some.len() == others.len()
+}
+
+/// Pushes so often.
+fn push(master: &mut Master<MemoryFleet>, times: usize) {
+    for _ in 0..times {
+        let _ = master.step(Step::Push);
+    }
+}
+
+/// Asks both, and tells whether they answered alike.
+fn answers_alike(
+    alloc: Global,
+    master: &mut Master<MemoryFleet>,
+    map: &mut VersionedMap,
+    step: Step,
+) -> Result<bool, Fail> {
+    let Step::Apply(_, command) = &step else {
+        return Ok(false);
+    };
+    let want = map.apply(command)?;
+    match master.step(step) {
+        Ok(StepAnswer::Applied(_, reply)) => are_same_replies(alloc, &reply, &want),
+        _ => Ok(false),
+    }
+}
+
+/// Opens the head, and asks both all that there is to ask.
+fn answer_alike(
+    alloc: Global,
+    master: &mut Master<MemoryFleet>,
+    map: &mut VersionedMap,
+) -> Result<bool, Fail> {
+    push(master, 2);
+    for ask in ASKS.as_slice() {
+        if !answers_alike(alloc, master, map, step_of(alloc, ask)?)? {
+            return Ok(false);
+        }
+    }
+    Ok(true)
+}
+
+/// The entries of a segment's bytes.
+fn entries_of(alloc: Global, bytes: &[u8]) -> Result<Vec<Entry>, Fail> {
+    let segment = read_segment(alloc, bytes)?;
+    let mut entries = Vec::new(alloc);
+    for entry in segment.entries() {
+        let entry: EntryRef<'_> = entry;
+        entries.push(entry.to_entry(alloc)?)?;
+    }
+    Ok(entries)
+}
+
+/// Whether the image of the head means these objects.
+fn means(alloc: Global, master: &Master<MemoryFleet>, want: &[Object]) -> Result<bool, Fail> {
+    let Shown::Image(Some(image)) = master.look(Look::Image(1))? else {
+        return Ok(false);
+    };
+    let entries = entries_of(alloc, image.as_slice())?;
+    Ok(are_same_objects(meaning(alloc, entries.as_slice())?.as_slice(), want))
+}
+
+/// Whether these objects are recovered once all is pushed.
+fn is_recovered(
+    alloc: Global,
+    mut master: Master<MemoryFleet>,
+    want: &[Object],
+) -> Result<bool, Fail> {
+    push(&mut master, 2 * ASKS.len());
+    let inventory = master.crash().inventory(alloc)?;
+    let rebuilt = recover(alloc, &inventory, 1)?;
+    Ok(are_same_objects(rebuilt.objects.as_slice(), want))
+}
+
+#[test]
+fn a_master_is_the_plain_map(rt: HostRuntime) -> Result<(), Fail> {
+    let mut map = VersionedMap::new(rt.alloc());
+    let mut master = new_master(rt.alloc())?;
+    assert!(rt; answer_alike(rt.alloc(), &mut master, &mut map)? && map.safe().get() == 5);
+    assert!(rt; means(rt.alloc(), &master, map.objects())?);
+    assert!(rt; is_recovered(rt.alloc(), master, map.objects())?);
+    Ok(())
+}
