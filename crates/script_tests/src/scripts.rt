@@ -146,13 +146,13 @@ fn put_of(alloc: Global, key_len: usize, value_len: usize) -> Result<Vec<u8>, Fa
     Ok(script)
 }
 
-/// Whether such a put is a bad line.
+/// Whether the run of such a put fails.
 fn is_bad(alloc: Global, key_len: usize, value_len: usize) -> Result<bool, Fail> {
     let script = put_of(alloc, key_len, value_len)?;
     let mut written = Vec::new(alloc);
     let line = "ramlog --segment 65536 --seglets 4096";
     let ran = run(alloc, line, &mut script.as_slice(), &mut written)?;
-    Ok(ran == Err(ScriptFault::BadLine(1)))
+    Ok(ran.is_err())
 }
 
 #[test]
