@@ -134,14 +134,14 @@ def failed_by_itself(run, _):
 def sweep_tests(program):
     listed, _, _ = program.run(["--list"], b"")
     names = [line[:-len(": test")] for line in listed.output.splitlines() if line.endswith(": test")]
-    whole = Tally("the tests")
+    whole = Tally(os.path.basename(program.path).removesuffix("_tests"))
     for name in names:
         tally = Tally(f"the test {name}")
         sweep(tally, program, [name], b"", Run(0, "\ntest result: ok\n", ""), failed_by_itself)
         for count in ("requests", "runs", "failed", "same", "ended", "stopped"):
             setattr(whole, count, getattr(whole, count) + getattr(tally, count))
     whole.failed += not names
-    print(f"{len(names)} tests: {whole.requests} requests for memory, {whole.runs} runs; {whole.ended} failed by an error, "
+    print(f"{whole.name}: {len(names)} tests, {whole.requests} requests for memory, {whole.runs} runs; {whole.ended} failed by an error, "
           f"{whole.stopped} by an assertion, {whole.same} passed all the same, {whole.failed} failed otherwise")
     return whole
 
@@ -160,11 +160,10 @@ def main():
         names = sorted(glob.glob(f"{top}/examples/*.txt"))
         tallies = list(sweep_scripts(program, names, [os.path.relpath(name, top) for name in names], words))
         tallies += sweep_command_lines(program)
-        tests = f"{top}/crates/tests/out/tests_tests"
-        if os.path.exists(tests):
-            tallies.append(sweep_tests(Program(tests, folder)))
-        else:
-            print("the tests: not run, since 'rt test' in crates/tests has not left their program")
+        programs = sorted(glob.glob(f"{top}/crates/*_tests/out/*_tests_tests"))
+        tallies += [sweep_tests(Program(path, folder)) for path in programs]
+        if not programs:
+            print("the tests: not run, since 'rt test' in their crates has not left their programs")
     failed = sum(tally.failed for tally in tallies)
     print(f"{sum(tally.runs for tally in tallies)} runs, {failed} failed")
     sys.exit(failed > 0)
