@@ -6,7 +6,7 @@ ghost use Rattle.master.specs.Covered.{IsCovered};
 ghost use Rattle.master.specs.Durable.{IsDurable};
 ghost use Rattle.master.specs.Invariant.{IsKept};
 ghost use Rattle.master.specs.Keeps.{Keeps};
-ghost use Rattle.master.specs.Log.{IsLegal};
+ghost use Rattle.master.specs.Log.{IsLegal, IsLogged};
 ghost use Rattle.master.specs.Master.{fresh_data, durable_of};
 ghost use Rattle.master.specs.Sound.{IsSound};
 ghost use Rattle.master.specs.Steps.{World, world, home, Accepts, Declines, Steps, IsRun, refusal_of, is_halting};
@@ -76,6 +76,7 @@ impl<F: Fleet> Master<F> {
         requires none { (b s : ℕ) → (F.state fleet).picture b config.master s ≡ None }
         ensures made { IfOk result (λ m. (m.knows ≡ fresh_data config) × (m.fleet ≡ fleet)) }
         ensures sound { IfOk result (λ m. IsSound m.knows (F.state m.fleet).picture × IsCovered m.knows (F.state m.fleet).picture) }
+        ensures logged { IfOk result (λ m. IsLogged m.knows) }
         ensures refused { IfErr result (λ e. e.1 ≡ fleet) }
     {
         let replicas = config.replicas as usize;
@@ -313,6 +314,7 @@ impl<F: Fleet> Master<F> {
         ensures sound { IsSound self.new.knows (F.state self.new.fleet).picture }
         ensures covered { IsCovered self.new.knows (F.state self.new.fleet).picture }
         ensures legal { IsLegal self.new.knows }
+        ensures logged { IsLogged self.new.knows }
     {
         self.show_kept();
         let result = match step {
@@ -332,11 +334,13 @@ impl<F: Fleet> Master<F> {
 
     /// What holds of every master. Whichever backups are left, what they hold of it stands for the first commands of its
     /// history, each durable one among them; where the head and the segments survive there is a log to choose. Memory and
-    /// the replicas of the log stand for the map after the history, whose replies are the versioned map's.
+    /// the replicas of the log stand for the map after the history, whose replies are the versioned map's. The head's image
+    /// is its opening and the units of the history.
     pub fn show_sound(&self)
         ensures sound { IsSound self.now.knows (F.state self.now.fleet).picture }
         ensures covered { IsCovered self.now.knows (F.state self.now.fleet).picture }
         ensures legal { IsLegal self.now.knows }
+        ensures logged { IsLogged self.now.knows }
     {
         let _bytes = self.head.image().bytes();
     }

@@ -1,6 +1,7 @@
 -- A line that was run, told of a history.
-use Rattle.std.proofs.Common.{◌≡◌, ℕ, suc, ◌≤◌, Bool, true, false, cond, List, [], ◌∷◌, ◌++◌, length, refl, sym, ap, subst, inl, inr, ◌∙◌, arith}
+use Rattle.std.proofs.Common.{◌≡◌, ℕ, suc, ◌≤◌, Bool, true, false, cond, List, [], ◌∷◌, ◌++◌, length, take, refl, sym, ap, subst, inl, inr, ◌∙◌, arith}
 use Rattle.std.proofs.lemmas.List.{append-nil, length-append}
+use lib.Seq.{take-append_seam}
 use Rattle.std.specs.Prelude.{Option, Some, None, slice_get, not, ◌==◌, ◌↔◌}
 use Rattle.backup.specs.State.{state_of, lost}
 use Rattle.backup.specs.declared.fleet.MemoryFleet.{MemoryFleet}
@@ -20,14 +21,14 @@ use Rattle.script.specs.declared.answer.Answer.{Answer}
 use Rattle.script.specs.declared.answer.Answer.TheVariants as answer
 use Rattle.script.specs.declared.node.Node.{Node}
 use Rattle.script.specs.declared.node.Node.TheVariants.{Down}
-use Rattle.script.specs.Served.{GoesOn, IsUnserved, IsOf, Stands, AnswersLine, is_up, record_of}
+use Rattle.script.specs.Served.{GoesOn, IsServed, IsUnserved, IsOf, Stands, AnswersLine, is_up, record_of}
 use Rattle.script.specs.Recovered.{Shows, IsRecovered}
-use Rattle.script.specs.Told.{Position, command_of, IsInOrOut, IsRecoveredAt, Tells}
+use Rattle.script.specs.Told.{Position, command_of, IsRecoveredAt, Tells}
 
 -- ---- a master goes on
 
 pub goes-nowhere : (d : MasterData) → GoesOn d d []
-goes-nowhere d = record { config = refl; durable = omega arith; legal = λ l. l; history = sym (append-nil d.history) }
+goes-nowhere d = record { config = refl; durable = omega arith; logged = λ l. l; history = sym (append-nil d.history) }
 
 -- ---- what the node stands for goes on
 
@@ -36,33 +37,33 @@ slice_get-end : (xs : List Record) (r : Record) → slice_get (xs ++ r ∷ []) (
 slice_get-end [] r = refl
 slice_get-end (x ∷ xs) r = slice_get-end xs r
 
-abbrev Answered : MasterData → Node → ℕ → Position → LineValue → Answer → Type 0
-Answered d new master at line a =
-    (e : MasterData) × (next : Position) × Stands new master e next × ((more : List Record) × (e.history ≡ d.history ++ more)) × Tells e.history at line a next
+abbrev Answered : MasterData → Node → Config → Position → LineValue → Answer → Type 0
+Answered d new config at line a =
+    (e : MasterData) × (next : Position) × Stands new config e next × ((more : List Record) × (e.history ≡ d.history ++ more)) × Tells config e.history at line a next
 
-module _ (d e : MasterData) (old new : Node) (master : ℕ) (at : Position) (of : IsOf new e) (s : Stands old master d at) where
+module _ (d e : MasterData) (old new : Node) (config : Config) (at : Position) (of : IsOf new e) (s : Stands old config d at) where
   -- the line made no record
-  still_stands : GoesOn d e [] → Stands new master e (record { made = at.made; acknowledged = at.acknowledged; is_up = is_up new })
+  still_stands : GoesOn d e [] → Stands new config e (record { made = at.made; acknowledged = at.acknowledged; is_up = is_up new })
   still_stands g =
       let up = g.durable in
       let kept = s.acknowledged in
       record {
         node_of = of;
         up = refl;
-        number = ap (λ (c : Config). c.master) g.config ∙ s.number;
-        legal = g.legal s.legal;
+        configured = g.config ∙ s.configured;
+        logged = g.logged s.logged;
         made = s.made ∙ ap length (sym (g.history ∙ append-nil d.history));
         acknowledged = omega arith;
       }
 
   -- the line made one
   stands_longer : (command : Command) (reply : Reply) (acknowledged : ℕ) → GoesOn d e (record_of command reply) → acknowledged ≤ durable_of e
-      → Stands new master e (record { made = suc at.made; acknowledged = acknowledged; is_up = is_up new })
+      → Stands new config e (record { made = suc at.made; acknowledged = acknowledged; is_up = is_up new })
   stands_longer command reply acknowledged g kept = record {
     node_of = of;
     up = refl;
-    number = ap (λ (c : Config). c.master) g.config ∙ s.number;
-    legal = g.legal s.legal;
+    configured = g.config ∙ s.configured;
+    logged = g.logged s.logged;
     made =
         let longer = ap length g.history in
         let count = length-append d.history (record_of command reply) in
@@ -75,41 +76,93 @@ module _ (d e : MasterData) (old new : Node) (master : ℕ) (at : Position) (of 
       → slice_get e.history at.made ≡ Some (record { seat = 0; command = command; reply = reply })
   record_there command reply g = (λ i. slice_get (g.history i) (s.made i)) ∙ slice_get-end d.history _
 
-  in_or_out : (line : LineValue) (command : Command) → command_of line ≡ Some command → IsUnserved d e command
-      → (next : Position) × Stands new master e next × ((more : List Record) × (e.history ≡ d.history ++ more)) × IsInOrOut e.history at line (is_up new) next
-  in_or_out line command is (inl g) = (_, still_stands g, ([], g.history), inl (command, is, refl))
-  in_or_out line command is (inr (reply, g)) =
-      let up = g.durable in
-      let kept = s.acknowledged in (
-        _,
-        stands_longer command reply at.acknowledged g (omega arith),
-        (record_of command reply, g.history),
-        inr (reply, (command, is, record_there command reply g), refl),
-      )
+  -- all records so far
+  all_made : (more : List Record) → e.history ≡ d.history ++ more → d.history ≡ take at.made e.history
+  all_made more is = sym ((λ i. take (s.made i) (is i)) ∙ take-append_seam d.history more)
 
-  pub refused_told : (line : LineValue) (command : Command) (refusal : Refusal) → command_of line ≡ Some command → is_up old ≡ true → is_up new ≡ true
-      → IsUnserved d e command → Answered d new master at line (answer.Refused refusal)
-  refused_told line command refusal is was on u =
-      let t = in_or_out line command is u in
-      (e, t.0, t.1, t.2, (s.up ∙ was, inl (subst (λ (b : Bool). IsInOrOut e.history at line b t.0) on t.3)))
+  module _ (line : LineValue) (command : Command) (asks : command_of line ≡ Some command) where
+    -- a reply is that of the record that was added
+    pub reply_told : (reply : Reply) → is_up old ≡ true → is_up new ≡ true → IsServed d e command reply → Answered d new config at line (answer.Reply reply)
+    reply_told reply was on served =
+        let g = served.0 in
+        let lasts = served.1 in
+        let before = s.made in (
+          e,
+          record { made = suc at.made; acknowledged = suc at.made; is_up = is_up new },
+          stands_longer command reply (suc at.made) g (omega arith),
+          (record_of command reply, g.history),
+          (
+            s.up ∙ was,
+            ((command, asks, record_there command reply g), λ i. record { made = suc at.made; acknowledged = suc at.made; is_up = on i }),
+          ),
+        )
 
-  pub stopped_told : (line : LineValue) (command : Command) → command_of line ≡ Some command → is_up old ≡ true → is_up new ≡ false
-      → IsUnserved d e command → Answered d new master at line answer.Stopped
-  stopped_told line command is was off u =
-      let t = in_or_out line command is u in
-      (e, t.0, t.1, t.2, (s.up ∙ was, subst (λ (b : Bool). IsInOrOut e.history at line b t.0) off t.3))
+    -- what was made of a command that wasn't answered
+    pub refused_told : (r : Refusal) → is_up old ≡ true → is_up new ≡ true → IsUnserved d e command r → Answered d new config at line (answer.Refused r)
+    refused_told r was on (inl (g, why)) = (
+      e,
+      record { made = at.made; acknowledged = at.acknowledged; is_up = is_up new },
+      still_stands g,
+      ([], g.history),
+      (
+        s.up ∙ was,
+        inl (inl (
+          (command, asks, λ i. record { made = at.made; acknowledged = at.acknowledged; is_up = on i }),
+          elim why [
+            | inl memory ↦ inl memory
+            | inr test ↦ inr (command, asks, (d, s.configured, all_made [] g.history, s.logged, test))
+          ],
+        )),
+      ),
+    )
+    refused_told r was on (inr ((reply, g), pushed)) =
+        let up = g.durable in
+        let kept = s.acknowledged in (
+          e,
+          record { made = suc at.made; acknowledged = at.acknowledged; is_up = is_up new },
+          stands_longer command reply at.acknowledged g (omega arith),
+          (record_of command reply, g.history),
+          (
+            s.up ∙ was,
+            inl (inr (
+              (reply, (command, asks, record_there command reply g), λ i. record { made = suc at.made; acknowledged = at.acknowledged; is_up = on i }),
+              pushed,
+            )),
+          ),
+        )
+
+    pub stopped_told : (r : Refusal) → is_up old ≡ true → is_up new ≡ false → IsUnserved d e command r → Answered d new config at line answer.Stopped
+    stopped_told r was off (inl (g, why)) = (
+      e,
+      record { made = at.made; acknowledged = at.acknowledged; is_up = is_up new },
+      still_stands g,
+      ([], g.history),
+      (s.up ∙ was, inl (command, asks, λ i. record { made = at.made; acknowledged = at.acknowledged; is_up = off i })),
+    )
+    stopped_told r was off (inr ((reply, g), pushed)) =
+        let up = g.durable in
+        let kept = s.acknowledged in (
+          e,
+          record { made = suc at.made; acknowledged = at.acknowledged; is_up = is_up new },
+          stands_longer command reply at.acknowledged g (omega arith),
+          (record_of command reply, g.history),
+          (
+            s.up ∙ was,
+            inr (reply, (command, asks, record_there command reply g), λ i. record { made = suc at.made; acknowledged = at.acknowledged; is_up = off i }),
+          ),
+        )
 
 -- ---- lines that make no record
 
 -- the node that is left stands for the same
-pub same_told : (old new : Node) (master : ℕ) (line : LineValue) (a : Answer) → ((d : MasterData) → IsOf old d → IsOf new d)
+pub same_told : (old new : Node) (config : Config) (line : LineValue) (a : Answer) → ((d : MasterData) → IsOf old d → IsOf new d)
     → ((history : List Record) (at : Position) → at.is_up ≡ is_up old → at.made ≡ length history
-    → Tells history at line a (record { made = at.made; acknowledged = at.acknowledged; is_up = is_up new }))
-    → AnswersLine old master line new a
-same_told old new master line a same tells d at s = (
+    → Tells config history at line a (record { made = at.made; acknowledged = at.acknowledged; is_up = is_up new }))
+    → AnswersLine old config line new a
+same_told old new config line a same tells d at s = (
   d,
   _,
-  still_stands d d old new master at (same d s.node_of) s (goes-nowhere d),
+  still_stands d d old new config at (same d s.node_of) s (goes-nowhere d),
   ([], sym (append-nil d.history)),
   tells d.history at s.up s.made,
 )
@@ -117,6 +170,11 @@ same_told old new master line a same tells d at s = (
 -- and stands where it stood
 pub rests : (at : Position) (b : Bool) → at.is_up ≡ b → record { made = at.made; acknowledged = at.acknowledged; is_up = b } ≡ at
 rests at b is = λ i. record { made = at.made; acknowledged = at.acknowledged; is_up = sym is i }
+
+-- a node answers of what it stands for, and stays
+pub stays_told : (node : Node) (config : Config) (line : LineValue) (a : Answer)
+    → ((d : MasterData) (at : Position) → Stands node config d at → Tells config d.history at line a at) → AnswersLine node config line node a
+stays_told node config line a tells d at s = (d, at, s, ([], sym (append-nil d.history)), tells d at s)
 
 -- ---- a backup is lost
 
@@ -153,16 +211,11 @@ shows_left hs p f keep d master number same shown h of =
     subst (λ (m : ℕ). f.picture h.backup m h.segment ≡ survivors keep p h.backup m h.segment) at (same h.backup h.segment) in
     (λ among. sym eq ∙ (shown h).0 among, λ held. (shown h).1 (eq ∙ held))
 
-pub table_told : (d : MasterData) (node : Node) (master : ℕ) (at : Position) (r : Rebuilt) → Stands node master d at → ((count : ℕ) × IsRecovered d count r)
+pub table_told : (d : MasterData) (node : Node) (config : Config) (at : Position) (r : Rebuilt) → Stands node config d at → ((count : ℕ) × IsRecovered d count r)
     → IsRecoveredAt d.history at r
-table_told d node master at r s found =
+table_told d node config at r s found =
     let kept = s.acknowledged in
     let made = s.made in
     let durable = found.1.durable in
     let within = found.1.within in
     (found.0, omega arith, omega arith, record { within = found.1.within; exactly = found.1.exactly; order = found.1.order })
-
--- a node that is down answers of what it stands for, and stays
-pub down_told : (node : Node) (master : ℕ) (line : LineValue) (a : Answer) → is_up node ≡ false
-    → ((d : MasterData) (at : Position) → Stands node master d at → at.is_up ≡ false → Tells d.history at line a at) → AnswersLine node master line node a
-down_told node master line a off tells d at s = (d, at, s, ([], sym (append-nil d.history)), tells d at s (s.up ∙ off))

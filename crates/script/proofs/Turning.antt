@@ -1,6 +1,6 @@
 -- Lines that are run in turn.
 use Rattle.std.proofs.Common.{◌≡◌, ℕ, zero, suc, ◌+◌, ◌-◌, ◌^◌, ◌<◌, ◌≤◌, Bool, true, List, [], ◌∷◌, ◌++◌, take, length, refl, sym, ap, subst, inl, inr, ◌∙◌, arith}
-use Rattle.std.proofs.lemmas.List.{append-nil, length-append}
+use Rattle.std.proofs.lemmas.List.{append-nil, length-append, take-append-le}
 use Rattle.std.proofs.lemmas.List.Elements.{All-nil, All-push}
 use Rattle.std.proofs.lemmas.List.Concat.{flat_map-append}
 use Rattle.std.specs.Prelude.{Option, Some, None, Result, Ok, Err, slice_get}
@@ -11,6 +11,7 @@ use Rattle.lines.specs.Grammar.{LineValue}
 use Rattle.lines.specs.Reading.{IsLineText}
 use Rattle.master.specs.declared.command.Command.{Command}
 use Rattle.master.specs.declared.command.Record.{Record}
+use Rattle.master.specs.declared.config.Config.{Config}
 use Rattle.master.specs.Log.{commands_of}
 use Rattle.master.specs.Master.{MasterData}
 use Rattle.master.specs.Represents.{empty_state}
@@ -21,9 +22,9 @@ use Rattle.script.specs.declared.fault.ScriptFault.{ScriptFault}
 use Rattle.script.specs.declared.fault.ScriptFault.TheVariants as fault
 use Rattle.script.specs.declared.session.Session.{Session}
 use Rattle.script.specs.Runs.{IsOfFleet, IsScriptLine, texts_of, answers_of, AreLines, IsTakenLine, IsBadLine, TellOneHistory, EndsWith, Prints, RunsScript}
-use Rattle.script.specs.Served.{Stands}
+use Rattle.script.specs.Served.{Begins, Stands}
 use Rattle.script.specs.Texts.{answer_text}
-use Rattle.script.specs.Told.{Told, Position, at_start, IsRecordAt, IsInOrOut, Tells, AreTelling}
+use Rattle.script.specs.Told.{Told, Position, at_start, IsRecordAt, IsIn, IsImageAfter, Tells, AreTelling}
 use Rattle.script.specs.Turns.{RunsText, PrintsText, TakesTurn, IsNoMore}
 
 -- ---- a longer history tells the same
@@ -38,29 +39,75 @@ take-commands xs ys zero within = refl
 take-commands [] ys (suc count) within = absurd (omega arith)
 take-commands (x ∷ xs) ys (suc count) within = ap (λ l. x.command ∷ l) (take-commands xs ys count (omega arith))
 
-module _ (history more : List Record) where
+-- positions rise
+module _ (config : Config) (history : List Record) where
+  as_before : (at next : Position) → next ≡ at → at.made ≤ next.made
+  as_before at next is = let same = ap (λ (p : Position). p.made) is in omega arith
+
+  rises : (at : Position) (line : LineValue) (a : Answer) (next : Position) → Tells config history at line a next → at.made ≤ next.made
+  rises at line answer.Silent next t = as_before at next t.1
+  rises at line (answer.Reply reply) next t = let made = ap (λ (p : Position). p.made) t.1.1 in omega arith
+  rises at line (answer.Refused r) next t = elim t.1 [
+    | inl (inl (out, why)) ↦ let made = ap (λ (p : Position). p.made) out.2 in omega arith
+    | inl (inr (added, pushed)) ↦ let made = ap (λ (p : Position). p.made) added.2 in omega arith
+    | inr u ↦ as_before at next u.2
+  ]
+  rises at line (answer.Hex bytes) next t = as_before at next t.3
+  rises at line (answer.NotInLog segment) next t = as_before at next t.3
+  rises at line (answer.Stop takes) next t = as_before at next t.1
+  rises at line answer.Stopped next t = elim t.1 [
+    | inl out ↦ let made = ap (λ (p : Position). p.made) out.2 in omega arith
+    | inr added ↦ let made = ap (λ (p : Position). p.made) added.2 in omega arith
+  ]
+  rises at line answer.Crashed next t = let made = ap (λ (p : Position). p.made) t.2 in omega arith
+  rises at line (answer.Lost backup) next t = as_before at next t.2
+  rises at line (answer.Recovered r) next t = as_before at next t.3
+  rises at line (answer.NotRecovered fault) next t = as_before at next t.3
+  rises at line answer.Down next t = as_before at next t.2
+  rises at line answer.Up next t = as_before at next t.2
+
+  telling_rises : (from : Position) (told : List Told) (last : Position) → AreTelling config history from told last → from.made ≤ last.made
+  telling_rises from [] last are = as_before from last are
+  telling_rises from (t ∷ ts) last are =
+      let here = rises from t.line t.answer are.0 are.1 in
+      let rest = telling_rises are.0 ts last are.2 in
+      omega arith
+
+module _ (config : Config) (history more : List Record) where
   record_longer : (place : ℕ) (line : LineValue) (reply : _) → IsRecordAt history place line reply → IsRecordAt (history ++ more) place line reply
   record_longer place line reply is = (is.0, is.1, slice_get-longer history more place _ is.2)
 
-  in_or_out_longer : (at : Position) (line : LineValue) (b : Bool) (next : Position) → IsInOrOut history at line b next → IsInOrOut (history ++ more) at line b next
-  in_or_out_longer at line b next (inl out) = inl out
-  in_or_out_longer at line b next (inr (reply, there, is)) = inr (reply, record_longer at.made line reply there, is)
+  same_front : (count : ℕ) → count ≤ length history → take count (history ++ more) ≡ take count history
+  same_front count within = take-append-le count history more within
 
-  tells_longer : (at : Position) (line : LineValue) (a : Answer) (next : Position) → Tells history at line a next → Tells (history ++ more) at line a next
-  tells_longer at line answer.Silent next t = t
-  tells_longer at line (answer.Reply reply) next t = (t.0, (record_longer at.made line reply t.1.0, t.1.1))
-  tells_longer at line (answer.Refused refusal) next t =
-      (t.0, elim t.1 [ inl u ↦ inl (in_or_out_longer at line true next u) | inr u ↦ inr u ])
-  tells_longer at line (answer.Hex bytes) next t = t
-  tells_longer at line (answer.NotInLog segment) next t = t
-  tells_longer at line (answer.Stop takes) next t = t
-  tells_longer at line answer.Stopped next t = (t.0, in_or_out_longer at line _ next t.1)
-  tells_longer at line answer.Crashed next t = t
-  tells_longer at line (answer.Lost backup) next t = t
-  tells_longer at line (answer.Recovered r) next t =
+  in_longer : (at : Position) (line : LineValue) (b : Bool) (next : Position) → IsIn history at line b next → IsIn (history ++ more) at line b next
+  in_longer at line b next (reply, there, is) = (reply, record_longer at.made line reply there, is)
+
+  tells_longer : (at : Position) (line : LineValue) (a : Answer) (next : Position) → at.made ≤ length history → Tells config history at line a next
+      → Tells config (history ++ more) at line a next
+  tells_longer at line answer.Silent next within t = t
+  tells_longer at line (answer.Reply reply) next within t = (t.0, (record_longer at.made line reply t.1.0, t.1.1))
+  tells_longer at line (answer.Refused r) next within t = (
+    t.0,
+    elim t.1 [
+      | inl (inl (out, inl memory)) ↦ inl (inl (out, inl memory))
+      | inl (inl (out, inr (c, is, test))) ↦ inl (inl (out, inr (c, is, (test.0, test.1, test.2 ∙ sym (same_front at.made within), test.3, test.4))))
+      | inl (inr (added, pushed)) ↦ inl (inr (in_longer at line true next added, pushed))
+      | inr u ↦ inr u
+    ],
+  )
+  tells_longer at line (answer.Hex bytes) next within t =
+      let image = t.2 in
+      (t.0, t.1, subst (λ (rs : List Record). IsImageAfter config rs bytes) (sym (same_front at.made within)) image, t.3)
+  tells_longer at line (answer.NotInLog segment) next within t = t
+  tells_longer at line (answer.Stop takes) next within t = t
+  tells_longer at line answer.Stopped next within t = (t.0, elim t.1 [ inl out ↦ inl out | inr added ↦ inr (in_longer at line _ next added) ])
+  tells_longer at line answer.Crashed next within t = t
+  tells_longer at line (answer.Lost backup) next within t = t
+  tells_longer at line (answer.Recovered r) next within t =
       let count = t.2.0 in
       let table = t.2.3 in
-      let within = table.within in
+      let inside = table.within in
       let longer = length-append history more in (
         t.0,
         t.1,
@@ -76,19 +123,23 @@ module _ (history more : List Record) where
         ),
         t.3,
       )
-  tells_longer at line (answer.NotRecovered fault) next t = t
-  tells_longer at line answer.Down next t = t
-  tells_longer at line answer.Up next t = t
+  tells_longer at line (answer.NotRecovered fault) next within t = t
+  tells_longer at line answer.Down next within t = t
+  tells_longer at line answer.Up next within t = t
 
-  pub telling_longer : (from : Position) (told : List Told) (last : Position) → AreTelling history from told last → AreTelling (history ++ more) from told last
-  telling_longer from [] last are = are
-  telling_longer from (t ∷ ts) last are = (are.0, tells_longer from t.line t.answer are.0 are.1, telling_longer are.0 ts last are.2)
+  pub telling_longer : (from : Position) (told : List Told) (last : Position) → last.made ≤ length history → AreTelling config history from told last
+      → AreTelling config (history ++ more) from told last
+  telling_longer from [] last within are = are
+  telling_longer from (t ∷ ts) last within are =
+      let here = rises config history from t.line t.answer are.0 are.1 in
+      let rest = telling_rises config history are.0 ts last are.2 in
+      (are.0, tells_longer from t.line t.answer are.0 (omega arith) are.1, telling_longer are.0 ts last within are.2)
 
 -- one line more
-pub telling_more : (history : List Record) (from : Position) (told : List Told) (mid : Position) (t : Told) (next : Position) → AreTelling history from told mid
-    → Tells history mid t.line t.answer next → AreTelling history from (told ++ t ∷ []) next
-telling_more history from [] mid t next are tells = (next, subst (λ (p : Position). Tells history p t.line t.answer next) are tells, refl)
-telling_more history from (first ∷ rest) mid t next are tells = (are.0, are.1, telling_more history are.0 rest mid t next are.2 tells)
+pub telling_more : (config : Config) (history : List Record) (from : Position) (told : List Told) (mid : Position) (t : Told) (next : Position)
+    → AreTelling config history from told mid → Tells config history mid t.line t.answer next → AreTelling config history from (told ++ t ∷ []) next
+telling_more config history from [] mid t next are tells = (next, subst (λ (p : Position). Tells config history p t.line t.answer next) are tells, refl)
+telling_more config history from (first ∷ rest) mid t next are tells = (are.0, are.1, telling_more config history are.0 rest mid t next are.2 tells)
 
 -- ---- a turn that failed
 
@@ -109,28 +160,29 @@ turn_fault old number had left held holds text taken fault.NoMemory whole consum
 -- ---- all lines so far
 
 -- the lines that were run before the one of this number, and what the session stands for
-pub record Running (backups : ℕ) (session : Session) (had left held holds : Option (List ℕ)) (number : ℕ) : Type 0 where
+pub record Running (config : Config) (session : Session) (had left held holds : Option (List ℕ)) (number : ℕ) : Type 0 where
   pub told : List Told
   pub knows : MasterData
   pub at : Position
-  pub fleet : session.backups ≡ backups
-  pub stands : Stands session.node session.master knows at
+  pub master : session.master ≡ config.master
+  pub fleet : session.backups ≡ config.backups
+  pub stands : Stands session.node config knows at
   pub count : suc (length told) ≡ number
-  pub lines : All (IsScriptLine backups) told
-  pub telling : AreTelling knows.history at_start told at
+  pub lines : All (IsScriptLine config.backups) told
+  pub telling : AreTelling config knows.history at_start told at
   pub consumed : Consumes had left (texts_of told)
   pub printed : Appends held holds (answers_of told)
 
-pub starts_running : (session : Session) (had held : Option (List ℕ)) → (d : MasterData) × Stands session.node session.master d at_start
-    → Running session.backups session had had held held 1
-starts_running session had held from = record {
+pub starts_running : (config : Config) (session : Session) (had held : Option (List ℕ)) → Begins config session → Running config session had had held held 1
+starts_running config session had held begins = record {
   told = [];
-  knows = from.0;
+  knows = begins.stands.0;
   at = at_start;
-  fleet = refl;
-  stands = from.1;
+  master = begins.number;
+  fleet = begins.backups;
+  stands = begins.stands.1;
   count = refl;
-  lines = All-nil (IsScriptLine session.backups);
+  lines = All-nil (IsScriptLine config.backups);
   telling = refl;
   consumed = Consumes-nil had;
   printed = Appends-nil held;
@@ -142,37 +194,39 @@ texts-more told t = flat_map-append _ told (t ∷ []) ∙ ap (λ l. texts_of tol
 answers-more : (told : List Told) (t : Told) → answers_of (told ++ t ∷ []) ≡ answers_of told ++ answer_text t.answer
 answers-more told t = flat_map-append _ told (t ∷ []) ∙ ap (λ l. answers_of told ++ l) (append-nil (answer_text t.answer))
 
-module _ (backups : ℕ) (old : Session) (had mid left held wrote holds : Option (List ℕ)) (number : ℕ) (r : Running backups old had mid held wrote number) where
+module _ (config : Config) (old : Session) (had mid left held wrote holds : Option (List ℕ)) (number : ℕ) (r : Running config old had mid held wrote number) where
   -- the lines tell of one history
-  tell_so_far : TellOneHistory r.told
-  tell_so_far = (r.knows.history, r.stands.legal, r.at, r.telling, r.stands.made)
+  tell_so_far : TellOneHistory config r.told
+  tell_so_far = (r.knows.history, r.stands.logged.legal, r.at, r.telling, r.stands.made)
 
   module _ (new : Session) (text : List ℕ) (a : Answer) (runs : RunsText old text new a) (whole : IsLineText text) where
     abbrev next_told : Told
     next_told = record { text = text; line = runs.line; answer = a }
 
-    abbrev after_line : (e : MasterData) × (next : Position) × Stands new.node old.master e next
-        × ((more : List Record) × (e.history ≡ r.knows.history ++ more)) × Tells e.history r.at runs.line a next
-    after_line = runs.answers.answers r.knows r.at r.stands
+    abbrev after_line : (e : MasterData) × (next : Position) × Stands new.node config e next
+        × ((more : List Record) × (e.history ≡ r.knows.history ++ more)) × Tells config e.history r.at runs.line a next
+    after_line = runs.answers.answers config (sym r.master) r.knows r.at r.stands
 
-    telling_on : AreTelling after_line.0.history at_start (r.told ++ next_told ∷ []) after_line.1
+    telling_on : AreTelling config after_line.0.history at_start (r.told ++ next_told ∷ []) after_line.1
     telling_on =
         let same = sym after_line.3.1 in
-        let longer = subst (λ (h : List Record). AreTelling h at_start r.told r.at) same (telling_longer r.knows.history after_line.3.0 at_start r.told r.at r.telling) in
-        telling_more after_line.0.history at_start r.told r.at next_told after_line.1 longer after_line.4
+        let within : r.at.made ≤ length r.knows.history = let made = r.stands.made in omega arith in
+        let longer = subst (λ (h : List Record). AreTelling config h at_start r.told r.at) same
+        (telling_longer config r.knows.history after_line.3.0 at_start r.told r.at within r.telling) in
+        telling_more config after_line.0.history at_start r.told r.at next_told after_line.1 longer after_line.4
 
-    tell_longer : TellOneHistory (r.told ++ next_told ∷ [])
-    tell_longer = (after_line.0.history, after_line.2.legal, after_line.1, telling_on, after_line.2.made)
+    tell_longer : TellOneHistory config (r.told ++ next_told ∷ [])
+    tell_longer = (after_line.0.history, after_line.2.logged.legal, after_line.1, telling_on, after_line.2.made)
 
-    line_there : All (IsScriptLine backups) (r.told ++ next_told ∷ [])
-    line_there = All-push (IsScriptLine backups) r.told next_told r.lines
+    line_there : All (IsScriptLine config.backups) (r.told ++ next_told ∷ [])
+    line_there = All-push (IsScriptLine config.backups) r.told next_told r.lines
         (record { whole = whole; says = runs.says; of_fleet = subst (λ (n : ℕ). IsOfFleet n runs.line) r.fleet runs.of_fleet })
 
     answers_on : Appends wrote holds (answer_text a) → Appends held holds (answers_of (r.told ++ next_told ∷ []))
     answers_on printed = subst (Appends held holds) (sym (answers-more r.told next_told)) (Appends-trans held wrote holds (answers_of r.told) (answer_text a) r.printed printed)
 
     -- one line more was run
-    runs_on : Consumes mid left (text ++ 10 ∷ []) → Appends wrote holds (answer_text a) → Running backups new had left held holds (number + 1)
+    runs_on : Consumes mid left (text ++ 10 ∷ []) → Appends wrote holds (answer_text a) → Running config new had left held holds (number + 1)
     runs_on consumed printed =
         let count = r.count in
         let longer = length-append r.told (next_told ∷ []) in
@@ -180,8 +234,9 @@ module _ (backups : ℕ) (old : Session) (had mid left held wrote holds : Option
           told = r.told ++ next_told ∷ [];
           knows = after_line.0;
           at = after_line.1;
+          master = runs.answers.number ∙ r.master;
           fleet = runs.answers.backups ∙ r.fleet;
-          stands = subst (λ (m : ℕ). Stands new.node m after_line.0 after_line.1) (sym runs.answers.number) after_line.2;
+          stands = after_line.2;
           count = omega arith;
           lines = line_there;
           telling = telling_on;
@@ -195,8 +250,8 @@ module _ (backups : ℕ) (old : Session) (had mid left held wrote holds : Option
 
     -- a line was run, and no more
     ends_here : (taken : List ℕ) (result : Result (Unit {0}) ScriptFault) → Consumes mid left taken
-        → EndsWith backups (r.told ++ next_told ∷ []) (texts_of r.told ++ taken) left result → Prints held holds (r.told ++ next_told ∷ []) result
-        → RunsScript backups had left held holds result
+        → EndsWith config.backups (r.told ++ next_told ∷ []) (texts_of r.told ++ taken) left result → Prints held holds (r.told ++ next_told ∷ []) result
+        → RunsScript config had left held holds result
     ends_here taken result consumed ends prints = record {
       told = r.told ++ next_told ∷ [];
       taken = texts_of r.told ++ taken;
@@ -207,15 +262,15 @@ module _ (backups : ℕ) (old : Session) (had mid left held wrote holds : Option
       prints = prints;
     }
 
-    runs_last : Consumes mid left text → IsAtEnd left → 0 < length text → Appends wrote holds (answer_text a) → RunsScript backups had left held holds (Ok tt)
+    runs_last : Consumes mid left text → IsAtEnd left → 0 < length text → Appends wrote holds (answer_text a) → RunsScript config had left held holds (Ok tt)
     runs_last consumed end some printed = ends_here text (Ok tt) consumed (lines_are text (inr (refl, some, end)), end) (answers_on printed)
 
-    fails_to_write : (taken : List ℕ) → Consumes mid left taken → IsTakenLine text taken left → RunsScript backups had left held holds (Err fault.WriteFailed)
+    fails_to_write : (taken : List ℕ) → Consumes mid left taken → IsTakenLine text taken left → RunsScript config had left held holds (Err fault.WriteFailed)
     fails_to_write taken consumed is = ends_here taken (Err fault.WriteFailed) consumed (lines_are taken is) tt
 
   -- the lines were run, and no more
   closes : (taken : List ℕ) (result : Result (Unit {0}) ScriptFault) → Consumes mid left taken
-      → EndsWith backups r.told (texts_of r.told ++ taken) left result → Prints held holds r.told result → RunsScript backups had left held holds result
+      → EndsWith config.backups r.told (texts_of r.told ++ taken) left result → Prints held holds r.told result → RunsScript config had left held holds result
   closes taken result consumed ends prints = record {
     told = r.told;
     taken = texts_of r.told ++ taken;
@@ -229,49 +284,49 @@ module _ (backups : ℕ) (old : Session) (had mid left held wrote holds : Option
   kept_answers : Keeps wrote holds → Appends held holds (answers_of r.told)
   kept_answers kept = Appends-kept held wrote holds (answers_of r.told) r.printed kept
 
-  runs_out : Consumes mid left [] → IsAtEnd left → Keeps wrote holds → RunsScript backups had left held holds (Ok tt)
+  runs_out : Consumes mid left [] → IsAtEnd left → Keeps wrote holds → RunsScript config had left held holds (Ok tt)
   runs_out consumed end kept = closes [] (Ok tt) consumed (inl (append-nil (texts_of r.told)), end) (kept_answers kept)
 
-  bad_here : (n : ℕ) (bad : List ℕ) → n ≡ number → IsBadLine old.backups number bad left → IsBadLine backups n bad left
+  bad_here : (n : ℕ) (bad : List ℕ) → n ≡ number → IsBadLine old.backups number bad left → IsBadLine config.backups n bad left
   bad_here n bad is line = subst (λ (k : ℕ). IsBadLine k n bad left) r.fleet (subst (λ (k : ℕ). IsBadLine old.backups k bad left) (sym is) line)
 
-  pub fails : (f : ScriptFault) → TakesTurn old number mid left wrote holds (Err f) → RunsScript backups had left held holds (Err f)
+  pub fails : (f : ScriptFault) → TakesTurn old number mid left wrote holds (Err f) → RunsScript config had left held holds (Err f)
   fails (fault.BadLine n) t =
       closes t.1 (Err (fault.BadLine n)) t.2 (t.0 ∙ sym r.count, t.1, refl, bad_here n t.1 t.0 t.3) (kept_answers t.4)
   fails fault.ReadFailed t = closes t.0 (Err fault.ReadFailed) t.1 (t.0, refl, t.2) (kept_answers t.3)
   fails fault.WriteFailed t = fails_to_write t.5 t.0 t.6 t.7 t.2 t.1 t.3 t.4
   fails fault.NoMemory t = closes t.0 (Err fault.NoMemory) t.1 (t.0, refl, t.2) (kept_answers t.3)
 
-  none_left : TakesTurn old number mid left wrote holds (Ok None) → RunsScript backups had left held holds (Ok tt)
+  none_left : TakesTurn old number mid left wrote holds (Ok None) → RunsScript config had left held holds (Ok tt)
   none_left (inl t) = runs_last t.5 t.0 t.6 t.7 t.1 t.2 t.3 t.4 t.8
   none_left (inr t) = runs_out t.0 t.1 t.2
 
   pub more_ran : (turn : Option Session) (new : Session) → turn ≡ Some new → TakesTurn old number mid left wrote holds (Ok turn)
-      → Running backups new had left held holds (number + 1)
+      → Running config new had left held holds (number + 1)
   more_ran turn new is t =
       let ran : TakesTurn old number mid left wrote holds (Ok (Some new)) = subst (λ (u : Option Session). TakesTurn old number mid left wrote holds (Ok u)) is t in
       runs_on new ran.0 ran.3 ran.4 ran.1 ran.2 ran.5
 
-  pub none_ran : (turn : Option Session) → turn ≡ None → TakesTurn old number mid left wrote holds (Ok turn) → RunsScript backups had left held holds (Ok tt)
+  pub none_ran : (turn : Option Session) → turn ≡ None → TakesTurn old number mid left wrote holds (Ok turn) → RunsScript config had left held holds (Ok tt)
   none_ran turn is t = none_left (subst (λ (u : Option Session). TakesTurn old number mid left wrote holds (Ok u)) is t)
 
 -- ---- behind the last number, and behind the last line
 
-pub runs_dry : (backups : ℕ) (old : Session) (had mid left held wrote : Option (List ℕ)) (number : ℕ) → number ≡ 2 ^ 64 - 1 → (r : Running backups old had mid held wrote number)
-    (result : Result (Unit {0}) ScriptFault) → IsNoMore mid left result → RunsScript backups had left held wrote result
-runs_dry backups old had mid left held wrote number is r (Ok done) n = runs_out backups old had mid left held wrote wrote number r n.0 n.1 (Keeps-refl wrote)
-runs_dry backups old had mid left held wrote number is r (Err (fault.BadLine n)) none =
-    fails backups old had mid left held wrote wrote number r (fault.BadLine n)
+pub runs_dry : (config : Config) (old : Session) (had mid left held wrote : Option (List ℕ)) (number : ℕ) → number ≡ 2 ^ 64 - 1 → (r : Running config old had mid held wrote number)
+    (result : Result (Unit {0}) ScriptFault) → IsNoMore mid left result → RunsScript config had left held wrote result
+runs_dry config old had mid left held wrote number is r (Ok done) n = runs_out config old had mid left held wrote wrote number r n.0 n.1 (Keeps-refl wrote)
+runs_dry config old had mid left held wrote number is r (Err (fault.BadLine n)) none =
+    fails config old had mid left held wrote wrote number r (fault.BadLine n)
     (none.0 ∙ sym is, none.1, none.2, subst (λ (k : ℕ). IsBadLine old.backups k none.1 left) (none.0 ∙ sym is) (none.3 old.backups), Keeps-refl wrote)
-runs_dry backups old had mid left held wrote number is r (Err fault.ReadFailed) none =
-    fails backups old had mid left held wrote wrote number r fault.ReadFailed (none.0, none.1, none.2, Keeps-refl wrote)
-runs_dry backups old had mid left held wrote number is r (Err fault.WriteFailed) none = absurd none
-runs_dry backups old had mid left held wrote number is r (Err fault.NoMemory) none =
-    fails backups old had mid left held wrote wrote number r fault.NoMemory (none.0, none.1, none.2, Keeps-refl wrote)
+runs_dry config old had mid left held wrote number is r (Err fault.ReadFailed) none =
+    fails config old had mid left held wrote wrote number r fault.ReadFailed (none.0, none.1, none.2, Keeps-refl wrote)
+runs_dry config old had mid left held wrote number is r (Err fault.WriteFailed) none = absurd none
+runs_dry config old had mid left held wrote number is r (Err fault.NoMemory) none =
+    fails config old had mid left held wrote wrote number r fault.NoMemory (none.0, none.1, none.2, Keeps-refl wrote)
 
 -- the writer was flushed
-module _ (backups : ℕ) (had left held wrote holds : Option (List ℕ)) (kept : Keeps wrote holds) where
-  pub flushes : (result : Result (Unit {0}) ScriptFault) → RunsScript backups had left held wrote result → RunsScript backups had left held holds result
+module _ (config : Config) (had left held wrote holds : Option (List ℕ)) (kept : Keeps wrote holds) where
+  pub flushes : (result : Result (Unit {0}) ScriptFault) → RunsScript config had left held wrote result → RunsScript config had left held holds result
   flushes result r = record {
     told = r.told;
     taken = r.taken;
@@ -288,13 +343,16 @@ module _ (backups : ℕ) (had left held wrote holds : Option (List ℕ)) (kept :
     flushed (Err fault.WriteFailed) p = tt
     flushed (Err fault.NoMemory) p = Appends-kept held wrote holds (answers_of r.told) p kept
 
+  pub fails_to_flush : (done : Unit {0}) → RunsScript config had left held wrote (Ok done) → RunsScript config had left held holds (Err fault.WriteFailed)
+  fails_to_flush done r = record { told = r.told; taken = r.taken; consumed = r.consumed; lines = r.lines; tells = r.tells; ends = r.ends.0; prints = tt }
+
 -- nothing was begun
-pub begins_not : (backups : ℕ) (had held : Option (List ℕ)) → RunsScript backups had had held held (Err fault.NoMemory)
-begins_not backups had held = record {
+pub begins_not : (config : Config) (had held : Option (List ℕ)) → RunsScript config had had held held (Err fault.NoMemory)
+begins_not config had held = record {
   told = [];
   taken = [];
   consumed = Consumes-nil had;
-  lines = All-nil (IsScriptLine backups);
+  lines = All-nil (IsScriptLine config.backups);
   tells = ([], refl, at_start, refl, refl);
   ends = ([], refl, omega arith);
   prints = Appends-nil held;

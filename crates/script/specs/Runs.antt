@@ -5,6 +5,7 @@ use Rattle.std.specs.Io.KnownBytes.{Appends, Consumes, IsAtEnd}
 use Rattle.lines.specs.Grammar.{LineValue, Says, Lose}
 use Rattle.lines.specs.Reading.{IsUnbroken, IsLineText}
 use Rattle.master.specs.declared.command.Record.{Record}
+use Rattle.master.specs.declared.config.Config.{Config}
 use Rattle.master.specs.Log.{commands_of, replies_of}
 use Rattle.master.specs.Represents.{empty_state}
 use Rattle.master.specs.Versioned.{replies}
@@ -54,10 +55,10 @@ IsBadLine backups number taken left =
 
 -- ---- a run
 
--- the lines tell of one legal history, which has no records but theirs
-abbrev pub TellOneHistory : List Told → Type 0
-TellOneHistory told = (history : List Record) × (replies_of history ≡ replies empty_state (commands_of history))
-    × (last : Position) × AreTelling history at_start told last × (last.made ≡ length history)
+-- the lines tell of one legal history of a master of this configuration, which has no records but theirs
+abbrev pub TellOneHistory : Config → List Told → Type 0
+TellOneHistory config told = (history : List Record) × (replies_of history ≡ replies empty_state (commands_of history))
+    × (last : Position) × AreTelling config history at_start told last × (last.made ≡ length history)
 
 -- What was taken of the reader: the lines that were run, and behind them a bad line, which has the next number, or at a
 -- fault a part of a line.
@@ -74,13 +75,13 @@ abbrev pub Prints : Option (List ℕ) → Option (List ℕ) → List Told → Re
 Prints old new told (Err WriteFailed) = Unit {0}
 Prints old new told result = Appends old new (answers_of told)
 
--- A run of a script on a fleet with so many backups: what the reader had and has left, what the writer held and holds, and
--- how the run ended.
-pub record RunsScript (backups : ℕ) (had left held holds : Option (List ℕ)) (result : Result (Unit {0}) ScriptFault) : Type 0 where
+-- A run of a script under a configuration: what the reader had and has left, what the writer held and holds, and how the run
+-- ended.
+pub record RunsScript (config : Config) (had left held holds : Option (List ℕ)) (result : Result (Unit {0}) ScriptFault) : Type 0 where
   pub told : List Told
   pub taken : List ℕ
   pub consumed : Consumes had left taken
-  pub lines : All (IsScriptLine backups) told
-  pub tells : TellOneHistory told
-  pub ends : EndsWith backups told taken left result
+  pub lines : All (IsScriptLine config.backups) told
+  pub tells : TellOneHistory config told
+  pub ends : EndsWith config.backups told taken left result
   pub prints : Prints held holds told result

@@ -1,17 +1,25 @@
 -- What the lines of a script tell of a master's history.
-use Rattle.std.specs.Prelude.{◌≡◌, ◌⊎◌, ℕ, suc, ◌≤◌, List, [], ◌∷◌, map, take, length, Bool, true, false, Option, Some, None, slice_get}
+use Rattle.std.specs.Prelude.{◌≡◌, ◌≢◌, ◌⊎◌, ℕ, suc, ◌≤◌, List, [], ◌∷◌, ◌++◌, map, take, length, Bool, true, false, Option, Some, None, slice_get}
 use Rattle.std.specs.List.Sorted.{IsStrictlySortedBy}
+use Rattle.entry.specs.declared.entry.Entry.{Entry}
 use Rattle.entry.specs.declared.entry.Object.{Object}
 use Rattle.entry.specs.Meaning.{contents_of}
 use Rattle.entry.specs.Order.{key_cmp}
+use Rattle.entry.specs.Text.{text_of}
 use Rattle.lines.specs.Grammar.{LineValue, Idle, Put, Get, Hex, Stop, Crash, Lose, Recover}
 use Rattle.master.specs.declared.command.Command.{Command}
 use Rattle.master.specs.declared.command.Command.TheVariants as command
 use Rattle.master.specs.declared.command.If.TheVariants.{Any}
 use Rattle.master.specs.declared.command.Record.{Record}
 use Rattle.master.specs.declared.command.Reply.{Reply}
-use Rattle.master.specs.Log.{commands_of}
-use Rattle.master.specs.Represents.{empty_state}
+use Rattle.master.specs.declared.config.Config.{Config}
+use Rattle.master.specs.declared.step.Refusal.{Refusal}
+use Rattle.master.specs.declared.step.Refusal.TheVariants as refusal
+use Rattle.master.specs.Causes.{command_refusal}
+use Rattle.master.specs.HeadSteps.{first_opening}
+use Rattle.master.specs.Log.{commands_of, IsLogged}
+use Rattle.master.specs.Master.{MasterData}
+use Rattle.master.specs.Represents.{AreUnitsOf, joined, empty_state}
 use Rattle.master.specs.Versioned.{after}
 use Rattle.replay.specs.declared.rebuilt.Rebuilt.{Rebuilt}
 use Rattle.script.specs.declared.answer.Answer.{Answer}
@@ -55,11 +63,42 @@ abbrev pub IsReplied : List Record → Position → LineValue → Reply → Posi
 IsReplied history at line reply next =
     IsRecordAt history at.made line reply × (next ≡ record { made = suc at.made; acknowledged = suc at.made; is_up = true })
 
--- the line made no record, or the next one, and nobody was told which
-abbrev pub IsInOrOut : List Record → Position → LineValue → Bool → Position → Type 0
-IsInOrOut history at line is_up next =
-    ((c : Command) × (command_of line ≡ Some c) × (next ≡ record { made = at.made; acknowledged = at.acknowledged; is_up = is_up }))
-    ⊎ ((reply : Reply) × IsRecordAt history at.made line reply × (next ≡ record { made = suc at.made; acknowledged = at.acknowledged; is_up = is_up }))
+-- the line made no record, and this is said of a command
+abbrev pub IsOut : Position → LineValue → Bool → Position → Type 0
+IsOut at line is_up next =
+    (c : Command) × (command_of line ≡ Some c) × (next ≡ record { made = at.made; acknowledged = at.acknowledged; is_up = is_up })
+
+-- the line made the next record, and nobody was told so
+abbrev pub IsIn : List Record → Position → LineValue → Bool → Position → Type 0
+IsIn history at line is_up next =
+    (reply : Reply) × IsRecordAt history at.made line reply × (next ≡ record { made = suc at.made; acknowledged = at.acknowledged; is_up = is_up })
+
+-- ---- refusals
+
+-- the test by which a master of this configuration, with these records and their log, refuses the command
+abbrev pub IsTest : Config → List Record → Command → Refusal → Type 0
+IsTest config records command r = (d : MasterData) × (d.config ≡ config) × (d.history ≡ records) × IsLogged d × (command_refusal d command ≡ Some r)
+
+-- what a push may be refused by
+abbrev pub is_of_push : Refusal → Bool
+is_of_push refusal.Halted = true
+is_of_push refusal.Spent = true
+is_of_push refusal.Nothing = true
+is_of_push refusal.NoMemory = true
+is_of_push _ = false
+
+-- A command is refused by a test, or for want of memory, and has made no record; or it made one, and then a push was refused.
+abbrev pub IsRefused : Config → List Record → Position → LineValue → Refusal → Position → Type 0
+IsRefused config history at line r next =
+    (IsOut at line true next × ((r ≡ refusal.NoMemory) ⊎ ((c : Command) × (command_of line ≡ Some c) × IsTest config (take at.made history) c r)))
+    ⊎ (IsIn history at line true next × (is_of_push r ≡ true))
+
+-- ---- images
+
+-- the bytes of the head after these records: its opening and the units of their commands
+abbrev pub IsImageAfter : Config → List Record → List ℕ → Type 0
+IsImageAfter config records bytes =
+    (units : List (List Entry)) × AreUnitsOf empty_state (commands_of records) units × (bytes ≡ text_of (first_opening config.master 1 ++ joined units))
 
 -- ---- recovered tables
 
@@ -90,24 +129,26 @@ is_for_none Recover = true
 is_for_none _ = false
 
 -- What an answer of a line tells where the script stands at a position, and the position that it leads to.
-abbrev pub Tells : List Record → Position → LineValue → Answer → Position → Type 0
-Tells history at line answer.Silent next = (line ≡ Idle) × (next ≡ at)
-Tells history at line (answer.Reply reply) next = (at.is_up ≡ true) × IsReplied history at line reply next
-Tells history at line (answer.Refused refusal) next =
-    (at.is_up ≡ true) × (IsInOrOut history at line true next ⊎ ((segment : ℕ) × (line ≡ Hex segment) × (next ≡ at)))
-Tells history at line (answer.Hex bytes) next = (at.is_up ≡ true) × ((segment : ℕ) × (line ≡ Hex segment)) × (next ≡ at)
-Tells history at line (answer.NotInLog segment) next = (at.is_up ≡ true) × (line ≡ Hex segment) × (next ≡ at)
-Tells history at line (answer.Stop takes) next = (line ≡ Stop takes) × (next ≡ at)
-Tells history at line answer.Stopped next = (at.is_up ≡ true) × IsInOrOut history at line false next
-Tells history at line answer.Crashed next =
+abbrev pub Tells : Config → List Record → Position → LineValue → Answer → Position → Type 0
+Tells config history at line answer.Silent next = (line ≡ Idle) × (next ≡ at)
+Tells config history at line (answer.Reply reply) next = (at.is_up ≡ true) × IsReplied history at line reply next
+Tells config history at line (answer.Refused r) next =
+    (at.is_up ≡ true) × (IsRefused config history at line r next ⊎ ((r ≡ refusal.NoMemory) × ((segment : ℕ) × (line ≡ Hex segment)) × (next ≡ at)))
+Tells config history at line (answer.Hex bytes) next =
+    (at.is_up ≡ true) × (line ≡ Hex 1) × IsImageAfter config (take at.made history) bytes × (next ≡ at)
+Tells config history at line (answer.NotInLog segment) next = (at.is_up ≡ true) × (line ≡ Hex segment) × (segment ≢ 1) × (next ≡ at)
+Tells config history at line (answer.Stop takes) next = (line ≡ Stop takes) × (next ≡ at)
+Tells config history at line answer.Stopped next = (at.is_up ≡ true) × (IsOut at line false next ⊎ IsIn history at line false next)
+Tells config history at line answer.Crashed next =
     (at.is_up ≡ true) × (line ≡ Crash) × (next ≡ record { made = at.made; acknowledged = at.acknowledged; is_up = false })
-Tells history at line (answer.Lost backup) next = (at.is_up ≡ false) × (line ≡ Lose backup) × (next ≡ at)
-Tells history at line (answer.Recovered r) next = (at.is_up ≡ false) × (line ≡ Recover) × IsRecoveredAt history at r × (next ≡ at)
-Tells history at line (answer.NotRecovered fault) next = (at.is_up ≡ false) × (line ≡ Recover) × IsLossOrMemory fault × (next ≡ at)
-Tells history at line answer.Down next = (at.is_up ≡ false) × (is_for_master line ≡ true) × (next ≡ at)
-Tells history at line answer.Up next = (at.is_up ≡ true) × (is_for_none line ≡ true) × (next ≡ at)
+Tells config history at line (answer.Lost backup) next = (at.is_up ≡ false) × (line ≡ Lose backup) × (next ≡ at)
+Tells config history at line (answer.Recovered r) next = (at.is_up ≡ false) × (line ≡ Recover) × IsRecoveredAt history at r × (next ≡ at)
+Tells config history at line (answer.NotRecovered fault) next = (at.is_up ≡ false) × (line ≡ Recover) × IsLossOrMemory fault × (next ≡ at)
+Tells config history at line answer.Down next = (at.is_up ≡ false) × (is_for_master line ≡ true) × (next ≡ at)
+Tells config history at line answer.Up next = (at.is_up ≡ true) × (is_for_none line ≡ true) × (next ≡ at)
 
 -- the lines, in order, tell of one history
-abbrev pub AreTelling : List Record → Position → List Told → Position → Type 0
-AreTelling history at [] last = last ≡ at
-AreTelling history at (t ∷ ts) last = (next : Position) × Tells history at t.line t.answer next × AreTelling history next ts last
+abbrev pub AreTelling : Config → List Record → Position → List Told → Position → Type 0
+AreTelling config history at [] last = last ≡ at
+AreTelling config history at (t ∷ ts) last =
+    (next : Position) × Tells config history at t.line t.answer next × AreTelling config history next ts last

@@ -1,10 +1,11 @@
 //! A fleet, and the master over it where there is one.
 
-ghost use Rattle.std.specs.Prelude.{◌≡◌, ◌<◌, ℕ, [], false, Some, IfOk, IfErr};
+ghost use Rattle.std.specs.Prelude.{◌≡◌, ◌<◌, [], true, false, Some, IfOk, IfErr};
 ghost use Rattle.lines.specs.Grammar.{LineValue};
+ghost use Rattle.master.specs.declared.config.Config.{Config};
 ghost use Rattle.master.specs.Master.{durable_of};
 ghost use Rattle.script.specs.Served.{GoesOn, IsServed, IsUnserved, IsOf, AnswersLine, is_up};
-ghost use Rattle.script.specs.Told.{command_of};
+ghost use Rattle.script.specs.Told.{command_of, is_of_push};
 
 use crate::answer::Answer;
 use crate::recovery::{RecoveryFault, recover};
@@ -38,6 +39,7 @@ pub fn push_all<F: Fleet>(master: &mut Master<F>) -> Refusal
 fn push_until<F: Fleet>(master: &mut Master<F>, place: u64) -> Result<(), Refusal>
     ensures goes_on { GoesOn master.old.knows master.new.knows [] }
     ensures durable { IfOk result (λ _. place < durable_of master.new.knows) }
+    ensures refused { IfErr result (λ r. is_of_push r ≡ true) }
 {
     for _ in 0..u64::MAX {
         if place < master.durable() {
@@ -53,7 +55,7 @@ fn push_until<F: Fleet>(master: &mut Master<F>, place: u64) -> Result<(), Refusa
 /// Applies a command of seat 0, and pushes until its record is durable.
 fn serve<F: Fleet>(master: &mut Master<F>, command: Command) -> Result<Reply, Refusal>
     ensures served { IfOk result (λ reply. IsServed master.old.knows master.new.knows command reply) }
-    ensures unserved { IfErr result (λ _. IsUnserved master.old.knows master.new.knows command) }
+    ensures unserved { IfErr result (IsUnserved master.old.knows master.new.knows command) }
 {
     match master.step(Step::Apply(0, command)) {
         Ok(StepAnswer::Applied(place, reply)) => match push_until(master, place) {
@@ -80,7 +82,7 @@ impl Node {
 
     /// One command, pushed until it is durable. Where the fleet takes no more ops, the master is dropped.
     pub fn serve(self, command: Command) -> (Node, Answer)
-        ensures { (master : ℕ) (line : LineValue) → command_of line ≡ Some command → AnswersLine self master line result.0 result.1 }
+        ensures { (config : Config) (line : LineValue) → command_of line ≡ Some command → AnswersLine self config line result.0 result.1 }
     {
         match self {
             Node::Down(fleet) => (Node::Down(fleet), Answer::Down),
@@ -94,21 +96,24 @@ impl Node {
 
     /// The image of a segment.
     pub fn hex(&self, segment: u64) -> Answer
-        ensures { (master : ℕ) → AnswersLine self.now master (Hex segment) self.now result }
+        ensures { (config : Config) → AnswersLine self.now config (Hex segment) self.now result }
     {
         match self {
             Node::Down(_) => Answer::Down,
-            Node::Up(up) => match up.look(Look::Image(segment)) {
-                Ok(Shown::Image(Some(bytes))) => Answer::Hex(bytes),
-                Ok(Shown::Image(None)) => Answer::NotInLog(segment),
-                Err(NoMemory) => Answer::Refused(Refusal::NoMemory),
-            },
+            Node::Up(up) => {
+                up.show_sound();
+                match up.look(Look::Image(segment)) {
+                    Ok(Shown::Image(Some(bytes))) => Answer::Hex(bytes),
+                    Ok(Shown::Image(None)) => Answer::NotInLog(segment),
+                    Err(NoMemory) => Answer::Refused(Refusal::NoMemory),
+                }
+            }
         }
     }
 
     /// Lets the fleet take this many further ops.
     pub fn stop(self, takes: u64) -> (Node, Answer)
-        ensures { (master : ℕ) → AnswersLine self master (Stop takes) result.0 result.1 }
+        ensures { (config : Config) → AnswersLine self config (Stop takes) result.0 result.1 }
     {
         match self {
             Node::Down(mut fleet) => {
@@ -124,7 +129,7 @@ impl Node {
 
     /// Drops the master.
     pub fn crash(self) -> (Node, Answer)
-        ensures { (master : ℕ) → AnswersLine self master Crash result.0 result.1 }
+        ensures { (config : Config) → AnswersLine self config Crash result.0 result.1 }
     {
         match self {
             Node::Down(fleet) => (Node::Down(fleet), Answer::Down),
@@ -134,7 +139,7 @@ impl Node {
 
     /// A backup loses all that it holds.
     pub fn lose(self, backup: u64) -> (Node, Answer)
-        ensures { (master : ℕ) → AnswersLine self master (Lose backup) result.0 result.1 }
+        ensures { (config : Config) → AnswersLine self config (Lose backup) result.0 result.1 }
     {
         match self {
             Node::Up(up) => (Node::Up(up), Answer::Up),
@@ -149,7 +154,7 @@ impl Node {
 
     /// What is recovered of the master of this number.
     pub fn recover(&self, alloc: Global, master: u64) -> Answer
-        ensures { AnswersLine self.now master Recover self.now result }
+        ensures { (config : Config) → config.master ≡ master → AnswersLine self.now config Recover self.now result }
     {
         let fleet = match self {
             Node::Up(_) => return Answer::Up,

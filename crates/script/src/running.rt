@@ -2,12 +2,11 @@
 
 ghost use Rattle.std.specs.Prelude.{◌≡◌, None};
 ghost use Rattle.master.specs.Config.{config_fault};
-ghost use Rattle.master.specs.Master.{MasterData};
+ghost use Rattle.master.specs.declared.config.Config.{Config};
 ghost use Rattle.lines.specs.Reading.{IsLineText};
 ghost use Rattle.script.specs.Configuration.{config_of};
 ghost use Rattle.script.specs.Runs.{RunsScript};
-ghost use Rattle.script.specs.Served.{Stands};
-ghost use Rattle.script.specs.Told.{at_start};
+ghost use Rattle.script.specs.Served.{Begins};
 ghost use Rattle.script.specs.Turns.{IsNoMore, PrintsText, TakesTurn};
 
 use crate::answer::write_answer;
@@ -27,7 +26,7 @@ pub fn run_script<R: Read, W: Write>(
 ) -> Result<(), ScriptFault>
     requires { config_fault (config_of options 1) ≡ None }
     // The lines tell of one legal history; what was written is their answers; a bad line is named.
-    ensures { RunsScript options.backups (R.remaining reader.old) (R.remaining reader.new) (W.contents writer.old) (W.contents writer.new) result }
+    ensures { RunsScript (config_of options 1) (R.remaining reader.old) (R.remaining reader.new) (W.contents writer.old) (W.contents writer.new) result }
 {
     let Ok(session) = Session::start(alloc, &options) else {
         return Err(ScriptFault::NoMemory);
@@ -47,8 +46,7 @@ fn run_lines<R: Read, W: Write>(
     writer: &mut W,
     mut session: Session,
 ) -> Result<(), ScriptFault>
-    requires { (d : MasterData) × Stands session.node session.master d at_start }
-    ensures { RunsScript session.backups (R.remaining reader.old) (R.remaining reader.new) (W.contents writer.old) (W.contents writer.new) result }
+    ensures { (config : Config) → Begins config session → RunsScript config (R.remaining reader.old) (R.remaining reader.new) (W.contents writer.old) (W.contents writer.new) result }
 {
     let mut text = Vec::new(alloc);
     for number in 1..u64::MAX {

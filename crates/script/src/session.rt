@@ -3,12 +3,11 @@
 ghost use Rattle.std.specs.Prelude.{◌≡◌, ◌≤◌, length, None, IfOk, IfErr};
 ghost use Rattle.lines.specs.Grammar.{IsKey, IsLine, shown};
 ghost use Rattle.master.specs.Config.{config_fault};
-ghost use Rattle.master.specs.Master.{MasterData};
+ghost use Rattle.master.specs.declared.config.Config.{Config};
 ghost use Rattle.script.specs.Configuration.{config_of};
 ghost use Rattle.script.specs.declared.session.LineFault.TheVariants as line_fault;
 ghost use Rattle.script.specs.Runs.{IsOfFleet};
-ghost use Rattle.script.specs.Served.{AnswersLine, SessionAnswers, Stands};
-ghost use Rattle.script.specs.Told.{at_start};
+ghost use Rattle.script.specs.Served.{AnswersLine, Begins, SessionAnswers};
 ghost use Rattle.script.specs.Turns.{HasValue, Refuses};
 
 use crate::answer::Answer;
@@ -54,8 +53,7 @@ impl Session {
     /// An empty fleet, and a master on it whose head is open.
     pub fn start(alloc: Global, options: &Options) -> Result<Session, NoMemory>
         requires { config_fault (config_of options.now 1) ≡ None }
-        ensures backups { IfOk result (λ s. s.backups ≡ options.now.backups) }
-        ensures stands { IfOk result (λ s. (d : MasterData) × Stands s.node s.master d at_start) }
+        ensures { IfOk result (Begins (config_of options.now 1)) }
     {
         let fleet = MemoryFleet::new(alloc, options.backups)?;
         let config = configuration(alloc, options, FIRST_MASTER)?;
@@ -109,7 +107,7 @@ fn run_on(
 ) -> Result<(Node, Answer), LineFault>
     requires line { IsLine (shown line) }
     requires value { HasValue (shown line) }
-    ensures ran { IfOk result (λ r. AnswersLine node master (shown line.entry) r.0 r.1) }
+    ensures ran { IfOk result (λ r. (config : Config) → config.master ≡ master → AnswersLine node config (shown line.entry) r.0 r.1) }
     ensures of_fleet { IfOk result (λ _. IsOfFleet backups (shown line.entry)) }
     ensures refused { IfErr result (Refuses backups (shown line.entry)) }
 {

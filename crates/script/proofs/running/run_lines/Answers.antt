@@ -3,19 +3,20 @@ use Rattle.script.proofs.Turning.{starts_running, more_ran, none_ran, fails, run
 use Rattle.script.proofs.running.run_lines.Goals as goal
 
 pub loop-number-init : goal.loop-number-init
-loop-number-init g c = starts_running c.args.session (g.R.Read.remaining c.args.reader.now) (g.W.Write.contents c.args.writer.now) c.requires
+loop-number-init g c = λ config begins.
+    starts_running config c.args.session (g.R.Read.remaining c.args.reader.now) (g.W.Write.contents c.args.writer.now) begins
 
 pub returns-in-Ok-None : goal.returns-in-Ok-None
-returns-in-Ok-None g c = none_ran _ _ _ _ _ _ _ _ _ c.loop-number.invariant c.in-Ok-None.field-0 c.in-Ok-None.field-0-is c.in-Ok-None.ensures
+returns-in-Ok-None g c = λ config begins. none_ran _ _ _ _ _ _ _ _ _ (c.loop-number.invariant config begins) c.in-Ok-None.field-0 c.in-Ok-None.field-0-is c.in-Ok-None.ensures
 
 pub returns-in-Err : goal.returns-in-Err
-returns-in-Err g c = fails _ _ _ _ _ _ _ _ _ c.loop-number.invariant c.in-Err.fault c.in-Err.ensures
+returns-in-Err g c = λ config begins. fails _ _ _ _ _ _ _ _ _ (c.loop-number.invariant config begins) c.in-Err.fault c.in-Err.ensures
 
 pub loop-number-preserved : goal.loop-number-preserved
-loop-number-preserved g c =
-    more_ran _ _ _ _ _ _ _ _ _ c.loop-number.invariant c.in-Ok-Some.field-0 c.in-Ok-Some.next c.in-Ok-Some.field-0-is c.in-Ok-Some.ensures
+loop-number-preserved g c = λ config begins.
+    more_ran _ _ _ _ _ _ _ _ _ (c.loop-number.invariant config begins) c.in-Ok-Some.field-0 c.in-Ok-Some.next c.in-Ok-Some.field-0-is c.in-Ok-Some.ensures
 
 pub returns : goal.returns
-returns g c =
+returns g c = λ config begins.
     let last : c.loop-number.number ≡ 2 ^ 64 - 1 = omega (arith, c.loop-number-test.false, c.loop-number.auto.number-end) in
-    runs_dry c.args.session.backups c.loop-number.session _ _ _ _ _ c.loop-number.number last c.loop-number.invariant c.no_more.result c.no_more.ensures
+    runs_dry config c.loop-number.session _ _ _ _ _ c.loop-number.number last (c.loop-number.invariant config begins) c.no_more.result c.no_more.ensures

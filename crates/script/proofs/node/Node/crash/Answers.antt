@@ -9,8 +9,8 @@ use Rattle.script.proofs.Serving.{crashed_of, same_told}
 use Rattle.script.proofs.node.Node.crash.Goals as goal
 
 pub returns-in-Up : goal.returns-in-Up
-returns-in-Up c = λ master.
-    same_told c.args.self (Down c.crash.result) master Crash Crashed
+returns-in-Up c = λ config.
+    same_told c.args.self (Down c.crash.result) config Crash Crashed
     (λ d of.
     let same : c.in-Up.up.knows ≡ d = subst (λ (n : Node). IsOf n d) c.in-Up.is of in
     subst (λ (x : MasterData). IsOf (Down c.crash.result) x) same (crashed_of c.in-Up.up.knows c.crash.result c.crash.ensures.sound))

@@ -10,14 +10,14 @@ use Rattle.script.proofs.node.Node.lose.Goals.{then-backup-backups, else-backup-
 use Rattle.script.proofs.node.Node.lose.Goals as goal
 
 pub returns-in-Up : goal.returns-in-Up
-returns-in-Up c = λ master.
-    same_told c.args.self (Up c.in-Up.up) master (Lose c.args.backup) answer.Up
+returns-in-Up c = λ config.
+    same_told c.args.self (Up c.in-Up.up) config (Lose c.args.backup) answer.Up
     (λ d of. subst (λ (n : Node). IsOf n d) c.in-Up.is of)
     (λ history at up made. (up ∙ ap is_up c.in-Up.is, refl, rests at true (up ∙ ap is_up c.in-Up.is)))
 
 pub returns-after-backup-backups : goal.returns-after-backup-backups
-returns-after-backup-backups c = λ master.
-    same_told c.args.self (Down c.if-backup-backups.fleet) master (Lose c.args.backup) (answer.Lost c.args.backup)
+returns-after-backup-backups c = λ config.
+    same_told c.args.self (Down c.if-backup-backups.fleet) config (Lose c.args.backup) (answer.Lost c.args.backup)
     (λ d of.
     let before : IsOf (Down c.in-Down.fleet) d = subst (λ (n : Node). IsOf n d) c.in-Down.is of in
     elim c.if-backup-backups.branch as (λ _. IsOf (Down c.if-backup-backups.fleet) d) [
