@@ -63,12 +63,12 @@ abbrev pub IsReplied : List Record → Position → LineValue → Reply → Posi
 IsReplied history at line reply next =
     IsRecordAt history at.made line reply × (next ≡ record { made = suc at.made; acknowledged = suc at.made; is_up = true })
 
--- the line made no record, and this is said of a command
+-- the line is a command's, and made no record
 abbrev pub IsOut : Position → LineValue → Bool → Position → Type 0
 IsOut at line is_up next =
     (c : Command) × (command_of line ≡ Some c) × (next ≡ record { made = at.made; acknowledged = at.acknowledged; is_up = is_up })
 
--- the line made the next record, and nobody was told so
+-- the line made the next record, and nobody was told
 abbrev pub IsIn : List Record → Position → LineValue → Bool → Position → Type 0
 IsIn history at line is_up next =
     (reply : Reply) × IsRecordAt history at.made line reply × (next ≡ record { made = suc at.made; acknowledged = at.acknowledged; is_up = is_up })
@@ -108,7 +108,7 @@ pub record IsTableAfter (history : List Record) (count : ℕ) (r : Rebuilt) : Ty
   pub exactly : contents_of r.objects ≡ (after empty_state (take count (commands_of history))).contents
   pub order : IsStrictlySortedBy key_cmp (map (λ (o : Object). o.key) r.objects)
 
--- of a prefix of what the lines made that has all that was acknowledged
+-- the table after a prefix of what the lines have made that has all that was acknowledged
 abbrev pub IsRecoveredAt : List Record → Position → Rebuilt → Type 0
 IsRecoveredAt history at r = (count : ℕ) × (at.acknowledged ≤ count) × (count ≤ at.made) × IsTableAfter history count r
 

@@ -143,7 +143,8 @@ fn make_key(alloc: Global, table: u64, bytes: &[u8]) -> Result<Key, NoMemory>
     match Key::new(alloc, table, bytes) {
         Ok(key) => Ok(key),
         Err(KeyFault::NoMemory) => Err(NoMemory),
-        Err(KeyFault::Empty | KeyFault::TooLong) => unreachable!(),
+        Err(KeyFault::Empty) => unreachable!(),
+        Err(KeyFault::TooLong) => unreachable!(),
     }
 }
 
