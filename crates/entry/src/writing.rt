@@ -139,6 +139,7 @@ fn put_entry(out: &mut Vec<u8>, entry: &Entry)
 
 /// Appends the spelling of an entry.
 pub fn write_entry(entry: &Entry, out: &mut Vec<u8>) -> Result<(), NoMemory>
+    ensures valid { IsEntry entry.now }
     ensures ok { OnOk result (out.new.items ≡ out.old.items ++ spelling entry.now) }
     ensures err { OnErr result (out.new.items ≡ out.old.items) }
     ensures full { OnErr result (vec_capacity out.old < vec_len out.old + length (spelling entry.now)) }

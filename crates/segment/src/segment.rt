@@ -2,6 +2,7 @@
 
 ghost use Rattle.std.specs.Prelude.{◌≡◌, ◌+◌, ◌≤◌, ◌<◌, ◌↔◌, ◌++◌, ◌∷◌, [], List, length, map, true, IfOk, OnOk, OnErr, IsErrOf, IsSomeAnd};
 ghost use Rattle.entry.specs.declared.entry.Entry.{Entry};
+ghost use Rattle.entry.specs.Format.{spelling, IsEntry};
 ghost use Rattle.entry.specs.Text.{text_of, IsSegment, ends_with, are_data};
 ghost use Rattle.entry.specs.View.{shown};
 ghost use Rattle.std.specs.Option.{option_map};
@@ -17,6 +18,9 @@ use std::marker::Model;
 
 /// The most bytes of a segment.
 pub const MAX_SEGMENT_LEN: usize = 8_388_608;
+
+/// The bytes of a head's opening entries, but for those of its ids.
+const OPENING_LEN: usize = 18 + 5 + 9;
 
 /// A segment: its text. A contract sees the list of its entries.
 #[derive(Debug, Drop)]
@@ -37,6 +41,14 @@ impl Model for Segment {
     ghost invariant = { λ s. IsSegmentBytes s.bytes.items };
 }
 
+/// Appends the spelling of an entry.
+fn append(entry: Entry, bytes: &mut Vec<u8>) -> Result<(), NoMemory>
+    ensures valid { IsEntry entry }
+    ensures ok { OnOk result (bytes.new.items ≡ bytes.old.items ++ spelling entry) }
+{
+    write_entry(&entry, bytes)
+}
+
 impl Segment {
     ghost use Rattle.segment.specs.View.{entries_of, entries_left};
 
@@ -53,19 +65,16 @@ impl Segment {
         ensures { IfOk result (λ segment.
             segment ≡ Entry.Header (record { master = master; segment = id; role = Role.Head }) ∷ Entry.Digest ids.now ∷ Entry.Safe safe ∷ []) }
     {
-        let header = Entry::Header(Header {
+        let mut bytes = Vec::with_capacity(alloc, OPENING_LEN + 8 * ids.as_slice().len())?;
+        let header = Header {
             master,
             segment: id,
             role: Role::Head,
-        });
+        };
+        append(Entry::Header(header), &mut bytes)?;
         let ids = Ids::new(Vec::from_slice(alloc, ids.as_slice())?);
-        let digest = Entry::Digest(ids);
-        let safe = Entry::Safe(safe);
-        let len = header.spelled_len() + digest.spelled_len() + safe.spelled_len();
-        let mut bytes = Vec::with_capacity(alloc, len)?;
-        write_entry(&header, &mut bytes)?;
-        write_entry(&digest, &mut bytes)?;
-        write_entry(&safe, &mut bytes)?;
+        append(Entry::Digest(ids), &mut bytes)?;
+        append(Entry::Safe(safe), &mut bytes)?;
         Ok(Segment { bytes })
     }
 
