@@ -1,5 +1,5 @@
 -- The words of a line are words, and its text is cut into them.
-use Rattle.std.proofs.Common.{◌≡◌, ◌∙◌, ◌+◌, ◌%◌, ◌<◌, ◌≤◌, ◌^◌, ◌++◌, ◌∷◌, [], ap, sym, refl, subst, ℕ, suc, List, length-append, false, arith}
+use Rattle.std.proofs.Common.{◌≡◌, ◌∙◌, ◌+◌, ◌%◌, ◌<◌, ◌≤◌, ◌^◌, ◌++◌, ◌∷◌, [], ap, sym, refl, subst, ℕ, suc, List, length-append, false, codes, arith}
 use Rattle.std.specs.List.{All, slice_split, join_with_byte}
 use Rattle.std.specs.Str.{IsUtf8}
 use Rattle.std.specs.Fmt.{decimal}
@@ -9,8 +9,8 @@ use Rattle.std.proofs.lemmas.List.Splits.{slice_split_at, slice_split_none, join
 use Rattle.std.proofs.lemmas.Fmt.{decimal_by_steps}
 use Rattle.std.proofs.lemmas.Str.{IsUtf8-from_ascii}
 use Rattle.std.proofs.lemmas.Str.Ascii.{IsAscii-from_all}
-use Rattle.lines.specs.Grammar.{IsIdle, IsWord, LineValue, Says, Idle}
-use Rattle.lines.specs.Words.{AreWordsOf, is_space}
+use Rattle.lines.specs.Grammar.{IsIdle, IsWord, LineValue, Says, Idle, Put, Get, Hex, Stop, Crash, Lose, Recover}
+use Rattle.lines.specs.Words.{AreNumber, AreWordsOf, is_space}
 
 -- ---- words
 
@@ -38,6 +38,36 @@ IsUtf8-name name rest Idle are = absurd are
 IsUtf8-name name rest line are =
     let each : All IsWord (name ∷ rest) = subst (λ w. All IsWord w) (sym are.spelled) are.each in
     IsUtf8-word name (each 0 [] (omega arith))
+
+abbrev first : List (List ℕ) → List ℕ
+first [] = []
+first (word ∷ words) = word
+
+-- a line has one of seven names
+pub one_of_seven : (name : List ℕ) (rest : List (List ℕ)) (line : LineValue) → AreWordsOf (name ∷ rest) line
+    → (name ≡ codes "put" → ⊥) → (name ≡ codes "get" → ⊥) → (name ≡ codes "hex" → ⊥) → (name ≡ codes "stop" → ⊥)
+    → (name ≡ codes "crash" → ⊥) → (name ≡ codes "lose" → ⊥) → (name ≡ codes "recover" → ⊥) → ⊥
+one_of_seven name rest Idle are put get hex stop crash lose recover = are
+one_of_seven name rest (Put table key value) are put get hex stop crash lose recover = put (ap first are.spelled)
+one_of_seven name rest (Get table key) are put get hex stop crash lose recover = get (ap first are.spelled)
+one_of_seven name rest (Hex segment) are put get hex stop crash lose recover = hex (ap first are.spelled)
+one_of_seven name rest (Stop takes) are put get hex stop crash lose recover = stop (ap first are.spelled)
+one_of_seven name rest Crash are put get hex stop crash lose recover = crash (ap first are.spelled)
+one_of_seven name rest (Lose backup) are put get hex stop crash lose recover = lose (ap first are.spelled)
+one_of_seven name rest Recover are put get hex stop crash lose recover = recover (ap first are.spelled)
+
+is_lose : IsWord (codes "lose")
+is_lose = record { some = search (arith); visible = λ k d below. search (arith) }
+
+-- a line `lose`, of its words
+pub lose : (words : List (List ℕ)) (name : List ℕ) (rest : List (List ℕ)) (backup : ℕ) → words ≡ name ∷ rest → name ≡ codes "lose"
+    → AreNumber rest backup → AreWordsOf words (Lose backup)
+lose words name rest backup cut is number = record {
+  spelled = cut ∙ ap (λ w. w ∷ rest) is ∙ ap (λ ws. codes "lose" ∷ ws) number.spelled;
+  each = All-cons IsWord (codes "lose") (decimal backup ∷ []) is_lose
+      (All-cons IsWord (decimal backup) [] (decimal_is_word backup number.small) (All-nil IsWord));
+  limits = number.small;
+}
 
 -- ---- cutting
 
