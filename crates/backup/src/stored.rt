@@ -9,7 +9,7 @@ use std::alloc::{AllocError, Global};
 use std::marker::Model;
 
 /// A replica that a backup holds.
-#[derive(Debug, Drop)]
+#[derive(Drop)]
 pub struct Stored {
     bytes: Vec<u8>,
     is_open: bool,

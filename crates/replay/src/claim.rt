@@ -11,7 +11,7 @@ use std::alloc::{AllocError, Global};
 
 /// A key's value as of a version, or its end. Claims are ordered by key, then by version, and of one version the
 /// tombstone's stands last.
-#[derive(Clone, Copy, Debug, PartialEq, Eq, PartialOrd, Ord)]
+#[derive(Clone, Copy, PartialEq, Eq, PartialOrd, Ord)]
 pub struct Claim<'a> {
     pub key: KeyRef<'a>,
     pub version: Version,

@@ -9,7 +9,7 @@ ghost use Rattle.segment.specs.Order.{completes};
 use entry::{DigestRef, EntryRef, Role};
 
 /// What may come next in a segment.
-#[derive(Clone, Copy, Debug)]
+#[derive(Clone, Copy)]
 pub(crate) enum Expected {
     Header,
     /// The digest of this segment's head.
