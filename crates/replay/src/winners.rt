@@ -47,7 +47,8 @@ pub fn winners(alloc: Global, claims: &[Claim<'_>]) -> Result<Vec<Object>, Repla
     let mut objects = Vec::new(alloc);
     let mut left = claims;
     while let [claim, rest @ ..] = left {
-        if is_last(claim, rest)? && !claim.dead {
+        let last = is_last(claim, rest)?;
+        if last && !claim.dead {
             objects.push(claim.to_object(alloc)?)?;
         }
         left = rest;
