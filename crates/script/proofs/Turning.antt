@@ -1,9 +1,9 @@
 -- Lines that are run in turn.
-use Rattle.std.proofs.Common.{◌≡◌, ℕ, zero, suc, ◌+◌, ◌-◌, ◌^◌, ◌<◌, ◌≤◌, Bool, true, List, [], ◌∷◌, ◌++◌, take, length, refl, sym, ap, subst, inl, inr, ◌∙◌, arith}
+use Rattle.std.proofs.Common.{◌≡◌, ℕ, zero, suc, ◌+◌, ◌-◌, ◌^◌, ◌<◌, ◌≤◌, Bool, true, false, List, [], ◌∷◌, ◌++◌, take, length, refl, sym, ap, subst, inl, inr, ◌∙◌, arith}
 use Rattle.std.proofs.lemmas.List.{append-nil, length-append, take-append-le}
 use Rattle.std.proofs.lemmas.List.Elements.{All-nil, All-push}
 use Rattle.std.proofs.lemmas.List.Concat.{flat_map-append}
-use Rattle.std.specs.Prelude.{Option, Some, None, Result, Ok, Err, slice_get}
+use Rattle.std.specs.Prelude.{Option, Some, Result, Ok, Err, slice_get}
 use Rattle.std.specs.Io.KnownBytes.{Appends, Consumes, IsAtEnd, Keeps}
 use Rattle.std.proofs.KnownBytes.{Appends-nil, Appends-trans, Appends-kept, Consumes-nil, Consumes-trans, Keeps-refl}
 use Rattle.std.specs.List.{All}
@@ -143,13 +143,13 @@ telling_more config history from (first ∷ rest) mid t next are tells = (are.0,
 
 -- ---- a turn that failed
 
-pub turn_fault : (old : Session) (number : ℕ) (had left held holds : Option (List ℕ)) (text taken : List ℕ) (f : ScriptFault) → IsLineText text
-    → Consumes had left taken → IsTakenLine text taken left → PrintsText old text number held holds (Err f) → TakesTurn old number had left held holds (Err f)
-turn_fault old number had left held holds text taken (fault.BadLine n) whole consumed is p =
+pub turn_fault : (old new : Session) (number : ℕ) (had left held holds : Option (List ℕ)) (text taken : List ℕ) (f : ScriptFault) → IsLineText text
+    → Consumes had left taken → IsTakenLine text taken left → PrintsText old new text number held holds (Err f) → TakesTurn old new number had left held holds (Err f)
+turn_fault old new number had left held holds text taken (fault.BadLine n) whole consumed is p =
     (p.0, taken, consumed, inr (text, whole, is, inr p.1), p.2)
-turn_fault old number had left held holds text taken fault.ReadFailed whole consumed is p = absurd p
-turn_fault old number had left held holds text taken fault.WriteFailed whole consumed is p = (text, taken, whole, consumed, is, p.0, p.1, p.2)
-turn_fault old number had left held holds text taken fault.NoMemory whole consumed is p =
+turn_fault old new number had left held holds text taken fault.ReadFailed whole consumed is p = absurd p
+turn_fault old new number had left held holds text taken fault.WriteFailed whole consumed is p = (text, taken, whole, consumed, is, p.0, p.1)
+turn_fault old new number had left held holds text taken fault.NoMemory whole consumed is p =
     let short = whole.short in
     let count : length taken ≤ 4097 = elim is [
       | inl e ↦ let long = ap length e in let both = length-append text (10 ∷ []) in omega arith
@@ -290,25 +290,25 @@ module _ (config : Config) (old : Session) (had mid left held wrote holds : Opti
   bad_here : (n : ℕ) (bad : List ℕ) → n ≡ number → IsBadLine old.backups number bad left → IsBadLine config.backups n bad left
   bad_here n bad is line = subst (λ (k : ℕ). IsBadLine k n bad left) r.fleet (subst (λ (k : ℕ). IsBadLine old.backups k bad left) (sym is) line)
 
-  pub fails : (f : ScriptFault) → TakesTurn old number mid left wrote holds (Err f) → RunsScript config had left held holds (Err f)
-  fails (fault.BadLine n) t =
+  pub fails : (new : Session) (f : ScriptFault) → TakesTurn old new number mid left wrote holds (Err f) → RunsScript config had left held holds (Err f)
+  fails new (fault.BadLine n) t =
       closes t.1 (Err (fault.BadLine n)) t.2 (t.0 ∙ sym r.count, t.1, refl, bad_here n t.1 t.0 t.3) (kept_answers t.4)
-  fails fault.ReadFailed t = closes t.0 (Err fault.ReadFailed) t.1 (t.0, refl, t.2) (kept_answers t.3)
-  fails fault.WriteFailed t = fails_to_write t.5 t.0 t.6 t.7 t.2 t.1 t.3 t.4
-  fails fault.NoMemory t = closes t.0 (Err fault.NoMemory) t.1 (t.0, refl, t.2) (kept_answers t.3)
+  fails new fault.ReadFailed t = closes t.0 (Err fault.ReadFailed) t.1 (t.0, refl, t.2) (kept_answers t.3)
+  fails new fault.WriteFailed t = fails_to_write new t.0 t.5 t.6 t.2 t.1 t.3 t.4
+  fails new fault.NoMemory t = closes t.0 (Err fault.NoMemory) t.1 (t.0, refl, t.2) (kept_answers t.3)
 
-  none_left : TakesTurn old number mid left wrote holds (Ok None) → RunsScript config had left held holds (Ok tt)
-  none_left (inl t) = runs_last t.5 t.0 t.6 t.7 t.1 t.2 t.3 t.4 t.8
-  none_left (inr t) = runs_out t.0 t.1 t.2
+  none_left : (new : Session) → TakesTurn old new number mid left wrote holds (Ok false) → RunsScript config had left held holds (Ok tt)
+  none_left new (inl t) = runs_last new t.0 t.5 t.6 t.1 t.2 t.3 t.4 t.7
+  none_left new (inr t) = runs_out t.0 t.1 t.2
 
-  pub more_ran : (turn : Option Session) (new : Session) → turn ≡ Some new → TakesTurn old number mid left wrote holds (Ok turn)
+  pub none_ran : (new : Session) (more : Bool) → more ≡ false → TakesTurn old new number mid left wrote holds (Ok more) → RunsScript config had left held holds (Ok tt)
+  none_ran new more is t = none_left new (subst (λ (b : Bool). TakesTurn old new number mid left wrote holds (Ok b)) is t)
+
+  pub more_ran : (new : Session) (more : Bool) → more ≡ true → TakesTurn old new number mid left wrote holds (Ok more)
       → Running config new had left held holds (number + 1)
-  more_ran turn new is t =
-      let ran : TakesTurn old number mid left wrote holds (Ok (Some new)) = subst (λ (u : Option Session). TakesTurn old number mid left wrote holds (Ok u)) is t in
+  more_ran new more is t =
+      let ran : TakesTurn old new number mid left wrote holds (Ok true) = subst (λ (b : Bool). TakesTurn old new number mid left wrote holds (Ok b)) is t in
       runs_on new ran.0 ran.3 ran.4 ran.1 ran.2 ran.5
-
-  pub none_ran : (turn : Option Session) → turn ≡ None → TakesTurn old number mid left wrote holds (Ok turn) → RunsScript config had left held holds (Ok tt)
-  none_ran turn is t = none_left (subst (λ (u : Option Session). TakesTurn old number mid left wrote holds (Ok u)) is t)
 
 -- ---- behind the last number, and behind the last line
 
@@ -316,13 +316,13 @@ pub runs_dry : (config : Config) (old : Session) (had mid left held wrote : Opti
     (result : Result (Unit {0}) ScriptFault) → IsNoMore mid left result → RunsScript config had left held wrote result
 runs_dry config old had mid left held wrote number is r (Ok done) n = runs_out config old had mid left held wrote wrote number r n.0 n.1 (Keeps-refl wrote)
 runs_dry config old had mid left held wrote number is r (Err (fault.BadLine n)) none =
-    fails config old had mid left held wrote wrote number r (fault.BadLine n)
+    fails config old had mid left held wrote wrote number r old (fault.BadLine n)
     (none.0 ∙ sym is, none.1, none.2, subst (λ (k : ℕ). IsBadLine old.backups k none.1 left) (none.0 ∙ sym is) (none.3 old.backups), Keeps-refl wrote)
 runs_dry config old had mid left held wrote number is r (Err fault.ReadFailed) none =
-    fails config old had mid left held wrote wrote number r fault.ReadFailed (none.0, none.1, none.2, Keeps-refl wrote)
+    fails config old had mid left held wrote wrote number r old fault.ReadFailed (none.0, none.1, none.2, Keeps-refl wrote)
 runs_dry config old had mid left held wrote number is r (Err fault.WriteFailed) none = absurd none
 runs_dry config old had mid left held wrote number is r (Err fault.NoMemory) none =
-    fails config old had mid left held wrote wrote number r fault.NoMemory (none.0, none.1, none.2, Keeps-refl wrote)
+    fails config old had mid left held wrote wrote number r old fault.NoMemory (none.0, none.1, none.2, Keeps-refl wrote)
 
 -- the writer was flushed
 module _ (config : Config) (had left held wrote holds : Option (List ℕ)) (kept : Keeps wrote holds) where

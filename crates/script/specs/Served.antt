@@ -15,7 +15,7 @@ use Rattle.master.specs.Master.{MasterData, durable_of}
 use Rattle.master.specs.Sound.{IsSound}
 use Rattle.script.specs.declared.answer.Answer.{Answer}
 use Rattle.script.specs.declared.node.Node.{Node}
-use Rattle.script.specs.declared.node.Node.TheVariants.{Up, Down}
+use Rattle.script.specs.declared.node.Node.TheVariants.{Up, Down, Changing}
 use Rattle.script.specs.declared.session.Session.{Session}
 use Rattle.script.specs.Told.{Position, at_start, is_of_push, Tells}
 
@@ -45,10 +45,12 @@ abbrev pub IsOf : Node → MasterData → Type 0
 IsOf (Up m) d = m.knows ≡ d
 IsOf (Down fleet) d = (p : Picture) × (keep : ℕ → Bool) × IsSound d p
     × ((b s : ℕ) → (state_of fleet).picture b d.config.master s ≡ survivors keep p b d.config.master s)
+IsOf Changing d = ⊥
 
 abbrev pub is_up : Node → Bool
 is_up (Up m) = true
 is_up (Down fleet) = false
+is_up Changing = false
 
 -- The node stands at this position for this knowledge, of a master of this configuration, and what was acknowledged is
 -- durable.

@@ -1,5 +1,5 @@
 -- What one line of a script comes to.
-use Rattle.std.specs.Prelude.{◌≡◌, ◌⊎◌, ◌<◌, ◌≤◌, ◌-◌, ◌^◌, ℕ, List, [], ◌∷◌, ◌++◌, length, Option, Some, None, Result, Ok, Err}
+use Rattle.std.specs.Prelude.{◌≡◌, ◌⊎◌, ◌<◌, ◌≤◌, ◌-◌, ◌^◌, ℕ, List, [], ◌∷◌, ◌++◌, length, Bool, true, false, Option, Result, Ok, Err}
 use Rattle.std.specs.Io.KnownBytes.{Appends, Consumes, IsAtEnd, Keeps}
 use Rattle.lines.specs.Grammar.{LineValue, Says, Put}
 use Rattle.lines.specs.Reading.{IsLineText}
@@ -31,30 +31,30 @@ pub record RunsText (old : Session) (text : List ℕ) (new : Session) (answer : 
   pub answers : SessionAnswers old line new answer
 
 -- its answer was written, where the writer didn't fail
-abbrev pub PrintsText : Session → List ℕ → ℕ → Option (List ℕ) → Option (List ℕ) → Result Session ScriptFault → Type 0
-PrintsText old text number held holds (Ok new) = (answer : Answer) × RunsText old text new answer × Appends held holds (answer_text answer)
-PrintsText old text number held holds (Err (fault.BadLine n)) =
+abbrev pub PrintsText : Session → Session → List ℕ → ℕ → Option (List ℕ) → Option (List ℕ) → Result (Unit {0}) ScriptFault → Type 0
+PrintsText old new text number held holds (Ok done) = (answer : Answer) × RunsText old text new answer × Appends held holds (answer_text answer)
+PrintsText old new text number held holds (Err (fault.BadLine n)) =
     (n ≡ number) × ((line : LineValue) → Says text line → IsOfFleet old.backups line → ⊥) × Keeps held holds
-PrintsText old text number held holds (Err fault.ReadFailed) = ⊥
-PrintsText old text number held holds (Err fault.WriteFailed) = (new : Session) × (answer : Answer) × RunsText old text new answer
-PrintsText old text number held holds (Err fault.NoMemory) = Keeps held holds
+PrintsText old new text number held holds (Err fault.ReadFailed) = ⊥
+PrintsText old new text number held holds (Err fault.WriteFailed) = (answer : Answer) × RunsText old text new answer
+PrintsText old new text number held holds (Err fault.NoMemory) = Keeps held holds
 
--- What the line of this number came to: it was run and more may come, it was the last, or there was none.
-abbrev pub TakesTurn : Session → ℕ → Option (List ℕ) → Option (List ℕ) → Option (List ℕ) → Option (List ℕ) → Result (Option Session) ScriptFault → Type 0
-TakesTurn old number had left held holds (Ok (Some new)) =
+-- What the line of this number came to: it was run and more may come; or it was the last, or there was none.
+abbrev pub TakesTurn : Session → Session → ℕ → Option (List ℕ) → Option (List ℕ) → Option (List ℕ) → Option (List ℕ) → Result Bool ScriptFault → Type 0
+TakesTurn old new number had left held holds (Ok true) =
     (text : List ℕ) × IsLineText text × Consumes had left (text ++ 10 ∷ [])
     × (answer : Answer) × RunsText old text new answer × Appends held holds (answer_text answer)
-TakesTurn old number had left held holds (Ok None) =
+TakesTurn old new number had left held holds (Ok false) =
     ((text : List ℕ) × IsLineText text × Consumes had left text × IsAtEnd left × (0 < length text)
-    × (new : Session) × (answer : Answer) × RunsText old text new answer × Appends held holds (answer_text answer))
+    × (answer : Answer) × RunsText old text new answer × Appends held holds (answer_text answer))
     ⊎ (Consumes had left [] × IsAtEnd left × Keeps held holds)
-TakesTurn old number had left held holds (Err (fault.BadLine n)) =
+TakesTurn old new number had left held holds (Err (fault.BadLine n)) =
     (n ≡ number) × (bad : List ℕ) × Consumes had left bad × IsBadLine old.backups number bad left × Keeps held holds
-TakesTurn old number had left held holds (Err fault.ReadFailed) = (part : List ℕ) × Consumes had left part × IsLineText part × Keeps held holds
-TakesTurn old number had left held holds (Err fault.WriteFailed) =
+TakesTurn old new number had left held holds (Err fault.ReadFailed) = (part : List ℕ) × Consumes had left part × IsLineText part × Keeps held holds
+TakesTurn old new number had left held holds (Err fault.WriteFailed) =
     (text : List ℕ) × (taken : List ℕ) × IsLineText text × Consumes had left taken × IsTakenLine text taken left
-    × (new : Session) × (answer : Answer) × RunsText old text new answer
-TakesTurn old number had left held holds (Err fault.NoMemory) =
+    × (answer : Answer) × RunsText old text new answer
+TakesTurn old new number had left held holds (Err fault.NoMemory) =
     (part : List ℕ) × Consumes had left part × (length part ≤ 4097) × Keeps held holds
 
 -- What stood behind the last line that can have a number.

@@ -3,7 +3,7 @@
 ghost use Rattle.std.specs.Prelude.{◌≡◌, ◌<◌, [], true, false, Some, IfOk, IfErr};
 ghost use Rattle.lines.specs.Grammar.{LineValue};
 ghost use Rattle.master.specs.declared.config.Config.{Config};
-ghost use Rattle.master.specs.Master.{durable_of};
+ghost use Rattle.master.specs.Master.{MasterData, durable_of};
 ghost use Rattle.script.specs.Served.{GoesOn, IsServed, IsUnserved, IsOf, AnswersLine, is_up};
 ghost use Rattle.script.specs.Told.{command_of, is_of_push};
 
@@ -15,12 +15,15 @@ use master::{Command, Look, Master, Refusal, Reply, Shown, Step, StepAnswer};
 use recovery_plan::PlanFault;
 use replica::{Bench, Fleet};
 use std::alloc::Global;
+use std::mem::replace;
 
 /// A fleet, and the master over it where there is one.
 #[derive(Drop)]
 pub enum Node {
     Up(Master<MemoryFleet>),
     Down(MemoryFleet),
+    /// Only while a master is being dropped.
+    Changing,
 }
 
 /// Pushes until a push is refused, and answers why; `Nothing` where nothing waits.
@@ -67,30 +70,38 @@ fn serve<F: Fleet>(master: &mut Master<F>, command: Command) -> Result<Reply, Re
     }
 }
 
-/// Drops a master whose fleet took no more ops, and lifts the limit.
-fn stopped(up: Master<MemoryFleet>) -> Node
-    ensures of { IsOf result up.knows }
-    ensures down { is_up result ≡ false }
-{
-    let mut fleet = up.crash();
-    fleet.limit(u64::MAX);
-    Node::Down(fleet)
-}
-
 impl Node {
     ghost use Rattle.lines.specs.Grammar.{Hex, Stop, Crash, Lose, Recover};
 
     /// One command, pushed until it is durable. Where the fleet takes no more ops, the master is dropped.
-    pub fn serve(self, command: Command) -> (Node, Answer)
-        ensures { (config : Config) (line : LineValue) → command_of line ≡ Some command → AnswersLine self config line result.0 result.1 }
+    pub fn serve(&mut self, command: Command) -> Answer
+        ensures { (config : Config) (line : LineValue) → command_of line ≡ Some command → AnswersLine self.old config line self.new result }
     {
-        match self {
-            Node::Down(fleet) => (Node::Down(fleet), Answer::Down),
-            Node::Up(mut up) => match serve(&mut up, command) {
-                Ok(reply) => (Node::Up(up), Answer::Reply(reply)),
-                Err(Refusal::Spent) => (stopped(up), Answer::Stopped),
-                Err(refusal) => (Node::Up(up), Answer::Refused(refusal)),
-            },
+        let Node::Up(up) = self else {
+            return Answer::Down;
+        };
+        match serve(up, command) {
+            Ok(reply) => Answer::Reply(reply),
+            Err(Refusal::Spent) => {
+                self.stop_serving();
+                Answer::Stopped
+            }
+            Err(refusal) => Answer::Refused(refusal),
+        }
+    }
+
+    /// Drops the master, whose fleet took no more ops, and lifts the limit.
+    fn stop_serving(&mut self)
+        ensures of { (d : MasterData) → IsOf self.old d → IsOf self.new d }
+        ensures down { is_up self.new ≡ false }
+    {
+        match replace(self, Node::Changing) {
+            Node::Up(up) => {
+                let mut fleet = up.crash();
+                fleet.limit(u64::MAX);
+                *self = Node::Down(fleet);
+            }
+            down => *self = down,
         }
     }
 
@@ -98,67 +109,64 @@ impl Node {
     pub fn hex(&self, segment: u64) -> Answer
         ensures { (config : Config) → AnswersLine self.now config (Hex segment) self.now result }
     {
-        match self {
-            Node::Down(_) => Answer::Down,
-            Node::Up(up) => {
-                up.show_sound();
-                match up.look(Look::Image(segment)) {
-                    Ok(Shown::Image(Some(bytes))) => Answer::Hex(bytes),
-                    Ok(Shown::Image(None)) => Answer::NotInLog(segment),
-                    Err(NoMemory) => Answer::Refused(Refusal::NoMemory),
-                }
-            }
+        let Node::Up(up) = self else {
+            return Answer::Down;
+        };
+        up.show_sound();
+        match up.look(Look::Image(segment)) {
+            Ok(Shown::Image(Some(bytes))) => Answer::Hex(bytes),
+            Ok(Shown::Image(None)) => Answer::NotInLog(segment),
+            Err(NoMemory) => Answer::Refused(Refusal::NoMemory),
         }
     }
 
     /// Lets the fleet take this many further ops.
-    pub fn stop(self, takes: u64) -> (Node, Answer)
-        ensures { (config : Config) → AnswersLine self config (Stop takes) result.0 result.1 }
+    pub fn stop(&mut self, takes: u64) -> Answer
+        ensures { (config : Config) → AnswersLine self.old config (Stop takes) self.new result }
     {
         match self {
-            Node::Down(mut fleet) => {
-                fleet.limit(takes);
-                (Node::Down(fleet), Answer::Stop(takes))
-            }
-            Node::Up(mut up) => {
-                up.limit(takes);
-                (Node::Up(up), Answer::Stop(takes))
-            }
+            Node::Up(up) => up.limit(takes),
+            Node::Down(fleet) => fleet.limit(takes),
+            Node::Changing => {}
         }
+        Answer::Stop(takes)
     }
 
     /// Drops the master.
-    pub fn crash(self) -> (Node, Answer)
-        ensures { (config : Config) → AnswersLine self config Crash result.0 result.1 }
+    pub fn crash(&mut self) -> Answer
+        ensures { (config : Config) → AnswersLine self.old config Crash self.new result }
     {
-        match self {
-            Node::Down(fleet) => (Node::Down(fleet), Answer::Down),
-            Node::Up(up) => (Node::Down(up.crash()), Answer::Crashed),
+        match replace(self, Node::Changing) {
+            Node::Up(up) => {
+                *self = Node::Down(up.crash());
+                Answer::Crashed
+            }
+            down => {
+                *self = down;
+                Answer::Down
+            }
         }
     }
 
     /// A backup loses all that it holds.
-    pub fn lose(self, backup: u64) -> (Node, Answer)
-        ensures { (config : Config) → AnswersLine self config (Lose backup) result.0 result.1 }
+    pub fn lose(&mut self, backup: u64) -> Answer
+        ensures { (config : Config) → AnswersLine self.old config (Lose backup) self.new result }
     {
-        match self {
-            Node::Up(up) => (Node::Up(up), Answer::Up),
-            Node::Down(mut fleet) => {
-                if backup < fleet.backups() {
-                    fleet.lose(backup);
-                }
-                (Node::Down(fleet), Answer::Lost(backup))
-            }
+        let Node::Down(fleet) = self else {
+            return Answer::Up;
+        };
+        if backup < fleet.backups() {
+            fleet.lose(backup);
         }
+        Answer::Lost(backup)
     }
 
     /// What is recovered of the master of this number.
     pub fn recover(&self, alloc: Global, master: u64) -> Answer
         ensures { (config : Config) → config.master ≡ master → AnswersLine self.now config Recover self.now result }
     {
-        let fleet = match self {
-            Node::Up(_) => return Answer::Up,
-            Node::Down(fleet) => fleet,
+        let Node::Down(fleet) = self else {
+            return Answer::Up;
         };
         let Ok(inventory) = fleet.inventory(alloc) else {
             return Answer::NotRecovered(RecoveryFault::Plan(PlanFault::NoMemory));

@@ -28,9 +28,21 @@ pub fn run_script<R: Read, W: Write>(
     // The lines tell of one legal history; what was written is their answers; a bad line is named.
     ensures { RunsScript (config_of options 1) (R.remaining reader.old) (R.remaining reader.new) (W.contents writer.old) (W.contents writer.new) result }
 {
-    let Ok(session) = Session::start(alloc, &options) else {
+    let Ok(mut session) = Session::start(alloc, &options) else {
         return Err(ScriptFault::NoMemory);
     };
+    run_and_flush(alloc, reader, writer, &mut session)
+}
+
+/// Runs all lines on a session at its start, and flushes the writer.
+fn run_and_flush<R: Read, W: Write>(
+    alloc: Global,
+    reader: &mut R,
+    writer: &mut W,
+    session: &mut Session,
+) -> Result<(), ScriptFault>
+    ensures { (config : Config) → Begins config session.old → RunsScript config (R.remaining reader.old) (R.remaining reader.new) (W.contents writer.old) (W.contents writer.new) result }
+{
     let ran = run_lines(alloc, reader, writer, session);
     let flushed = writer.flush();
     match ran {
@@ -44,41 +56,41 @@ fn run_lines<R: Read, W: Write>(
     alloc: Global,
     reader: &mut R,
     writer: &mut W,
-    mut session: Session,
+    session: &mut Session,
 ) -> Result<(), ScriptFault>
-    ensures { (config : Config) → Begins config session → RunsScript config (R.remaining reader.old) (R.remaining reader.new) (W.contents writer.old) (W.contents writer.new) result }
+    ensures { (config : Config) → Begins config session.old → RunsScript config (R.remaining reader.old) (R.remaining reader.new) (W.contents writer.old) (W.contents writer.new) result }
 {
     let mut text = Vec::new(alloc);
     for number in 1..u64::MAX {
         match run_next(reader, writer, &mut text, session, number) {
-            Ok(Some(next)) => session = next,
-            Ok(None) => return Ok(()),
+            Ok(true) => {}
+            Ok(false) => return Ok(()),
             Err(fault) => return Err(fault),
         }
     }
     no_more(reader, &mut text)
 }
 
-/// Takes the next line, and runs it as the one of this number. `None` where no more can come.
+/// Takes the next line, and runs it as the one of this number. Answers whether more may come.
 fn run_next<R: Read, W: Write>(
     reader: &mut R,
     writer: &mut W,
     text: &mut Vec<u8>,
-    session: Session,
+    session: &mut Session,
     number: u64,
-) -> Result<Option<Session>, ScriptFault>
-    ensures { TakesTurn session number (R.remaining reader.old) (R.remaining reader.new) (W.contents writer.old) (W.contents writer.new) result }
+) -> Result<bool, ScriptFault>
+    ensures { TakesTurn session.old session.new number (R.remaining reader.old) (R.remaining reader.new) (W.contents writer.old) (W.contents writer.new) result }
 {
     match next_line(reader, text) {
         Ok(Taken::Ended) => match run_text(writer, session, text.as_slice(), number) {
-            Ok(next) => Ok(Some(next)),
+            Ok(()) => Ok(true),
             Err(fault) => Err(fault),
         },
         Ok(Taken::Last) => match run_text(writer, session, text.as_slice(), number) {
-            Ok(_) => Ok(None),
+            Ok(()) => Ok(false),
             Err(fault) => Err(fault),
         },
-        Ok(Taken::Nothing) => Ok(None),
+        Ok(Taken::Nothing) => Ok(false),
         Ok(Taken::TooLong) => Err(ScriptFault::BadLine(number)),
         Err(ReadFault::Failed) => Err(ScriptFault::ReadFailed),
         Err(ReadFault::NoMemory) => Err(ScriptFault::NoMemory),
@@ -88,19 +100,19 @@ fn run_next<R: Read, W: Write>(
 /// Runs the line of a text, and writes its answer.
 fn run_text<W: Write>(
     writer: &mut W,
-    session: Session,
+    session: &mut Session,
     text: &[u8],
     number: u64,
-) -> Result<Session, ScriptFault>
+) -> Result<(), ScriptFault>
     requires { IsLineText text.now }
-    ensures { PrintsText session text.now number (W.contents writer.old) (W.contents writer.new) result }
+    ensures { PrintsText session.old session.new text.now number (W.contents writer.old) (W.contents writer.new) result }
 {
     let Some(line) = parse_line(text) else {
         return Err(ScriptFault::BadLine(number));
     };
     match session.run_line(line) {
-        Ok((next, answer)) => match write_answer(writer, &answer) {
-            Ok(()) => Ok(next),
+        Ok(answer) => match write_answer(writer, &answer) {
+            Ok(()) => Ok(()),
             Err(_) => Err(ScriptFault::WriteFailed),
         },
         Err(LineFault::Bad) => {

@@ -7,7 +7,7 @@ ghost use Rattle.master.specs.declared.config.Config.{Config};
 ghost use Rattle.script.specs.Configuration.{config_of};
 ghost use Rattle.script.specs.declared.session.LineFault.TheVariants as line_fault;
 ghost use Rattle.script.specs.Runs.{IsOfFleet};
-ghost use Rattle.script.specs.Served.{AnswersLine, Begins, SessionAnswers};
+ghost use Rattle.script.specs.Served.{Begins, SessionAnswers};
 ghost use Rattle.script.specs.Turns.{HasValue, Refuses};
 
 use crate::answer::Answer;
@@ -73,65 +73,30 @@ impl Session {
     }
 
     /// Runs one line.
-    pub fn run_line(self, line: Line<'_>) -> Result<(Session, Answer), LineFault>
+    pub fn run_line(&mut self, line: Line<'_>) -> Result<Answer, LineFault>
         requires line { IsLine (shown line) }
         requires value { HasValue (shown line) }
-        ensures ran { IfOk result (λ r. SessionAnswers self (shown line.entry) r.0 r.1) }
-        ensures of_fleet { IfOk result (λ _. IsOfFleet self.backups (shown line.entry)) }
-        ensures refused { IfErr result (Refuses self.backups (shown line.entry)) }
+        ensures ran { IfOk result (λ answer. SessionAnswers self.old (shown line.entry) self.new answer) }
+        ensures of_fleet { IfOk result (λ _. IsOfFleet self.old.backups (shown line.entry)) }
+        ensures refused { IfErr result (Refuses self.old.backups (shown line.entry)) }
     {
-        let Session {
-            alloc,
-            backups,
-            master,
-            node,
-        } = self;
-        let (node, answer) = run_on(alloc, backups, master, node, line)?;
-        let session = Session {
-            alloc,
-            backups,
-            master,
-            node,
-        };
-        Ok((session, answer))
-    }
-}
-
-/// Runs a line on the node of a script with so many backups, for the master of this number.
-fn run_on(
-    alloc: Global,
-    backups: u64,
-    master: u64,
-    node: Node,
-    line: Line<'_>,
-) -> Result<(Node, Answer), LineFault>
-    requires line { IsLine (shown line) }
-    requires value { HasValue (shown line) }
-    ensures ran { IfOk result (λ r. (config : Config) → config.master ≡ master → AnswersLine node config (shown line.entry) r.0 r.1) }
-    ensures of_fleet { IfOk result (λ _. IsOfFleet backups (shown line.entry)) }
-    ensures refused { IfErr result (Refuses backups (shown line.entry)) }
-{
-    match line {
-        Line::Idle => Ok((node, Answer::Silent)),
-        Line::Put { table, key, value } => {
-            let command = put_command(alloc, table, key, value)?;
-            Ok(node.serve(command))
-        }
-        Line::Get { table, key } => {
-            let key = make_key(alloc, table, key)?;
-            Ok(node.serve(Command::Get(key)))
-        }
-        Line::Hex { segment } => {
-            let answer = node.hex(segment);
-            Ok((node, answer))
-        }
-        Line::Stop { takes } => Ok(node.stop(takes)),
-        Line::Crash => Ok(node.crash()),
-        Line::Lose { backup } if backup >= backups => Err(LineFault::Bad),
-        Line::Lose { backup } => Ok(node.lose(backup)),
-        Line::Recover => {
-            let answer = node.recover(alloc, master);
-            Ok((node, answer))
+        let alloc = self.alloc;
+        match line {
+            Line::Idle => Ok(Answer::Silent),
+            Line::Put { table, key, value } => {
+                let command = put_command(alloc, table, key, value)?;
+                Ok(self.node.serve(command))
+            }
+            Line::Get { table, key } => {
+                let key = make_key(alloc, table, key)?;
+                Ok(self.node.serve(Command::Get(key)))
+            }
+            Line::Hex { segment } => Ok(self.node.hex(segment)),
+            Line::Stop { takes } => Ok(self.node.stop(takes)),
+            Line::Crash => Ok(self.node.crash()),
+            Line::Lose { backup } if backup >= self.backups => Err(LineFault::Bad),
+            Line::Lose { backup } => Ok(self.node.lose(backup)),
+            Line::Recover => Ok(self.node.recover(alloc, self.master)),
         }
     }
 }

@@ -4,17 +4,17 @@ use Rattle.script.proofs.running.run_lines.Goals as goal
 
 pub loop-number-init : goal.loop-number-init
 loop-number-init g c = λ config begins.
-    starts_running config c.args.session (g.R.Read.remaining c.args.reader.now) (g.W.Write.contents c.args.writer.now) begins
+    starts_running config c.args.session.now (g.R.Read.remaining c.args.reader.now) (g.W.Write.contents c.args.writer.now) begins
 
-pub returns-in-Ok-None : goal.returns-in-Ok-None
-returns-in-Ok-None g c = λ config begins. none_ran _ _ _ _ _ _ _ _ _ (c.loop-number.invariant config begins) c.in-Ok-None.field-0 c.in-Ok-None.field-0-is c.in-Ok-None.ensures
+pub returns-in-Ok-false : goal.returns-in-Ok-false
+returns-in-Ok-false g c = λ config begins. none_ran _ _ _ _ _ _ _ _ _ (c.loop-number.invariant config begins) c.run_next.new.session c.in-Ok-false.field-0 c.in-Ok-false.field-0-test c.in-Ok-false.ensures
 
 pub returns-in-Err : goal.returns-in-Err
-returns-in-Err g c = λ config begins. fails _ _ _ _ _ _ _ _ _ (c.loop-number.invariant config begins) c.in-Err.fault c.in-Err.ensures
+returns-in-Err g c = λ config begins. fails _ _ _ _ _ _ _ _ _ (c.loop-number.invariant config begins) c.run_next.new.session c.in-Err.fault c.in-Err.ensures
 
 pub loop-number-preserved : goal.loop-number-preserved
 loop-number-preserved g c = λ config begins.
-    more_ran _ _ _ _ _ _ _ _ _ (c.loop-number.invariant config begins) c.in-Ok-Some.field-0 c.in-Ok-Some.next c.in-Ok-Some.field-0-is c.in-Ok-Some.ensures
+    more_ran _ _ _ _ _ _ _ _ _ (c.loop-number.invariant config begins) c.run_next.new.session c.in-Ok-true.field-0 c.in-Ok-true.field-0-test c.in-Ok-true.ensures
 
 pub returns : goal.returns
 returns g c = λ config begins.

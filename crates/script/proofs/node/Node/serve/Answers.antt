@@ -11,7 +11,7 @@ returns-in-Ok c = λ config line is d at s.
     let e = c.serve.new.master.knows in
     let same : c.in-Up.up.knows ≡ d = subst (λ (n : Node). IsOf n d) c.in-Up.is s.node_of in
     let served : IsServed d e c.args.command c.in-Ok.reply = subst (λ (x : MasterData). IsServed x e c.args.command c.in-Ok.reply) same c.in-Ok.ensures.served in
-    reply_told d e c.args.self (Up c.serve.new.master) config at refl s line c.args.command is c.in-Ok.reply (ap is_up c.in-Up.is) refl served
+    reply_told d e c.args.self.now (Up c.serve.new.master) config at refl s line c.args.command is c.in-Ok.reply (ap is_up c.in-Up.is) refl served
 
 pub returns-in-Err-Spent : goal.returns-in-Err-Spent
 returns-in-Err-Spent c = λ config line is d at s.
@@ -19,7 +19,7 @@ returns-in-Err-Spent c = λ config line is d at s.
     let r = c.in-Err-Spent.field-0 in
     let same : c.in-Up.up.knows ≡ d = subst (λ (n : Node). IsOf n d) c.in-Up.is s.node_of in
     let left : IsUnserved d e c.args.command r = subst (λ (x : MasterData). IsUnserved x e c.args.command r) same c.in-Err-Spent.ensures.unserved in
-    stopped_told d e c.args.self c.stopped.result config at c.stopped.ensures.of s line c.args.command is r (ap is_up c.in-Up.is) c.stopped.ensures.down left
+    stopped_told d e c.args.self.now c.stop_serving.new.self config at (c.stop_serving.ensures.of e refl) s line c.args.command is r (ap is_up c.in-Up.is) c.stop_serving.ensures.down left
 
 pub returns-in-Err : goal.returns-in-Err
 returns-in-Err c = λ config line is d at s.
@@ -27,4 +27,4 @@ returns-in-Err c = λ config line is d at s.
     let r = c.in-Err.refusal in
     let same : c.in-Up.up.knows ≡ d = subst (λ (n : Node). IsOf n d) c.in-Up.is s.node_of in
     let left : IsUnserved d e c.args.command r = subst (λ (x : MasterData). IsUnserved x e c.args.command r) same c.in-Err.ensures.unserved in
-    refused_told d e c.args.self (Up c.serve.new.master) config at refl s line c.args.command is r (ap is_up c.in-Up.is) refl left
+    refused_told d e c.args.self.now (Up c.serve.new.master) config at refl s line c.args.command is r (ap is_up c.in-Up.is) refl left
