@@ -1,9 +1,12 @@
 -- What has been printed after one element more of a list.
-use Rattle.std.proofs.Common.{◌∙◌, ◌+◌, ◌<◌, [], ap, sym, subst, ℕ, List, Option, length, take, get_or}
+use Rattle.std.proofs.Common.{◌∙◌, ◌+◌, ◌<◌, [], ◌∷◌, ◌++◌, append_assoc, ap, sym, subst, ℕ, List, Option, length, take, get_or}
+use Rattle.std.specs.Fmt.{decimal}
 use Rattle.std.specs.List.{flat_map}
 use Rattle.std.specs.Io.KnownBytes.{Appends}
 use Rattle.std.proofs.KnownBytes.{Appends-trans}
 use Rattle.std.proofs.lemmas.List.{flat_map_more, take_more}
+use Rattle.entry.specs.declared.entry.Object.{Object}
+use Rattle.script.specs.Texts.{object_text}
 
 pub one_printed : {X : Type 0} (text : X → List ℕ) (xs : List X) (i : ℕ) (default : X) (old mid new : Option (List ℕ)) → i < length xs
     → Appends old mid (flat_map text (take i xs)) → Appends mid new (text (get_or xs i default))
@@ -11,3 +14,15 @@ pub one_printed : {X : Type 0} (text : X → List ℕ) (xs : List X) (i : ℕ) (
 one_printed text xs i default old mid new below before one =
     let grown = flat_map_more text [] (take i xs) (get_or xs i default) ∙ ap (flat_map text) (sym (take_more xs i default below)) in
     subst (Appends old new) grown (Appends-trans old mid new _ _ before one)
+
+-- the pieces of an object's line
+pub object_printed : (o : Object) (a b c d e : Option (List ℕ)) → Appends a b (decimal o.key.table ++ 32 ∷ []) → Appends b c o.key.bytes → Appends c d (32 ∷ [])
+    → Appends d e (decimal o.version ++ 32 ∷ o.value ++ 10 ∷ []) → Appends a e (object_text o)
+object_printed o a b c d e table key space rest =
+    let first = decimal o.key.table ++ 32 ∷ o.key.bytes in
+    let front : Appends a d (first ++ 32 ∷ []) =
+    Appends-trans a c d _ _ (subst (Appends a c) (append_assoc (decimal o.key.table) (32 ∷ []) o.key.bytes) (Appends-trans a b c _ _ table key)) space in
+    let grouped = sym (append_assoc (first ++ 32 ∷ []) (decimal o.version ++ 32 ∷ o.value) (10 ∷ []))
+    ∙ ap (λ l. l ++ 10 ∷ []) (sym (append_assoc (first ++ 32 ∷ []) (decimal o.version) (32 ∷ o.value)))
+    ∙ ap (λ l. l ++ 32 ∷ o.value ++ 10 ∷ []) (append_assoc first (32 ∷ []) (decimal o.version)) in
+    subst (Appends a e) grouped (Appends-trans a d e _ _ front rest)

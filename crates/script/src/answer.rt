@@ -1,18 +1,19 @@
 //! What a line answers, and its text.
 
-ghost use Rattle.std.specs.Prelude.{OnOk};
+ghost use Rattle.std.specs.Prelude.{◌++◌, ◌∷◌, [], OnOk};
+ghost use Rattle.std.specs.Fmt.{decimal};
 ghost use Rattle.std.specs.Io.KnownBytes.{Appends};
 ghost use Rattle.script.specs.Texts.{answer_text, hex_text, object_text, rebuilt_text, reply_text};
 
 use crate::recovery::RecoveryFault;
-use entry::Object;
+use entry::{Object, Value, Version};
 use master::{Refusal, Reply};
 use replay::Rebuilt;
 use replica::Bytes;
 use std::io::{self, Write};
 
 /// What a line of a script answers.
-#[derive(Debug, Drop)]
+#[derive(Drop)]
 pub enum Answer {
     /// Nothing is printed.
     Silent,
@@ -62,12 +63,7 @@ fn write_reply<W: Write>(writer: &mut W, reply: &Reply) -> io::Result<()>
     ensures { OnOk result (Appends (W.contents writer.old) (W.contents writer.new) (reply_text reply.now)) }
 {
     match reply {
-        Reply::Found(version, value) => {
-            let version = version.get();
-            write!(writer, "{version} ")?;
-            writer.write_all(value.as_slice())?;
-            writer.write_all(b"\n")
-        }
+        Reply::Found(version, value) => write_versioned(writer, *version, value),
         Reply::None => writer.write_all(b"none\n"),
         Reply::Ok(version) => {
             let version = version.get();
@@ -79,6 +75,16 @@ fn write_reply<W: Write>(writer: &mut W, reply: &Reply) -> io::Result<()>
             writeln!(writer, "mismatch {version}")
         }
     }
+}
+
+/// The end of a line that shows a value at its version.
+fn write_versioned<W: Write>(writer: &mut W, version: Version, value: &Value) -> io::Result<()>
+    ensures { OnOk result (Appends (W.contents writer.old) (W.contents writer.new) (decimal version ++ 32 ∷ value.now ++ 10 ∷ [])) }
+{
+    let version = version.get();
+    write!(writer, "{version} ")?;
+    writer.write_all(value.as_slice())?;
+    writer.write_all(b"\n")
 }
 
 fn write_hex<W: Write>(writer: &mut W, bytes: &[u8]) -> io::Result<()>
@@ -95,12 +101,10 @@ fn write_object<W: Write>(writer: &mut W, object: &Object) -> io::Result<()>
     ensures { OnOk result (Appends (W.contents writer.old) (W.contents writer.new) (object_text object.now)) }
 {
     let table = object.key.table;
-    let version = object.version.get();
     write!(writer, "{table} ")?;
     writer.write_all(object.key.bytes.as_slice())?;
-    write!(writer, " {version} ")?;
-    writer.write_all(object.value.as_slice())?;
-    writer.write_all(b"\n")
+    writer.write_all(b" ")?;
+    write_versioned(writer, object.version, &object.value)
 }
 
 /// A line for each object, in order, and their number.

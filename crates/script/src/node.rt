@@ -73,7 +73,8 @@ fn serve<F: Fleet>(master: &mut Master<F>, command: Command) -> Result<Reply, Re
 impl Node {
     ghost use Rattle.lines.specs.Grammar.{Hex, Stop, Crash, Lose, Recover};
 
-    /// One command, pushed until it is durable. Where the fleet takes no more ops, the master is dropped.
+    /// One command, pushed until it is durable. Where the fleet takes no more ops, the master is dropped, and
+    /// the limit lifted.
     pub fn serve(&mut self, command: Command) -> Answer
         ensures { (config : Config) (line : LineValue) → command_of line ≡ Some command → AnswersLine self.old config line self.new result }
     {
@@ -83,26 +84,24 @@ impl Node {
         match serve(up, command) {
             Ok(reply) => Answer::Reply(reply),
             Err(Refusal::Spent) => {
-                self.stop_serving();
+                up.limit(u64::MAX);
+                self.drop_master();
                 Answer::Stopped
             }
             Err(refusal) => Answer::Refused(refusal),
         }
     }
 
-    /// Drops the master, whose fleet took no more ops, and lifts the limit.
-    fn stop_serving(&mut self)
+    /// Drops the master, which there is.
+    fn drop_master(&mut self)
+        requires { is_up self.old ≡ true }
         ensures of { (d : MasterData) → IsOf self.old d → IsOf self.new d }
         ensures down { is_up self.new ≡ false }
     {
-        match replace(self, Node::Changing) {
-            Node::Up(up) => {
-                let mut fleet = up.crash();
-                fleet.limit(u64::MAX);
-                *self = Node::Down(fleet);
-            }
-            down => *self = down,
-        }
+        let Node::Up(up) = replace(self, Node::Changing) else {
+            unreachable!();
+        };
+        *self = Node::Down(up.crash());
     }
 
     /// The image of a segment.
@@ -136,15 +135,11 @@ impl Node {
     pub fn crash(&mut self) -> Answer
         ensures { (config : Config) → AnswersLine self.old config Crash self.new result }
     {
-        match replace(self, Node::Changing) {
-            Node::Up(up) => {
-                *self = Node::Down(up.crash());
-                Answer::Crashed
-            }
-            down => {
-                *self = down;
-                Answer::Down
-            }
+        if let Node::Up(_) = self {
+            self.drop_master();
+            Answer::Crashed
+        } else {
+            Answer::Down
         }
     }
 

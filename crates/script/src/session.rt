@@ -21,7 +21,7 @@ use master::{Command, If, Master, Refusal};
 use std::alloc::Global;
 
 /// Why a line was not run.
-#[derive(Clone, Copy, Debug, PartialEq, Eq)]
+#[derive(Clone, Copy)]
 pub enum LineFault {
     Bad,
     NoMemory,

@@ -1,5 +1,6 @@
 use Rattle.std.proofs.Common.{◌≡◌, ap, refl, subst}
 use Rattle.master.specs.Master.{MasterData}
+use Rattle.master.specs.Steps.{World}
 use Rattle.script.specs.declared.node.Node.{Node}
 use Rattle.script.specs.declared.node.Node.TheVariants.{Up}
 use Rattle.script.specs.Served.{IsServed, IsUnserved, IsOf, is_up}
@@ -19,7 +20,7 @@ returns-in-Err-Spent c = λ config line is d at s.
     let r = c.in-Err-Spent.field-0 in
     let same : c.in-Up.up.knows ≡ d = subst (λ (n : Node). IsOf n d) c.in-Up.is s.node_of in
     let left : IsUnserved d e c.args.command r = subst (λ (x : MasterData). IsUnserved x e c.args.command r) same c.in-Err-Spent.ensures.unserved in
-    stopped_told d e c.args.self.now c.stop_serving.new.self config at (c.stop_serving.ensures.of e refl) s line c.args.command is r (ap is_up c.in-Up.is) c.stop_serving.ensures.down left
+    stopped_told d e c.args.self.now c.drop_master.new.self config at (c.drop_master.ensures.of e (ap (λ (w : World). w.knows) c.limit.ensures)) s line c.args.command is r (ap is_up c.in-Up.is) c.drop_master.ensures.down left
 
 pub returns-in-Err : goal.returns-in-Err
 returns-in-Err c = λ config line is d at s.
