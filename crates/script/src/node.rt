@@ -92,7 +92,7 @@ impl Node {
         }
     }
 
-    /// Drops the master, which there is.
+    /// Drops the master of a node that is up.
     fn drop_master(&mut self)
         requires { is_up self.old ≡ true }
         ensures of { (d : MasterData) → IsOf self.old d → IsOf self.new d }
