@@ -4,7 +4,7 @@ use crate::key::Key;
 use crate::limits::{Ids, SafeVersion, Value, Version};
 
 /// What a segment is for.
-#[derive(Clone, Copy, Debug, PartialEq, Eq)]
+#[derive(Clone, Copy)]
 pub enum Role {
     Head,
     Survivor,
@@ -15,7 +15,7 @@ impl Role {
     ghost use Rattle.entry.specs.Format.{role_byte};
 
     /// The role of a byte.
-    pub fn from_byte(byte: u8) -> Option<Role>
+    pub(crate) fn from_byte(byte: u8) -> Option<Role>
         ensures some { IfSome result (λ role. byte ≡ role_byte role) }
         ensures none { IfNone result (1 < byte) }
     {
@@ -27,7 +27,7 @@ impl Role {
     }
 
     /// The byte of the role.
-    pub fn byte(self) -> u8
+    pub(crate) fn byte(self) -> u8
         ensures { result ≡ role_byte self }
     {
         match self {
@@ -38,7 +38,7 @@ impl Role {
 }
 
 /// How a segment begins.
-#[derive(Clone, Copy, Debug, PartialEq, Eq)]
+#[derive(Clone, Copy)]
 pub struct Header {
     pub master: u64,
     pub segment: u64,
@@ -46,7 +46,7 @@ pub struct Header {
 }
 
 /// A key's value as of a version.
-#[derive(Clone, Debug, Drop)]
+#[derive(Debug, Drop)]
 pub struct Object {
     pub key: Key,
     pub version: Version,
@@ -54,7 +54,7 @@ pub struct Object {
 }
 
 /// The end of the object of a key and version, which lay in this segment.
-#[derive(Clone, Debug, Drop)]
+#[derive(Drop)]
 pub struct Tombstone {
     pub key: Key,
     pub version: Version,
@@ -62,7 +62,7 @@ pub struct Tombstone {
 }
 
 /// An entry of the log. Each value is within the limits of the format.
-#[derive(Clone, Debug, Drop)]
+#[derive(Drop)]
 pub enum Entry {
     Header(Header),
     /// The ids of all segments of the log.

@@ -1,18 +1,13 @@
 //! Keys, and the place of each.
 
-ghost use Rattle.std.proofs.Common.{rules};
-ghost use Rattle.std.specs.Cmp.Rules.{hashing};
-ghost use Rattle.std.specs.Cmp.{partial_equiv_from_equiv, partial_order_from_agreeing_total};
-ghost use Rattle.std.specs.Cmp.Lexicographic.{pointwise, slice_cmp, nat_list_eq_equiv, nat_list_cmp_total, texts_ties};
-ghost use Rattle.std.specs.Ordering.{nat_cmp, as_partial_cmp};
-ghost use Rattle.std.specs.Prelude.{refl, nat_eq, IsTrue, ◌≡◌, ◌<◌, ◌≤◌, ◌↔◌, ℕ, List, length, IfOk, IsErrOf};
+ghost use Rattle.std.specs.Cmp.{partial_equiv_from_equiv};
+ghost use Rattle.std.specs.Cmp.Lexicographic.{pointwise, nat_list_eq_equiv};
+ghost use Rattle.std.specs.Prelude.{nat_eq, ◌≡◌, ◌<◌, ◌≤◌, ◌↔◌, ℕ, List, length, IfOk, IsErrOf};
 ghost use Rattle.entry.specs.Key.{IsKeyBytes, place_of};
 
 use crate::fault::KeyFault;
 use crate::view::KeyRef;
 use std::alloc::{AllocError, Global};
-use std::cmp::Ordering;
-use std::hash::{Hash, Hasher};
 use std::marker::Model;
 
 /// The most bytes that a key has.
@@ -34,7 +29,7 @@ impl Model for KeyBytes {
 
 impl KeyBytes {
     /// A copy of these bytes.
-    pub fn from_slice(alloc: Global, bytes: &[u8]) -> Result<KeyBytes, AllocError>
+    pub(crate) fn from_slice(alloc: Global, bytes: &[u8]) -> Result<KeyBytes, AllocError>
         requires not_empty { 0 < length bytes.now }
         requires limit { length bytes.now ≤ MAX_KEY_LEN }
         ensures { IfOk result (λ copy. copy ≡ bytes.now) }
@@ -52,7 +47,7 @@ impl KeyBytes {
 }
 
 /// A key: a table, and bytes in it.
-#[derive(Clone, Debug, Drop, PartialEq, Eq, PartialOrd, Ord, Hash)]
+#[derive(Clone, Debug, Drop, PartialEq, Eq)]
 pub struct Key {
     pub table: u64,
     pub bytes: KeyBytes,
@@ -94,22 +89,10 @@ pub fn place(key: &Key) -> u64
 
 impl<'a> KeyRef<'a> {
     /// The place of the key in its table.
-    pub fn place(&self) -> u64
+    pub(crate) fn place(&self) -> u64
         ensures { result ≡ place_of self.now.bytes.now }
     {
         place_at(self.bytes)
-    }
-}
-
-impl Hash for KeyBytes {
-    ghost use Rattle.std.specs.Hash as fed;
-
-    ghost hash_input = { λ k. fed.slice fed.u8 k };
-
-    ghost respects_eq = { Prim.search (hashing, rules) };
-
-    fn hash<H: Hasher>(&self, state: &mut H) {
-        self.bytes.hash(state);
     }
 }
 
@@ -125,28 +108,4 @@ impl PartialEq for KeyBytes {
 
 impl Eq for KeyBytes {
     ghost laws = { nat_list_eq_equiv };
-}
-
-impl PartialOrd for KeyBytes {
-    ghost partial_cmp = { as_partial_cmp (slice_cmp nat_cmp) };
-
-    ghost laws = { partial_order_from_agreeing_total (slice_cmp nat_cmp) nat_list_cmp_total (λ x y. refl) texts_ties };
-
-    fn partial_cmp(&self, other: &KeyBytes) -> Option<Ordering> {
-        Some(self.cmp(other))
-    }
-}
-
-impl Ord for KeyBytes {
-    ghost cmp = { slice_cmp nat_cmp };
-
-    ghost total = { nat_list_cmp_total };
-
-    ghost matches_partial_cmp = { λ x y. refl };
-
-    ghost matches_eq = { texts_ties };
-
-    fn cmp(&self, other: &KeyBytes) -> Ordering {
-        self.bytes.cmp(&other.bytes)
-    }
 }

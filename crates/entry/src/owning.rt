@@ -41,7 +41,7 @@ impl<'a> ObjectRef<'a> {
 
 impl<'a> TombstoneRef<'a> {
     /// A tombstone of its own.
-    pub fn to_tombstone(&self, alloc: Global) -> Result<Tombstone, AllocError>
+    fn to_tombstone(&self, alloc: Global) -> Result<Tombstone, AllocError>
         ensures { IfOk result (λ tombstone. tombstone ≡ shown_tombstone self.now) }
     {
         let key = self.key.to_key(alloc)?;
@@ -78,7 +78,7 @@ impl<'a> DigestRef<'a> {
     }
 
     /// The ids, in memory of their own.
-    pub fn to_ids(&self, alloc: Global) -> Result<Ids, AllocError>
+    fn to_ids(&self, alloc: Global) -> Result<Ids, AllocError>
         ensures { IfOk result (λ ids. ids ≡ shown_ids self.now) }
     {
         let mut ids = Vec::with_capacity(alloc, self.count)?;
@@ -113,32 +113,6 @@ impl Key {
         KeyRef {
             table: self.table,
             bytes: self.bytes.as_slice(),
-        }
-    }
-}
-
-impl Object {
-    /// The object as it lies here, without a copy.
-    pub fn view(&self) -> ObjectRef<'_>
-        ensures { shown_object result ≡ self.entry.now }
-    {
-        ObjectRef {
-            key: self.key.view(),
-            version: self.version,
-            value: self.value.as_slice(),
-        }
-    }
-}
-
-impl Tombstone {
-    /// The tombstone as it lies here, without a copy.
-    pub fn view(&self) -> TombstoneRef<'_>
-        ensures { shown_tombstone result ≡ self.entry.now }
-    {
-        TombstoneRef {
-            key: self.key.view(),
-            version: self.version,
-            segment: self.segment,
         }
     }
 }

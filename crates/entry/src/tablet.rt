@@ -7,19 +7,11 @@ use crate::view::KeyRef;
 use std::marker::Model;
 
 /// The places of a table from `first` to `last`, both included.
-#[derive(Clone, Copy, Debug, PartialEq, Eq)]
+#[derive(Clone, Copy, Debug)]
 pub struct Tablet {
     pub table: u64,
     pub first: u64,
     pub last: u64,
-}
-
-/// How many bytes an object at a place of a table has.
-#[derive(Clone, Copy, Debug, PartialEq, Eq)]
-pub struct Size {
-    pub table: u64,
-    pub place: u64,
-    pub bytes: u64,
 }
 
 impl Tablet {
@@ -28,7 +20,7 @@ impl Tablet {
     ghost use Rattle.entry.specs.Tablet.{has_key, is_before};
 
     /// Whether the key's place is in the tablet.
-    pub fn has(&self, key: &KeyRef) -> bool
+    fn has(&self, key: &KeyRef) -> bool
         ensures { result ≡ has_key self.now (shown_key key.now) }
     {
         let place = key.place();
@@ -36,7 +28,7 @@ impl Tablet {
     }
 
     /// Whether the tablet ends before the other begins.
-    pub fn is_before(&self, other: &Tablet) -> bool
+    fn is_before(&self, other: &Tablet) -> bool
         ensures { result ≡ is_before self.now other.now }
     {
         self.table < other.table || (self.table == other.table && self.last < other.first)
@@ -68,14 +60,6 @@ impl Tablets {
         ensures { result ≡ tablets.items }
     {
         Tablets { tablets }
-    }
-
-    /// The list of the tablets. It takes no memory.
-    pub fn into_vec(self) -> Vec<Tablet>
-        ensures { result.items ≡ self }
-    {
-        let Tablets { tablets } = self;
-        tablets
     }
 
     pub fn as_slice(&self) -> &[Tablet]

@@ -18,7 +18,7 @@ pub struct KeyRef<'a> {
 }
 
 /// An object whose key and value lie elsewhere.
-#[derive(Clone, Copy, Debug)]
+#[derive(Clone, Copy)]
 pub struct ObjectRef<'a> {
     pub key: KeyRef<'a>,
     pub version: Version,
@@ -28,7 +28,7 @@ pub struct ObjectRef<'a> {
 }
 
 /// A tombstone whose key lies elsewhere.
-#[derive(Clone, Copy, Debug)]
+#[derive(Clone, Copy)]
 pub struct TombstoneRef<'a> {
     pub key: KeyRef<'a>,
     pub version: Version,
@@ -37,7 +37,7 @@ pub struct TombstoneRef<'a> {
 }
 
 /// A digest that lies in bytes: its text, and how many ids that has.
-#[derive(Clone, Copy, Debug)]
+#[derive(Clone, Copy)]
 pub struct DigestRef<'a> {
     pub(crate) count: usize,
     pub(crate) text: &'a [u8],
@@ -46,7 +46,7 @@ pub struct DigestRef<'a> {
 }
 
 /// An entry that lies in bytes. To look at it takes no memory.
-#[derive(Clone, Copy, Debug)]
+#[derive(Clone, Copy)]
 pub enum EntryRef<'a> {
     Header(Header),
     Digest(DigestRef<'a>),

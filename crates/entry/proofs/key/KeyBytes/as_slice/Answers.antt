@@ -1,0 +1,5 @@
+use Rattle.std.proofs.Common.{◌∙◌}
+use Rattle.entry.proofs.key.KeyBytes.as_slice.Goals as goal
+
+pub returns-clause-bytes : goal.returns-clause-bytes
+returns-clause-bytes c = c.as_slice.ensures.value ∙ c.self.view_is

@@ -1,0 +1,4 @@
+use Rattle.entry.proofs.limits.SafeVersion.get.Goals as goal
+
+pub returns-clause-value : goal.returns-clause-value
+returns-clause-value c = c.self.view_is
