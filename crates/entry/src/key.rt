@@ -6,7 +6,6 @@ ghost use Rattle.std.specs.Prelude.{nat_eq, ◌≡◌, ◌<◌, ◌≤◌, ◌�
 ghost use Rattle.entry.specs.Key.{IsKeyBytes, place_of};
 
 use crate::fault::KeyFault;
-use crate::view::KeyRef;
 use std::alloc::{AllocError, Global};
 use std::marker::Model;
 
@@ -71,7 +70,8 @@ impl Key {
     }
 }
 
-fn place_at(bytes: &[u8]) -> u64
+/// The place of a key of these bytes in its table.
+pub(crate) fn place_at(bytes: &[u8]) -> u64
     ensures { result ≡ place_of bytes.now }
 {
     let taken = bytes.len().min(8);
@@ -85,15 +85,6 @@ pub fn place(key: &Key) -> u64
     ensures { result ≡ place_of key.now.bytes }
 {
     place_at(key.bytes.as_slice())
-}
-
-impl<'a> KeyRef<'a> {
-    /// The place of the key in its table.
-    pub(crate) fn place(&self) -> u64
-        ensures { result ≡ place_of self.now.bytes.now }
-    {
-        place_at(self.bytes)
-    }
 }
 
 impl PartialEq for KeyBytes {

@@ -3,6 +3,7 @@
 ghost use Rattle.std.specs.Prelude.{◌≡◌, List};
 ghost use Rattle.entry.specs.View.{shown_key};
 
+use crate::key::place_at;
 use crate::view::KeyRef;
 use std::marker::Model;
 
@@ -23,7 +24,7 @@ impl Tablet {
     fn has(&self, key: &KeyRef) -> bool
         ensures { result ≡ has_key self.now (shown_key key.now) }
     {
-        let place = key.place();
+        let place = place_at(key.bytes);
         self.table == key.table && self.first <= place && place <= self.last
     }
 
@@ -62,17 +63,16 @@ impl Tablets {
         Tablets { tablets }
     }
 
-    pub fn as_slice(&self) -> &[Tablet]
-        ensures { result.now ≡ self.now }
-    {
-        self.tablets.as_slice()
-    }
-
     /// Whether the key's place is in one of the tablets.
     pub fn have(&self, key: &KeyRef) -> bool
         ensures { result ≡ have_key self.now (shown_key key.now) }
     {
-        self.tablets.iter().any(|tablet| tablet.has(key))
+        for tablet in self.tablets.as_slice() {
+            if tablet.has(key) {
+                return true;
+            }
+        }
+        false
     }
 
     /// Whether there are some, each begins no later than it ends, and they are sorted and disjoint.
