@@ -83,11 +83,8 @@ impl Entry {
     {
         match self {
             Entry::Header(header) => {
-                let Header {
-                    master: _master,
-                    segment: _segment,
-                    role: _,
-                } = *header;
+                let _master = header.master;
+                let _segment = header.segment;
                 18
             }
             Entry::Digest(ids) => 5 + 8 * ids.as_slice().len(),
