@@ -4,7 +4,7 @@ use crate::key::Key;
 use crate::limits::{Ids, SafeVersion, Value, Version};
 
 /// What a segment is for.
-#[derive(Clone, Copy)]
+#[derive(Clone, Copy, Debug, PartialEq, Eq)]
 pub enum Role {
     Head,
     Survivor,
@@ -38,7 +38,7 @@ impl Role {
 }
 
 /// How a segment begins.
-#[derive(Clone, Copy)]
+#[derive(Clone, Copy, Debug, PartialEq, Eq)]
 pub struct Header {
     pub master: u64,
     pub segment: u64,
@@ -46,7 +46,7 @@ pub struct Header {
 }
 
 /// A key's value as of a version.
-#[derive(Debug, Drop)]
+#[derive(Clone, Debug, Drop)]
 pub struct Object {
     pub key: Key,
     pub version: Version,
@@ -54,7 +54,7 @@ pub struct Object {
 }
 
 /// The end of the object of a key and version, which lay in this segment.
-#[derive(Drop)]
+#[derive(Clone, Debug, Drop)]
 pub struct Tombstone {
     pub key: Key,
     pub version: Version,
@@ -62,7 +62,7 @@ pub struct Tombstone {
 }
 
 /// An entry of the log. Each value is within the limits of the format.
-#[derive(Drop)]
+#[derive(Clone, Debug, Drop)]
 pub enum Entry {
     Header(Header),
     /// The ids of all segments of the log.

@@ -1,12 +1,14 @@
 //! Keys, and the place of each.
 
-ghost use Rattle.std.specs.Cmp.{partial_equiv_from_equiv};
-ghost use Rattle.std.specs.Cmp.Lexicographic.{pointwise, nat_list_eq_equiv};
-ghost use Rattle.std.specs.Prelude.{nat_eq, ◌≡◌, ◌<◌, ◌≤◌, ◌↔◌, ℕ, List, length, IfOk, IsErrOf};
+ghost use Rattle.std.specs.Cmp.{partial_equiv_from_equiv, partial_order_from_agreeing_total};
+ghost use Rattle.std.specs.Cmp.Lexicographic.{pointwise, slice_cmp, nat_list_eq_equiv, nat_list_cmp_total, texts_ties};
+ghost use Rattle.std.specs.Ordering.{nat_cmp, as_partial_cmp};
+ghost use Rattle.std.specs.Prelude.{refl, nat_eq, ◌≡◌, ◌<◌, ◌≤◌, ◌↔◌, ℕ, List, length, IfOk, IsErrOf};
 ghost use Rattle.entry.specs.Key.{IsKeyBytes, place_of};
 
 use crate::fault::KeyFault;
 use std::alloc::{AllocError, Global};
+use std::cmp::Ordering;
 use std::marker::Model;
 
 /// The most bytes that a key has.
@@ -46,7 +48,7 @@ impl KeyBytes {
 }
 
 /// A key: a table, and bytes in it.
-#[derive(Clone, Debug, Drop, PartialEq, Eq)]
+#[derive(Clone, Debug, Drop, PartialEq, Eq, PartialOrd, Ord)]
 pub struct Key {
     pub table: u64,
     pub bytes: KeyBytes,
@@ -99,4 +101,28 @@ impl PartialEq for KeyBytes {
 
 impl Eq for KeyBytes {
     ghost laws = { nat_list_eq_equiv };
+}
+
+impl PartialOrd for KeyBytes {
+    ghost partial_cmp = { as_partial_cmp (slice_cmp nat_cmp) };
+
+    ghost laws = { partial_order_from_agreeing_total (slice_cmp nat_cmp) nat_list_cmp_total (λ x y. refl) texts_ties };
+
+    fn partial_cmp(&self, other: &KeyBytes) -> Option<Ordering> {
+        Some(self.cmp(other))
+    }
+}
+
+impl Ord for KeyBytes {
+    ghost cmp = { slice_cmp nat_cmp };
+
+    ghost total = { nat_list_cmp_total };
+
+    ghost matches_partial_cmp = { λ x y. refl };
+
+    ghost matches_eq = { texts_ties };
+
+    fn cmp(&self, other: &KeyBytes) -> Ordering {
+        self.bytes.cmp(&other.bytes)
+    }
 }

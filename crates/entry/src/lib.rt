@@ -19,6 +19,6 @@ pub use key::{Key, KeyBytes, MAX_KEY_LEN, place};
 pub use laws::{one_reading, one_spelling};
 pub use limits::{Ids, MAX_VALUE_LEN, SafeVersion, Value, Version};
 pub use reading::read_entry;
-pub use tablet::{Tablet, Tablets};
+pub use tablet::{Size, Tablet, Tablets};
 pub use view::{DigestRef, EntryRef, KeyRef, ObjectRef, TombstoneRef};
 pub use writing::write_entry;

@@ -10,7 +10,6 @@ use crate::key::MAX_KEY_LEN;
 use crate::kind::Kind;
 use crate::limits::{MAX_VALUE_LEN, SafeVersion, Version};
 use crate::view::{DigestRef, EntryRef, KeyRef, ObjectRef, TombstoneRef};
-use byteorder::{BigEndian, ByteOrder};
 use std::alloc::Global;
 
 #[tactic(auto, unfolding(crate::specs::Format::number_at))]
@@ -18,7 +17,8 @@ pub(crate) fn u64_at(bytes: &[u8], at: usize) -> u64
     requires { at + 8 ≤ length bytes.now }
     ensures { result ≡ number_at 8 at bytes.now }
 {
-    BigEndian::read_u64(&bytes[at..])
+    let b = &bytes[at..];
+    u64::from_be_bytes([b[0], b[1], b[2], b[3], b[4], b[5], b[6], b[7]])
 }
 
 #[tactic(auto, unfolding(crate::specs::Format::number_at))]
@@ -26,7 +26,8 @@ fn u32_at(bytes: &[u8], at: usize) -> u32
     requires { at + 4 ≤ length bytes.now }
     ensures { result ≡ number_at 4 at bytes.now }
 {
-    BigEndian::read_u32(&bytes[at..])
+    let b = &bytes[at..];
+    u32::from_be_bytes([b[0], b[1], b[2], b[3]])
 }
 
 #[tactic(auto, unfolding(crate::specs::Format::number_at))]
@@ -34,7 +35,8 @@ fn u16_at(bytes: &[u8], at: usize) -> u16
     requires { at + 2 ≤ length bytes.now }
     ensures { result ≡ number_at 2 at bytes.now }
 {
-    BigEndian::read_u16(&bytes[at..])
+    let b = &bytes[at..];
+    u16::from_be_bytes([b[0], b[1]])
 }
 
 fn read_header(bytes: &[u8]) -> Result<(EntryRef<'_>, usize), EntryFault>

@@ -8,11 +8,19 @@ use crate::view::KeyRef;
 use std::marker::Model;
 
 /// The places of a table from `first` to `last`, both included.
-#[derive(Clone, Copy, Debug)]
+#[derive(Clone, Copy, Debug, PartialEq, Eq)]
 pub struct Tablet {
     pub table: u64,
     pub first: u64,
     pub last: u64,
+}
+
+/// How many bytes an object at a place of a table has.
+#[derive(Clone, Copy, Debug, PartialEq, Eq)]
+pub struct Size {
+    pub table: u64,
+    pub place: u64,
+    pub bytes: u64,
 }
 
 impl Tablet {
@@ -63,16 +71,17 @@ impl Tablets {
         Tablets { tablets }
     }
 
+    pub fn as_slice(&self) -> &[Tablet]
+        ensures { result.now ≡ self.now }
+    {
+        self.tablets.as_slice()
+    }
+
     /// Whether the key's place is in one of the tablets.
     pub fn have(&self, key: &KeyRef) -> bool
         ensures { result ≡ have_key self.now (shown_key key.now) }
     {
-        for tablet in self.tablets.as_slice() {
-            if tablet.has(key) {
-                return true;
-            }
-        }
-        false
+        self.tablets.iter().any(|tablet| tablet.has(key))
     }
 
     /// Whether there are some, each begins no later than it ends, and they are sorted and disjoint.

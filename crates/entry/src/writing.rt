@@ -9,6 +9,7 @@ use crate::entry::{Entry, Role};
 use crate::fault::NoMemory;
 use crate::limits::Version;
 use crate::view::{KeyRef, ObjectRef, TombstoneRef};
+use byteorder::{BigEndian, ByteOrder};
 
 #[tactic(auto, unfolding(crate::specs::Format::number_bytes))]
 fn put_u64(out: &mut Vec<u8>, number: u64)
@@ -17,27 +18,33 @@ fn put_u64(out: &mut Vec<u8>, number: u64)
     ensures len { vec_len out.new ≡ vec_len out.old + 8 }
     ensures capacity { vec_capacity out.old ≤ vec_capacity out.new }
 {
-    put_bytes(out, &number.to_be_bytes())
+    let mut bytes = [0; 8];
+    BigEndian::write_u64(&mut bytes, number);
+    out.extend_from_slice(&bytes).unwrap()
 }
 
 #[tactic(auto, unfolding(crate::specs::Format::number_bytes))]
-fn put_u32(out: &mut Vec<u8>, count: u32)
+fn put_u32(out: &mut Vec<u8>, number: u32)
     requires { vec_len out.old + 4 ≤ vec_capacity out.old }
-    ensures items { out.new.items ≡ out.old.items ++ number_bytes 4 count }
+    ensures items { out.new.items ≡ out.old.items ++ number_bytes 4 number }
     ensures len { vec_len out.new ≡ vec_len out.old + 4 }
     ensures capacity { vec_capacity out.old ≤ vec_capacity out.new }
 {
-    put_bytes(out, &count.to_be_bytes())
+    let mut bytes = [0; 4];
+    BigEndian::write_u32(&mut bytes, number);
+    out.extend_from_slice(&bytes).unwrap()
 }
 
 #[tactic(auto, unfolding(crate::specs::Format::number_bytes))]
-fn put_u16(out: &mut Vec<u8>, len: u16)
+fn put_u16(out: &mut Vec<u8>, number: u16)
     requires { vec_len out.old + 2 ≤ vec_capacity out.old }
-    ensures items { out.new.items ≡ out.old.items ++ number_bytes 2 len }
+    ensures items { out.new.items ≡ out.old.items ++ number_bytes 2 number }
     ensures len { vec_len out.new ≡ vec_len out.old + 2 }
     ensures capacity { vec_capacity out.old ≤ vec_capacity out.new }
 {
-    put_bytes(out, &len.to_be_bytes())
+    let mut bytes = [0; 2];
+    BigEndian::write_u16(&mut bytes, number);
+    out.extend_from_slice(&bytes).unwrap()
 }
 
 /// Appends a key's or a value's bytes, where there is room for them.
