@@ -1,5 +1,5 @@
 -- A new master, and a command, keep what holds of every master.
-use Rattle.std.proofs.Common.{◌≡◌, ℕ, ◌+◌, ◌<◌, ◌≤◌, inl, false, List, [], ◌∷◌, ◌++◌, length, refl, sym, ap, subst, ◌∙◌, arith}
+use Rattle.std.proofs.Common.{◌≡◌, ℕ, ◌+◌, ◌≤◌, inl, false, List, [], ◌∷◌, ◌++◌, length, refl, sym, ap, subst, ◌∙◌, arith}
 use Rattle.std.specs.Prelude.{Option, None}
 use Rattle.std.proofs.lemmas.List.{length-append}
 use Rattle.entry.specs.declared.entry.Object.{Object}
@@ -87,11 +87,21 @@ module _ (d : MasterData) (f : FleetState) (command : Command) (change : Change)
   own_unit : unit_of_change d.head.id command change ≡ unit_of (state_of d) d.head.id command
   own_unit = change_is.unit d.head.id
 
-  pub never_full : command_refusal d command ≡ None → (is_empty (unit_of_change d.head.id command change) ≡ false)
-      × (d.config.segment < length (text_of d.head.image) + length (text_of (unit_of_change d.head.id command change))) → ⊥
-  never_full passed over =
-      unit_fits d command passed (ap is_empty (sym own_unit) ∙ over.0)
-      (subst (λ (u : List Entry). d.config.segment < length (text_of d.head.image) + length (text_of u)) own_unit over.1)
+  pub fits : command_refusal d command ≡ None → is_empty (unit_of_change d.head.id command change) ≡ false
+      → length (text_of d.head.image) + length (text_of (unit_of_change d.head.id command change)) ≤ d.config.segment
+  fits passed some =
+      subst (λ (u : List Entry). length (text_of d.head.image) + length (text_of u) ≤ d.config.segment) (sym own_unit)
+      (unit_fits d command passed (ap is_empty (sym own_unit) ∙ some))
+
+  -- the reply that is right for what the index says is the versioned map's
+  pub reply_is : (reply : Reply) → ((os : List Object) → AreAt d.head.image d.places os → slot ≡ slot_in os (command_key command)
+      → IsChangeOf d.safe (contents_of os (command_key command)) command change
+      → reply ≡ reply_given d.safe (contents_of os (command_key command)) command) → reply ≡ reply_to (state_of d) command
+  reply_is reply right =
+      let os = kept.logged.index.0 in
+      let index = kept.logged.index.1 in
+      right os index.places (judged os index.places).0 (judged os index.places).1
+      ∙ (λ i. reply_given (index.safe i) (index.contents i (command_key command)) command)
 
 module _ (d : MasterData) (f : FleetState) (seat : ℕ) (command : Command) (change : Change) (slot : Option ℕ) (at : ℕ) (kept : IsKept d f)
     (valid : IsHead d.head)
@@ -216,11 +226,3 @@ module _ (d : MasterData) (f : FleetState) (seat : ℕ) (command : Command) (cha
     history = refl;
     head = head_then;
   }
-
-  -- the reply that is right for what the index says is the versioned map's
-  pub reply_is : (reply : Reply) → ((o : List Object) → AreAt d.head.image d.places o → slot ≡ slot_in o (command_key command)
-      → IsChangeOf d.safe (contents_of o (command_key command)) command change
-      → reply ≡ reply_given d.safe (contents_of o (command_key command)) command) → reply ≡ reply_to st command
-  reply_is reply right =
-      right os index.places (judged os index.places).0 (judged os index.places).1
-      ∙ (λ i. reply_given (index.safe i) (index.contents i (command_key command)) command)

@@ -76,10 +76,6 @@ module _ (d : MasterData) (f : FleetState) (kept : IsKept d f) where
 module _ (d : MasterData) (f : FleetState) (b : ℕ) (op : OpValue) (next : HeadValue) (placed : FleetState) (kept : IsKept d f)
     (running : d.is_halted ≡ false)
     (fits : taken f b op ≡ Some placed) (mirrored : IsMirrored d.config next placed) (ahead : IsAtMostOneAhead d.head next) where
-  -- the op is never wrong
-  pub never_wrong : (g : FleetState) (fault : TakeFault) → Refuses f b op fault g → fault ≡ take_fault.Wrong → ⊥
-  never_wrong g fault refused is = none_some fits (subst (λ (x : TakeFault). Refuses f b op x g) is refused).0
-
   before : IsMirrored d.config d.head f
   before = mirrored_now d f kept running
 
@@ -119,7 +115,7 @@ module _ (d : MasterData) (f : FleetState) (b : ℕ) (op : OpValue) (next : Head
 
   pub failed_kept : (g : FleetState) (fault : TakeFault) → Refuses f b op fault g → IsKept (with_halt d (is_halting fault)) g
   failed_kept g take_fault.NoMemory refused = still_kept g refused
-  failed_kept g take_fault.Wrong refused = absurd (never_wrong g take_fault.Wrong refused refl)
+  failed_kept g take_fault.Wrong refused = absurd (none_some fits refused.0)
   failed_kept g take_fault.Fault refused = faulted_kept g refused
   failed_kept g take_fault.Spent refused = still_kept g refused.1
 
@@ -129,7 +125,7 @@ module _ (d : MasterData) (f : FleetState) (b : ℕ) (op : OpValue) (next : Head
   pub failed_declines : (g : FleetState) (fault : TakeFault) → IsNextOp d b op → push_refusal d ≡ None → Refuses f b op fault g
       → Declines (record { knows = d; fleet = f }) Push (refusal_of fault) (record { knows = with_halt d (is_halting fault); fleet = g })
   failed_declines g take_fault.NoMemory is passed refused = inr (passed, same_world g refused)
-  failed_declines g take_fault.Wrong is passed refused = absurd (never_wrong g take_fault.Wrong refused refl)
+  failed_declines g take_fault.Wrong is passed refused = absurd (none_some fits refused.0)
   failed_declines g take_fault.Fault is passed refused = inr (passed, (refl, (b, op, is, refused)))
   failed_declines g take_fault.Spent is passed refused = inr (passed, (refused.0, same_world g refused.1))
 
@@ -164,8 +160,8 @@ module _ (d : MasterData) (f : FleetState) (kept : IsKept d f) (running : d.is_h
     };
   }
 
-  pub open_right : (g : FleetState) (fault : TakeFault) → Refuses f spot (open_op d) fault g → fault ≡ take_fault.Wrong → ⊥
-  open_right = never_wrong d f spot (open_op d) (with_replica d.head) opens_to kept running opens_fits opens_mirrored ahead
+  pub open_right : taken f spot (open_op d) ≡ None → ⊥
+  open_right = none_some opens_fits
 
   pub open_failed_kept : (g : FleetState) (fault : TakeFault) → Refuses f spot (open_op d) fault g → IsKept (with_halt d (is_halting fault)) g
   open_failed_kept = failed_kept d f spot (open_op d) (with_replica d.head) opens_to kept running opens_fits opens_mirrored ahead
@@ -211,8 +207,8 @@ module _ (d : MasterData) (f : FleetState) (kept : IsKept d f) (running : d.is_h
     };
   }
 
-  pub extend_right : (g : FleetState) (fault : TakeFault) → Refuses f spot' (extend_op d units) fault g → fault ≡ take_fault.Wrong → ⊥
-  extend_right = never_wrong d f spot' (extend_op d units) (with_taken d.head j) extends_to kept running extends_fits extends_mirrored ahead'
+  pub extend_right : taken f spot' (extend_op d units) ≡ None → ⊥
+  extend_right = none_some extends_fits
 
   pub extend_failed_kept : (g : FleetState) (fault : TakeFault) → Refuses f spot' (extend_op d units) fault g
       → IsKept (with_halt d (is_halting fault)) g

@@ -92,13 +92,12 @@ has_room_then d u some e =
     not_not (has_room d u) (passes (not (has_room d u)) Full None a.1).0
 
 pub unit_fits : (d : MasterData) (command : Command) → command_refusal d command ≡ None → is_empty (unit_of (state_of d) d.head.id command) ≡ false
-    → d.config.segment < length (text_of d.head.image) + length (text_of (unit_of (state_of d) d.head.id command)) → ⊥
-unit_fits d command passed some over =
+    → length (text_of d.head.image) + length (text_of (unit_of (state_of d) d.head.id command)) ≤ d.config.segment
+unit_fits d command passed some =
     let late = (early_first d command (early_refusal d command) (late_refusal d (state_of d) command) passed).1 in
     let unit = (passes (is_spent (state_of d).safe ((state_of d).contents (command_key command)) command) VersionsSpent _ late).1 in
     let room = has_room_then d (unit_of (state_of d) d.head.id command) some unit in
-    let le = leb-true (length (text_of d.head.image) + length (text_of (unit_of (state_of d) d.head.id command))) d.config.segment room in
-    omega arith
+    leb-true (length (text_of d.head.image) + length (text_of (unit_of (state_of d) d.head.id command))) d.config.segment room
 
 -- ---- a push
 

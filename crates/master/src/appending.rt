@@ -1,18 +1,21 @@
 //! From a command and its change to the unit that the head takes.
 
-ghost use Rattle.std.specs.Prelude.{◌≡◌, false, ℕ, ◌+◌, ◌^◌, ◌<◌, ◌≤◌, List, [], ◌∷◌, ◌++◌, length, OnOk, OnErr, IsErrOf};
+ghost use Rattle.std.specs.Prelude.{◌≡◌, false, ℕ, ◌+◌, ◌^◌, ◌<◌, ◌≤◌, List, [], ◌∷◌, ◌++◌, length, vec_len, vec_capacity, IfSome, OnOk, OnErr, IsErrOf};
 ghost use Rattle.entry.specs.declared.entry.Object.{Object};
 ghost use Rattle.entry.specs.declared.entry.Entry.{Entry};
 ghost use Rattle.entry.specs.declared.entry.Entry.TheVariants as entry;
 ghost use Rattle.entry.specs.Text.{text_of};
 ghost use Rattle.entry.specs.View.{shown};
+ghost use Rattle.master.specs.Head.{IsHead};
+ghost use Rattle.master.specs.Index.{placed};
 ghost use Rattle.master.specs.Units.{object_entry, tombstone_entry};
 ghost use Rattle.master.specs.Change.{unit_of_change, is_empty, appended};
 
 use crate::change::Change;
-use crate::command::Command;
+use crate::command::{Command, Record};
 use crate::head::Head;
-use entry::{EntryRef, Key, ObjectRef, TombstoneRef, Value, Version};
+use crate::index::place_change;
+use entry::{EntryRef, Key, NoMemory, ObjectRef, TombstoneRef, Value, Version};
 use segment::AppendFault;
 
 /// The object that a put makes, as it lies in the command.
@@ -41,7 +44,7 @@ fn tombstone_of(key: &Key, version: Version, segment: u64) -> EntryRef<'_>
 
 /// Where in the unit of a change its object begins.
 #[tactic(auto, using(crate::proofs::Changes::front_of_replacing))]
-pub fn object_offset(command: &Command, change: &Change) -> usize
+fn object_offset(command: &Command, change: &Change) -> usize
     ensures behind { (segment : ℕ) (front : List Entry) (o : Object) →
         unit_of_change segment command.now change.now ≡ front ++ entry.Object o ∷ [] → result ≡ length (text_of front) }
     ensures small { result ≤ 2 ^ 32 }
@@ -77,7 +80,7 @@ pub fn unit_len(command: &Command, change: &Change) -> usize
 }
 
 /// Appends the unit of a change to the head.
-pub fn append_change(
+fn append_change(
     head: &mut Head,
     command: &Command,
     change: &Change,
@@ -111,4 +114,39 @@ pub fn append_change(
             _ => Ok(()),
         },
     }
+}
+
+/// Appends the unit of a change, which fits, and keeps the places of the live objects. The history gets room for its record.
+pub fn enact(
+    head: &mut Head,
+    places: &mut Vec<usize>,
+    history: &mut Vec<Record>,
+    command: &Command,
+    change: &Change,
+    slot: Option<usize>,
+    limit: usize,
+) -> Result<(), NoMemory>
+    requires slot { IfSome slot (λ slot. slot < vec_len places.old) }
+    requires limit { limit ≤ 8388608 }
+    requires fits { let unit = unit_of_change head.old.id command.now change.now in
+        is_empty unit ≡ false → length (text_of head.old.image) + length (text_of unit) ≤ limit }
+    ensures valid { IsHead head.old }
+    ensures head { OnOk result (head.new ≡ appended head.old (length history.old.items) (unit_of_change head.old.id command.now change.now)) }
+    ensures places { OnOk result ((at : ℕ) × ((segment : ℕ) (front : List Entry) (o : Object) →
+        unit_of_change segment command.now change.now ≡ front ++ entry.Object o ∷ [] → at ≡ length (text_of head.old.image) + length (text_of front))
+        × (places.new.items ≡ placed places.old.items change.now slot at)) }
+    ensures history { history.new.items ≡ history.old.items }
+    ensures room { OnOk result (vec_len history.new < vec_capacity history.new) }
+    ensures err { OnErr result ((head.new ≡ head.old) × (places.new.items ≡ places.old.items)) }
+{
+    let at = head.image().bytes().len() + object_offset(command, change);
+    history.reserve(1)?;
+    places.reserve(1)?;
+    match append_change(head, command, change, history.len(), limit) {
+        Ok(()) => {}
+        Err(AppendFault::Full) => unreachable!(),
+        Err(AppendFault::NoMemory) => return Err(NoMemory),
+    }
+    place_change(places, change, slot, at);
+    Ok(())
 }

@@ -11,7 +11,7 @@ use entry::{ObjectRef, SafeVersion, Value, Version};
 use std::alloc::{AllocError, Global};
 
 /// What a command does to the map, and so what it appends.
-#[derive(Clone, Copy, Debug, PartialEq, Eq)]
+#[derive(Clone, Copy)]
 pub enum Change {
     /// Nothing.
     Nothing,
@@ -24,7 +24,7 @@ pub enum Change {
 }
 
 /// No version is left for a put.
-#[derive(Clone, Copy, Debug, PartialEq, Eq)]
+#[derive(Clone, Copy)]
 pub struct VersionsSpent;
 
 /// What a put of an absent key does.

@@ -7,7 +7,7 @@ use entry::{Key, Value, Version};
 use std::alloc::AllocError;
 
 /// When a put is done.
-#[derive(Clone, Copy, Debug, PartialEq, Eq)]
+#[derive(Clone, Copy)]
 pub enum If {
     Any,
     /// Only where the key is absent.
@@ -17,7 +17,7 @@ pub enum If {
 }
 
 /// A client's command.
-#[derive(Clone, Debug, Drop)]
+#[derive(Clone, Drop)]
 pub enum Command {
     Get(Key),
     Put(Key, Value, If),
@@ -35,9 +35,7 @@ impl Command {
             Command::Delete(key) => key,
         }
     }
-}
 
-impl Command {
     /// The same command, in memory of its own.
     pub fn copy(&self) -> Result<Command, AllocError>
         ensures { IfOk result (λ copy. copy ≡ self.now) }
@@ -69,22 +67,9 @@ impl Reply {
 }
 
 /// An accepted command, whose it was, and the reply to it.
-#[derive(Clone, Debug, Drop)]
+#[derive(Drop)]
 pub struct Record {
     pub seat: u64,
     pub command: Command,
     pub reply: Reply,
-}
-
-impl Record {
-    /// The same record, in memory of its own.
-    pub fn copy(&self) -> Result<Record, AllocError>
-        ensures { IfOk result (λ copy. copy ≡ self.now) }
-    {
-        Ok(Record {
-            seat: self.seat,
-            command: self.command.copy()?,
-            reply: self.reply.copy()?,
-        })
-    }
 }

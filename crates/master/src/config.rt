@@ -10,7 +10,7 @@ use std::error::Error;
 use std::fmt;
 
 /// What a master is made with. `check` says whether the numbers are within their limits.
-#[derive(Clone, Debug, Drop)]
+#[derive(Drop)]
 pub struct Config {
     /// The master's number.
     pub master: u64,
@@ -33,7 +33,7 @@ pub struct Config {
 }
 
 /// What is wrong with a configuration.
-#[derive(Clone, Copy, Debug, PartialEq, Eq)]
+#[derive(Clone, Copy, Debug)]
 pub enum ConfigFault {
     BadBackups,
     BadStep,

@@ -14,7 +14,7 @@ use std::alloc::Global;
 use std::marker::Model;
 
 /// What one command appended to the head.
-#[derive(Clone, Copy, Debug)]
+#[derive(Clone, Copy)]
 pub struct UnitEnd {
     /// The number of the command's record in the history, from 0.
     pub number: usize,
@@ -62,9 +62,8 @@ impl Head {
         requires { replicas ≤ 64 }
         ensures { IfOk result (λ head. head ≡ fresh_head master replicas safe) }
     {
-        let mut ids = Vec::with_capacity(alloc, 1)?;
-        ids.push(1)?;
-        let image = Segment::begin_head(alloc, master, 1, &Ids::new(ids), safe)?;
+        let taken = Vec::with_capacity(alloc, replicas)?;
+        let image = first_image(alloc, master, safe)?;
         let opening = image.bytes_len();
         Ok(Head {
             id: 1,
@@ -72,7 +71,7 @@ impl Head {
             image,
             opening,
             units: Vec::new(alloc),
-            taken: Vec::with_capacity(alloc, replicas)?,
+            taken,
         })
     }
 
@@ -233,6 +232,16 @@ impl Head {
 }
 
 ghost use Rattle.master.specs.Head.{IsLagging};
+ghost use Rattle.master.specs.HeadSteps.{first_opening};
+
+/// The opening of a master's first head, whose digest lists that head alone.
+fn first_image(alloc: Global, master: u64, safe: SafeVersion) -> Result<Segment, NoMemory>
+    ensures { IfOk result (λ image. image ≡ first_opening master safe) }
+{
+    let mut ids = Vec::with_capacity(alloc, 1)?;
+    ids.push(1)?;
+    Segment::begin_head(alloc, master, 1, &Ids::new(ids), safe)
+}
 
 /// The first place of the least number below `units`. There are at most 64 numbers.
 fn lagging(taken: &[usize], units: usize) -> Option<usize>

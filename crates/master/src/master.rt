@@ -1,6 +1,6 @@
 //! One master over a fleet of backups.
 
-ghost use Rattle.std.specs.Prelude.{List, ◌≡◌, ◌≤◌, ◌<◌, ◌^◌, ℕ, None, Some, false, true, length, IfOk, IfErr, IfSome, OnErr};
+ghost use Rattle.std.specs.Prelude.{List, ◌⊎◌, ◌≡◌, ◌≤◌, ◌<◌, ◌^◌, ℕ, None, Some, false, true, length, IfOk, IfErr, IfSome, OnOk, OnErr};
 ghost use Rattle.master.specs.Config.{config_fault};
 ghost use Rattle.master.specs.Covered.{IsCovered};
 ghost use Rattle.master.specs.Durable.{IsDurable};
@@ -9,18 +9,17 @@ ghost use Rattle.master.specs.Keeps.{Keeps};
 ghost use Rattle.master.specs.Log.{IsLegal, IsLogged};
 ghost use Rattle.master.specs.Master.{fresh_data, durable_of};
 ghost use Rattle.master.specs.Sound.{IsSound};
-ghost use Rattle.master.specs.Steps.{World, world, home, Accepts, Declines, Steps, IsRun, refusal_of, is_halting};
+ghost use Rattle.master.specs.Steps.{World, world, home, AppliesTo, Accepts, Declines, Steps, IsRun, refusal_of, is_halting};
 
-use crate::appending::{append_change, object_offset, unit_len};
+use crate::appending::{enact, unit_len};
 use crate::change::{Change, change_of, is_too_big};
 use crate::command::{Command, Record, Reply};
 use crate::config::Config;
 use crate::head::Head;
-use crate::index::{object_at, place_change, slot_of};
+use crate::index::{object_at, slot_of};
 use crate::step::{Look, Refusal, Shown, Step, StepAnswer};
 use entry::{NoMemory, ObjectRef, SafeVersion};
 use replica::{Act, Bench, Bytes, Fleet, Op, TakeFault};
-use segment::AppendFault;
 use std::alloc::{AllocError, Global};
 use std::marker::Model;
 
@@ -198,38 +197,71 @@ impl<F: Fleet> Master<F> {
         change.reply(self.alloc, command, self.object_of(slot).as_ref())
     }
 
+    /// Which of the places has the command's key, what the command does there, and its reply, for the history and for the
+    /// client.
+    fn consider(&self, command: &Command) -> Result<(Change, Option<usize>, Reply, Reply), Refusal>
+        ensures passed { IfOk result (λ _. command_refusal self.now.knows command.now ≡ None) }
+        ensures slot { IfOk result (λ found. IfSome found.1 (λ slot. slot < length self.now.knows.places)) }
+        ensures done { IfOk result (λ found. (os : List ObjectValue) → AreAt self.now.knows.head.image self.now.knows.places os →
+            (found.1 ≡ slot_in os (command_key command.now)) × IsChangeOf self.now.knows.safe (contents_of os (command_key command.now)) command.now found.0) }
+        ensures reply { IfOk result (λ found. (os : List ObjectValue) → AreAt self.now.knows.head.image self.now.knows.places os → found.1 ≡ slot_in os (command_key command.now) →
+            IsChangeOf self.now.knows.safe (contents_of os (command_key command.now)) command.now found.0 →
+            found.2 ≡ reply_given self.now.knows.safe (contents_of os (command_key command.now)) command.now) }
+        ensures answer { IfOk result (λ found. found.3 ≡ found.2) }
+        ensures refused { IfErr result (λ r. (command_refusal self.now.knows command.now ≡ Some r)
+            ⊎ ((command_refusal self.now.knows command.now ≡ None) × (r ≡ Refusal.NoMemory))) }
+    {
+        let (change, slot) = self.judge(command)?;
+        let reply = self.reply_at(command, &change, slot)?;
+        let answer = reply.copy()?;
+        Ok((change, slot, reply, answer))
+    }
+
     /// One command.
     fn apply(&mut self, seat: u64, command: Command) -> Result<StepAnswer, Refusal>
         ensures accepted { IfOk result (λ a. Accepts (world F.state self.old) (Step.Apply seat command) a (world F.state self.new)) }
         ensures refused { IfErr result (λ r. Declines (world F.state self.old) (Step.Apply seat command) r (world F.state self.new)) }
     {
-        let (change, slot) = self.judge(&command)?;
-        let reply = self.reply_at(&command, &change, slot)?;
-        let answer = reply.copy()?;
-        self.history.reserve(1)?;
-        self.places.reserve(1)?;
-        let number = self.history.len();
-        let at = self.head.image().bytes().len();
-        let limit = self.config.segment as usize;
-        match append_change(&mut self.head, &command, &change, number, limit) {
-            Ok(()) => {}
-            Err(AppendFault::Full) => unreachable!(),
-            Err(AppendFault::NoMemory) => return Err(Refusal::NoMemory),
-        }
-        place_change(
-            &mut self.places,
-            &change,
-            slot,
-            at + object_offset(&command, &change),
-        );
-        self.safe = change.safe_after(self.safe);
+        let (change, slot, reply, answer) = self.consider(&command)?;
         let record = Record {
             seat,
             command,
             reply,
         };
-        self.history.push(record).unwrap();
-        Ok(StepAnswer::Applied(number as u64, answer))
+        let place = self.add(record, &change, slot)?;
+        Ok(StepAnswer::Applied(place, answer))
+    }
+
+    /// Adds the record of a command that passed all tests, and appends the unit of its change. The place of the record.
+    fn add(
+        &mut self,
+        accepted: Record,
+        change: &Change,
+        slot: Option<usize>,
+    ) -> Result<u64, NoMemory>
+        requires passed { command_refusal self.old.knows accepted.command ≡ None }
+        requires slot { IfSome slot (λ slot. slot < length self.old.knows.places) }
+        requires judged { (os : List ObjectValue) → AreAt self.old.knows.head.image self.old.knows.places os →
+            (slot ≡ slot_in os (command_key accepted.command)) × IsChangeOf self.old.knows.safe (contents_of os (command_key accepted.command)) accepted.command change.now }
+        requires reply { (os : List ObjectValue) → AreAt self.old.knows.head.image self.old.knows.places os → slot ≡ slot_in os (command_key accepted.command) →
+            IsChangeOf self.old.knows.safe (contents_of os (command_key accepted.command)) accepted.command change.now →
+            accepted.reply ≡ reply_given self.old.knows.safe (contents_of os (command_key accepted.command)) accepted.command }
+        ensures added { IfOk result (λ place. AppliesTo (world F.state self.old) accepted.seat accepted.command (StepAnswer.Applied place accepted.reply) (world F.state self.new)) }
+        ensures refused { OnErr result (self.new ≡ self.old) }
+    {
+        let place = self.history.len() as u64;
+        enact(
+            &mut self.head,
+            &mut self.places,
+            &mut self.history,
+            &accepted.command,
+            change,
+            slot,
+            self.config.segment as usize,
+        )?;
+        self.safe = change.safe_after(self.safe);
+        self.history.push(accepted).unwrap();
+        Ok(place)
     }
 
     /// Opens the next replica of the head.
@@ -246,17 +278,9 @@ impl<F: Fleet> Master<F> {
             segment,
             act: Act::Open(self.head.opening()),
         };
-        match self.fleet.take(backup, &op) {
-            Ok(()) => {
-                self.head.open();
-                Ok(StepAnswer::Opened(backup, segment))
-            }
-            Err(fault) => {
-                let (refusal, is_halted) = failed(fault);
-                self.is_halted = is_halted;
-                Err(refusal)
-            }
-        }
+        hand(&mut self.fleet, &mut self.is_halted, backup, &op)?;
+        self.head.open();
+        Ok(StepAnswer::Opened(backup, segment))
     }
 
     /// Hands a replica the unit behind those that it has.
@@ -277,17 +301,9 @@ impl<F: Fleet> Master<F> {
                 bytes: self.head.unit_behind(units),
             },
         };
-        match self.fleet.take(backup, &op) {
-            Ok(()) => {
-                self.head.extend(replica);
-                Ok(StepAnswer::Extended(backup, segment))
-            }
-            Err(fault) => {
-                let (refusal, is_halted) = failed(fault);
-                self.is_halted = is_halted;
-                Err(refusal)
-            }
-        }
+        hand(&mut self.fleet, &mut self.is_halted, backup, &op)?;
+        self.head.extend(replica);
+        Ok(StepAnswer::Extended(backup, segment))
     }
 
     /// One op handed to one backup.
@@ -455,6 +471,34 @@ fn home(config: &Config, segment: u64, replica: usize) -> u64
     ensures { result ≡ home config.now segment replica }
 {
     ((segment % config.backups) * config.step + replica as u64) % config.backups
+}
+
+ghost use Rattle.replica.specs.Op.{shown_op};
+ghost use Rattle.replica.specs.Take.{Refuses, taken};
+ghost use Rattle.replica.specs.declared.op.TakeFault.{TakeFault as TakeFaultValue};
+
+/// Hands a backup an op that fits. After a fault of the fleet the master is halted.
+fn hand<F: Fleet>(
+    fleet: &mut F,
+    is_halted: &mut bool,
+    backup: u64,
+    op: &Op<'_>,
+) -> Result<(), Refusal>
+    requires running { is_halted.old ≡ false }
+    requires fits { taken (F.state fleet.old) backup (shown_op op.now) ≡ None → ⊥ }
+    ensures running { OnOk result (is_halted.new ≡ false) }
+    ensures taken { OnOk result (taken (F.state fleet.old) backup (shown_op op.now) ≡ Some (F.state fleet.new)) }
+    ensures refused { IfErr result (λ r. (fault : TakeFaultValue) × (r ≡ refusal_of fault) × (is_halted.new ≡ is_halting fault)
+        × Refuses (F.state fleet.old) backup (shown_op op.now) fault (F.state fleet.new)) }
+{
+    match fleet.take(backup, op) {
+        Ok(()) => Ok(()),
+        Err(fault) => {
+            let (refusal, halts) = failed(fault);
+            *is_halted = halts;
+            Err(refusal)
+        }
+    }
 }
 
 /// What a fault of the fleet answers, and whether the master is halted then. No op of a master is Wrong.

@@ -12,7 +12,7 @@ use std::error::Error;
 use std::fmt;
 
 /// A step of a master.
-#[derive(Clone, Debug, Drop)]
+#[derive(Drop)]
 pub enum Step {
     /// One command of a seat. It takes nothing from the fleet.
     Apply(u64, Command),
@@ -25,12 +25,15 @@ impl Step {
     pub fn copy(&self) -> Result<Step, AllocError>
         ensures { IfOk result (λ copy. copy ≡ self.now) }
     {
-        self.clone()
+        match self {
+            Step::Apply(seat, command) => Ok(Step::Apply(*seat, command.copy()?)),
+            Step::Push => Ok(Step::Push),
+        }
     }
 }
 
 /// What an accepted step did.
-#[derive(Clone, Debug, Drop)]
+#[derive(Drop)]
 pub enum StepAnswer {
     /// The place of the command's record in the history, from 0, and the reply.
     Applied(u64, Reply),
@@ -41,7 +44,7 @@ pub enum StepAnswer {
 }
 
 /// Why a step was refused. The numbers are fixed; those that are missing belong to steps that don't exist yet.
-#[derive(Clone, Copy, Debug, PartialEq, Eq)]
+#[derive(Clone, Copy, Debug)]
 pub enum Refusal {
     /// 1: the key and the value of a put are too big for a quarter of a segment.
     TooBig,
@@ -111,14 +114,14 @@ impl From<NoMemory> for Refusal {
 }
 
 /// What is to be shown of a master.
-#[derive(Clone, Copy, Debug, PartialEq, Eq)]
+#[derive(Clone, Copy)]
 pub enum Look {
     /// The image of a segment.
     Image(u64),
 }
 
 /// What is shown of a master.
-#[derive(Clone, Debug, Drop)]
+#[derive(Drop)]
 pub enum Shown {
     /// The bytes of the image, or `None` where there is no such image.
     Image(Option<Bytes>),

@@ -1,0 +1,4 @@
+use Rattle.master.proofs.master.hand.Goals as goal
+
+pub returns-in-Err-clause-refused : goal.returns-in-Err-clause-refused
+returns-in-Err-clause-refused g c = (c.in-Err.fault, c.failed-refusal.ensures.answer, c.failed-refusal.ensures.halts, c.in-Err.ensures)
