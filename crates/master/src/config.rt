@@ -2,7 +2,7 @@
 
 ghost use Rattle.std.specs.Prelude.{◌≡◌, Some};
 ghost use Rattle.std.specs.Result.{result_err};
-ghost use Rattle.master.specs.Config.{config_fault};
+ghost use Rattle.master.specs.Config.{config_fault, has_backups};
 ghost use Rattle.master.specs.Names.{config_fault_name};
 
 use entry::Tablets;
@@ -68,7 +68,7 @@ impl Config {
     pub fn check(&self) -> Result<(), ConfigFault>
         ensures { result_err result ≡ config_fault self.now }
     {
-        if self.replicas < 1 || self.replicas > self.backups || self.backups > 64 {
+        if !self.has_backups() {
             return Err(ConfigFault::BadBackups);
         }
         if self.step < 1 || self.step > 64 {
@@ -90,5 +90,12 @@ impl Config {
             return Err(ConfigFault::BadHistory);
         }
         Ok(())
+    }
+
+    /// Whether there is at least one replica, on as many backups or more, and at most 64 of those.
+    fn has_backups(&self) -> bool
+        ensures { result ≡ has_backups self.now }
+    {
+        self.replicas >= 1 && self.replicas <= self.backups && self.backups <= 64
     }
 }

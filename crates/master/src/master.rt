@@ -56,8 +56,9 @@ impl<F: Fleet> Master<F> {
     ghost use Rattle.entry.specs.declared.entry.Object.{Object as ObjectValue};
     ghost use Rattle.entry.specs.declared.key.Key.{Key as KeyValue};
     ghost use Rattle.entry.specs.Meaning.{contents_of};
+    ghost use Rattle.entry.specs.Text.{text_of};
     ghost use Rattle.entry.specs.Meaning.{Versioned};
-    ghost use Rattle.std.specs.Prelude.{Option};
+    ghost use Rattle.std.specs.Prelude.{Option, ◌==◌, if◌then◌else◌};
     ghost use Rattle.std.specs.Result.{result_err};
     ghost use Rattle.master.specs.Causes.{early_refusal, unit_refusal, command_refusal};
     ghost use Rattle.master.specs.Command.{command_key};
@@ -213,7 +214,7 @@ impl<F: Fleet> Master<F> {
     {
         let (change, slot) = self.judge(command)?;
         let reply = self.reply_at(command, &change, slot)?;
-        let answer = reply.copy()?;
+        let answer = reply.clone()?;
         Ok((change, slot, reply, answer))
     }
 
@@ -406,14 +407,20 @@ impl<F: Fleet> Master<F> {
         ensures refused { OnErr result (look ≡ Look.Image self.now.knows.head.id) }
     {
         match look {
-            Look::Image(id) => {
-                if id != self.head.id() {
-                    return Ok(Shown::Image(None));
-                }
-                let bytes = Bytes::from_slice(self.alloc, self.head.image().bytes())?;
-                Ok(Shown::Image(Some(bytes)))
-            }
+            Look::Image(id) => Ok(Shown::Image(self.image_of(id)?)),
         }
+    }
+
+    /// The bytes of a segment's image; `None` where there is no such image.
+    fn image_of(&self, id: u64) -> Result<Option<Bytes>, NoMemory>
+        ensures image { IfOk result (λ image. image ≡ (if id == self.now.knows.head.id then Some (text_of self.now.knows.head.image) else None)) }
+        ensures refused { OnErr result (id ≡ self.now.knows.head.id) }
+    {
+        if id != self.head.id() {
+            return Ok(None);
+        }
+        let bytes = Bytes::from_slice(self.alloc, self.head.image().bytes())?;
+        Ok(Some(bytes))
     }
 
     /// Drops the master. The fleet comes back as it was left: what any backups hold stands for a prefix of the commands.

@@ -1,4 +1,4 @@
-use Rattle.master.proofs.Heads.{lagging_first, lagging_before, lagging_later}
+use Rattle.master.proofs.Heads.{lagging_first, lagging_none, lagging_before, lagging_later}
 use Rattle.master.proofs.head.+lagging.Goals as goal
 
 pub returns-in-None : goal.returns-in-None
@@ -9,3 +9,6 @@ returns-in-Some t c = lagging_before c.args.units c.in-Some.place c.args.taken.n
 
 pub returns-in-Some-2 : goal.returns-in-Some-2
 returns-in-Some-2 t c = lagging_later c.args.units c.in-Some.place c.args.taken.now c.in-len1-up.len_at_least c.in-Some.ensures c.if-first-rest.false
+
+pub returns-in-None-2 : goal.returns-in-None-2
+returns-in-None-2 t c = lagging_none c.args.units c.args.taken.now c.in-len1-up.len_at_least c.in-None.ensures c.if-first-units.false

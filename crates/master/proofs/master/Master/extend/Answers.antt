@@ -1,5 +1,5 @@
 use Rattle.std.proofs.Common.{◌≡◌, length, false, rules, refl, sym, ◌∙◌}
-use Rattle.std.specs.Prelude.{None, Some}
+use Rattle.std.specs.Prelude.{Some}
 use Rattle.std.proofs.lemmas.Option.{slice_get_within}
 use Rattle.replica.specs.Op.{OpValue, Extend}
 use Rattle.replica.specs.Picture.{FleetState}
@@ -30,8 +30,10 @@ hand-requires-clause-fits g c =
     let units = c.units_of-units.result in
     let lagging : IsLagging (length d.head.units) d.head.taken (Some c.args.replica) = rw (← c.self.view_is) at c.requires.lagging in
     let sent : OpValue = record { master = d.config.master; segment = c.id-segment.result; act = Extend c.end_of.result c.unit_behind.result.now } in
-    let op : sent ≡ extend_op d units = rw (c.id-segment.ensures.id, c.end_of.ensures.end, c.unit_behind.ensures) refl in
-    let backup : c.home-backup.result ≡ home d.config d.head.id c.args.replica = rw (c.home-backup.ensures, c.id-segment.ensures.id) refl in
+    let op : sent ≡ extend_op d units =
+    λ i. record { master = d.config.master; segment = c.id-segment.ensures.id i; act = Extend (c.end_of.ensures.end i) (c.unit_behind.ensures i) } in
+    let backup : c.home-backup.result ≡ home d.config d.head.id c.args.replica =
+    c.home-backup.ensures ∙ (λ i. home d.config (c.id-segment.ensures.id i) c.args.replica) in
     let same : taken f (home d.config d.head.id c.args.replica) (extend_op d units) ≡ taken f c.home-backup.result sent = λ i. taken f (sym backup i) (sym op i) in
     λ missed. extend_right d f c.self.invariant running c.id-segment.ensures.valid c.args.replica units lagging c.units_of-units.ensures.units (same ∙ missed)
 
@@ -50,8 +52,10 @@ invariant_of-self-2 g c =
     let units = c.units_of-units.result in
     let lagging : IsLagging (length d.head.units) d.head.taken (Some c.args.replica) = rw (← c.self.view_is) at c.requires.lagging in
     let sent : OpValue = record { master = d.config.master; segment = c.id-segment.result; act = Extend c.end_of.result c.unit_behind.result.now } in
-    let op : sent ≡ extend_op d units = rw (c.id-segment.ensures.id, c.end_of.ensures.end, c.unit_behind.ensures) refl in
-    let backup : c.home-backup.result ≡ home d.config d.head.id c.args.replica = rw (c.home-backup.ensures, c.id-segment.ensures.id) refl in
+    let op : sent ≡ extend_op d units =
+    λ i. record { master = d.config.master; segment = c.id-segment.ensures.id i; act = Extend (c.end_of.ensures.end i) (c.unit_behind.ensures i) } in
+    let backup : c.home-backup.result ≡ home d.config d.head.id c.args.replica =
+    c.home-backup.ensures ∙ (λ i. home d.config (c.id-segment.ensures.id i) c.args.replica) in
     let after : FleetState = g.F.Fleet.state c.hand.new.fleet in
     let raw : taken f c.home-backup.result sent ≡ Some after = c.in_ok-hand.ensures.taken in
     let took : taken f (home d.config d.head.id c.args.replica) (extend_op d units) ≡ Some after = sym (λ i. taken f (backup i) (op i)) ∙ raw in
@@ -72,8 +76,10 @@ invariant_of-self g c =
     let units = c.units_of-units.result in
     let lagging : IsLagging (length d.head.units) d.head.taken (Some c.args.replica) = rw (← c.self.view_is) at c.requires.lagging in
     let sent : OpValue = record { master = d.config.master; segment = c.id-segment.result; act = Extend c.end_of.result c.unit_behind.result.now } in
-    let op : sent ≡ extend_op d units = rw (c.id-segment.ensures.id, c.end_of.ensures.end, c.unit_behind.ensures) refl in
-    let backup : c.home-backup.result ≡ home d.config d.head.id c.args.replica = rw (c.home-backup.ensures, c.id-segment.ensures.id) refl in
+    let op : sent ≡ extend_op d units =
+    λ i. record { master = d.config.master; segment = c.id-segment.ensures.id i; act = Extend (c.end_of.ensures.end i) (c.unit_behind.ensures i) } in
+    let backup : c.home-backup.result ≡ home d.config d.head.id c.args.replica =
+    c.home-backup.ensures ∙ (λ i. home d.config (c.id-segment.ensures.id i) c.args.replica) in
     let after : FleetState = g.F.Fleet.state c.hand.new.fleet in
     let told = c.in_err-hand.ensures.refused in
     let fault : TakeFault = told.0 in
@@ -95,8 +101,10 @@ returns-clause-accepted g c =
     let units = c.units_of-units.result in
     let lagging : IsLagging (length d.head.units) d.head.taken (Some c.args.replica) = rw (← c.self.view_is) at c.requires.lagging in
     let sent : OpValue = record { master = d.config.master; segment = c.id-segment.result; act = Extend c.end_of.result c.unit_behind.result.now } in
-    let op : sent ≡ extend_op d units = rw (c.id-segment.ensures.id, c.end_of.ensures.end, c.unit_behind.ensures) refl in
-    let backup : c.home-backup.result ≡ home d.config d.head.id c.args.replica = rw (c.home-backup.ensures, c.id-segment.ensures.id) refl in
+    let op : sent ≡ extend_op d units =
+    λ i. record { master = d.config.master; segment = c.id-segment.ensures.id i; act = Extend (c.end_of.ensures.end i) (c.unit_behind.ensures i) } in
+    let backup : c.home-backup.result ≡ home d.config d.head.id c.args.replica =
+    c.home-backup.ensures ∙ (λ i. home d.config (c.id-segment.ensures.id i) c.args.replica) in
     let after : FleetState = g.F.Fleet.state c.hand.new.fleet in
     let raw : taken f c.home-backup.result sent ≡ Some after = c.in_ok-hand.ensures.taken in
     rw (← c.self.view_is, c.extend.ensures, c.in_ok-hand.ensures.running, ← running)
@@ -117,8 +125,10 @@ returns-in_err-hand-clause-refused g c =
     let units = c.units_of-units.result in
     let lagging : IsLagging (length d.head.units) d.head.taken (Some c.args.replica) = rw (← c.self.view_is) at c.requires.lagging in
     let sent : OpValue = record { master = d.config.master; segment = c.id-segment.result; act = Extend c.end_of.result c.unit_behind.result.now } in
-    let op : sent ≡ extend_op d units = rw (c.id-segment.ensures.id, c.end_of.ensures.end, c.unit_behind.ensures) refl in
-    let backup : c.home-backup.result ≡ home d.config d.head.id c.args.replica = rw (c.home-backup.ensures, c.id-segment.ensures.id) refl in
+    let op : sent ≡ extend_op d units =
+    λ i. record { master = d.config.master; segment = c.id-segment.ensures.id i; act = Extend (c.end_of.ensures.end i) (c.unit_behind.ensures i) } in
+    let backup : c.home-backup.result ≡ home d.config d.head.id c.args.replica =
+    c.home-backup.ensures ∙ (λ i. home d.config (c.id-segment.ensures.id i) c.args.replica) in
     let after : FleetState = g.F.Fleet.state c.hand.new.fleet in
     let told = c.in_err-hand.ensures.refused in
     let fault : TakeFault = told.0 in

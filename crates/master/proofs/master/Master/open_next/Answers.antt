@@ -1,5 +1,5 @@
 use Rattle.std.proofs.Common.{◌≡◌, ◌<◌, length, false, rules, refl, sym, ◌∙◌}
-use Rattle.std.specs.Prelude.{None, Some}
+use Rattle.std.specs.Prelude.{Some}
 use Rattle.replica.specs.Op.{OpValue, Open}
 use Rattle.replica.specs.Picture.{FleetState}
 use Rattle.replica.specs.Take.{Refuses, taken}
@@ -24,9 +24,9 @@ hand-requires-clause-fits g c =
     let running : d.is_halted ≡ false = rw (← c.self.view_is) at c.requires.running in
     let waiting : length d.head.taken < d.head.replicas = rw (← c.self.view_is) at c.requires.waiting in
     let sent : OpValue = record { master = d.config.master; segment = c.id-segment.result; act = Open c.opening.result.now } in
-    let op : sent ≡ open_op d = rw (c.id-segment.ensures.id, c.opening.ensures) refl in
+    let op : sent ≡ open_op d = λ i. record { master = d.config.master; segment = c.id-segment.ensures.id i; act = Open (c.opening.ensures i) } in
     let backup : c.home-backup.result ≡ home d.config d.head.id (length d.head.taken) =
-    rw (c.home-backup.ensures, c.id-segment.ensures.id, c.opened.ensures) refl in
+    c.home-backup.ensures ∙ (λ i. home d.config (c.id-segment.ensures.id i) (c.opened.ensures i)) in
     let same : taken f (home d.config d.head.id (length d.head.taken)) (open_op d) ≡ taken f c.home-backup.result sent = λ i. taken f (sym backup i) (sym op i) in
     λ missed. open_right d f c.self.invariant running c.id-segment.ensures.valid waiting (same ∙ missed)
 
@@ -44,9 +44,9 @@ invariant_of-self-2 g c =
     let running : d.is_halted ≡ false = rw (← c.self.view_is) at c.requires.running in
     let waiting : length d.head.taken < d.head.replicas = rw (← c.self.view_is) at c.requires.waiting in
     let sent : OpValue = record { master = d.config.master; segment = c.id-segment.result; act = Open c.opening.result.now } in
-    let op : sent ≡ open_op d = rw (c.id-segment.ensures.id, c.opening.ensures) refl in
+    let op : sent ≡ open_op d = λ i. record { master = d.config.master; segment = c.id-segment.ensures.id i; act = Open (c.opening.ensures i) } in
     let backup : c.home-backup.result ≡ home d.config d.head.id (length d.head.taken) =
-    rw (c.home-backup.ensures, c.id-segment.ensures.id, c.opened.ensures) refl in
+    c.home-backup.ensures ∙ (λ i. home d.config (c.id-segment.ensures.id i) (c.opened.ensures i)) in
     let after : FleetState = g.F.Fleet.state c.hand.new.fleet in
     let raw : taken f c.home-backup.result sent ≡ Some after = c.in_ok-hand.ensures.taken in
     let took : taken f (home d.config d.head.id (length d.head.taken)) (open_op d) ≡ Some after = sym (λ i. taken f (backup i) (op i)) ∙ raw in
@@ -66,9 +66,9 @@ invariant_of-self g c =
     let running : d.is_halted ≡ false = rw (← c.self.view_is) at c.requires.running in
     let waiting : length d.head.taken < d.head.replicas = rw (← c.self.view_is) at c.requires.waiting in
     let sent : OpValue = record { master = d.config.master; segment = c.id-segment.result; act = Open c.opening.result.now } in
-    let op : sent ≡ open_op d = rw (c.id-segment.ensures.id, c.opening.ensures) refl in
+    let op : sent ≡ open_op d = λ i. record { master = d.config.master; segment = c.id-segment.ensures.id i; act = Open (c.opening.ensures i) } in
     let backup : c.home-backup.result ≡ home d.config d.head.id (length d.head.taken) =
-    rw (c.home-backup.ensures, c.id-segment.ensures.id, c.opened.ensures) refl in
+    c.home-backup.ensures ∙ (λ i. home d.config (c.id-segment.ensures.id i) (c.opened.ensures i)) in
     let after : FleetState = g.F.Fleet.state c.hand.new.fleet in
     let told = c.in_err-hand.ensures.refused in
     let fault : TakeFault = told.0 in
@@ -89,9 +89,9 @@ returns-clause-accepted g c =
     let running : d.is_halted ≡ false = rw (← c.self.view_is) at c.requires.running in
     let waiting : length d.head.taken < d.head.replicas = rw (← c.self.view_is) at c.requires.waiting in
     let sent : OpValue = record { master = d.config.master; segment = c.id-segment.result; act = Open c.opening.result.now } in
-    let op : sent ≡ open_op d = rw (c.id-segment.ensures.id, c.opening.ensures) refl in
+    let op : sent ≡ open_op d = λ i. record { master = d.config.master; segment = c.id-segment.ensures.id i; act = Open (c.opening.ensures i) } in
     let backup : c.home-backup.result ≡ home d.config d.head.id (length d.head.taken) =
-    rw (c.home-backup.ensures, c.id-segment.ensures.id, c.opened.ensures) refl in
+    c.home-backup.ensures ∙ (λ i. home d.config (c.id-segment.ensures.id i) (c.opened.ensures i)) in
     let after : FleetState = g.F.Fleet.state c.hand.new.fleet in
     let raw : taken f c.home-backup.result sent ≡ Some after = c.in_ok-hand.ensures.taken in
     rw (← c.self.view_is, c.open.ensures, c.in_ok-hand.ensures.running, ← running)
@@ -111,9 +111,9 @@ returns-in_err-hand-clause-refused g c =
     let running : d.is_halted ≡ false = rw (← c.self.view_is) at c.requires.running in
     let waiting : length d.head.taken < d.head.replicas = rw (← c.self.view_is) at c.requires.waiting in
     let sent : OpValue = record { master = d.config.master; segment = c.id-segment.result; act = Open c.opening.result.now } in
-    let op : sent ≡ open_op d = rw (c.id-segment.ensures.id, c.opening.ensures) refl in
+    let op : sent ≡ open_op d = λ i. record { master = d.config.master; segment = c.id-segment.ensures.id i; act = Open (c.opening.ensures i) } in
     let backup : c.home-backup.result ≡ home d.config d.head.id (length d.head.taken) =
-    rw (c.home-backup.ensures, c.id-segment.ensures.id, c.opened.ensures) refl in
+    c.home-backup.ensures ∙ (λ i. home d.config (c.id-segment.ensures.id i) (c.opened.ensures i)) in
     let after : FleetState = g.F.Fleet.state c.hand.new.fleet in
     let told = c.in_err-hand.ensures.refused in
     let fault : TakeFault = told.0 in

@@ -1,7 +1,7 @@
-use Rattle.std.proofs.Common.{◌≡◌, ◌+◌, ◌++◌, ◌∷◌, [], vec_len, refl, ◌∙◌, arith}
+use Rattle.std.proofs.Common.{◌≡◌, ◌+◌, ◌++◌, ◌∷◌, [], length, vec_len, rules, refl, ◌∙◌, arith}
 use Rattle.std.proofs.lemmas.List.{length-append}
 use Rattle.master.specs.Steps.{world}
-use Rattle.master.proofs.Keeping.{keeps_pushed}
+use Rattle.master.proofs.Keeping.{keeps_same, keeps_pushed}
 use Rattle.master.proofs.Runs.{run_pushed}
 use Rattle.master.proofs.master.Master.run.Goals as goal
 
@@ -21,3 +21,17 @@ loop-step-preserved g c =
       count = omega (arith, length-append c.loop-step.yielded (c.in-Some.step ∷ []));
       room = omega (arith, c.push.ensures.lower_bound);
     }
+
+pub loop-step-init : goal.loop-step-init
+loop-step-init g c = record {
+  ran = search rules;
+  keeps = keeps_same 0 (world g.F.Fleet.state c.args.self.now);
+  count = search rules;
+  room = search rules;
+}
+
+pub returns-in_err-answers-clause-keeps : goal.returns-in_err-answers-clause-keeps
+returns-in_err-answers-clause-keeps g c = keeps_same (length c.args.steps.now) (world g.F.Fleet.state c.args.self.now)
+
+pub returns-in_err-own-clause-keeps : goal.returns-in_err-own-clause-keeps
+returns-in_err-own-clause-keeps g c = keeps_same (length c.args.steps.now) (world g.F.Fleet.state c.args.self.now)
