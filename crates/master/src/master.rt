@@ -334,12 +334,12 @@ impl<F: Fleet> Master<F> {
         ensures logged { IsLogged self.new.knows }
     {
         self.show_kept();
-        let result = match step {
+        let outcome = match step {
             Step::Apply(seat, command) => self.apply(seat, command),
             Step::Push => self.push(),
         };
         self.show_sound();
-        result
+        outcome
     }
 
     /// What each method of a master finds and leaves.

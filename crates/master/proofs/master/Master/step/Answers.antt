@@ -1,11 +1,30 @@
-use Rattle.std.proofs.Common.{rules}
-use Rattle.master.specs.Steps.{world, Steps}
+use Rattle.std.proofs.Common.{IfOk, IfErr, Ok, Err}
+use Rattle.std.specs.Prelude.{Result}
+use Rattle.master.specs.declared.step.Refusal.{Refusal}
+use Rattle.master.specs.declared.step.Step.{Step}
+use Rattle.master.specs.declared.step.Step.TheVariants.{Apply, Push}
+use Rattle.master.specs.declared.step.StepAnswer.{StepAnswer}
+use Rattle.master.specs.Steps.{World, world, Accepts, Declines, Steps}
 use Rattle.master.proofs.Keeping.{steps_keep}
+use Rattle.master.proofs.master.Master.step.Goals.{in-Apply, in-Push}
 use Rattle.master.proofs.master.Master.step.Goals as goal
+
+by_result : (old : World) (step : Step) (r : Result StepAnswer Refusal) (new : World) → IfOk r (λ a. Accepts old step a new)
+    → IfErr r (λ e. Declines old step e new) → Steps old step r new
+by_result old step (Ok a) new accepted refused = accepted
+by_result old step (Err e) new accepted refused = refused
+
+pub returns-clause-gives : goal.returns-clause-gives
+returns-clause-gives g c = elim c.match-step.branch [
+  | in-Apply w ↦ rw (w.in-Apply.is, w.self-is, w.outcome-is) (by_result (world g.F.Fleet.state c.args.self.now)
+      (Apply w.in-Apply.seat w.in-Apply.command) w.apply-outcome.result (world g.F.Fleet.state w.apply-outcome.new.self)
+      w.apply-outcome.ensures.accepted w.apply-outcome.ensures.refused)
+  | in-Push w ↦ rw (w.in-Push.is, w.self-is, w.outcome-is) (by_result (world g.F.Fleet.state c.args.self.now) Push
+      w.push-outcome.result (world g.F.Fleet.state w.push-outcome.new.self) w.push-outcome.ensures.accepted
+      w.push-outcome.ensures.refused)
+]
 
 pub returns-clause-keeps : goal.returns-clause-keeps
 returns-clause-keeps g c =
-    let old = world g.F.Fleet.state c.args.self.now in
-    let new = world g.F.Fleet.state c.match-step.self in
-    let gives : Steps old c.args.step c.match-step.result new = search rules in
-    steps_keep old new c.args.step c.match-step.result c.show_kept.ensures.logged gives
+    steps_keep (world g.F.Fleet.state c.args.self.now) (world g.F.Fleet.state c.match-step.self) c.args.step c.match-step.outcome
+    c.show_kept.ensures.logged (returns-clause-gives g c)
