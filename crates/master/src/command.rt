@@ -1,9 +1,10 @@
 //! What clients ask, and what they are answered.
 
-ghost use Rattle.std.specs.Prelude.{◌≡◌};
+ghost use Rattle.std.specs.Prelude.{◌≡◌, IfOk};
 ghost use Rattle.master.specs.Command.{command_key};
 
 use entry::{Key, Value, Version};
+use std::alloc::AllocError;
 
 /// When a put is done.
 #[derive(Clone, Copy)]
@@ -34,6 +35,13 @@ impl Command {
             Command::Delete(key) => key,
         }
     }
+
+    /// The same command, in memory of its own.
+    pub fn copy(&self) -> Result<Command, AllocError>
+        ensures { IfOk result (λ copy. copy ≡ self.now) }
+    {
+        self.clone()
+    }
 }
 
 /// The answer to a command.
@@ -47,6 +55,15 @@ pub enum Reply {
     Ok(Version),
     /// A put was not done: the key has this version, or is absent.
     Mismatch(Option<Version>),
+}
+
+impl Reply {
+    /// The same reply, in memory of its own.
+    pub fn copy(&self) -> Result<Reply, AllocError>
+        ensures { IfOk result (λ copy. copy ≡ self.now) }
+    {
+        self.clone()
+    }
 }
 
 /// An accepted command, whose it was, and the reply to it.

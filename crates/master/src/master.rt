@@ -214,7 +214,7 @@ impl<F: Fleet> Master<F> {
     {
         let (change, slot) = self.judge(command)?;
         let reply = self.reply_at(command, &change, slot)?;
-        let answer = reply.clone()?;
+        let answer = reply.copy()?;
         Ok((change, slot, reply, answer))
     }
 

@@ -26,7 +26,7 @@ impl Step {
         ensures { IfOk result (λ copy. copy ≡ self.now) }
     {
         match self {
-            Step::Apply(seat, command) => Ok(Step::Apply(*seat, command.clone()?)),
+            Step::Apply(seat, command) => Ok(Step::Apply(*seat, command.copy()?)),
             Step::Push => Ok(Step::Push),
         }
     }
