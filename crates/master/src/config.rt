@@ -33,7 +33,7 @@ pub struct Config {
 }
 
 /// What is wrong with a configuration.
-#[derive(Clone, Copy, Debug)]
+#[derive(Clone, Copy, Debug, PartialEq, Eq)]
 pub enum ConfigFault {
     BadBackups,
     BadStep,

@@ -44,7 +44,7 @@ pub enum StepAnswer {
 }
 
 /// Why a step was refused. The numbers are fixed; those that are missing belong to steps that don't exist yet.
-#[derive(Clone, Copy, Debug)]
+#[derive(Clone, Copy, Debug, PartialEq, Eq)]
 pub enum Refusal {
     /// 1: the key and the value of a put are too big for a quarter of a segment.
     TooBig,
