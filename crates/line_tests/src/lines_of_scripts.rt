@@ -6,7 +6,7 @@ use std::io::{self, ErrorKind, Read};
 use std::test::Fail;
 
 /// Lines, and what each says.
-const GOOD: [(&str, &str); 14] = [
+const GOOD: &[(&str, &str)] = &[
     ("", "Idle"),
     ("#", "Idle"),
     ("# any\ttext  ", "Idle"),
@@ -27,7 +27,7 @@ const GOOD: [(&str, &str); 14] = [
 ];
 
 /// Bad lines.
-const BAD: [&[u8]; 32] = [
+const BAD: &[&[u8]] = &[
     b"hex 00",
     b"hex 01",
     b"hex +1",
@@ -72,7 +72,7 @@ fn says(alloc: Global, text: &str, want: &str) -> Result<bool, Fail> {
 
 #[test]
 fn good_lines_are_parsed(rt: HostRuntime) -> Result<(), Fail> {
-    for (text, want) in GOOD.as_slice() {
+    for (text, want) in GOOD {
         assert!(rt; says(rt.alloc(), text, want)?, "{text}");
     }
     Ok(())
@@ -80,7 +80,7 @@ fn good_lines_are_parsed(rt: HostRuntime) -> Result<(), Fail> {
 
 #[test]
 fn bad_lines_are_none(rt: HostRuntime) {
-    for (place, text) in BAD.as_slice().iter().enumerate() {
+    for (place, text) in BAD.iter().enumerate() {
         assert!(rt; parse_line(text).is_none(), "{place}");
     }
 }
@@ -99,7 +99,7 @@ fn is_read<R: Read>(alloc: Global, reader: &mut R, rows: &[Row<'_>]) -> bool {
     true
 }
 
-const LINES: [Row<'static>; 6] = [
+const LINES: &[Row<'static>] = &[
     (Ok(Taken::Ended), "crash"),
     (Ok(Taken::Ended), ""),
     (Ok(Taken::Ended), "# x\r"),
@@ -111,7 +111,7 @@ const LINES: [Row<'static>; 6] = [
 #[test]
 fn lines_are_read(rt: HostRuntime) {
     let mut reader: &[u8] = b"crash\n\n# x\r\nlast";
-    assert!(rt; is_read(rt.alloc(), &mut reader, LINES.as_slice()));
+    assert!(rt; is_read(rt.alloc(), &mut reader, LINES));
 }
 
 /// A reader that is interrupted before each byte, and fails after its bytes.
@@ -139,7 +139,7 @@ impl<'a> Read for Failing<'a> {
     }
 }
 
-const FAULTS: [Row<'static>; 3] = [
+const FAULTS: &[Row<'static>] = &[
     (Ok(Taken::Ended), "crash"),
     (Err(ReadFault::Failed), "rec"),
     (Err(ReadFault::Failed), ""),
@@ -151,5 +151,5 @@ fn faults_are_told(rt: HostRuntime) {
         bytes: b"crash\nrec",
         interrupts: false,
     };
-    assert!(rt; is_read(rt.alloc(), &mut reader, FAULTS.as_slice()));
+    assert!(rt; is_read(rt.alloc(), &mut reader, FAULTS));
 }

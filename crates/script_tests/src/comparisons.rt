@@ -1,18 +1,17 @@
 //! The store against the plain slow programs.
 
 use crate::asks::{Ask, step_of};
-use crate::runs::new_master;
+use crate::runs::{new_master, rebuilt};
 use backup::MemoryFleet;
 use entry::{Entry, EntryRef, Object};
 use master::{If, Look, Master, Reply, Shown, Step, StepAnswer};
 use plain::{VersionedMap, meaning};
-use script::recover;
 use segment::read_segment;
 use std::alloc::Global;
 use std::test::Fail;
 
 /// Each command meets what those before it left.
-const ASKS: [Ask; 14] = [
+const ASKS: &[Ask] = &[
     Ask::Get("a"),
     Ask::Put("a", b'x', If::Any),
     Ask::Put("a", b'y', If::Absent),
@@ -79,14 +78,14 @@ fn answers_alike(
     }
 }
 
-/// Opens the head, and asks both all that there is to ask.
+/// Asks both all of these.
 fn answer_alike(
     alloc: Global,
     master: &mut Master<MemoryFleet>,
     map: &mut VersionedMap,
+    asks: &[Ask],
 ) -> Result<bool, Fail> {
-    push(master, 2);
-    for ask in ASKS.as_slice() {
+    for ask in asks {
         if !answers_alike(alloc, master, map, step_of(alloc, ask)?)? {
             return Ok(false);
         }
@@ -114,6 +113,17 @@ fn means(alloc: Global, master: &Master<MemoryFleet>, want: &[Object]) -> Result
     Ok(are_same_objects(meaning(alloc, entries.as_slice())?.as_slice(), want))
 }
 
+/// Opens the head, asks both, and tells whether they answered alike and mean the same.
+fn agree(
+    alloc: Global,
+    master: &mut Master<MemoryFleet>,
+    map: &mut VersionedMap,
+) -> Result<bool, Fail> {
+    push(master, 2);
+    let are_alike = answer_alike(alloc, master, map, ASKS)?;
+    Ok(are_alike && map.safe().get() == 5 && means(alloc, master, map.objects())?)
+}
+
 /// Whether these objects are recovered once all is pushed.
 fn is_recovered(
     alloc: Global,
@@ -121,17 +131,21 @@ fn is_recovered(
     want: &[Object],
 ) -> Result<bool, Fail> {
     push(&mut master, 2 * ASKS.len());
-    let inventory = master.crash().inventory(alloc)?;
-    let rebuilt = recover(alloc, &inventory, 1)?;
+    let rebuilt = rebuilt(alloc, &master.crash())?;
     Ok(are_same_objects(rebuilt.objects.as_slice(), want))
+}
+
+/// Whether a new master does what the plain map does, and so does its recovery.
+fn is_plain_map(alloc: Global, mut master: Master<MemoryFleet>) -> Result<bool, Fail> {
+    let mut map = VersionedMap::new(alloc);
+    let agree = agree(alloc, &mut master, &mut map)?;
+    let is_recovered = is_recovered(alloc, master, map.objects())?;
+    Ok(agree && is_recovered)
 }
 
 #[test]
 fn a_master_is_the_plain_map(rt: HostRuntime) -> Result<(), Fail> {
-    let mut map = VersionedMap::new(rt.alloc());
-    let mut master = new_master(rt.alloc())?;
-    assert!(rt; answer_alike(rt.alloc(), &mut master, &mut map)? && map.safe().get() == 5);
-    assert!(rt; means(rt.alloc(), &master, map.objects())?);
-    assert!(rt; is_recovered(rt.alloc(), master, map.objects())?);
+    let master = new_master(rt.alloc())?;
+    assert!(rt; is_plain_map(rt.alloc(), master)?);
     Ok(())
 }

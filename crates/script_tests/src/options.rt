@@ -16,7 +16,7 @@ const DEFAULTS: Options = Options {
     objects: 1000000,
 };
 
-const WORDS: [&str; 11] = [
+const WORDS: &[&str] = &[
     "ramlog",
     "--seglets",
     "32",
@@ -45,12 +45,12 @@ const SET: Options = Options {
 #[test]
 fn words_set_the_options(rt: HostRuntime) -> Result<(), Fail> {
     assert!(rt; options(rt.alloc(), &["ramlog"])? == DEFAULTS);
-    assert!(rt; options(rt.alloc(), WORDS.as_slice())? == SET);
+    assert!(rt; options(rt.alloc(), WORDS)? == SET);
     Ok(())
 }
 
 /// Command lines that are refused.
-const MISTAKES: [&[&str]; 8] = [
+const MISTAKES: &[&[&str]] = &[
     &["ramlog", "--seglets", "3"],
     &["ramlog", "--segment=8388609"],
     &["ramlog", "--backups=0"],
@@ -71,12 +71,12 @@ fn refusal(alloc: Global, words: &[&str]) -> i32 {
 
 #[test]
 fn mistakes_end_with_two(rt: HostRuntime) {
-    for (place, words) in MISTAKES.as_slice().iter().enumerate() {
+    for (place, words) in MISTAKES.iter().enumerate() {
         assert!(rt; refusal(rt.alloc(), words) == 2, "{place}");
     }
 }
 
-const USES: [&str; 10] = [
+const USES: &[&str] = &[
     "--backups <N>",
     "--replicas <N>",
     "--step <N>",
@@ -100,7 +100,7 @@ fn help(alloc: Global) -> Result<String, Fail> {
 #[test]
 fn help_shows_each_option(rt: HostRuntime) -> Result<(), Fail> {
     let text = help(rt.alloc())?;
-    for option in USES.as_slice() {
+    for option in USES {
         assert!(rt; text.contains(*option), "{option}");
     }
     assert!(rt; text.contains("512 to 8388608 [default: 512]"));

@@ -1,15 +1,20 @@
 //! A master that is run step by step, and rebuilt from its fleet.
 
 use crate::asks::{Ask, steps_of};
-use master::{If, Look, Master, Refusal, Shown, StepAnswer};
+use master::{Config, If, Look, Master, Refusal, Shown, StepAnswer};
 use replica::Fleet;
 use script::*;
 use std::alloc::Global;
 use std::test::Fail;
 
+/// The configuration of the default options.
+pub fn default_config(alloc: Global) -> Result<Config, Fail> {
+    Ok(configuration(alloc, &options(alloc, &["ramlog"])?, 1)?)
+}
+
 /// A master of the default options, with a fleet that holds nothing.
 pub fn new_master(alloc: Global) -> Result<Master<MemoryFleet>, Fail> {
-    let config = configuration(alloc, &options(alloc, &["ramlog"])?, 1)?;
+    let config = default_config(alloc)?;
     config.check()?;
     let fleet = MemoryFleet::new(alloc, config.backups)?;
     match Master::new(alloc, config, fleet) {
@@ -32,7 +37,7 @@ fn kind(answer: &Result<StepAnswer, Refusal>) -> Kind {
 }
 
 /// Two pushes, a put, a get, and three pushes.
-const ASKS: [Ask; 7] = [
+const ASKS: &[Ask] = &[
     Ask::Push,
     Ask::Push,
     Ask::Put("a", b'x', If::Any),
@@ -43,7 +48,7 @@ const ASKS: [Ask; 7] = [
 ];
 
 /// What each step answers.
-const KINDS: [Kind; 7] = [
+const KINDS: &[Kind] = &[
     ("opened", 1, 1),
     ("opened", 2, 1),
     ("applied", 0, 0),
@@ -53,36 +58,53 @@ const KINDS: [Kind; 7] = [
     ("nothing", 0, 0),
 ];
 
-/// Whether the steps are answered so.
-fn runs(alloc: Global, master: &mut Master<MemoryFleet>) -> Result<bool, Fail> {
-    let steps = steps_of(alloc, ASKS.as_slice())?;
-    let answers = master.run(steps.as_slice())?;
-    for (place, answer) in answers.as_slice().iter().enumerate() {
-        if KINDS.as_slice().get(place) != Some(&kind(answer)) {
-            return Ok(false);
+fn are_kinds(answers: &[Result<StepAnswer, Refusal>], kinds: &[Kind]) -> bool {
+    if answers.len() != kinds.len() {
+        return false;
+    }
+    for (place, answer) in answers.iter().enumerate() {
+        if kind(answer) != kinds[place] {
+            return false;
         }
     }
-    Ok(answers.len() == KINDS.len())
+    true
 }
 
-/// Whether the master shows the image of a segment.
-fn has_image(master: &Master<MemoryFleet>, segment: u64) -> Result<bool, Fail> {
-    let Shown::Image(image) = master.look(Look::Image(segment))?;
-    Ok(image.is_some())
+/// Whether the steps are answered so.
+fn runs(alloc: Global, master: &mut Master<MemoryFleet>) -> Result<bool, Fail> {
+    let steps = steps_of(alloc, ASKS)?;
+    let answers = master.run(steps.as_slice())?;
+    Ok(are_kinds(answers.as_slice(), KINDS))
 }
 
-/// How many objects a fleet is rebuilt to, and the safe version.
-fn rebuilt(alloc: Global, fleet: &MemoryFleet) -> Result<(usize, u64), Fail> {
-    let rebuilt = recover(alloc, &fleet.inventory(alloc)?, 1)?;
-    Ok((rebuilt.objects.as_slice().len(), rebuilt.safe.get()))
+/// Whether two records are there, both durable, and no image of segment 2.
+fn has_run(master: &Master<MemoryFleet>) -> Result<bool, Fail> {
+    let Shown::Image(image) = master.look(Look::Image(2))?;
+    Ok(image.is_none() && master.durable() == 2 && master.history().len() == 2)
+}
+
+/// What a fleet is rebuilt to.
+pub fn rebuilt(alloc: Global, fleet: &MemoryFleet) -> Result<Rebuilt, Fail> {
+    Ok(recover(alloc, &fleet.inventory(alloc)?, 1)?)
+}
+
+/// Whether one object is recovered, and safe version 2.
+fn is_recovered(alloc: Global, master: Master<MemoryFleet>) -> Result<bool, Fail> {
+    let rebuilt = rebuilt(alloc, &master.crash())?;
+    Ok(rebuilt.objects.as_slice().len() == 1 && rebuilt.safe.get() == 2)
+}
+
+/// Whether all of this holds of a new master.
+fn is_run(alloc: Global, mut master: Master<MemoryFleet>) -> Result<bool, Fail> {
+    let are_answered = runs(alloc, &mut master)?;
+    let is_shown = has_run(&master)?;
+    let is_left = is_recovered(alloc, master)?;
+    Ok(are_answered && is_shown && is_left)
 }
 
 #[test]
 fn a_run_answers_step_by_step(rt: HostRuntime) -> Result<(), Fail> {
-    let mut master = new_master(rt.alloc())?;
-    assert!(rt; runs(rt.alloc(), &mut master)?);
-    assert!(rt; master.durable() == 2 && master.history().len() == 2);
-    assert!(rt; !has_image(&master, 2)?);
-    assert!(rt; rebuilt(rt.alloc(), &master.crash())? == (1, 2));
+    let master = new_master(rt.alloc())?;
+    assert!(rt; is_run(rt.alloc(), master)?);
     Ok(())
 }

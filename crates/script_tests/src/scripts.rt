@@ -37,7 +37,7 @@ fn writes<R: Read>(
 }
 
 /// A command line, a script, and what the run writes.
-const SCRIPTS: [(&str, &str, &str); 13] = [
+const SCRIPTS: &[(&str, &str, &str)] = &[
     (
         "ramlog",
         "hex 1\ncrash\nrecover\n",
@@ -99,7 +99,7 @@ const SCRIPTS: [(&str, &str, &str); 13] = [
 
 #[test]
 fn scripts_print_their_answers(rt: HostRuntime) -> Result<(), Fail> {
-    for (line, script, output) in SCRIPTS.as_slice() {
+    for (line, script, output) in SCRIPTS {
         let mut reader = script.as_bytes();
         assert!(rt;
             writes(rt.alloc(), line, &mut reader, output, Ok(()))?,
@@ -110,7 +110,7 @@ fn scripts_print_their_answers(rt: HostRuntime) -> Result<(), Fail> {
 }
 
 /// A script, what is written of it, and the bad line.
-const BAD_LINES: [(&str, &str, u64); 7] = [
+const BAD_LINES: &[(&str, &str, u64)] = &[
     ("put 1 a x\nput 01 a x\nput 1 b x\n", "ok 1\n", 2),
     ("put 1 a  x\n", "", 1),
     ("put 1 a x\r\n", "", 1),
@@ -122,7 +122,7 @@ const BAD_LINES: [(&str, &str, u64); 7] = [
 
 #[test]
 fn a_bad_line_ends_the_run(rt: HostRuntime) -> Result<(), Fail> {
-    for (script, output, number) in BAD_LINES.as_slice() {
+    for (script, output, number) in BAD_LINES {
         let mut reader = script.as_bytes();
         let end = Err(ScriptFault::BadLine(*number));
         assert!(rt;
@@ -155,17 +155,27 @@ fn is_bad(alloc: Global, key_len: usize, value_len: usize) -> Result<bool, Fail>
     Ok(ran.is_err())
 }
 
+/// The lengths of a key and of a value, and whether a put of them is bad.
+const PUTS: &[(usize, usize, bool)] = &[
+    (1024, 1, false),
+    (1025, 1, true),
+    (1, 4088, false),
+    (1, 4089, true),
+];
+
 #[test]
 fn a_long_line_or_key_is_bad(rt: HostRuntime) -> Result<(), Fail> {
-    assert!(rt; !is_bad(rt.alloc(), 1024, 1)?);
-    assert!(rt; is_bad(rt.alloc(), 1025, 1)?);
-    assert!(rt; !is_bad(rt.alloc(), 1, 4088)?);
-    assert!(rt; is_bad(rt.alloc(), 1, 4089)?);
+    for (key_len, value_len, want) in PUTS {
+        assert!(rt;
+            is_bad(rt.alloc(), *key_len, *value_len)? == *want,
+            "{key_len} {value_len}"
+        );
+    }
     Ok(())
 }
 
 /// Faults, and the line and the exit status of each.
-const FAULTS: [(ScriptFault, &str, u8); 4] = [
+const FAULTS: &[(ScriptFault, &str, u8)] = &[
     (ScriptFault::BadLine(7), "ramlog: bad line 7\n", 2),
     (ScriptFault::ReadFailed, "ramlog: cannot read\n", 1),
     (ScriptFault::WriteFailed, "ramlog: cannot write\n", 1),
@@ -179,7 +189,7 @@ fn is_reported(alloc: Global, fault: &ScriptFault, line: &str, status: u8) -> bo
 
 #[test]
 fn each_fault_has_its_line(rt: HostRuntime) {
-    for (fault, line, status) in FAULTS.as_slice() {
+    for (fault, line, status) in FAULTS {
         assert!(rt; is_reported(rt.alloc(), fault, line, *status), "{line}");
     }
 }
