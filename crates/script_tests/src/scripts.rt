@@ -155,22 +155,12 @@ fn is_bad(alloc: Global, key_len: usize, value_len: usize) -> Result<bool, Fail>
     Ok(ran.is_err())
 }
 
-/// The lengths of a key and of a value, and whether a put of them is bad.
-const PUTS: &[(usize, usize, bool)] = &[
-    (1024, 1, false),
-    (1025, 1, true),
-    (1, 4088, false),
-    (1, 4089, true),
-];
-
 #[test]
 fn a_long_line_or_key_is_bad(rt: HostRuntime) -> Result<(), Fail> {
-    for (key_len, value_len, want) in PUTS {
-        assert!(rt;
-            is_bad(rt.alloc(), *key_len, *value_len)? == *want,
-            "{key_len} {value_len}"
-        );
-    }
+    assert!(rt; !is_bad(rt.alloc(), 1024, 1)?);
+    assert!(rt; is_bad(rt.alloc(), 1025, 1)?);
+    assert!(rt; !is_bad(rt.alloc(), 1, 4088)?);
+    assert!(rt; is_bad(rt.alloc(), 1, 4089)?);
     Ok(())
 }
 
