@@ -1,4 +1,4 @@
-use Rattle.std.proofs.Common.{◌≡◌, ◌+◌, ◌*◌, true, List, ℕ, length, ap, ◌∙◌, arith}
+use Rattle.std.proofs.Common.{◌≡◌, true, List, ℕ, length, ap, ◌∙◌, arith}
 use Rattle.entry.specs.Text.{IsTextOf, ends_with}
 use Rattle.segment.proofs.WalkLemmas.{IsTextOf-entries_in, IsSegmentBytes-from_text}
 use Rattle.segment.proofs.UnitLemmas.{head_of, IsTextOf-head, length-head}
