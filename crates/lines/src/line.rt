@@ -1,7 +1,7 @@
 //! What a line of a script says.
 
 /// A line of a script. Keys and values are borrowed from the text that was parsed.
-#[derive(Clone, Copy)]
+#[derive(Clone, Copy, Debug)]
 pub enum Line<'a> {
     /// Nothing to do: an empty line, or one that begins with `#`.
     Idle,
