@@ -1,6 +1,6 @@
 //! From entries that lie in bytes to entries of their own, and back.
 
-ghost use Rattle.std.specs.Prelude.{◌≡◌, ◌==◌, ◌<◌, Some, length, IfOk, OnErr, slice_get};
+ghost use Rattle.std.specs.Prelude.{◌≡◌, ◌<◌, Some, length, IfOk, OnErr, slice_get};
 ghost use Rattle.entry.specs.Format.{HoldsList};
 ghost use Rattle.entry.specs.View.{shown, shown_key, shown_object, shown_tombstone, shown_ids};
 
@@ -56,17 +56,10 @@ impl<'a> TombstoneRef<'a> {
 
 impl<'a> DigestRef<'a> {
     /// How many ids the digest has.
-    pub fn len(&self) -> usize
+    pub fn count(&self) -> usize
         ensures { result ≡ length (shown_ids self.now) }
     {
         self.count
-    }
-
-    /// Whether the digest has no ids.
-    pub fn is_empty(&self) -> bool
-        ensures { result ≡ (length (shown_ids self.now) == 0) }
-    {
-        self.len() == 0
     }
 
     /// The id at a place, which counts from 0.

@@ -149,22 +149,6 @@ fn places(rt: HostRuntime) {
     assert!(rt; place_of(rt.alloc(), &[0; 1025]) == Err(KeyFault::TooLong));
 }
 
-/// Whether a digest without ids is read from the bytes, or one with some; `None` where there is no digest.
-fn is_empty_digest(bytes: &[u8]) -> Option<bool> {
-    match EntryRef::read(bytes) {
-        Ok((EntryRef::Digest(digest), _)) => Some(digest.is_empty()),
-        _ => None,
-    }
-}
-
-#[test]
-fn digests_without_ids_are_empty(rt: HostRuntime) -> Result<(), Fail> {
-    let empty = hex::decode(rt.alloc(), "0200000000")?;
-    let one = hex::decode(rt.alloc(), "02000000010000000000000001")?;
-    assert!(rt; is_empty_digest(&empty) == Some(true) && is_empty_digest(&one) == Some(false));
-    Ok(())
-}
-
 /// The places of keys that begin with `a`, in table 1.
 const TABLET: Tablet = Tablet {
     table: 1,

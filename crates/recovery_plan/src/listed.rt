@@ -23,7 +23,7 @@ pub(crate) fn others<'a>(
     ensures fault { IfErr result (λ fault. IsLack (get nat_cmp best.now) (shown_ids digest.now) fault) }
 {
     let mut others: Vec<&'a Holding> = Vec::new(alloc);
-    for place in 0..digest.len() - 1 {
+    for place in 0..digest.count() - 1 {
         let id = digest.id(place);
         match best.get(&id) {
             Some(holding) => others.push(*holding)?,

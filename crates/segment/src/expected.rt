@@ -23,7 +23,7 @@ pub(crate) enum Expected {
 fn ends_with_id(digest: &DigestRef, id: u64) -> bool
     ensures { result ≡ ends_with id (shown_ids digest.now) }
 {
-    let count = digest.len();
+    let count = digest.count();
     count > 0 && digest.id(count - 1) == id
 }
 

@@ -1,4 +1,4 @@
-use Rattle.std.proofs.Common.{sym, subst}
+use Rattle.std.proofs.Common.{refl, sym, subst}
 use Rattle.replica.specs.Picture.{FleetState}
 use Rattle.master.specs.Invariant.{IsKept}
 use Rattle.master.specs.Master.{MasterData}
@@ -16,3 +16,6 @@ invariant_of-self g c =
       is_halted = c.self.inside.is_halted;
     } in
     subst (λ (f : FleetState). IsKept d f) (sym c.limit.ensures) (limited_kept d (g.F.Fleet.state c.self.inside.fleet) c.args.n c.self.invariant)
+
+pub returns : goal.returns
+returns g c = rw (← c.self.view_is, c.limit.ensures) refl
