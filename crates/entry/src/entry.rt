@@ -77,7 +77,7 @@ impl Entry {
     ghost use Rattle.entry.specs.Format.{spelling, IsEntry};
 
     /// How many bytes the spelling has.
-    pub fn spelled_len(&self) -> usize
+    pub(crate) fn spelled_len(&self) -> usize
         ensures len { result ≡ length (spelling self.now) }
         ensures valid { IsEntry self.now }
     {

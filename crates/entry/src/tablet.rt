@@ -71,12 +71,6 @@ impl Tablets {
         Tablets { tablets }
     }
 
-    pub fn as_slice(&self) -> &[Tablet]
-        ensures { result.now ≡ self.now }
-    {
-        self.tablets.as_slice()
-    }
-
     /// Whether the key's place is in one of the tablets.
     pub fn have(&self, key: &KeyRef) -> bool
         ensures { result ≡ have_key self.now (shown_key key.now) }

@@ -60,8 +60,7 @@ fn segments_are_read(rt: HostRuntime) -> Result<(), Fail> {
 /// The head of master 1 whose id is 1.
 fn new_head(alloc: Global) -> Result<Segment, Fail> {
     let ids = Ids::new(Vec::from_slice(alloc, &[1])?);
-    let safe = SafeVersion::new(1).ok_or("1 is a safe version")?;
-    Ok(Segment::begin_head(alloc, 1, 1, &ids, safe)?)
+    Ok(Segment::begin_head(alloc, 1, 1, &ids, SafeVersion::first())?)
 }
 
 /// Whether these are the bytes of a segment.

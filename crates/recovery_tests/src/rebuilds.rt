@@ -1,6 +1,6 @@
 //! What short logs stand for.
 
-use entry::{Key, NoMemory, Object, ObjectRef, SafeVersion, TombstoneRef, Version};
+use entry::{Key, NoMemory, Object, ObjectRef, TombstoneRef, Version};
 use recovery_plan::{Plan, Segments};
 use replay::*;
 use segment::{Segment, read_segment};
@@ -97,15 +97,15 @@ const NEXT: Line<'static> = (1, "a", 2, Some(b'y'));
 
 type Row<'a> = (u64, &'a [Line<'a>], &'a [Line<'a>], &'a str);
 
-/// A recorded safe version, two segments, and what they are rebuilt to: in any order the entry of greatest rank counts;
-/// two values of one version clash; objects are sorted by table and key.
+/// The greatest version that the recorded safe version lies above, two segments, and what they are rebuilt to: in any
+/// order the entry of greatest rank counts; two values of one version clash; objects are sorted by table and key.
 const ROWS: &[Row<'static>] = &[
     (1, &[OBJECT], &[TOMBSTONE, NEXT], "1 a 2 y, safe 3"),
     (1, &[TOMBSTONE, NEXT], &[OBJECT], "1 a 2 y, safe 3"),
     (1, &[OBJECT], &[OBJECT], "1 a 1 x, safe 2"),
     (1, &[OBJECT], &[TOMBSTONE], "safe 2"),
     (1, &[TOMBSTONE], &[OBJECT], "safe 2"),
-    (9, &[TOMBSTONE], &[], "safe 9"),
+    (8, &[TOMBSTONE], &[], "safe 9"),
     (1, &[OBJECT], &[(1, "a", 1, Some(b'y'))], "Clash"),
     (
         1,
@@ -115,13 +115,17 @@ const ROWS: &[Row<'static>] = &[
     ),
 ];
 
-fn is_row(alloc: Global, row: &Row<'_>) -> Result<bool, Fail> {
-    let (recorded, first, second, want) = row;
-    let safe = SafeVersion::new(*recorded).ok_or("no safe version")?;
-    let segments = segments_of(alloc, first, second)?;
+fn rebuilt_text(alloc: Global, plan: &Plan) -> Result<String, Fail> {
     let mut text = String::new(alloc);
-    write_rebuilt(&mut text, &rebuild_plain(alloc, &Plan { segments, safe }))?;
-    Ok(text.as_str() == *want)
+    write_rebuilt(&mut text, &rebuild_plain(alloc, plan))?;
+    Ok(text)
+}
+
+fn is_row(alloc: Global, row: &Row<'_>) -> Result<bool, Fail> {
+    let (used, first, second, want) = row;
+    let safe = Version::new(*used).ok_or("no version")?.safe_above();
+    let segments = segments_of(alloc, first, second)?;
+    Ok(rebuilt_text(alloc, &Plan { segments, safe })?.as_str() == *want)
 }
 
 #[test]
