@@ -1,28 +1,31 @@
 -- The program's command: how it grows, that clap's exact rules apply to it, and what its options are.
-use Rattle.std.proofs.Common.{◌||◌, ◌≡◌, ◌∙◌, ap, ap₂, true, false, [], ◌∷◌, inl, inr, length, ℕ, List, Option, Some, None, refl, sym, subst, arith}
+use Rattle.std.proofs.Common.{◌||◌, ◌≡◌, ◌∙◌, ap, ap₂, true, false, [], ◌∷◌, inl, inr, length, ℕ, List, Option, Some, None, refl, sym, subst, arith, drop, ◌+◌, ◌<◌, ◌≤◌, slice_index_or, codes}
+use Rattle.std.proofs.lemmas.List.{at_drop_more, drop_all}
+use Rattle.std.proofs.lemmas.List.Elements.{All-nil}
 use Rattle.std.specs.Prelude.{Ok, Err, IsErr, Result, unwrap_or}
 use Rattle.clap.specs.Walk.{texts}
 use Rattle.clap.specs.declared.error.Error.{Error}
 use Rattle.std.specs.Str.Parse.{digits_value, without_leading_plus}
 use Rattle.std.specs.Borrow.{Bor}
-use Rattle.std.specs.List.{All}
+use Rattle.std.specs.List.{All, fold}
 use Rattle.clap.specs.Simple.{app_of_fields}
 use Rattle.clap.specs.declared.builder.command.Command.TheOpen.{Command-F}
 use Rattle.clap.specs.declared.builder.command.Command.TheViews.{out-Command}
-use Rattle.clap.specs.Words.{AddsArg, App, FailsBy, HasKind, HasMatchesOf, IsParsedFrom, IsPlainArg, Kinds, Row, Text, app_of, fault_of, found_of, is_simple, is_simple_and_free, matches_of, one_of, one_text, rule_of, with_rule}
+use Rattle.clap.specs.Words.{AddsArg, App, FailsBy, HasKind, HasMatchesOf, IsParsedFrom, IsPlain, IsPlainArg, Kinds, Row, Text, app_of, args_of, fault_of, found_of, groups_of, is_simple, is_simple_and_free, matches_of, new_app, one_of, one_text, rule_of, with_rule}
 use Rattle.clap.specs.declared.builder.arg.Arg.{Arg}
 use Rattle.clap.specs.declared.builder.command.Command.{Command}
 use Rattle.clap.specs.declared.parser.matches.ArgMatches.{ArgMatches}
 use Rattle.clap.proofs.CallerLemmas.{added_plain}
 use Rattle.clap.proofs.OnLiterals.{clap_on_literals}
 use Rattle.clap.proofs.WalkLemmas.{one_text-rows}
-use Rattle.command_line.specs.CommandLine.{HasNumber, HasOptions, IsCommand, IsDefault, IsNumberIn, NumberOption, ReadsNumber, default_options, number_rule, ramlog, ramlog_faults, ramlog_matches, with_option}
+use Rattle.command_line.specs.CommandLine.{HasNumber, HasOptions, IsCommand, IsDefault, IsNumberIn, NumberOption, ReadsNumber, default_options, number_rule, ramlog, ramlog_faults, ramlog_matches}
 use Rattle.command_line.specs.CommandLine.{backups, replicas, step, segment, seglet, seglets, tables, history, bytes, objects}
+use Rattle.command_line.specs.declared.number_option.NumberOption as code
 use Rattle.command_line.specs.declared.settings.Options.{Options}
 use Rattle.command_line.proofs.Numbers.{IsOptionOf, text_number}
 
 -- a command with a description
-pub described : (old new : Command) (app : App) (text : Option (Bor Text)) → IsCommand app old
+described : (old new : Command) (app : App) (text : Option (Bor Text)) → IsCommand app old
     → out-Command new ≡ record (out-Command old) { about = text } → IsCommand app new
 described old new app text is same = record {
   shape = ap app_of_fields same ∙ is.shape;
@@ -30,15 +33,56 @@ described old new app text is same = record {
   local = ap (λ (f : Command-F Command). f.has_globals) same ∙ is.local;
 }
 
--- a command with one more option
-pub grows : (old new : Command) (app : App) (a : Arg) (o : NumberOption) → IsCommand app old → AddsArg old a new
-    → rule_of a ≡ number_rule o.name o.least o.most → IsPlainArg a → a.global ≡ false
-    → IsCommand (with_option app o) new
-grows old new app a o is added rule plain local = record {
-  shape = added.shape local ∙ ap₂ with_rule is.shape rule;
-  plain = added_plain old new a added is.plain plain;
-  local = added.globals ∙ ap₂ (λ b d. b || d) is.local local;
+-- the app with an option of the code
+abbrev with_listed : App → code.NumberOption → App
+with_listed app o = with_rule app (number_rule o.name.now o.least o.most)
+
+-- a command that is the program's once these options are added
+pub record Growing (c : Command) (left : List code.NumberOption) : Type 0 where
+  pub shape : fold with_listed (app_of c) left ≡ ramlog
+  pub plain : IsPlain c
+  pub local : (out-Command c).has_globals ≡ false
+
+pub growing : (old new : Command) (a : Arg) (options : List code.NumberOption) (i : ℕ) (o : code.NumberOption)
+    → Growing old (drop i options) → i < length options → AddsArg old a new
+    → rule_of a ≡ number_rule (slice_index_or options i o).name.now (slice_index_or options i o).least (slice_index_or options i o).most
+    → IsPlainArg a → a.global ≡ false → Growing new (drop (i + 1) options)
+growing old new a options i o is under added rule plain local =
+    let next = slice_index_or options i o in
+    let left = at_drop_more (fold with_listed (app_of old)) options i o under in
+    record {
+      shape = ap (λ app. fold with_listed app (drop (i + 1) options)) (added.shape local ∙ ap (with_rule (app_of old)) rule) ∙ (sym left ∙ is.shape);
+      plain = added_plain old new a added is.plain plain;
+      local = added.globals ∙ ap₂ (λ b d. b || d) is.local local;
+    }
+
+pub grown : (c : Command) (options : List code.NumberOption) (i : ℕ) → Growing c (drop i options) → length options ≤ i
+    → IsCommand ramlog c
+grown c options i is over =
+    let none : drop i options ≡ [] = drop_all i options over in
+    record {
+      shape = subst (λ left. fold with_listed (app_of c) left ≡ ramlog) none is.shape;
+      plain = is.plain;
+      local = is.local;
+    }
+
+-- the command before its options
+pub opening : (new old : Command) (text : Option (Bor Text)) (options : List code.NumberOption)
+    → app_of old ≡ new_app (codes "ramlog") → (args_of old ≡ []) × (groups_of old ≡ []) → (out-Command old).has_globals ≡ false
+    → out-Command new ≡ record (out-Command old) { about = text }
+    → fold with_listed (new_app (codes "ramlog")) options ≡ ramlog → Growing new options
+opening new old text options app empty local same whole = record {
+  shape = ap (λ app. fold with_listed app options) is.shape ∙ whole;
+  plain = is.plain;
+  local = is.local;
 }
+  where
+    is : IsCommand (new_app (codes "ramlog")) new
+    is = described old new _ text record {
+      shape = app;
+      plain = (subst (All IsPlainArg) (sym empty.0) (All-nil IsPlainArg), empty.1);
+      local = local;
+    } same
 
 is_simple_ramlog : is_simple ramlog ≡ true
 unfolding clap_on_literals ramlog

@@ -97,6 +97,11 @@ pub(crate) const OBJECTS: NumberOption = NumberOption {
     help: "Objects of a partition of a will: 1 to 4294967296 [default: 1000000]",
 };
 
+/// All options, in the order of the help.
+pub(crate) const OPTIONS: &[NumberOption] = &[
+    BACKUPS, REPLICAS, STEP, SEGMENT, SEGLET, SEGLETS, TABLES, HISTORY, BYTES, OBJECTS,
+];
+
 impl NumberOption {
     /// The option as an argument of a command.
     pub(crate) fn argument<'a>(self, alloc: Global) -> Arg<'a>

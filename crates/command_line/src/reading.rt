@@ -6,7 +6,7 @@ ghost use Rattle.command_line.specs.CommandLine.{HasOptions, IsCommand, IsDefaul
 ghost use Rattle.command_line.specs.CommandLine.{ramlog_matches};
 
 use crate::number_option::{
-    BACKUPS, BYTES, HISTORY, OBJECTS, REPLICAS, SEGLET, SEGLETS, SEGMENT, STEP, TABLES,
+    BACKUPS, BYTES, HISTORY, OBJECTS, OPTIONS, REPLICAS, SEGLET, SEGLETS, SEGMENT, STEP, TABLES,
 };
 use crate::settings::Options;
 use clap::{Command, Error};
@@ -16,18 +16,13 @@ use std::alloc::{AllocError, Global};
 fn command<'a>(alloc: Global) -> Result<Command<'a>, AllocError>
     ensures { IfOk result (IsCommand ramlog) }
 {
-    Command::new(alloc, "ramlog")
-        .about("A log-structured key-value store, driven by a script on standard input")
-        .arg(BACKUPS.argument(alloc))?
-        .arg(REPLICAS.argument(alloc))?
-        .arg(STEP.argument(alloc))?
-        .arg(SEGMENT.argument(alloc))?
-        .arg(SEGLET.argument(alloc))?
-        .arg(SEGLETS.argument(alloc))?
-        .arg(TABLES.argument(alloc))?
-        .arg(HISTORY.argument(alloc))?
-        .arg(BYTES.argument(alloc))?
-        .arg(OBJECTS.argument(alloc))
+    let mut command = Command::new(alloc, "ramlog").about(
+        "A log-structured key-value store, driven by a script on standard input",
+    );
+    for option in OPTIONS {
+        command = command.arg(option.argument(alloc))?;
+    }
+    Ok(command)
 }
 
 /// Reads the words of the command line, of which the first is the program's name and isn't read.
