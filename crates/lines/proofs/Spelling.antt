@@ -1,5 +1,6 @@
 -- The words of a line are words, and its text is cut into them.
-use Rattle.std.proofs.Common.{◌≡◌, ◌∙◌, ◌+◌, ◌%◌, ◌<◌, ◌≤◌, ◌^◌, ◌++◌, ◌∷◌, [], ap, sym, refl, subst, ℕ, suc, List, length-append, false, codes, arith}
+use Rattle.std.proofs.Common.{◌≡◌, ◌∙◌, ◌+◌, ◌%◌, ◌<◌, ◌≤◌, ◌^◌, ◌++◌, ◌∷◌, [], Option, Some, None, ap, sym, refl, subst, ℕ, suc, List, length-append, false, codes, arith, rules}
+use Rattle.std.specs.Prelude.{IfSome, IsNone}
 use Rattle.std.specs.List.{All, slice_split, join_with_byte}
 use Rattle.std.specs.Str.{IsUtf8}
 use Rattle.std.specs.Fmt.{decimal}
@@ -9,8 +10,9 @@ use Rattle.std.proofs.lemmas.List.Splits.{slice_split_at, slice_split_none, join
 use Rattle.std.proofs.lemmas.Fmt.{decimal_by_steps}
 use Rattle.std.proofs.lemmas.Str.{IsUtf8-from_ascii}
 use Rattle.std.proofs.lemmas.Str.Ascii.{IsAscii-from_all}
-use Rattle.lines.specs.Grammar.{IsIdle, IsWord, LineValue, Says, Idle, Put, Get, Hex, Stop, Crash, Lose, Recover}
-use Rattle.lines.specs.Words.{AreNumber, AreWordsOf, is_space}
+use Rattle.lines.specs.Grammar.{IsIdle, IsKey, IsWord, LineValue, Says, Idle, Put, Get, Hex, Stop, Crash, Lose, Recover, shown}
+use Rattle.lines.specs.Words.{AreNumber, AreWordsOf, Reads, is_space}
+use Rattle.lines.specs.declared.line.Line.{Line}
 
 -- ---- words
 
@@ -56,17 +58,74 @@ one_of_seven name rest Crash are put get hex stop crash lose recover = crash (ap
 one_of_seven name rest (Lose backup) are put get hex stop crash lose recover = lose (ap first are.spelled)
 one_of_seven name rest Recover are put get hex stop crash lose recover = recover (ap first are.spelled)
 
+-- the name and what is left, as the words that they were cut from
+pub named : (words : List (List ℕ)) (name : List ℕ) (rest : List (List ℕ)) (text : List ℕ) (result : Option Line) → words ≡ name ∷ rest
+    → name ≡ text → Reads (text ∷ rest) result → Reads words result
+named words name rest text result cut is reads = subst (λ ws. Reads ws result) (sym (cut ∙ ap (λ w. w ∷ rest) is)) reads
+
+with_number : (name : List ℕ) → IsWord name → (n : ℕ) → n < 2 ^ 64 → All IsWord (name ∷ decimal n ∷ [])
+with_number name is n small =
+    All-cons IsWord name (decimal n ∷ []) is (All-cons IsWord (decimal n) [] (decimal_is_word n small) (All-nil IsWord))
+
+is_hex : IsWord (codes "hex")
+is_hex = record { some = search (arith); visible = λ k d below. search (arith) }
+
+is_stop : IsWord (codes "stop")
+is_stop = record { some = search (arith); visible = λ k d below. search (arith) }
+
 is_lose : IsWord (codes "lose")
 is_lose = record { some = search (arith); visible = λ k d below. search (arith) }
 
--- a line `lose`, of its words
-pub lose : (words : List (List ℕ)) (name : List ℕ) (rest : List (List ℕ)) (backup : ℕ) → words ≡ name ∷ rest → name ≡ codes "lose"
-    → AreNumber rest backup → AreWordsOf words (Lose backup)
-lose words name rest backup cut is number = record {
-  spelled = cut ∙ ap (λ w. w ∷ rest) is ∙ ap (λ ws. codes "lose" ∷ ws) number.spelled;
-  each = All-cons IsWord (codes "lose") (decimal backup ∷ []) is_lose
-      (All-cons IsWord (decimal backup) [] (decimal_is_word backup number.small) (All-nil IsWord));
+-- what is behind the name of a line with one number
+pub hex : (rest : List (List ℕ)) (segment : ℕ) → AreNumber rest segment → AreWordsOf (codes "hex" ∷ rest) (Hex segment)
+hex rest segment number = record {
+  spelled = ap (λ ws. codes "hex" ∷ ws) number.spelled;
+  each = with_number _ is_hex segment number.small;
   limits = number.small;
+}
+
+pub stop : (rest : List (List ℕ)) (takes : ℕ) → AreNumber rest takes → AreWordsOf (codes "stop" ∷ rest) (Stop takes)
+stop rest takes number = record {
+  spelled = ap (λ ws. codes "stop" ∷ ws) number.spelled;
+  each = with_number _ is_stop takes number.small;
+  limits = number.small;
+}
+
+pub lose : (rest : List (List ℕ)) (backup : ℕ) → AreNumber rest backup → AreWordsOf (codes "lose" ∷ rest) (Lose backup)
+lose rest backup number = record {
+  spelled = ap (λ ws. codes "lose" ∷ ws) number.spelled;
+  each = with_number _ is_lose backup number.small;
+  limits = number.small;
+}
+
+is_put : IsWord (codes "put")
+is_put = record { some = search (arith); visible = λ k d below. search (arith) }
+
+is_get : IsWord (codes "get")
+is_get = record { some = search (arith); visible = λ k d below. search (arith) }
+
+-- what is behind `put`
+pub put : (words : List (List ℕ)) (table : ℕ) (key value : List ℕ) (behind last : List (List ℕ)) → words ≡ decimal table ∷ behind
+    → table < 2 ^ 64 → (behind ≡ key ∷ last) × IsKey key → (last ≡ value ∷ []) × IsWord value
+    → AreWordsOf (codes "put" ∷ words) (Put table key value)
+put words table key value behind last cut small key_is value_is = record {
+  spelled = ap (λ ws. codes "put" ∷ ws)
+      (cut ∙ ap (λ ws. decimal table ∷ ws) (key_is.0 ∙ ap (λ ws. key ∷ ws) value_is.0));
+  each = All-cons IsWord (codes "put") (decimal table ∷ key ∷ value ∷ []) is_put
+      (All-cons IsWord (decimal table) (key ∷ value ∷ []) (decimal_is_word table small)
+          (All-cons IsWord key (value ∷ []) key_is.1.word (All-cons IsWord value [] value_is.1 (All-nil IsWord))));
+  limits = (small, key_is.1);
+}
+
+-- what is behind `get`
+pub get : (words : List (List ℕ)) (table : ℕ) (key : List ℕ) (behind : List (List ℕ)) → words ≡ decimal table ∷ behind
+    → table < 2 ^ 64 → (behind ≡ key ∷ []) × IsKey key → AreWordsOf (codes "get" ∷ words) (Get table key)
+get words table key behind cut small key_is = record {
+  spelled = ap (λ ws. codes "get" ∷ ws) (cut ∙ ap (λ ws. decimal table ∷ ws) key_is.0);
+  each = All-cons IsWord (codes "get") (decimal table ∷ key ∷ []) is_get
+      (All-cons IsWord (decimal table) (key ∷ []) (decimal_is_word table small)
+          (All-cons IsWord key [] key_is.1.word (All-nil IsWord)));
+  limits = (small, key_is.1);
 }
 
 -- ---- cutting
@@ -82,7 +141,7 @@ split_joined word (next ∷ rest) each =
     ∙ ap (λ l. word ∷ l) (split_joined next rest (λ k d below. each (suc k) d (omega arith)))
 
 -- a text that is cut into the words of a line says it
-pub said : (text : List ℕ) (line : LineValue) → AreWordsOf (slice_split is_space text) line → Says text line
+said : (text : List ℕ) (line : LineValue) → AreWordsOf (slice_split is_space text) line → Says text line
 said text Idle are = absurd are
 said text line are = record {
   spaced = sym (join_with_byte-slice_split 32 text) ∙ ap (join_with_byte 32) are.spelled;
@@ -91,10 +150,22 @@ said text line are = record {
 }
 
 -- a text that says a line is cut into its words
-pub cut : (text : List ℕ) (line : LineValue) → (IsIdle text → ⊥) → Says text line → AreWordsOf (slice_split is_space text) line
+cut : (text : List ℕ) (line : LineValue) → (IsIdle text → ⊥) → Says text line → AreWordsOf (slice_split is_space text) line
 cut text Idle busy says = absurd (busy says)
 cut text line busy says = record {
   spelled = ap (slice_split is_space) says.spaced ∙ split_joined _ _ says.words;
   each = says.words;
   limits = says.limits;
 }
+
+-- so what is read of the words is what the text says
+pub read_is_said : (text : List ℕ) (words : List (List ℕ)) (result : Option Line) → words ≡ slice_split is_space text
+    → Reads words result → IfSome result (λ line. Says text (shown line))
+read_is_said text words (Some line) split reads = said text (shown line) (subst (λ ws. AreWordsOf ws (shown line)) split reads)
+read_is_said text words None split reads = search rules
+
+pub unread_is_unsaid : (text : List ℕ) (words : List (List ℕ)) (result : Option Line) → words ≡ slice_split is_space text
+    → (IsIdle text → ⊥) → Reads words result → IsNone result → (line : LineValue) → Says text line → ⊥
+unread_is_unsaid text words (Some line) split busy reads none other says = absurd (cc)
+unread_is_unsaid text words None split busy reads none line says =
+    reads line (subst (λ ws. AreWordsOf ws line) (sym split) (cut text line busy says))

@@ -3,7 +3,8 @@ use Rattle.std.specs.Prelude.{◌≡◌, ◌==◌, ◌<◌, ◌^◌, ℕ, Bool, 
 use Rattle.std.specs.Borrow.{Bor}
 use Rattle.std.specs.List.{All, slice_split}
 use Rattle.std.specs.Fmt.{decimal}
-use Rattle.lines.specs.Grammar.{IsKey, IsLine, IsWord, LineValue, Idle, words_of}
+use Rattle.lines.specs.Grammar.{IsKey, IsLine, IsWord, LineValue, Idle, shown, words_of}
+use Rattle.lines.specs.declared.line.Line.{Line}
 
 abbrev pub is_space : ℕ → Bool
 is_space b = b == 32
@@ -41,3 +42,8 @@ pub record Spell (words : List (List ℕ)) (line : LineValue) : Type 0 where
 abbrev pub AreWordsOf : List (List ℕ) → LineValue → Type 0
 AreWordsOf words Idle = ⊥
 AreWordsOf words line = Spell words line
+
+-- the line that the words spell, or None where they spell none
+abbrev pub Reads : List (List ℕ) → Option Line → Type 0
+Reads words None = (line : LineValue) → AreWordsOf words line → ⊥
+Reads words (Some line) = AreWordsOf words (shown line)

@@ -1,8 +1,8 @@
 //! Parsing lines.
 
-ghost use Rattle.std.specs.Prelude.{◌≡◌, ◌∷◌, ◌↔◌, ℕ, List, [], IfSome, IsNone, IsTrue};
+ghost use Rattle.std.specs.Prelude.{◌∷◌, ◌↔◌, ℕ, IfSome, IsNone, IsTrue, codes};
 ghost use Rattle.lines.specs.Grammar.{IsIdle, LineValue, Says, shown};
-ghost use Rattle.lines.specs.Words.{AreKey, AreNumber, AreObject, AreWordsOf};
+ghost use Rattle.lines.specs.Words.{AreNumber, Reads};
 
 use crate::line::Line;
 use crate::words::Words;
@@ -12,7 +12,6 @@ use std::str;
 ///
 /// It takes no memory: a key and a value are parts of the text. The length of the text, which `next_line` bounds, isn't
 /// looked at.
-#[tactic(auto, using(crate::proofs::Spelling::said, crate::proofs::Spelling::cut))]
 pub fn parse_line(text: &[u8]) -> Option<Line<'_>>
     ensures sound { IfSome result (λ line. Says text.entry.now (shown line)) }
     ensures complete { IsNone result → (line : LineValue) → ¬ Says text.entry.now line }
@@ -31,59 +30,67 @@ fn is_idle(text: &[u8]) -> bool
 }
 
 /// Parses the words of a line that does something.
-#[tactic(auto, using(crate::proofs::Spelling::decimal_is_word))]
 fn parse_words(mut words: Words<'_>) -> Option<Line<'_>>
-    ensures sound { IfSome result (λ line. AreWordsOf words.entry (shown line)) }
-    ensures complete { IsNone result → (line : LineValue) → ¬ AreWordsOf words.entry line }
+    ensures { Reads words.entry result }
 {
     let Ok(name) = str::from_utf8(words.next_word()?) else {
         return None;
     };
     match name {
-        "put" => {
-            let (table, key, value) = object(words)?;
-            Some(Line::Put { table, key, value })
-        }
-        "get" => {
-            let (table, key) = table_and_key(words)?;
-            Some(Line::Get { table, key })
-        }
-        "hex" => Some(Line::Hex {
-            segment: only_number(words)?,
-        }),
-        "stop" => Some(Line::Stop {
-            takes: only_number(words)?,
-        }),
-        "crash" => words.end().map(|()| Line::Crash),
-        "lose" => Some(Line::Lose {
-            backup: only_number(words)?,
-        }),
-        "recover" => words.end().map(|()| Line::Recover),
+        "put" => put(words),
+        "get" => get(words),
+        "hex" => hex(words),
+        "stop" => stop(words),
+        "crash" => words.end().and(Some(Line::Crash)),
+        "lose" => lose(words),
+        "recover" => words.end().and(Some(Line::Recover)),
         _ => None,
     }
 }
 
-/// The words as a table, a key and a value.
-fn object<'a>(mut words: Words<'a>) -> Option<(u64, &'a [u8], &'a [u8])>
-    ensures sound { IfSome result (λ o. AreObject words.entry o.0 o.1.now o.2.now) }
-    ensures complete { IsNone result → (table : ℕ) (key value : List ℕ) → ¬ AreObject words.entry table key value }
+/// The words behind `put`: a table, a key and a value.
+fn put(mut words: Words<'_>) -> Option<Line<'_>>
+    ensures { Reads (codes "put" ∷ words.entry) result }
 {
     let table = words.number()?;
     let key = words.key()?;
     let value = words.value()?;
     words.end()?;
-    Some((table, key, value))
+    Some(Line::Put { table, key, value })
 }
 
-/// The words as a table and a key.
-fn table_and_key<'a>(mut words: Words<'a>) -> Option<(u64, &'a [u8])>
-    ensures sound { IfSome result (λ k. AreKey words.entry k.0 k.1.now) }
-    ensures complete { IsNone result → (table : ℕ) (key : List ℕ) → ¬ AreKey words.entry table key }
+/// The words behind `get`: a table and a key.
+fn get(mut words: Words<'_>) -> Option<Line<'_>>
+    ensures { Reads (codes "get" ∷ words.entry) result }
 {
     let table = words.number()?;
     let key = words.key()?;
     words.end()?;
-    Some((table, key))
+    Some(Line::Get { table, key })
+}
+
+/// The words behind `hex`: the number of a segment.
+fn hex(words: Words<'_>) -> Option<Line<'_>>
+    ensures { Reads (codes "hex" ∷ words.entry) result }
+{
+    let segment = only_number(words)?;
+    Some(Line::Hex { segment })
+}
+
+/// The word behind `stop`: how many takes are left.
+fn stop(words: Words<'_>) -> Option<Line<'_>>
+    ensures { Reads (codes "stop" ∷ words.entry) result }
+{
+    let takes = only_number(words)?;
+    Some(Line::Stop { takes })
+}
+
+/// The word behind `lose`: the number of a backup.
+fn lose(words: Words<'_>) -> Option<Line<'_>>
+    ensures { Reads (codes "lose" ∷ words.entry) result }
+{
+    let backup = only_number(words)?;
+    Some(Line::Lose { backup })
 }
 
 /// The words as one number.
