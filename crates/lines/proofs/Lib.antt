@@ -1,3 +1,4 @@
 pub mod Cutting
 pub mod OneLine
 pub mod Spelling
+pub mod Taking

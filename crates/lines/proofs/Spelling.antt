@@ -113,7 +113,7 @@ put words table key value behind last cut small key_is value_is = record {
       (cut ∙ ap (λ ws. decimal table ∷ ws) (key_is.0 ∙ ap (λ ws. key ∷ ws) value_is.0));
   each = All-cons IsWord (codes "put") (decimal table ∷ key ∷ value ∷ []) is_put
       (All-cons IsWord (decimal table) (key ∷ value ∷ []) (decimal_is_word table small)
-          (All-cons IsWord key (value ∷ []) key_is.1.word (All-cons IsWord value [] value_is.1 (All-nil IsWord))));
+      (All-cons IsWord key (value ∷ []) key_is.1.word (All-cons IsWord value [] value_is.1 (All-nil IsWord))));
   limits = (small, key_is.1);
 }
 
@@ -124,7 +124,7 @@ get words table key behind cut small key_is = record {
   spelled = ap (λ ws. codes "get" ∷ ws) (cut ∙ ap (λ ws. decimal table ∷ ws) key_is.0);
   each = All-cons IsWord (codes "get") (decimal table ∷ key ∷ []) is_get
       (All-cons IsWord (decimal table) (key ∷ []) (decimal_is_word table small)
-          (All-cons IsWord key [] key_is.1.word (All-nil IsWord)));
+      (All-cons IsWord key [] key_is.1.word (All-nil IsWord)));
   limits = (small, key_is.1);
 }
 
