@@ -3,7 +3,7 @@ use Rattle.std.specs.Prelude.{◌≡◌, ◌==◌, ◌<◌, ◌^◌, ℕ, Bool, 
 use Rattle.std.specs.Borrow.{Bor}
 use Rattle.std.specs.List.{All, slice_split}
 use Rattle.std.specs.Fmt.{decimal}
-use Rattle.lines.specs.Grammar.{IsKey, IsLine, IsWord, LineValue, Idle, shown, words_of}
+use Rattle.lines.specs.Grammar.{IsLine, IsWord, LineValue, Idle, shown, words_of}
 use Rattle.lines.specs.declared.line.Line.{Line}
 
 abbrev pub is_space : ℕ → Bool
@@ -18,19 +18,6 @@ words_left (Some rest) = slice_split is_space rest.now
 pub record AreNumber (words : List (List ℕ)) (n : ℕ) : Type 0 where
   pub spelled : words ≡ decimal n ∷ []
   pub small : n < 2 ^ 64
-
--- the words are a table and a key
-pub record AreKey (words : List (List ℕ)) (table : ℕ) (key : List ℕ) : Type 0 where
-  pub spelled : words ≡ decimal table ∷ key ∷ []
-  pub small : table < 2 ^ 64
-  pub is_key : IsKey key
-
--- the words are a table, a key and a value
-pub record AreObject (words : List (List ℕ)) (table : ℕ) (key value : List ℕ) : Type 0 where
-  pub spelled : words ≡ decimal table ∷ key ∷ value ∷ []
-  pub small : table < 2 ^ 64
-  pub is_key : IsKey key
-  pub is_word : IsWord value
 
 -- the words spell the line
 pub record Spell (words : List (List ℕ)) (line : LineValue) : Type 0 where
