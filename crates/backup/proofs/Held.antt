@@ -1,11 +1,13 @@
 -- Which replicas a backup shows.
-use Rattle.std.proofs.Common.{◌≡◌, ℕ, zero, suc, ◌+◌, arith, List, [], ◌∷◌, ◌++◌, map, Bool, true, false, cond, Some, refl, sym, ◌∙◌, ap, subst, inl, inr, ◌⊎◌, ◌↔◌}
+use Rattle.std.proofs.Common.{◌≡◌, ℕ, zero, suc, ◌+◌, ◌<◌, ◌≤◌, ltb, arith, List, length, drop, get_or, append_assoc, [], ◌∷◌, ◌++◌, map, Bool, true, false, cond, Some, refl, sym, ◌∙◌, ap, subst, inl, inr, ◌⊎◌, ◌↔◌}
 use Rattle.std.specs.Map.{lookup}
 use Rattle.std.specs.List.{All, AllByRecursion, slice_get}
 use Rattle.std.specs.BTreeMap.{is_at}
 use Rattle.std.proofs.lemmas.List.Elements.{All-head, All-tail}
 use Rattle.std.proofs.lemmas.Map.Views.{All-found, tells_apart}
 use Rattle.std.proofs.lemmas.Option.{same_Some}
+use Rattle.std.proofs.lemmas.List.{at_drop_more, get_or_default}
+use Rattle.std.proofs.lemmas.Bool.{ltb-true, ltb-false}
 use Rattle.entry.specs.Bag.{IsAmong}
 use Rattle.replica.specs.Picture.{Replica, IsHeld}
 use Rattle.replica.specs.declared.holding.Holding.{Holding}
@@ -100,3 +102,36 @@ one_shown backups b x is ordered h =
 pub all_shown : (backups : List MemoryBackup) → AreInOrder backups → (h : Holding) → IsAmong h (inventory_of 0 backups) ↔ IsHeld (picture_of backups) h
 all_shown backups ordered h =
     (λ among. let on = among_inventory 0 backups ordered h among in let at : h.backup ≡ on.i = omega (arith, on.backup) in rw at on.held, λ held. inventory_among 0 backups h h.backup (omega arith) held)
+
+-- one backup more is shown
+module _ (seen backups : List MemoryBackup) (i : ℕ) (x : MemoryBackup) (same : seen ≡ backups) (more : i < length seen) (at : x ≡ get_or seen i x) where
+  within : i < length backups
+  within = subst (λ (ms : List MemoryBackup). i < length ms) same more
+
+  found : x ≡ get_or backups i x
+  found = at ∙ ap (λ (ms : List MemoryBackup). get_or ms i x) same
+
+  pub shown_more : (old new all : List Holding) → new ≡ old ++ holdings_of i x → old ++ inventory_of i (drop i backups) ≡ all →
+      new ++ inventory_of (i + 1) (drop (i + 1) backups) ≡ all
+  shown_more old new all shown held =
+      let left : List Holding = inventory_of (suc i) (drop (i + 1) backups) in
+      let one : i + 1 ≡ suc i = omega arith in
+      let first : inventory_of i (drop i backups) ≡ holdings_of i x ++ left =
+      at_drop_more (inventory_of i) backups i x within ∙ ap (λ (y : MemoryBackup). holdings_of i y ++ left) (sym found) in
+      ap (λ n. new ++ inventory_of n (drop (i + 1) backups)) one
+      ∙ ap (λ (hs : List Holding). hs ++ left) shown
+      ∙ append_assoc old (holdings_of i x) left
+      ∙ ap (λ (hs : List Holding). old ++ hs) (sym first)
+      ∙ held
+
+  pub ordered_more : IsInOrder x → ((k : ℕ) (d : MemoryBackup) → k < i → IsInOrder (get_or backups k d)) →
+      (k : ℕ) (d : MemoryBackup) → k < i + 1 → IsInOrder (get_or backups k d)
+  ordered_more here before k d less =
+      elim (ltb k i) as (λ b. ltb k i ≡ b → IsInOrder (get_or backups k d)) [
+        | true ↦ λ yet. before k d (ltb-true _ _ yet)
+        | false ↦ λ past.
+            let below : i ≤ k = ltb-false _ _ past in
+            let last : i ≡ k = omega arith in
+            let is : x ≡ get_or backups k d = found ∙ get_or_default backups i x d within ∙ ap (λ n. get_or backups n d) last in
+            subst IsInOrder is here
+      ] refl

@@ -2,3 +2,4 @@ mod Places
 mod Pictures
 mod Held
 mod Rising
+pub mod Empty

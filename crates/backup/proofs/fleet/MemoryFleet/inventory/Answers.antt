@@ -2,7 +2,7 @@ use Rattle.std.proofs.Common.{◌≡◌, [], ◌++◌, sym, ◌∙◌, drop, ari
 use Rattle.std.proofs.lemmas.List.{append-nil, drop_all}
 use Rattle.std.proofs.lemmas.List.Elements.{recursion_from_All}
 use Rattle.backup.specs.Shelf.{IsInOrder}
-use Rattle.backup.proofs.Held.{AreInOrder, inventory_of, all_shown}
+use Rattle.backup.proofs.Held.{AreInOrder, inventory_of, all_shown, shown_more, ordered_more}
 use Rattle.backup.proofs.Rising.{rising_inventory}
 use Rattle.backup.proofs.fleet.MemoryFleet.inventory.Goals as goal
 
@@ -21,3 +21,13 @@ returns-clause-shown c = rw (whole c) (all_shown c.args.self.now.backups.items (
 
 pub returns-clause-rising : goal.returns-clause-rising
 returns-clause-rising c = rw (whole c) (rising_inventory 0 c.args.self.now.backups.items (ordered c))
+
+pub loop-backup-preserved : goal.loop-backup-preserved
+loop-backup-preserved c =
+    let seen = c.deref-memory-items.result.now in
+    let backups = c.args.self.now.backups.items in
+    let same = c.deref-memory-items.ensures.value in
+    record {
+      whole = shown_more seen backups c.loop-backup.backup c.memory-item.result same c.loop-backup-test.true c.memory-item.is c.loop-backup.list.items _ _ c.in_ok-show.ensures.shown c.loop-backup.invariant.whole;
+      ordered = ordered_more seen backups c.loop-backup.backup c.memory-item.result same c.loop-backup-test.true c.memory-item.is c.in_ok-show.ensures.ordered c.loop-backup.invariant.ordered;
+    }
