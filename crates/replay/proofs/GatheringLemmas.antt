@@ -1,12 +1,15 @@
 -- The claims of segments, one segment after the other.
-use Rattle.std.proofs.Common.{◌≡◌, ℕ, ◌+◌, ◌<◌, List, [], ◌∷◌, ◌++◌, length, drop, get_or, refl, sym, ap, ◌∙◌, append_assoc}
-use Rattle.std.specs.Prelude.{filter}
-use Rattle.std.proofs.lemmas.List.{append-nil, at_drop_more}
+use Rattle.std.proofs.Common.{◌≡◌, ℕ, ◌+◌, ◌<◌, List, [], ◌∷◌, ◌++◌, length, drop, get_or, map, refl, sym, ap, ◌∙◌, append_assoc}
+use Rattle.std.specs.Prelude.{filter, Option, Some, None, Result, Ok, Err, false, if◌then◌else◌}
+use Rattle.std.specs.Result.{is_ok, is_err}
+use Rattle.std.specs.List.{cons_option}
+use Rattle.std.proofs.lemmas.List.{append-nil, map-append, at_drop_more}
 use Rattle.entry.specs.declared.entry.Entry.{Entry}
 use Rattle.entry.specs.declared.entry.Entry.TheVariants as entry
 use Rattle.entry.specs.Text.{is_data}
+use Rattle.replay.specs.declared.claim.Claim.{Claim}
 use Rattle.replay.specs.Bags.{bag_of}
-use Rattle.replay.specs.Claims.{Claimed, claims_of}
+use Rattle.replay.specs.Claims.{Claimed, claimed, claim_of, claims_of}
 
 pub claims_of-append : (es fs : List Entry) → claims_of (es ++ fs) ≡ claims_of es ++ claims_of fs
 claims_of-append [] fs = refl
@@ -40,3 +43,22 @@ gathered_more segments i es left was now lt at none inner outer =
     ∙ append_assoc was (claims_of es) (claims_of (bag_of rest))
     ∙ ap (λ (cs : List Claimed). was ++ cs) (sym front)
     ∙ outer
+
+pub entry_passed : (e : Entry) (es left : List Entry) (was total : List Claimed) → es ≡ e ∷ left → None ≡ claim_of e →
+    was ++ claims_of es ≡ total → was ++ claims_of left ≡ total
+entry_passed e es left was total first none held =
+    ap (λ (cs : List Claimed). was ++ cs) (sym (ap claims_of first ∙ ap (λ (c : Option Claimed). cons_option c (claims_of left)) (sym none))) ∙ held
+
+pub entry_claimed : (e : Entry) (es left : List Entry) (x : Claim) (old new : List Claim) (total : List Claimed) → es ≡ e ∷ left →
+    Some (claimed x) ≡ claim_of e → new ≡ old ++ x ∷ [] →
+    map claimed old ++ claims_of es ≡ total →
+    map claimed new ++ claims_of left ≡ total
+entry_claimed e es left x old new total first some pushed held =
+    ap (λ (cs : List Claimed). cs ++ claims_of left) (ap (map claimed) pushed ∙ map-append claimed old (x ∷ []))
+    ∙ append_assoc (map claimed old) (claimed x ∷ []) (claims_of left)
+    ∙ ap (λ (cs : List Claimed). map claimed old ++ cs) (sym (ap claims_of first ∙ ap (λ (c : Option Claimed). cons_option c (claims_of left)) (sym some)))
+    ∙ held
+
+pub pushed_by : {T E X : Type 0} (r : Result T E) (new more old : List X) → false ≡ is_err r → new ≡ if is_ok r then more else old → new ≡ more
+pushed_by (Ok x) new more old fine is = is
+pushed_by (Err y) new more old fine is = absurd (cc)

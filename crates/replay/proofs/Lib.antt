@@ -3,3 +3,4 @@ pub mod ClaimOrder
 pub mod ScanLemmas
 pub mod MeaningLemmas
 pub mod GatheringLemmas
+pub mod SiftLemmas
