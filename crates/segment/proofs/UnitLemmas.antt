@@ -1,8 +1,9 @@
 -- Units, and what they leave behind a segment's entries.
-use Rattle.std.proofs.Common.{◌≡◌, ℕ, zero, suc, ◌+◌, ◌*◌, ◌<◌, ◌≤◌, Bool, true, false, List, [], ◌∷◌, ◌++◌, length, take, map, get_or, refl, sym, ap, ◌∙◌, append_assoc, arith}
-use Rattle.std.specs.Prelude.{◌&&◌}
+use Rattle.std.proofs.Common.{◌≡◌, ℕ, zero, suc, ◌+◌, ◌*◌, ◌<◌, ◌≤◌, Bool, true, false, List, [], ◌∷◌, ◌++◌, length, take, drop, map, get_or, refl, sym, ap, ◌∙◌, append_assoc, arith}
+use Rattle.std.specs.Prelude.{◌&&◌, Result, Ok, Err, OnOk, OnErr}
+use Rattle.std.specs.Result.{IsOk}
 use Rattle.std.specs.List.{flat_map, AllByRecursion}
-use Rattle.std.proofs.lemmas.List.{length-append, append-nil}
+use Rattle.std.proofs.lemmas.List.{length-append, append-nil, map-append, at_drop_more, take_more}
 use Rattle.std.proofs.lemmas.List.Folds.{length-flat_map-take, flat_map-map}
 use Rattle.entry.specs.declared.entry.Role.TheVariants.{Head}
 use Rattle.entry.specs.declared.entry.Header.{Header}
@@ -37,6 +38,47 @@ text-at es i x lt is =
     let whole : text_of (map shown es) ≡ flat_map f es = flat_map-map spelling shown es in
     let last : length (spelling (shown x)) ≡ length (f (get_or es i x)) = ap (λ (e : EntryRef). length (f e)) is in
     omega (arith, length-flat_map-take f es i x lt, ap length part, ap length whole)
+
+-- where an entry is written behind those before it
+module _ (es : List EntryRef) (i : ℕ) (x : EntryRef) (lt : i < length es) (is : x ≡ get_or es i x) where
+  taken_more : text_of (map shown (take (i + 1) es)) ≡ text_of (map shown (take i es)) ++ spelling (shown x)
+  taken_more =
+      ap (λ (fs : List EntryRef). text_of (map shown fs)) (take_more es i x lt ∙ ap (λ (y : EntryRef). take i es ++ y ∷ []) (sym is))
+      ∙ ap text_of (map-append shown (take i es) (x ∷ []))
+      ∙ text_of-append (map shown (take i es)) (shown x ∷ [])
+      ∙ ap (λ (bytes : List ℕ). text_of (map shown (take i es)) ++ bytes) (append-nil (spelling (shown x)))
+
+  left_more : text_of (map shown (drop i es)) ≡ spelling (shown x) ++ text_of (map shown (drop (i + 1) es))
+  left_more =
+      at_drop_more (λ (fs : List EntryRef). text_of (map shown fs)) es i x lt
+      ∙ ap (λ (y : EntryRef). spelling (shown y) ++ text_of (map shown (drop (i + 1) es))) (sym is)
+
+  pub written_more : (start old new : List ℕ) → new ≡ old ++ spelling (shown x) → old ≡ start ++ text_of (map shown (take i es)) →
+      new ≡ start ++ text_of (map shown (take (i + 1) es))
+  written_more start old new one held =
+      one
+      ∙ ap (λ (bytes : List ℕ). bytes ++ spelling (shown x)) held
+      ∙ append_assoc start (text_of (map shown (take i es))) (spelling (shown x))
+      ∙ ap (λ (bytes : List ℕ). start ++ bytes) (sym taken_more)
+
+  pub room_for : (len capacity : ℕ) → len + length (text_of (map shown (drop i es))) ≤ capacity → len + length (spelling (shown x)) ≤ capacity
+  room_for len capacity room = omega (arith, room, ap length left_more, length-append (spelling (shown x)) (text_of (map shown (drop (i + 1) es))))
+
+  pub room_left : (len capacity more wide : ℕ) → len + length (text_of (map shown (drop i es))) ≤ capacity →
+      more ≡ len + length (spelling (shown x)) → capacity ≤ wide →
+      more + length (text_of (map shown (drop (i + 1) es))) ≤ wide
+  room_left len capacity more wide room longer wider = omega (arith, room, longer, wider, ap length left_more, length-append (spelling (shown x)) (text_of (map shown (drop (i + 1) es))))
+
+pub longer_by : (old new part : List ℕ) (len more : ℕ) → new ≡ old ++ part → len ≡ length old → more ≡ length new → more ≡ len + length part
+longer_by old new part len more one before after = omega (arith, ap length one, length-append old part, before, after)
+
+pub ok_holds : {T E : Type 0} (r : Result T E) (P : Type 0) (v : T) → r ≡ Ok v → OnOk r P → P
+ok_holds (Ok w) P v is p = p
+ok_holds (Err e) P v is p = absurd (cc)
+
+pub ok_unless : {T E : Type 0} (r : Result T E) (P : Type 0) → OnErr r P → (P → ⊥) → IsOk r
+ok_unless (Ok v) P full not = refl
+ok_unless (Err e) P full not = absurd (not full)
 
 -- a segment's entries and a unit are a segment's entries
 pub IsTextOf-append : (bytes new : List ℕ) (unit : List Entry) → IsSegmentBytes bytes → AllByRecursion IsEntry unit → are_data unit ≡ true → new ≡ bytes ++ text_of unit → IsTextOf new (entries_in bytes ++ unit)
