@@ -135,3 +135,14 @@ module _ (seen backups : List MemoryBackup) (i : ℕ) (x : MemoryBackup) (same :
             let is : x ≡ get_or backups k d = found ∙ get_or_default backups i x d within ∙ ap (λ n. get_or backups n d) last in
             subst IsInOrder is here
       ] refl
+
+-- one replica more of a backup is shown
+pub entry_shown : (b : ℕ) (es left : List ((ℕ × ℕ) × Replica)) (x : (ℕ × ℕ) × Replica) (h : Holding) (old new all : List Holding) → es ≡ x ∷ left →
+    h ≡ holding_of b x → new ≡ old ++ h ∷ [] →
+    old ++ map (holding_of b) es ≡ all →
+    new ++ map (holding_of b) left ≡ all
+entry_shown b es left x h old new all first is pushed held =
+    ap (λ (hs : List Holding). hs ++ map (holding_of b) left) (pushed ∙ ap (λ (g : Holding). old ++ g ∷ []) is)
+    ∙ append_assoc old (holding_of b x ∷ []) (map (holding_of b) left)
+    ∙ ap (λ (es : List ((ℕ × ℕ) × Replica)). old ++ map (holding_of b) es) (sym first)
+    ∙ held
