@@ -1,0 +1,8 @@
+use Rattle.std.proofs.Common.{refl}
+use Rattle.segment.proofs.view.SegmentRef.to_segment.Goals as goal
+
+pub invariant_of-result : goal.invariant_of-result
+invariant_of-result c = rw c.in_ok-bytes.ensures.items c.args.self.now.valid
+
+pub returns : goal.returns
+returns c = rw c.in_ok-bytes.ensures.items refl
