@@ -7,7 +7,7 @@ use Rattle.entry.specs.declared.entry.Entry.{Entry}
 use Rattle.entry.specs.declared.kind.Kind.{Kind}
 use Rattle.entry.specs.declared.kind.Kind.TheVariants as kind
 use Rattle.entry.specs.declared.fault.EntryFault.{EntryFault}
-use Rattle.entry.specs.declared.fault.EntryFault.TheVariants.{Short, BadField}
+use Rattle.entry.specs.declared.fault.EntryFault.TheVariants.{Short, UnknownKind, BadField}
 use Rattle.entry.specs.declared.view.EntryRef.{EntryRef}
 use Rattle.entry.specs.Key.{IsBytes}
 use Rattle.entry.specs.Limits.{IsVersion}
@@ -123,3 +123,8 @@ pub found_of : (k : Kind) (bytes : List ℕ) (r : Result (EntryRef × ℕ) Entry
     → IfOk r (λ read. Begins bytes (shown read.0) read.1)
 found_of k bytes (Ok x) fits first reads = rw (reads.1, reads.2) (begins_of k bytes fits first reads.0)
 found_of k bytes (Err f) fits first reads = tt
+
+-- what begins with another byte is of no known kind
+pub unknown_of : (bytes : List ℕ) (byte : ℕ) → 0 < length bytes → slice_index bytes 0 ≡ byte → kind_of byte ≡ None → first_fault bytes ≡ Some UnknownKind
+unknown_of [] byte any first none = absurd (omega (arith, any))
+unknown_of (b ∷ rest) byte any first none = rw (first, none) refl

@@ -1,4 +1,5 @@
-use Rattle.std.proofs.Common.{◌≡◌, ◌+◌, ◌*◌, length, ap, arith}
+use Rattle.std.proofs.Common.{◌≡◌, ◌+◌, ◌*◌, [], ◌∷◌, length, ap, ◌∙◌, arith}
+use Rattle.std.proofs.lemmas.List.{append_assoc}
 use Rattle.entry.specs.declared.key.Key.{Key}
 use Rattle.entry.specs.Format.{spelling}
 use Rattle.entry.proofs.SpellingLemmas.{length-header, length-digest, length-safe, length-object, length-tombstone}
@@ -32,3 +33,8 @@ put_tombstone-requires c =
     let len : length (spelling c.args.entry.now) ≡ 27 + length c.in-Tombstone.tombstone.key.bytes = rw c.in-Tombstone.is (length-tombstone _) in
     let key : length c.view-key-in-Tombstone.result.bytes.now ≡ length c.in-Tombstone.tombstone.key.bytes = ap (λ (k : Key). length k.bytes) c.view-key-in-Tombstone.ensures in
     omega arith
+
+pub returns-in-Safe : goal.returns-in-Safe
+returns-in-Safe c =
+    c.put_u64-in-Safe.ensures.items
+    ∙ rw (c.put_u8-in-Safe.ensures.items, c.get.ensures.value, c.in-Safe.is) (append_assoc c.args.out.now.items (3 ∷ []) _)
