@@ -7,6 +7,9 @@ pub returns-in-Some-clause-clash : goal.returns-in-Some-clause-clash
 returns-in-Some-clause-clash c =
     (refl, next_is (claimed c.args.claim.now) c.args.later.now c.in-Some.next.now c.in-Some.ensures.value ∙ sym c.if-clashes.ensures)
 
+pub returns-in-Some-clause-clean : goal.returns-in-Some-clause-clean
+returns-in-Some-clause-clean c = tt
+
 pub returns-in-Some-2-clause-last : goal.returns-in-Some-2-clause-last
 returns-in-Some-2-clause-last c = c.ne.ensures ∙ sym (last_is (claimed c.args.claim.now) c.args.later.now c.in-Some.next.now c.in-Some.ensures.value)
 
