@@ -194,7 +194,7 @@ impl Head {
         requires { length self.old.taken < self.old.replicas }
         ensures { self.new ≡ with_replica self.old }
     {
-        self.taken.push(0).unwrap()
+        self.taken.push_reserved(0)
     }
 
     /// Counts a unit that a replica took.
@@ -226,7 +226,7 @@ impl Head {
         }
         self.image.append_unit(unit, limit)?;
         let end = self.image.bytes_len();
-        self.units.push(UnitEnd { number, end }).unwrap();
+        self.units.push_reserved(UnitEnd { number, end });
         Ok(())
     }
 }

@@ -52,7 +52,7 @@ pub fn place_change(places: &mut Vec<usize>, change: &Change, slot: Option<usize
 {
     match change {
         Change::Nothing => {}
-        Change::Create(_) => places.push(at).unwrap(),
+        Change::Create(_) => places.push_reserved(at),
         Change::Replace(_, _) => {
             if let Some(slot) = slot {
                 places[slot] = at;

@@ -261,7 +261,7 @@ impl<F: Fleet> Master<F> {
             self.config.segment as usize,
         )?;
         self.safe = change.safe_after(self.safe);
-        self.history.push(accepted).unwrap();
+        self.history.push_reserved(accepted);
         Ok(place)
     }
 
@@ -375,7 +375,7 @@ impl<F: Fleet> Master<F> {
         let own = copies(self.alloc, steps)?;
         for step in own {
             let answer = self.step(step);
-            answers.push(answer).unwrap();
+            answers.push_reserved(answer);
         }
         self.show_sound();
         Ok(answers)
@@ -466,7 +466,7 @@ fn copies(alloc: Global, steps: &[Step]) -> Result<Vec<Step>, NoMemory>
 {
     let mut own = Vec::with_capacity(alloc, steps.len())?;
     for step in steps {
-        own.push(step.copy()?)?;
+        own.push_reserved(step.copy()?);
     }
     Ok(own)
 }

@@ -14,8 +14,8 @@ invariant_of-self-2 c =
     let unit : UnitEnd = record { number = c.args.number; end = c.bytes_len-end.result } in
     let more : length (text_of c.self.inside.image) ≤ c.bytes_len-end.result =
     rw (c.bytes_len-end.ensures, c.in_ok-append_unit.ensures.ok) (omega (arith, text_more c.self.inside.image (map shown c.args.unit.now))) in
-    let items : c.push.new.self.items ≡ units ++ unit ∷ [] =
-    c.push.ensures.items ∙ rw (c.unwrap.ensures, c.reserve.ensures.items) refl in
+    let items : c.push_reserved.new.self.items ≡ units ++ unit ∷ [] =
+    c.push_reserved.ensures.items ∙ rw c.reserve.ensures.items refl in
     let count : length units ≤ length (units ++ unit ∷ []) = omega (arith, length-append units (unit ∷ [])) in
     let ends : EndAt c.self.inside.opening (units ++ unit ∷ []) c.bytes_len-end.result =
     EndAt_push units c.self.inside.opening _ unit old.units more in (

@@ -45,14 +45,14 @@ invariant_of-self-2 g c =
     let reply : c.args.accepted.reply ≡ reply_to (state_of d) command =
     reply_is d f command c.args.change.now c.args.slot c.self.invariant judged c.args.accepted.reply (rw (← c.self.view_is) at c.requires.reply) in
     let number : c.len-place.result ≡ length d.history = search rules in
-    let items : c.push.new.self.items ≡ d.history ++ c.args.accepted ∷ [] =
-    rw (c.push.ensures.items, c.unwrap.ensures, c.enact.ensures.history) refl in
+    let items : c.push_reserved.new.self.items ≡ d.history ++ c.args.accepted ∷ [] =
+    rw (c.push_reserved.ensures.items, c.enact.ensures.history) refl in
     let left : MasterData = record {
       config = d.config;
       head = c.enact.new.head;
       places = c.enact.new.places.items;
       safe = safe_of_change d.safe c.args.change.now;
-      history = c.push.new.self.items;
+      history = c.push_reserved.new.self.items;
       is_halted = d.is_halted;
     } in
     let e : MasterData = applied d c.args.accepted.seat command c.args.change.now c.args.slot there.0 in
@@ -87,14 +87,14 @@ returns-clause-added g c =
     let reply : c.args.accepted.reply ≡ reply_to (state_of d) command =
     reply_is d f command c.args.change.now c.args.slot c.self.invariant judged c.args.accepted.reply (rw (← c.self.view_is) at c.requires.reply) in
     let number : c.len-place.result ≡ length d.history = search rules in
-    let items : c.push.new.self.items ≡ d.history ++ c.args.accepted ∷ [] =
-    rw (c.push.ensures.items, c.unwrap.ensures, c.enact.ensures.history) refl in
+    let items : c.push_reserved.new.self.items ≡ d.history ++ c.args.accepted ∷ [] =
+    rw (c.push_reserved.ensures.items, c.enact.ensures.history) refl in
     let left : MasterData = record {
       config = d.config;
       head = c.enact.new.head;
       places = c.enact.new.places.items;
       safe = safe_of_change d.safe c.args.change.now;
-      history = c.push.new.self.items;
+      history = c.push_reserved.new.self.items;
       is_halted = d.is_halted;
     } in
     let e : MasterData = applied d c.args.accepted.seat command c.args.change.now c.args.slot there.0 in
