@@ -2,7 +2,8 @@
 
 use backup::*;
 use replica::{Act, Bench, Fleet, Holding, Op, TakeFault};
-use std::alloc::Global;
+use std::alloc::{AllocError, Global};
+use std::fmt::Write;
 use std::str;
 use std::test::Fail;
 
@@ -32,15 +33,38 @@ fn are_answered(fleet: &mut MemoryFleet, rows: &[Row<'_>]) -> bool {
     true
 }
 
-/// Whether a backup holds one replica, which is open, of these bytes, or holds none.
-fn holds(alloc: Global, fleet: &MemoryFleet, backup: u64, want: Option<&str>) -> bool {
-    let Ok(holdings) = fleet.holdings(alloc, backup) else {
-        return false;
-    };
-    match holdings.as_slice() {
-        [] => want.is_none(),
-        [only] => only.is_open && want == str::from_utf8(only.bytes.as_slice()).ok(),
-        _ => false,
+/// Writes the backup, the segment and the bytes of each replica, and whether it is open.
+fn write_holdings(text: &mut String, holdings: &[Holding]) -> Result<(), AllocError> {
+    for holding in holdings {
+        let Holding {
+            backup,
+            segment,
+            is_open,
+            ..
+        } = holding;
+        let bytes = str::from_utf8(holding.bytes.as_slice()).unwrap_or("?");
+        write!(text, "{backup} {segment} {bytes} {is_open}, ")?;
+    }
+    Ok(())
+}
+
+/// Whether replicas are these.
+fn are_shown(alloc: Global, holdings: &[Holding], want: &str) -> bool {
+    let mut text = String::new(alloc);
+    write_holdings(&mut text, holdings).is_ok() && text.as_str() == want
+}
+
+fn holds(alloc: Global, fleet: &MemoryFleet, backup: u64, want: &str) -> bool {
+    match fleet.holdings(alloc, backup) {
+        Ok(holdings) => are_shown(alloc, holdings.as_slice(), want),
+        Err(_) => false,
+    }
+}
+
+fn has_inventory(alloc: Global, fleet: &MemoryFleet, want: &str) -> bool {
+    match fleet.inventory(alloc) {
+        Ok(inventory) => are_shown(alloc, inventory.as_slice(), want),
+        Err(_) => false,
     }
 }
 
@@ -53,12 +77,17 @@ const FITS: &[Row<'static>] = &[
     (2, 7, None, "ab", Err(TakeFault::Wrong)),
 ];
 
+fn takes_what_fits(alloc: Global, fleet: &mut MemoryFleet) -> bool {
+    let are_answered = are_answered(fleet, FITS);
+    let are_counted = (fleet.backups(), fleet.takes(), fleet.faults()) == (2, 2, 0);
+    let are_held = holds(alloc, fleet, 0, "0 7 abc true, ") && holds(alloc, fleet, 1, "");
+    are_answered && are_counted && are_held
+}
+
 #[test]
 fn an_op_is_taken_where_it_fits(rt: HostRuntime) -> Result<(), Fail> {
     let mut fleet = MemoryFleet::new(rt.alloc(), 2)?;
-    assert!(rt; are_answered(&mut fleet, FITS) && fleet.backups() == 2);
-    assert!(rt; fleet.takes() == 2 && fleet.faults() == 0);
-    assert!(rt; holds(rt.alloc(), &fleet, 0, Some("abc")) && holds(rt.alloc(), &fleet, 1, None));
+    assert!(rt; takes_what_fits(rt.alloc(), &mut fleet));
     Ok(())
 }
 
@@ -69,36 +98,23 @@ const LIMITED: &[Row<'static>] = &[
     (9, 2, None, "a", Err(TakeFault::Spent)),
 ];
 
+/// The next of them, which it takes without the limit.
+const NEXT: &[Row<'static>] = &[(0, 2, None, "a", Ok(()))];
+
+fn takes_to_the_limit(fleet: &mut MemoryFleet) -> bool {
+    let begun = fleet.end();
+    fleet.limit(1);
+    let are_limited = are_answered(fleet, LIMITED);
+    fleet.limit(u64::MAX);
+    let end = fleet.end();
+    begun == u64::MAX && are_limited && end == u64::MAX && are_answered(fleet, NEXT)
+}
+
 #[test]
 fn a_limit_ends_the_takes(rt: HostRuntime) -> Result<(), Fail> {
     let mut fleet = MemoryFleet::new(rt.alloc(), 1)?;
-    assert!(rt; fleet.end() == u64::MAX);
-    fleet.limit(1);
-    assert!(rt; are_answered(&mut fleet, LIMITED));
-    fleet.limit(u64::MAX);
-    assert!(rt; fleet.end() == u64::MAX);
-    assert!(rt; are_answered(&mut fleet, &[(0, 2, None, "a", Ok(()))]));
+    assert!(rt; takes_to_the_limit(&mut fleet));
     Ok(())
-}
-
-/// Whether these are the replicas of these backups and segments, in order.
-fn are_at(holdings: &[Holding], places: &[(u64, u64)]) -> bool {
-    if holdings.len() != places.len() {
-        return false;
-    }
-    for (at, holding) in holdings.iter().enumerate() {
-        if (holding.backup, holding.segment) != places[at] {
-            return false;
-        }
-    }
-    true
-}
-
-fn has_places(alloc: Global, fleet: &MemoryFleet, want: &[(u64, u64)]) -> bool {
-    match fleet.inventory(alloc) {
-        Ok(inventory) => are_at(inventory.as_slice(), want),
-        Err(_) => false,
-    }
 }
 
 /// Replicas that are opened.
@@ -109,15 +125,31 @@ const OPENED: &[Row<'static>] = &[
     (0, 4, None, "a", Ok(())),
 ];
 
+/// One that is opened again on a backup that was lost.
+const AGAIN: &[Row<'static>] = &[(0, 4, None, "b", Ok(()))];
+
+fn has_opened(alloc: Global, fleet: &mut MemoryFleet) -> bool {
+    are_answered(fleet, OPENED)
+        && has_inventory(
+            alloc,
+            fleet,
+            "0 4 a true, 0 9 a true, 1 5 a true, 2 5 a true, ",
+        )
+}
+
+fn loses(alloc: Global, fleet: &mut MemoryFleet) -> bool {
+    if fleet.backups() != 3 {
+        return false;
+    }
+    fleet.lose(0);
+    has_inventory(alloc, fleet, "1 5 a true, 2 5 a true, ")
+        && are_answered(fleet, AGAIN)
+        && has_inventory(alloc, fleet, "0 4 b true, 1 5 a true, 2 5 a true, ")
+}
+
 #[test]
 fn a_lost_backup_is_empty(rt: HostRuntime) -> Result<(), Fail> {
-    let alloc = rt.alloc();
-    let mut fleet = MemoryFleet::new(alloc, 3)?;
-    assert!(rt; are_answered(&mut fleet, OPENED) && fleet.backups() == 3);
-    assert!(rt; has_places(alloc, &fleet, &[(0, 4), (0, 9), (1, 5), (2, 5)]));
-    fleet.lose(0);
-    assert!(rt; has_places(alloc, &fleet, &[(1, 5), (2, 5)]));
-    assert!(rt; are_answered(&mut fleet, &[(0, 4, None, "b", Ok(()))]));
-    assert!(rt; has_places(alloc, &fleet, &[(0, 4), (1, 5), (2, 5)]));
+    let mut fleet = MemoryFleet::new(rt.alloc(), 3)?;
+    assert!(rt; has_opened(rt.alloc(), &mut fleet) && loses(rt.alloc(), &mut fleet));
     Ok(())
 }

@@ -2,106 +2,111 @@
 
 use entry::*;
 use std::alloc::Global;
-use std::test::Fail;
 
-/// The bytes of entries, and how many of them each takes.
-const ENTRIES: &[(&str, usize)] = &[
-    ("010000000000000001000000000000000100", 18),
-    ("02000000010000000000000001", 13),
-    ("0200000000", 5),
-    ("030000000000000001", 9),
-    ("030000000000000001ff", 9),
-    ("034000000000000001", 9),
-    ("04000000000000000100000000000000010001000000016178", 25),
+/// Bytes, and how many of them the entry at their front takes or why there is none.
+type Row<'a> = (&'a [u8], Result<usize, EntryFault>);
+
+const ENTRIES: &[Row<'static>] = &[
+    (b"\x01\0\0\0\0\0\0\0\x01\0\0\0\0\0\0\0\x01\0", Ok(18)),
+    (b"\x02\0\0\0\x01\0\0\0\0\0\0\0\x01", Ok(13)),
+    (b"\x02\0\0\0\0", Ok(5)),
+    (b"\x03\0\0\0\0\0\0\0\x01", Ok(9)),
+    (b"\x03\0\0\0\0\0\0\0\x01\xff", Ok(9)),
+    (b"\x03\x40\0\0\0\0\0\0\x01", Ok(9)),
     (
-        "05000000000000000100000000000000010000000000000001000161",
-        28,
+        b"\x04\0\0\0\0\0\0\0\x01\0\0\0\0\0\0\0\x01\0\x01\0\0\0\x01ax",
+        Ok(25),
     ),
-    ("040000000000000001400000000000000000010000000061", 24),
+    (
+        b"\x05\0\0\0\0\0\0\0\x01\0\0\0\0\0\0\0\x01\0\0\0\0\0\0\0\x01\0\x01a",
+        Ok(28),
+    ),
+    (
+        b"\x04\0\0\0\0\0\0\0\x01\x40\0\0\0\0\0\0\0\0\x01\0\0\0\0a",
+        Ok(24),
+    ),
 ];
 
-/// Whether an entry is spelled so.
-fn is_spelled(alloc: Global, entry: &Entry, spelling: Option<&[u8]>) -> bool {
-    let mut out = Vec::new(alloc);
-    write_entry(entry, &mut out).is_ok() && spelling == Some(out.as_slice())
+/// Reads the entry at the front, and writes it.
+fn copy_entry(alloc: Global, bytes: &[u8], out: &mut Vec<u8>) -> Result<usize, EntryFault> {
+    let (entry, taken) = read_entry(alloc, bytes)?;
+    match write_entry(&entry, out) {
+        Ok(()) => Ok(taken),
+        Err(_) => Err(EntryFault::NoMemory),
+    }
 }
 
-/// Whether an entry of this length is read from the bytes, and written as it is spelled there.
-fn is_entry(alloc: Global, bytes: &[u8], len: usize) -> bool {
-    match &read_entry(alloc, bytes) {
-        Ok((entry, taken)) => *taken == len && is_spelled(alloc, entry, bytes.get(..len)),
-        Err(_) => false,
-    }
+/// Whether the bytes are read so, and the entry is written as it is spelled there.
+fn is_read(alloc: Global, row: &Row<'_>) -> bool {
+    let (bytes, want) = row;
+    let mut out = Vec::new(alloc);
+    copy_entry(alloc, bytes, &mut out) == *want
+        && bytes.get(..want.unwrap_or(0)) == Some(out.as_slice())
 }
 
 #[test]
-fn entries_are_read_and_written(rt: HostRuntime) -> Result<(), Fail> {
-    for (text, len) in ENTRIES {
-        let bytes = hex::decode(rt.alloc(), text)?;
-        assert!(rt; is_entry(rt.alloc(), &bytes, *len), "{text}");
+fn entries_are_read_and_written(rt: HostRuntime) {
+    for row in ENTRIES {
+        assert!(rt; is_read(rt.alloc(), row), "{:?}", row.0);
     }
-    Ok(())
 }
 
 /// Bytes that are no entry, and why.
-const FAULTS: &[(&str, EntryFault)] = &[
-    ("", EntryFault::Short),
-    ("06", EntryFault::UnknownKind),
-    ("00ffff", EntryFault::UnknownKind),
-    ("03", EntryFault::Short),
-    ("030000000000000000", EntryFault::BadField),
-    ("034000000000000002", EntryFault::BadField),
-    ("010000000000000001000000000000000102", EntryFault::BadField),
+const FAULTS: &[Row<'static>] = &[
+    (b"", Err(EntryFault::Short)),
+    (b"\x06", Err(EntryFault::UnknownKind)),
+    (b"\0\xff\xff", Err(EntryFault::UnknownKind)),
+    (b"\x03", Err(EntryFault::Short)),
+    (b"\x03\0\0\0\0\0\0\0\0", Err(EntryFault::BadField)),
+    (b"\x03\x40\0\0\0\0\0\0\x02", Err(EntryFault::BadField)),
     (
-        "020000000200000000000000020000000000000001",
-        EntryFault::BadField,
-    ),
-    ("02000000020000000000000002", EntryFault::Short),
-    ("0400000000000000010000000000000000", EntryFault::Short),
-    (
-        "0400000000000000010000000000000000000100000001",
-        EntryFault::BadField,
+        b"\x01\0\0\0\0\0\0\0\x01\0\0\0\0\0\0\0\x01\x02",
+        Err(EntryFault::BadField),
     ),
     (
-        "040000000000000001000000000000000100000000000178",
-        EntryFault::BadField,
+        b"\x02\0\0\0\x02\0\0\0\0\0\0\0\x02\0\0\0\0\0\0\0\x01",
+        Err(EntryFault::BadField),
+    ),
+    (b"\x02\0\0\0\x02\0\0\0\0\0\0\0\x02", Err(EntryFault::Short)),
+    (
+        b"\x04\0\0\0\0\0\0\0\x01\0\0\0\0\0\0\0\0",
+        Err(EntryFault::Short),
     ),
     (
-        "0400000000000000010000000000000001040100000000",
-        EntryFault::BadField,
+        b"\x04\0\0\0\0\0\0\0\x01\0\0\0\0\0\0\0\0\0\x01\0\0\0\x01",
+        Err(EntryFault::BadField),
     ),
     (
-        "040000000000000001000000000000000100010000000161",
-        EntryFault::Short,
+        b"\x04\0\0\0\0\0\0\0\x01\0\0\0\0\0\0\0\x01\0\0\0\0\0\x01x",
+        Err(EntryFault::BadField),
     ),
     (
-        "040000000000000001400000000000000100010000000061",
-        EntryFault::BadField,
+        b"\x04\0\0\0\0\0\0\0\x01\0\0\0\0\0\0\0\x01\x04\x01\0\0\0\0",
+        Err(EntryFault::BadField),
     ),
     (
-        "020000000200000000000000020000000000000002",
-        EntryFault::BadField,
+        b"\x04\0\0\0\0\0\0\0\x01\0\0\0\0\0\0\0\x01\0\x01\0\0\0\x01a",
+        Err(EntryFault::Short),
     ),
     (
-        "05000000000000000100000000000000010000000000000001000061",
-        EntryFault::BadField,
+        b"\x04\0\0\0\0\0\0\0\x01\x40\0\0\0\0\0\0\x01\0\x01\0\0\0\0a",
+        Err(EntryFault::BadField),
+    ),
+    (
+        b"\x02\0\0\0\x02\0\0\0\0\0\0\0\x02\0\0\0\0\0\0\0\x02",
+        Err(EntryFault::BadField),
+    ),
+    (
+        b"\x05\0\0\0\0\0\0\0\x01\0\0\0\0\0\0\0\x01\0\0\0\0\0\0\0\x01\0\0a",
+        Err(EntryFault::BadField),
     ),
 ];
 
-fn is_fault(alloc: Global, bytes: &[u8], fault: EntryFault) -> bool {
-    match read_entry(alloc, bytes) {
-        Ok(_) => false,
-        Err(found) => found == fault,
-    }
-}
-
 #[test]
-fn faults_are_the_first_that_a_test_names(rt: HostRuntime) -> Result<(), Fail> {
-    for (text, fault) in FAULTS {
-        let bytes = hex::decode(rt.alloc(), text)?;
-        assert!(rt; is_fault(rt.alloc(), &bytes, *fault), "{text}");
+fn faults_are_the_first_that_a_test_names(rt: HostRuntime) {
+    for row in FAULTS {
+        assert!(rt; is_read(rt.alloc(), row), "{:?}", row.0);
     }
-    Ok(())
 }
 
 /// Whether this is the object of table 1, key `a`, version 1 and value `x`.
@@ -117,20 +122,26 @@ fn is_first_object(entry: &Entry) -> bool {
     }
 }
 
+fn is_first_object_read(alloc: Global, bytes: &[u8]) -> bool {
+    match &read_entry(alloc, bytes) {
+        Ok((entry, _)) => is_first_object(entry),
+        Err(_) => false,
+    }
+}
+
 #[test]
-fn an_object_has_its_fields(rt: HostRuntime) -> Result<(), Fail> {
-    let bytes = hex::decode(rt.alloc(), ENTRIES[6].0)?;
-    let (entry, _) = read_entry(rt.alloc(), &bytes)?;
-    assert!(rt; is_first_object(&entry));
-    Ok(())
+fn an_object_has_its_fields(rt: HostRuntime) {
+    assert!(rt; is_first_object_read(rt.alloc(), ENTRIES[6].0));
 }
 
 /// Keys and their places.
-const PLACES: &[(&str, u64)] = &[
-    ("a", 0x6100_0000_0000_0000),
-    ("b", 0x6200_0000_0000_0000),
-    ("ab", 0x6162_0000_0000_0000),
-    ("abcdefghi", 0x6162_6364_6566_6768),
+const PLACES: &[(&[u8], Result<u64, KeyFault>)] = &[
+    (b"a", Ok(0x6100_0000_0000_0000)),
+    (b"b", Ok(0x6200_0000_0000_0000)),
+    (b"ab", Ok(0x6162_0000_0000_0000)),
+    (b"abcdefghi", Ok(0x6162_6364_6566_6768)),
+    (b"", Err(KeyFault::Empty)),
+    (&[0; 1025], Err(KeyFault::TooLong)),
 ];
 
 fn place_of(alloc: Global, bytes: &[u8]) -> Result<u64, KeyFault> {
@@ -140,13 +151,8 @@ fn place_of(alloc: Global, bytes: &[u8]) -> Result<u64, KeyFault> {
 #[test]
 fn places(rt: HostRuntime) {
     for (bytes, want) in PLACES {
-        assert!(rt;
-            place_of(rt.alloc(), bytes.as_bytes()) == Ok(*want),
-            "{bytes}"
-        );
+        assert!(rt; place_of(rt.alloc(), bytes) == *want, "{bytes:?}");
     }
-    assert!(rt; place_of(rt.alloc(), b"") == Err(KeyFault::Empty));
-    assert!(rt; place_of(rt.alloc(), &[0; 1025]) == Err(KeyFault::TooLong));
 }
 
 /// The places of keys that begin with `a`, in table 1.
@@ -156,16 +162,19 @@ const TABLET: Tablet = Tablet {
     last: 0x61ff_ffff_ffff_ffff,
 };
 
-/// Whether the tablets have the key of these bytes in table 1.
-fn have(alloc: Global, tablets: &Tablets, bytes: &[u8]) -> Result<bool, KeyFault> {
+/// Keys of table 1, and whether the tablet has them.
+const HAVE: &[(&[u8], bool)] = &[(b"ab", true), (b"b", false)];
+
+/// Whether valid tablets have the key of these bytes in table 1.
+fn have(alloc: Global, bytes: &[u8]) -> Result<bool, KeyFault> {
     let key = Key::new(alloc, 1, bytes)?;
-    Ok(tablets.have(&key.view()))
+    let tablets = Tablets::new(Vec::from_slice(alloc, &[TABLET])?);
+    Ok(tablets.are_valid() && tablets.have(&key.view()))
 }
 
 #[test]
-fn tablets_have_keys(rt: HostRuntime) -> Result<(), Fail> {
-    let tablets = Tablets::new(Vec::from_slice(rt.alloc(), &[TABLET])?);
-    assert!(rt; tablets.are_valid());
-    assert!(rt; have(rt.alloc(), &tablets, b"ab")? && !have(rt.alloc(), &tablets, b"b")?);
-    Ok(())
+fn tablets_have_keys(rt: HostRuntime) {
+    for (bytes, want) in HAVE {
+        assert!(rt; have(rt.alloc(), bytes) == Ok(*want), "{bytes:?}");
+    }
 }

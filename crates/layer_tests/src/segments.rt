@@ -7,39 +7,39 @@ use segment::*;
 use std::alloc::Global;
 use std::test::Fail;
 
-const HEAD: &str =
-    "01000000000000000100000000000000010002000000010000000000000001030000000000000001";
+const HEAD: &[u8] =
+    b"\x01\0\0\0\0\0\0\0\x01\0\0\0\0\0\0\0\x01\0\x02\0\0\0\x01\0\0\0\0\0\0\0\x01\x03\0\0\0\0\0\0\0\x01";
 
-const OBJECT: &str = "04000000000000000100000000000000010001000000016178";
+const OBJECT: &[u8] = b"\x04\0\0\0\0\0\0\0\x01\0\0\0\0\0\0\0\x01\0\x01\0\0\0\x01ax";
 
-const HEAD_WITH_OBJECT: &str =
-    "0100000000000000010000000000000001000200000001000000000000000103000000000000000104000000000000000100000000000000010001000000016178";
+const HEAD_WITH_OBJECT: &[u8] =
+    b"\x01\0\0\0\0\0\0\0\x01\0\0\0\0\0\0\0\x01\0\x02\0\0\0\x01\0\0\0\0\0\0\0\x01\x03\0\0\0\0\0\0\0\x01\x04\0\0\0\0\0\0\0\x01\0\0\0\0\0\0\0\x01\0\x01\0\0\0\x01ax";
 
 /// Bytes, and how many entries the segment has or why they are none.
-const SEGMENTS: &[(&str, Result<usize, SegmentFault>)] = &[
+const SEGMENTS: &[(&[u8], Result<usize, SegmentFault>)] = &[
     (HEAD, Ok(3)),
     (HEAD_WITH_OBJECT, Ok(4)),
-    ("010000000000000001000000000000000301", Ok(1)),
-    ("", Err(SegmentFault::BadOrder(0))),
+    (b"\x01\0\0\0\0\0\0\0\x01\0\0\0\0\0\0\0\x03\x01", Ok(1)),
+    (b"", Err(SegmentFault::BadOrder(0))),
     (
-        "010000000000000001000000000000000100",
+        b"\x01\0\0\0\0\0\0\0\x01\0\0\0\0\0\0\0\x01\0",
         Err(SegmentFault::BadOrder(18)),
     ),
     (
-        "010000000000000001000000000000000100020000000100000000000000010300000000000000",
+        b"\x01\0\0\0\0\0\0\0\x01\0\0\0\0\0\0\0\x01\0\x02\0\0\0\x01\0\0\0\0\0\0\0\x01\x03\0\0\0\0\0\0\0",
         Err(SegmentFault::BadEntry(31)),
     ),
     (OBJECT, Err(SegmentFault::BadOrder(0))),
     (
-        "01000000000000000100000000000000010002000000010000000000000001030000000000000001010000000000000001000000000000000301",
+        b"\x01\0\0\0\0\0\0\0\x01\0\0\0\0\0\0\0\x01\0\x02\0\0\0\x01\0\0\0\0\0\0\0\x01\x03\0\0\0\0\0\0\0\x01\x01\0\0\0\0\0\0\0\x01\0\0\0\0\0\0\0\x03\x01",
         Err(SegmentFault::BadOrder(40)),
     ),
     (
-        "010000000000000001000000000000000301034000000000000001",
+        b"\x01\0\0\0\0\0\0\0\x01\0\0\0\0\0\0\0\x03\x01\x03\x40\0\0\0\0\0\0\x01",
         Err(SegmentFault::BadOrder(18)),
     ),
     (
-        "0100000000000000010000000000000001000200000000030000000000000001",
+        b"\x01\0\0\0\0\0\0\0\x01\0\0\0\0\0\0\0\x01\0\x02\0\0\0\0\x03\0\0\0\0\0\0\0\x01",
         Err(SegmentFault::BadOrder(18)),
     ),
 ];
@@ -49,12 +49,10 @@ fn count(alloc: Global, bytes: &[u8]) -> Result<usize, SegmentFault> {
 }
 
 #[test]
-fn segments_are_read(rt: HostRuntime) -> Result<(), Fail> {
-    for (text, want) in SEGMENTS {
-        let bytes = hex::decode(rt.alloc(), text)?;
-        assert!(rt; count(rt.alloc(), &bytes) == *want, "{text}");
+fn segments_are_read(rt: HostRuntime) {
+    for (bytes, want) in SEGMENTS {
+        assert!(rt; count(rt.alloc(), bytes) == *want, "{bytes:?}");
     }
-    Ok(())
 }
 
 /// The head of master 1 whose id is 1.
@@ -63,43 +61,33 @@ fn new_head(alloc: Global) -> Result<Segment, Fail> {
     Ok(Segment::begin_head(alloc, 1, 1, &ids, SafeVersion::first())?)
 }
 
-/// Whether these are the bytes of a segment.
-fn has_bytes(alloc: Global, segment: &Segment, text: &str) -> bool {
-    match &hex::decode(alloc, text) {
-        Ok(bytes) => bytes.as_slice() == segment.bytes(),
-        Err(_) => false,
-    }
-}
-
-/// Whether an append of the object to a segment, within a limit, is answered so.
+/// Whether an append of the object to a segment, within a limit, is answered so, and these are the bytes then.
 fn is_appended(
-    alloc: Global,
     segment: &mut Segment,
     limit: usize,
     want: Result<usize, AppendFault>,
-) -> Result<bool, Fail>
+    bytes: &[u8],
+) -> bool
     requires { limit ≤ 8388608 }
 {
-    let bytes = hex::decode(alloc, OBJECT)?;
-    match EntryRef::read(&bytes) {
+    match EntryRef::read(OBJECT) {
         Ok((EntryRef::Object(object), _)) => {
-            Ok(segment.append_unit(&[EntryRef::Object(object)], limit) == want)
+            segment.append_unit(&[EntryRef::Object(object)], limit) == want
+                && segment.bytes() == bytes
         }
-        _ => Ok(false),
+        _ => false,
     }
 }
 
 /// Whether a head takes the object where the limit leaves room for it, and not before.
-fn grows(alloc: Global, segment: &mut Segment) -> Result<bool, Fail> {
-    let is_full = is_appended(alloc, segment, 64, Err(AppendFault::Full))?;
-    let stays = has_bytes(alloc, segment, HEAD);
-    let is_taken = is_appended(alloc, segment, 65, Ok(40))?;
-    Ok(is_full && stays && is_taken && has_bytes(alloc, segment, HEAD_WITH_OBJECT))
+fn grows(segment: &mut Segment) -> bool {
+    is_appended(segment, 64, Err(AppendFault::Full), HEAD)
+        && is_appended(segment, 65, Ok(40), HEAD_WITH_OBJECT)
 }
 
 #[test]
 fn a_head_begins_and_grows(rt: HostRuntime) -> Result<(), Fail> {
     let mut segment = new_head(rt.alloc())?;
-    assert!(rt; grows(rt.alloc(), &mut segment)?);
+    assert!(rt; grows(&mut segment));
     Ok(())
 }

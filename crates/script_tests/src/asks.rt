@@ -3,7 +3,6 @@
 use entry::{Key, Value};
 use master::{Command, If, Step};
 use std::alloc::Global;
-use std::test::Fail;
 
 /// A push, or a command on a key of table 1.
 #[derive(Clone, Copy)]
@@ -14,30 +13,30 @@ pub enum Ask {
     Delete(&'static str),
 }
 
-fn key_of(alloc: Global, text: &str) -> Result<Key, Fail> {
-    Ok(Key::new(alloc, 1, text.as_bytes())?)
+fn key_of(alloc: Global, text: &str) -> Option<Key> {
+    Key::new(alloc, 1, text.as_bytes()).ok()
 }
 
-fn put(alloc: Global, text: &str, byte: u8, when: If) -> Result<Command, Fail> {
-    let key = key_of(alloc, text)?;
-    let value = Value::new(Vec::from_slice(alloc, &[byte])?);
-    Ok(Command::Put(key, value, when))
+fn put(alloc: Global, text: &str, byte: u8, when: If) -> Option<Command> {
+    let bytes = Vec::from_slice(alloc, &[byte]).ok()?;
+    Some(Command::Put(key_of(alloc, text)?, Value::new(bytes), when))
 }
 
-pub fn step_of(alloc: Global, ask: &Ask) -> Result<Step, Fail> {
+pub fn step_of(alloc: Global, ask: &Ask) -> Option<Step> {
     let command = match ask {
-        Ask::Push => return Ok(Step::Push),
+        Ask::Push => return Some(Step::Push),
         Ask::Get(key) => Command::Get(key_of(alloc, key)?),
         Ask::Put(key, byte, when) => put(alloc, key, *byte, *when)?,
         Ask::Delete(key) => Command::Delete(key_of(alloc, key)?),
     };
-    Ok(Step::Apply(0, command))
+    Some(Step::Apply(0, command))
 }
 
-pub fn steps_of(alloc: Global, asks: &[Ask]) -> Result<Vec<Step>, Fail> {
+/// The steps of these asks, or none where there is no memory.
+pub fn steps_of(alloc: Global, asks: &[Ask]) -> Option<Vec<Step>> {
     let mut steps = Vec::new(alloc);
     for ask in asks {
-        steps.push(step_of(alloc, ask)?)?;
+        steps.push(step_of(alloc, ask)?).ok()?;
     }
-    Ok(steps)
+    Some(steps)
 }

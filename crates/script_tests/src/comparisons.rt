@@ -4,9 +4,9 @@ use crate::asks::{Ask, step_of};
 use crate::runs::{new_master, rebuilt};
 use backup::MemoryFleet;
 use entry::{Entry, EntryRef, Object};
-use master::{If, Look, Master, Reply, Shown, Step, StepAnswer};
+use master::{If, Look, Master, Shown, Step, StepAnswer};
 use plain::{VersionedMap, meaning};
-use segment::read_segment;
+use segment::SegmentRef;
 use std::alloc::Global;
 use std::test::Fail;
 
@@ -27,10 +27,6 @@ const ASKS: &[Ask] = &[
     Ask::Put("a", b'w', If::Any),
     Ask::Put("b", b'p', If::Any),
 ];
-
-fn are_same_replies(alloc: Global, one: &Reply, other: &Reply) -> Result<bool, Fail> {
-    Ok(format!(in alloc; "{one:?}")?.as_str() == format!(in alloc; "{other:?}")?.as_str())
-}
 
 fn has_object(objects: &[Object], want: &Object) -> bool {
     for object in objects {
@@ -61,21 +57,35 @@ fn push(master: &mut Master<MemoryFleet>, times: usize) {
     }
 }
 
+/// The reply of the plain map.
+fn plain_reply(alloc: Global, map: &mut VersionedMap, step: &Step) -> Option<String> {
+    let Step::Apply(_, command) = step else {
+        return None;
+    };
+    match &map.apply(command) {
+        Ok(reply) => format!(in alloc; "{reply:?}").ok(),
+        Err(_) => None,
+    }
+}
+
+/// The reply of the master.
+fn reply(alloc: Global, master: &mut Master<MemoryFleet>, step: Step) -> Option<String> {
+    match &master.step(step) {
+        Ok(StepAnswer::Applied(_, reply)) => format!(in alloc; "{reply:?}").ok(),
+        _ => None,
+    }
+}
+
 /// Asks both, and tells whether they answered alike.
 fn answers_alike(
     alloc: Global,
     master: &mut Master<MemoryFleet>,
     map: &mut VersionedMap,
     step: Step,
-) -> Result<bool, Fail> {
-    let Step::Apply(_, command) = &step else {
-        return Ok(false);
-    };
-    let want = map.apply(command)?;
-    match master.step(step) {
-        Ok(StepAnswer::Applied(_, reply)) => are_same_replies(alloc, &reply, &want),
-        _ => Ok(false),
-    }
+) -> bool {
+    let want = plain_reply(alloc, map, &step);
+    let reply = reply(alloc, master, step);
+    want.is_some() && want == reply
 }
 
 /// Asks both all of these.
@@ -84,68 +94,72 @@ fn answer_alike(
     master: &mut Master<MemoryFleet>,
     map: &mut VersionedMap,
     asks: &[Ask],
-) -> Result<bool, Fail> {
+) -> bool {
     for ask in asks {
-        if !answers_alike(alloc, master, map, step_of(alloc, ask)?)? {
-            return Ok(false);
+        let Some(step) = step_of(alloc, ask) else {
+            return false;
+        };
+        if !answers_alike(alloc, master, map, step) {
+            return false;
         }
     }
-    Ok(true)
+    true
 }
 
 /// The entries of a segment's bytes.
-fn entries_of(alloc: Global, bytes: &[u8]) -> Result<Vec<Entry>, Fail> {
-    let segment = read_segment(alloc, bytes)?;
+fn entries_of(alloc: Global, bytes: &[u8]) -> Option<Vec<Entry>> {
+    let Ok(segment) = SegmentRef::read(bytes) else {
+        return None;
+    };
     let mut entries = Vec::new(alloc);
     for entry in segment.entries() {
         let entry: EntryRef<'_> = entry;
-        entries.push(entry.to_entry(alloc)?)?;
+        entries.push(entry.to_entry(alloc).ok()?).ok()?;
     }
-    Ok(entries)
+    Some(entries)
 }
 
 /// Whether the image of the head means these objects.
-fn means(alloc: Global, master: &Master<MemoryFleet>, want: &[Object]) -> Result<bool, Fail> {
-    let Shown::Image(Some(image)) = master.look(Look::Image(1))? else {
-        return Ok(false);
+fn means(alloc: Global, master: &Master<MemoryFleet>, want: &[Object]) -> bool {
+    let Ok(Shown::Image(Some(image))) = master.look(Look::Image(1)) else {
+        return false;
     };
-    let entries = entries_of(alloc, image.as_slice())?;
-    Ok(are_same_objects(meaning(alloc, entries.as_slice())?.as_slice(), want))
+    let Some(entries) = entries_of(alloc, image.as_slice()) else {
+        return false;
+    };
+    match meaning(alloc, entries.as_slice()) {
+        Ok(objects) => are_same_objects(objects.as_slice(), want),
+        Err(_) => false,
+    }
 }
 
 /// Opens the head, asks both, and tells whether they answered alike and mean the same.
-fn agree(
-    alloc: Global,
-    master: &mut Master<MemoryFleet>,
-    map: &mut VersionedMap,
-) -> Result<bool, Fail> {
+fn agree(alloc: Global, master: &mut Master<MemoryFleet>, map: &mut VersionedMap) -> bool {
     push(master, 2);
-    let are_alike = answer_alike(alloc, master, map, ASKS)?;
-    Ok(are_alike && map.safe().get() == 5 && means(alloc, master, map.objects())?)
+    let are_alike = answer_alike(alloc, master, map, ASKS);
+    are_alike && map.safe().get() == 5 && means(alloc, master, map.objects())
 }
 
 /// Whether these objects are recovered once all is pushed.
-fn is_recovered(
-    alloc: Global,
-    mut master: Master<MemoryFleet>,
-    want: &[Object],
-) -> Result<bool, Fail> {
+fn is_recovered(alloc: Global, mut master: Master<MemoryFleet>, want: &[Object]) -> bool {
     push(&mut master, 2 * ASKS.len());
-    let rebuilt = rebuilt(alloc, &master.crash())?;
-    Ok(are_same_objects(rebuilt.objects.as_slice(), want))
+    match rebuilt(alloc, &master.crash()) {
+        Some(rebuilt) => are_same_objects(rebuilt.objects.as_slice(), want),
+        None => false,
+    }
 }
 
 /// Whether a new master does what the plain map does, and so does its recovery.
-fn is_plain_map(alloc: Global, mut master: Master<MemoryFleet>) -> Result<bool, Fail> {
+fn is_plain_map(alloc: Global, mut master: Master<MemoryFleet>) -> bool {
     let mut map = VersionedMap::new(alloc);
-    let agree = agree(alloc, &mut master, &mut map)?;
-    let is_recovered = is_recovered(alloc, master, map.objects())?;
-    Ok(agree && is_recovered)
+    let agree = agree(alloc, &mut master, &mut map);
+    let is_recovered = is_recovered(alloc, master, map.objects());
+    agree && is_recovered
 }
 
 #[test]
 fn a_master_is_the_plain_map(rt: HostRuntime) -> Result<(), Fail> {
     let master = new_master(rt.alloc())?;
-    assert!(rt; is_plain_map(rt.alloc(), master)?);
+    assert!(rt; is_plain_map(rt.alloc(), master));
     Ok(())
 }

@@ -3,10 +3,12 @@
 use crate::asks::{Ask, steps_of};
 use crate::runs::default_config;
 use backup::MemoryFleet;
+use entry::Object;
 use master::{If, Step};
 use script::{Drill, run_drill};
-use std::alloc::Global;
+use std::alloc::{AllocError, Global};
 use std::fmt::Write;
+use std::str;
 use std::test::Fail;
 
 /// Opens the head on backups 1 and 2, puts `a` on both, and `b` on the first of them alone.
@@ -20,19 +22,21 @@ const ASKS: &[Ask] = &[
     Ask::Push,
 ];
 
-/// The keys that a drill recovers, or the fault.
-fn recovered(alloc: Global, drill: &Drill) -> Result<String, Fail> {
-    let mut text = String::new(alloc);
-    match &drill.recovered {
-        Err(fault) => write!(text, "{fault}")?,
-        Ok(rebuilt) => {
-            for object in rebuilt.objects.as_slice() {
-                let key = std::str::from_utf8(object.key.bytes.as_slice())?;
-                write!(text, "{key} {} ", object.version.get())?;
-            }
-        }
+/// Writes the keys and their versions.
+fn write_keys(text: &mut String, objects: &[Object]) -> Result<(), AllocError> {
+    for object in objects {
+        let key = str::from_utf8(object.key.bytes.as_slice()).unwrap_or("?");
+        write!(text, "{key} {} ", object.version.get())?;
     }
-    Ok(text)
+    Ok(())
+}
+
+/// Writes the keys that a drill recovers, or the fault.
+fn write_recovered(text: &mut String, drill: &Drill) -> Result<(), AllocError> {
+    match &drill.recovered {
+        Ok(rebuilt) => write_keys(text, rebuilt.objects.as_slice()),
+        Err(fault) => write!(text, "{fault}"),
+    }
 }
 
 /// A drill that keeps these backups.
@@ -43,11 +47,11 @@ fn drill(alloc: Global, steps: &[Step], kept: &[u64]) -> Result<Drill, Fail> {
     Ok(run_drill(alloc, config, fleet, steps, kept)?)
 }
 
-/// What a drill that keeps these backups recovers.
-fn drilled(alloc: Global, kept: &[u64]) -> Result<String, Fail> {
-    let steps = steps_of(alloc, ASKS)?;
-    let drill = drill(alloc, steps.as_slice(), kept)?;
-    recovered(alloc, &drill)
+/// Whether a drill that keeps these backups recovers this.
+fn is_recovered(alloc: Global, steps: &[Step], kept: &[u64], want: &str) -> Result<bool, Fail> {
+    let drill = drill(alloc, steps, kept)?;
+    let mut text = String::new(alloc);
+    Ok(write_recovered(&mut text, &drill).is_ok() && text.as_str() == want)
 }
 
 /// Backups that are kept, and what is recovered from them.
@@ -59,8 +63,12 @@ const KEPT: &[(&[u64], &str)] = &[
 
 #[test]
 fn a_drill_recovers_what_is_left(rt: HostRuntime) -> Result<(), Fail> {
+    let steps = steps_of(rt.alloc(), ASKS).ok_or("no steps")?;
     for (kept, want) in KEPT {
-        assert!(rt; drilled(rt.alloc(), kept)?.as_str() == *want, "{want}");
+        assert!(rt;
+            is_recovered(rt.alloc(), steps.as_slice(), kept, want)?,
+            "{want}"
+        );
     }
     Ok(())
 }

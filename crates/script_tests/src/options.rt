@@ -76,6 +76,7 @@ fn mistakes_end_with_two(rt: HostRuntime) {
     }
 }
 
+/// What the help shows.
 const USES: &[&str] = &[
     "--backups <N>",
     "--replicas <N>",
@@ -87,22 +88,22 @@ const USES: &[&str] = &[
     "--history <N>",
     "--bytes <N>",
     "--objects <N>",
+    "512 to 8388608 [default: 512]",
 ];
 
 /// The text of the help, which ends with 0.
-fn help(alloc: Global) -> Result<String, Fail> {
+fn help(alloc: Global) -> Option<String> {
     match options(alloc, &["ramlog", "--help"]) {
-        Err(error) if error.exit_code() == 0 => Ok(format!(in alloc; "{error}")?),
-        _ => Err("no help")?,
+        Err(error) if error.exit_code() == 0 => format!(in alloc; "{error}").ok(),
+        _ => None,
     }
 }
 
 #[test]
 fn help_shows_each_option(rt: HostRuntime) -> Result<(), Fail> {
-    let text = help(rt.alloc())?;
-    for option in USES {
-        assert!(rt; text.contains(*option), "{option}");
+    let text = help(rt.alloc()).ok_or("no help")?;
+    for part in USES {
+        assert!(rt; text.contains(*part), "{part}");
     }
-    assert!(rt; text.contains("512 to 8388608 [default: 512]"));
     Ok(())
 }

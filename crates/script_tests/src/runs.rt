@@ -1,7 +1,7 @@
 //! A master that is run step by step, and rebuilt from its fleet.
 
 use crate::asks::{Ask, steps_of};
-use master::{Config, If, Look, Master, Refusal, Shown, StepAnswer};
+use master::{Config, If, Look, Master, Refusal, Shown, Step, StepAnswer};
 use replica::Fleet;
 use script::*;
 use std::alloc::Global;
@@ -71,40 +71,44 @@ fn are_kinds(answers: &[Result<StepAnswer, Refusal>], kinds: &[Kind]) -> bool {
 }
 
 /// Whether the steps are answered so.
-fn runs(alloc: Global, master: &mut Master<MemoryFleet>) -> Result<bool, Fail> {
-    let steps = steps_of(alloc, ASKS)?;
-    let answers = master.run(steps.as_slice())?;
-    Ok(are_kinds(answers.as_slice(), KINDS))
+fn runs(master: &mut Master<MemoryFleet>, steps: &[Step]) -> bool {
+    match master.run(steps) {
+        Ok(answers) => are_kinds(answers.as_slice(), KINDS),
+        Err(_) => false,
+    }
 }
 
 /// Whether two records are there, both durable, and no image of segment 2.
-fn has_run(master: &Master<MemoryFleet>) -> Result<bool, Fail> {
-    let Shown::Image(image) = master.look(Look::Image(2))?;
-    Ok(image.is_none() && master.durable() == 2 && master.history().len() == 2)
+fn has_run(master: &Master<MemoryFleet>) -> bool {
+    let has_no_image = matches!(&master.look(Look::Image(2)), Ok(Shown::Image(None)));
+    has_no_image && master.durable() == 2 && master.history().len() == 2
 }
 
 /// What a fleet is rebuilt to.
-pub fn rebuilt(alloc: Global, fleet: &MemoryFleet) -> Result<Rebuilt, Fail> {
-    Ok(recover(alloc, &fleet.inventory(alloc)?, 1)?)
+pub fn rebuilt(alloc: Global, fleet: &MemoryFleet) -> Option<Rebuilt> {
+    let inventory = fleet.inventory(alloc).ok()?;
+    recover(alloc, &inventory, 1).ok()
 }
 
 /// Whether one object is recovered, and safe version 2.
-fn is_recovered(alloc: Global, master: Master<MemoryFleet>) -> Result<bool, Fail> {
-    let rebuilt = rebuilt(alloc, &master.crash())?;
-    Ok(rebuilt.objects.as_slice().len() == 1 && rebuilt.safe.get() == 2)
+fn is_recovered(alloc: Global, master: Master<MemoryFleet>) -> bool {
+    match rebuilt(alloc, &master.crash()) {
+        Some(rebuilt) => rebuilt.objects.as_slice().len() == 1 && rebuilt.safe.get() == 2,
+        None => false,
+    }
 }
 
-/// Whether all of this holds of a new master.
-fn is_run(alloc: Global, mut master: Master<MemoryFleet>) -> Result<bool, Fail> {
-    let are_answered = runs(alloc, &mut master)?;
-    let is_shown = has_run(&master)?;
-    let is_left = is_recovered(alloc, master)?;
-    Ok(are_answered && is_shown && is_left)
+/// Whether all of this holds of a new master that takes the steps.
+fn is_run(alloc: Global, mut master: Master<MemoryFleet>, steps: &[Step]) -> bool {
+    let has_run = runs(&mut master, steps) && has_run(&master);
+    let is_recovered = is_recovered(alloc, master);
+    has_run && is_recovered
 }
 
 #[test]
 fn a_run_answers_step_by_step(rt: HostRuntime) -> Result<(), Fail> {
+    let steps = steps_of(rt.alloc(), ASKS).ok_or("no steps")?;
     let master = new_master(rt.alloc())?;
-    assert!(rt; is_run(rt.alloc(), master)?);
+    assert!(rt; is_run(rt.alloc(), master, steps.as_slice()));
     Ok(())
 }

@@ -3,110 +3,110 @@
 use script::*;
 use std::alloc::Global;
 use std::io::{self, ErrorKind, Read, Write};
-use std::test::Fail;
 
-/// What a command line stands for.
-fn options_of(alloc: Global, line: &str) -> Result<Options, Fail> {
-    let words: Vec<&str> = line.split_whitespace().collect(alloc)?;
-    Ok(options(alloc, words.as_slice())?)
-}
-
-/// Runs a script, and answers how the run ended.
+/// Runs a script, and answers how the run ended, or none where the words are refused.
 fn run<R: Read, W: Write>(
     alloc: Global,
-    line: &str,
+    words: &[&str],
     reader: &mut R,
     writer: &mut W,
-) -> Result<Result<(), ScriptFault>, Fail> {
-    let options = options_of(alloc, line)?;
-    configuration(alloc, &options, 1)?.check()?;
-    Ok(run_script(alloc, reader, writer, options))
+) -> Option<Result<(), ScriptFault>> {
+    let Ok(options) = options(alloc, words) else {
+        return None;
+    };
+    let Ok(config) = configuration(alloc, &options, 1) else {
+        return None;
+    };
+    let Ok(()) = config.check() else {
+        return None;
+    };
+    Some(run_script(alloc, reader, writer, options))
 }
 
 /// Whether a run writes this, and ends so.
 fn writes<R: Read>(
     alloc: Global,
-    line: &str,
+    words: &[&str],
     reader: &mut R,
     output: &str,
     end: Result<(), ScriptFault>,
-) -> Result<bool, Fail> {
+) -> bool {
     let mut written = Vec::new(alloc);
-    let ran = run(alloc, line, reader, &mut written)?;
-    Ok(ran == end && written.as_slice() == output.as_bytes())
+    run(alloc, words, reader, &mut written) == Some(end) && written.as_slice() == output.as_bytes()
 }
 
+/// The command line of the default options.
+const RAMLOG: &[&str] = &["ramlog"];
+
 /// A command line, a script, and what the run writes.
-const SCRIPTS: &[(&str, &str, &str)] = &[
+const SCRIPTS: &[(&[&str], &str, &str)] = &[
     (
-        "ramlog",
+        RAMLOG,
         "hex 1\ncrash\nrecover\n",
         "01000000000000000100000000000000010002000000010000000000000001030000000000000001\ncrashed\nrecovered 0\n",
     ),
-    ("ramlog", "put 1 a x\nget 1 a\n", "ok 1\n1 x\n"),
+    (RAMLOG, "put 1 a x\nget 1 a\n", "ok 1\n1 x\n"),
     (
-        "ramlog",
+        RAMLOG,
         "put 1 a x\ncrash\nrecover",
         "ok 1\ncrashed\n1 a 1 x\nrecovered 1\n",
     ),
     (
-        "ramlog",
+        RAMLOG,
         "put 1 a x\nstop 1\nput 1 b y\nlose 0\nrecover\n",
         "ok 1\nstop 1\nstopped\nlost 0\n1 a 1 x\n1 b 2 y\nrecovered 2\n",
     ),
     (
-        "ramlog",
+        RAMLOG,
         "put 1 a x\nstop 1\nput 1 b y\nlose 1\nrecover\n",
         "ok 1\nstop 1\nstopped\nlost 1\n1 a 1 x\nrecovered 1\n",
     ),
     (
-        "ramlog",
+        RAMLOG,
         "put 1 a x\nstop 1\nput 1 b y\nlose 2\nrecover\n",
         "ok 1\nstop 1\nstopped\nlost 2\n1 a 1 x\n1 b 2 y\nrecovered 2\n",
     ),
     (
-        "ramlog --history 2",
+        &["ramlog", "--history", "2"],
         "put 1 a x\nget 1 a\nget 1 a\n",
         "ok 1\n1 x\nrefused HistoryFull\n",
     ),
     (
-        "ramlog",
+        RAMLOG,
         "put 1 a xxxxxxxxxxxxxxxxxxxxxxxxxxxxxxxxxxxxxxxxxxxxxxxxxxxxxxxxxxxxxxxxxxxxxxxxxxxx\nput 1 a xxxxxxxxxxxxxxxxxxxxxxxxxxxxxxxxxxxxxxxxxxxxxxxxxxxxxxxxxxxxxxxxxxxxxxxxxxxx\nput 1 a xxxxxxxxxxxxxxxxxxxxxxxxxxxxxxxxxxxxxxxxxxxxxxxxxxxxxxxxxxxxxxxxxxxxxxxxxxxx\nput 1 a xxxxxxxxxxxxxxxxxxxxxxxxxxxxxxxxxxxxxxxxxxxxxxxxxxxxxxxxxxxxxxxxxxxxxxxxxxxx\n",
         "ok 1\nok 2\nok 3\nrefused Full\n",
     ),
     (
-        "ramlog",
+        RAMLOG,
         "put 1 a xxxxxxxxxxxxxxxxxxxxxxxxxxxxxxxxxxxxxxxxxxxxxxxxxxxxxxxxxxxxxxxxxxxxxxxxxxxxx\nput 9 a x\nget 5 a\nhex 2\nlose 0\nrecover\nget 1 a\n",
         "refused TooBig\nrefused NoTablet\nrefused NoTablet\nrefused NotInLog 2\nrefused Up\nrefused Up\nnone\n",
     ),
     (
-        "ramlog",
+        RAMLOG,
         "crash\ncrash\nput 1 a x\nget 1 a\nhex 1\nstop 3\nlose 1\nlose 1\nlose 2\nrecover\n",
         "crashed\nrefused Down\nrefused Down\nrefused Down\nrefused Down\nstop 3\nlost 1\nlost 1\nlost 2\nrefused NoHead\n",
     ),
     (
-        "ramlog",
+        RAMLOG,
         "# a line that does nothing\n\nput 2 b y\nput 1 b y\nput 1 ab z\nput 1 b w\ncrash\nrecover\nrecover\n",
         "ok 1\nok 2\nok 3\nok 3\ncrashed\n1 ab 3 z\n1 b 3 w\n2 b 1 y\nrecovered 3\n1 ab 3 z\n1 b 3 w\n2 b 1 y\nrecovered 3\n",
     ),
     (
-        "ramlog",
+        RAMLOG,
         "stop 0\nget 1 a\nput 1 a x\nrecover\n",
         "stop 0\nnone\nstopped\nrecovered 0\n",
     ),
-    ("ramlog", "", ""),
+    (RAMLOG, "", ""),
 ];
 
 #[test]
-fn scripts_print_their_answers(rt: HostRuntime) -> Result<(), Fail> {
-    for (line, script, output) in SCRIPTS {
-        let mut reader = script.as_bytes();
+fn scripts_print_their_answers(rt: HostRuntime) {
+    for (words, script, output) in SCRIPTS {
         assert!(rt;
-            writes(rt.alloc(), line, &mut reader, output, Ok(()))?,
+            writes(rt.alloc(), words, &mut script.as_bytes(), output, Ok(())),
             "{script}"
         );
     }
-    Ok(())
 }
 
 /// A script, what is written of it, and the bad line.
@@ -121,47 +121,46 @@ const BAD_LINES: &[(&str, &str, u64)] = &[
 ];
 
 #[test]
-fn a_bad_line_ends_the_run(rt: HostRuntime) -> Result<(), Fail> {
+fn a_bad_line_ends_the_run(rt: HostRuntime) {
     for (script, output, number) in BAD_LINES {
-        let mut reader = script.as_bytes();
         let end = Err(ScriptFault::BadLine(*number));
         assert!(rt;
-            writes(rt.alloc(), "ramlog", &mut reader, output, end)?,
+            writes(rt.alloc(), RAMLOG, &mut script.as_bytes(), output, end),
             "{script}"
         );
     }
-    Ok(())
 }
 
-/// A put of a key and a value of these lengths.
-fn put_of(alloc: Global, key_len: usize, value_len: usize) -> Result<Vec<u8>, Fail> {
-    let mut script = Vec::from_slice(alloc, b"put 1 ")?;
-    for _ in 0..key_len {
-        script.push(b'k')?;
-    }
-    script.push(b' ')?;
-    for _ in 0..value_len {
-        script.push(b'v')?;
-    }
-    Ok(script)
-}
+/// Lengths of a key and of a value, and whether the run of their put fails.
+const LENGTHS: &[(usize, usize, bool)] = &[
+    (1024, 1, false),
+    (1025, 1, true),
+    (1, 4088, false),
+    (1, 4089, true),
+];
 
-/// Whether the run of such a put fails.
-fn is_bad(alloc: Global, key_len: usize, value_len: usize) -> Result<bool, Fail> {
-    let script = put_of(alloc, key_len, value_len)?;
+const LARGE: &[&str] = &["ramlog", "--segment", "65536", "--seglets", "4096"];
+
+/// Whether the run of such a put ends, and fails or not.
+fn is_bad(alloc: Global, key_len: usize, value_len: usize, want: bool) -> bool {
+    let Ok(script) = format!(in alloc; "put 1 {:k<key_len$} {:v<value_len$}", "", "") else {
+        return false;
+    };
     let mut written = Vec::new(alloc);
-    let line = "ramlog --segment 65536 --seglets 4096";
-    let ran = run(alloc, line, &mut script.as_slice(), &mut written)?;
-    Ok(ran.is_err())
+    match run(alloc, LARGE, &mut script.as_bytes(), &mut written) {
+        Some(end) => end.is_err() == want,
+        None => false,
+    }
 }
 
 #[test]
-fn a_long_line_or_key_is_bad(rt: HostRuntime) -> Result<(), Fail> {
-    assert!(rt; !is_bad(rt.alloc(), 1024, 1)?);
-    assert!(rt; is_bad(rt.alloc(), 1025, 1)?);
-    assert!(rt; !is_bad(rt.alloc(), 1, 4088)?);
-    assert!(rt; is_bad(rt.alloc(), 1, 4089)?);
-    Ok(())
+fn a_long_line_or_key_is_bad(rt: HostRuntime) {
+    for (key_len, value_len, want) in LENGTHS {
+        assert!(rt;
+            is_bad(rt.alloc(), *key_len, *value_len, *want),
+            "{key_len} {value_len}"
+        );
+    }
 }
 
 /// Faults, and the line and the exit status of each.
@@ -227,20 +226,18 @@ impl Write for Full {
 }
 
 #[test]
-fn a_reader_fails_in_mid_stream(rt: HostRuntime) -> Result<(), Fail> {
+fn a_reader_fails_in_mid_stream(rt: HostRuntime) {
     let mut reader = Torn {
         bytes: b"put 1 a x\nput 1",
     };
     let end = Err(ScriptFault::ReadFailed);
-    assert!(rt; writes(rt.alloc(), "ramlog", &mut reader, "ok 1\n", end)?);
-    Ok(())
+    assert!(rt; writes(rt.alloc(), RAMLOG, &mut reader, "ok 1\n", end));
 }
 
 #[test]
-fn a_writer_fails_in_mid_stream(rt: HostRuntime) -> Result<(), Fail> {
-    let script = "put 1 a x\nput 1 a y\n";
+fn a_writer_fails_in_mid_stream(rt: HostRuntime) {
+    let mut script: &[u8] = b"put 1 a x\nput 1 a y\n";
     let mut writer = Full { room: 5 };
-    let ran = run(rt.alloc(), "ramlog", &mut script.as_bytes(), &mut writer)?;
-    assert!(rt; ran == Err(ScriptFault::WriteFailed));
-    Ok(())
+    let ran = run(rt.alloc(), RAMLOG, &mut script, &mut writer);
+    assert!(rt; ran == Some(Err(ScriptFault::WriteFailed)));
 }
