@@ -141,7 +141,7 @@ const LENGTHS: &[(usize, usize, bool)] = &[
 
 const LARGE: &[&str] = &["ramlog", "--segment", "65536", "--seglets", "4096"];
 
-/// Whether the run of such a put ends, and fails or not.
+/// Whether the run of such a put ends, by a fault or without one as is wanted.
 fn is_bad(alloc: Global, key_len: usize, value_len: usize, want: bool) -> bool {
     let Ok(script) = format!(in alloc; "put 1 {:k<key_len$} {:v<value_len$}", "", "") else {
         return false;
