@@ -123,6 +123,19 @@ ReadsNumber default (Some text) n = IsNumeral 10 (without_leading_plus text)
     → digits_value 10 (without_leading_plus text) < 2 ^ 64
     → n ≡ digits_value 10 (without_leading_plus text)
 
+-- each field is the number that its option's text writes, or its default without one
+pub record ReadsOptions (text : Text → Option Text) (o : Options) : Type 0 where
+  pub backups : ReadsNumber backups.default (text backups.name) o.backups
+  pub replicas : ReadsNumber replicas.default (text replicas.name) o.replicas
+  pub step : ReadsNumber step.default (text step.name) o.step
+  pub segment : ReadsNumber segment.default (text segment.name) o.segment
+  pub seglet : ReadsNumber seglet.default (text seglet.name) o.seglet
+  pub seglets : ReadsNumber seglets.default (text seglets.name) o.seglets
+  pub tables : ReadsNumber tables.default (text tables.name) o.tables
+  pub history : ReadsNumber history.default (text history.name) o.history
+  pub bytes : ReadsNumber bytes.default (text bytes.name) o.bytes
+  pub objects : ReadsNumber objects.default (text objects.name) o.objects
+
 -- the command has this shape, and nothing in it excludes anything or is for subcommands
 pub record IsCommand (app : App) (command : Command) : Type 0 where
   pub shape : app_of command ≡ app

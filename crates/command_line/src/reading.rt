@@ -1,15 +1,15 @@
 //! Reads the options from the words of the command line.
 ghost use Rattle.std.specs.Prelude.{◌≡◌, IfOk, length};
-ghost use Rattle.clap.specs.Words.{FailsBy};
+ghost use Rattle.clap.specs.Words.{FailsBy, found_of, one_text};
 ghost use Rattle.clap.specs.Walk.{texts};
-ghost use Rattle.command_line.specs.CommandLine.{HasOptions, IsCommand, IsDefault, ramlog, ramlog_faults};
-ghost use Rattle.command_line.specs.CommandLine.{ramlog_matches};
+ghost use Rattle.command_line.specs.CommandLine.{HasOptions, IsCommand, IsDefault, ReadsOptions};
+ghost use Rattle.command_line.specs.CommandLine.{ramlog, ramlog_faults, ramlog_matches};
 
 use crate::number_option::{
     BACKUPS, BYTES, HISTORY, OBJECTS, OPTIONS, REPLICAS, SEGLET, SEGLETS, SEGMENT, STEP, TABLES,
 };
 use crate::settings::Options;
-use clap::{Command, Error};
+use clap::{ArgMatches, Command, Error};
 use std::alloc::{AllocError, Global};
 
 /// The command of the program.
@@ -40,16 +40,23 @@ pub fn options<'a>(alloc: Global, words: &'a [&'a str]) -> Result<Options, Error
 {
     let command = command(alloc)?;
     let matches = command.try_get_matches_from(words)?;
-    Ok(Options {
-        backups: BACKUPS.number(&matches),
-        replicas: REPLICAS.number(&matches),
-        step: STEP.number(&matches),
-        segment: SEGMENT.number(&matches),
-        seglet: SEGLET.number(&matches),
-        seglets: SEGLETS.number(&matches),
-        tables: TABLES.number(&matches),
-        history: HISTORY.number(&matches),
-        bytes: BYTES.number(&matches),
-        objects: OBJECTS.number(&matches),
-    })
+    Ok(read_matches(&matches))
+}
+
+/// The options that clap found.
+fn read_matches(matches: &ArgMatches<'_>) -> Options
+    ensures { ReadsOptions (one_text (found_of matches.now)) result }
+{
+    Options {
+        backups: BACKUPS.number(matches),
+        replicas: REPLICAS.number(matches),
+        step: STEP.number(matches),
+        segment: SEGMENT.number(matches),
+        seglet: SEGLET.number(matches),
+        seglets: SEGLETS.number(matches),
+        tables: TABLES.number(matches),
+        history: HISTORY.number(matches),
+        bytes: BYTES.number(matches),
+        objects: OBJECTS.number(matches),
+    }
 }

@@ -21,17 +21,18 @@ pub returns-clause-reads : goal.returns-clause-reads
 returns-clause-reads c =
     let has = c.in_ok-matches.ensures in
     let of = has_number c.in_ok-command.command c.in_ok-matches.matches _ c.in_ok-command.ensures has.parsed has.matches in
+    let read = c.read_matches.ensures in
     record {
-      backups = of _ has_backups _ c.number.ensures;
-      replicas = of _ has_replicas _ c.number-2.ensures;
-      step = of _ has_step _ c.number-3.ensures;
-      segment = of _ has_segment _ c.number-4.ensures;
-      seglet = of _ has_seglet _ c.number-5.ensures;
-      seglets = of _ has_seglets _ c.number-6.ensures;
-      tables = of _ has_tables _ c.number-7.ensures;
-      history = of _ has_history _ c.number-8.ensures;
-      bytes = of _ has_bytes _ c.number-9.ensures;
-      objects = of _ has_objects _ c.number-10.ensures;
+      backups = of _ has_backups _ read.backups;
+      replicas = of _ has_replicas _ read.replicas;
+      step = of _ has_step _ read.step;
+      segment = of _ has_segment _ read.segment;
+      seglet = of _ has_seglet _ read.seglet;
+      seglets = of _ has_seglets _ read.seglets;
+      tables = of _ has_tables _ read.tables;
+      history = of _ has_history _ read.history;
+      bytes = of _ has_bytes _ read.bytes;
+      objects = of _ has_objects _ read.objects;
     }
 
 pub returns-clause-bare : goal.returns-clause-bare
