@@ -6,6 +6,7 @@ ghost use Rattle.std.specs.Prelude.{◌≡◌, None};
 ghost use Rattle.master.specs.Config.{config_fault};
 ghost use Rattle.script.specs.Configuration.{config_of};
 
+use clap::Error;
 use clap::error::ErrorKind;
 use script::{Options, ScriptFault, configuration, options, report, run_script};
 use std::env;
@@ -23,42 +24,51 @@ fn fail(rt: &HostRuntime, fault: ScriptFault) -> ExitCode {
 
 /// What the command line says, or the exit status where that was reported.
 fn read_options(rt: &HostRuntime) -> Result<Options, ExitCode> {
-    let mut arguments = Vec::new(rt.alloc());
+    let arguments = read_arguments(rt)?;
+    parse_arguments(rt, arguments.as_slice())
+}
+
+/// The words of the command line.
+fn read_arguments(rt: &HostRuntime) -> Result<Vec<String>, ExitCode> {
     match env::args(rt) {
-        Ok(all) => {
-            for argument in all {
-                if arguments.push(argument).is_err() {
-                    return Err(fail(rt, ScriptFault::NoMemory));
-                }
-            }
-        }
+        Ok(all) => match all.collect(rt.alloc()) {
+            Ok(arguments) => Ok(arguments),
+            Err(_) => Err(fail(rt, ScriptFault::NoMemory)),
+        },
         Err(error) if error.kind() == io::ErrorKind::OutOfMemory => {
-            return Err(fail(rt, ScriptFault::NoMemory));
+            Err(fail(rt, ScriptFault::NoMemory))
         }
         Err(_) => {
             let _ = rt.eprintln("ramlog: the command line is not UTF-8");
-            return Err(ExitCode::from(MISUSE));
+            Err(ExitCode::from(MISUSE))
         }
     }
+}
+
+/// What these words say.
+fn parse_arguments(rt: &HostRuntime, arguments: &[String]) -> Result<Options, ExitCode> {
     let mut words = Vec::new(rt.alloc());
-    for argument in &arguments {
+    for argument in arguments {
         if words.push(argument.as_str()).is_err() {
             return Err(fail(rt, ScriptFault::NoMemory));
         }
     }
     match options(rt.alloc(), words.as_slice()) {
         Ok(options) => Ok(options),
-        Err(error) if error.kind() == ErrorKind::OutOfMemory => {
-            Err(fail(rt, ScriptFault::NoMemory))
-        }
-        Err(error) => {
-            let _ = error.print(rt);
-            if error.exit_code() == 0 {
-                Err(ExitCode::SUCCESS)
-            } else {
-                Err(ExitCode::from(MISUSE))
-            }
-        }
+        Err(error) => Err(refuse(rt, &error)),
+    }
+}
+
+/// Prints what clap says of the words.
+fn refuse(rt: &HostRuntime, error: &Error) -> ExitCode {
+    if error.kind() == ErrorKind::OutOfMemory {
+        return fail(rt, ScriptFault::NoMemory);
+    }
+    let _ = error.print(rt);
+    if error.exit_code() == 0 {
+        ExitCode::SUCCESS
+    } else {
+        ExitCode::from(MISUSE)
     }
 }
 
