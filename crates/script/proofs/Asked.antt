@@ -1,12 +1,12 @@
 -- The replicas of some backups, one backup after another.
 use Rattle.std.proofs.Common.{◌≡◌, ℕ, ◌+◌, ◌<◌, ◌⊎◌, inl, inr, Bool, true, false, refl, sym, ap, ◌∙◌, arith}
 use Rattle.std.proofs.Common.{List, [], ◌∷◌, ◌++◌, take, get_or, length}
-use Rattle.std.specs.Prelude.{◌↔◌, ◌==◌, ◌||◌}
+use Rattle.std.specs.Prelude.{◌↔◌, ◌==◌, ◌||◌, if◌then◌else◌, Some, None}
 use Rattle.std.proofs.lemmas.Bool.Decides.{nat_tests}
 use Rattle.std.proofs.lemmas.Grind.{take_at_read}
 use Rattle.entry.specs.Bag.{IsAmong}
 use Rattle.replica.specs.declared.holding.Holding.{Holding}
-use Rattle.replica.specs.Picture.{Picture, IsHeld}
+use Rattle.replica.specs.Picture.{Picture, IsHeld, survivors}
 use Rattle.recovery_plan.proofs.Bests.{among-append, among-left, among-right}
 use Rattle.script.specs.Kept.{is_kept}
 
@@ -14,6 +14,17 @@ use Rattle.script.specs.Kept.{is_kept}
 pub record AreAll (p : Picture) (asked : List ℕ) (hs : List Holding) : Type 0 where
   pub only : (h : Holding) → IsAmong h hs → (is_kept asked h.backup ≡ true) × IsHeld p h
   pub all : (h : Holding) → is_kept asked h.backup ≡ true → IsHeld p h → IsAmong h hs
+
+-- they are what is left of the picture where the others are gone
+pub left-shown : (p : Picture) (asked : List ℕ) (hs : List Holding) → AreAll p asked hs → (h : Holding)
+    → IsAmong h hs ↔ IsHeld (survivors (is_kept asked) p) h
+left-shown p asked hs are h =
+    (λ m. rw (are.only h m).0 (are.only h m).1, left (is_kept asked h.backup) refl)
+  where
+    left : (b : Bool) → is_kept asked h.backup ≡ b → (if b then p h.backup h.master h.segment else None) ≡ Some (record { bytes = h.bytes; is_open = h.is_open })
+        → IsAmong h hs
+    left true is held = are.all h is held
+    left false gone held = absurd (cc)
 
 pub kept-push : (ks : List ℕ) (k b : ℕ) → is_kept (ks ++ k ∷ []) b ≡ (is_kept ks b || (k == b))
 kept-push [] k b = or_false (k == b)

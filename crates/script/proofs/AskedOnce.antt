@@ -1,9 +1,10 @@
 -- Backups that are asked once each show each replica once.
-use Rattle.std.proofs.Common.{◌≡◌, ℕ, ◌+◌, ◌<◌, inl, inr, Bool, true, false, refl, sym, ap, ◌∙◌, arith}
+use Rattle.std.proofs.Common.{◌≡◌, ℕ, ◌+◌, ◌<◌, ◌≤◌, inl, inr, Bool, true, false, refl, sym, subst, ap, ◌∙◌, arith}
 use Rattle.std.proofs.Common.{List, [], ◌∷◌, ◌++◌, take, get_or, length}
 use Rattle.std.specs.Prelude.{◌↔◌, ◌==◌, ◌||◌}
 use Rattle.std.proofs.lemmas.Bool.Decides.{nat_tests}
 use Rattle.std.proofs.lemmas.Grind.{take_at_read}
+use Rattle.std.proofs.lemmas.List.{take_all}
 use Rattle.entry.specs.Bag.{IsAmong}
 use Rattle.replica.specs.declared.holding.Holding.{Holding}
 use Rattle.replica.specs.Picture.{Picture, IsHeld, IsOnce}
@@ -15,6 +16,10 @@ use Rattle.script.proofs.Asked.{AreAll, kept-push}
 pub record IsAsked (p : Picture) (asked : List ℕ) (hs : List Holding) : Type 0 where
   pub all : AreAll p asked hs
   pub once : AreDifferent asked → IsOnce hs
+
+-- all were asked
+pub all-asked : (p : Picture) (asked : List ℕ) (i : ℕ) (hs : List Holding) → length asked ≤ i → IsAsked p (take i asked) hs → IsAsked p asked hs
+all-asked p asked i hs over is = subst (λ (l : List ℕ). IsAsked p l hs) (take_all i asked over) is
 
 neither : (x y : Bool) → (x || y) ≡ false → (x ≡ false) × (y ≡ false)
 neither true y e = absurd (cc)

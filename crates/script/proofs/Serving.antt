@@ -2,7 +2,7 @@
 use Rattle.std.proofs.Common.{◌≡◌, ℕ, suc, ◌≤◌, Bool, true, false, cond, List, [], ◌∷◌, ◌++◌, length, take, refl, sym, ap, subst, inl, inr, ◌∙◌, arith}
 use Rattle.std.proofs.lemmas.List.{append-nil, length-append}
 use lib.Seq.{take-append_seam}
-use Rattle.std.specs.Prelude.{Option, Some, None, slice_get, not, ◌==◌, ◌↔◌}
+use Rattle.std.specs.Prelude.{Option, Some, None, Result, Ok, Err, slice_get, not, ◌==◌, ◌↔◌, if◌then◌else◌, unwrap_or}
 use Rattle.backup.specs.State.{state_of, lost}
 use Rattle.backup.specs.declared.fleet.MemoryFleet.{MemoryFleet}
 use Rattle.lines.specs.Grammar.{LineValue}
@@ -15,20 +15,68 @@ use Rattle.master.specs.declared.command.Record.{Record}
 use Rattle.master.specs.declared.config.Config.{Config}
 use Rattle.master.specs.declared.command.Reply.{Reply}
 use Rattle.master.specs.declared.step.Refusal.{Refusal}
+use Rattle.master.specs.declared.step.Refusal.TheVariants as refusal
+use Rattle.master.specs.declared.step.Step.TheVariants.{Push}
+use Rattle.master.specs.declared.step.StepAnswer.{StepAnswer}
+use Rattle.master.specs.declared.step.StepAnswer.TheVariants.{Applied, Opened, Extended}
+use Rattle.master.specs.Causes.{is_pushed}
+use Rattle.master.specs.Keeps.{Keeps}
+use Rattle.master.specs.Log.{IsLogged}
 use Rattle.master.specs.Master.{MasterData, durable_of}
 use Rattle.master.specs.Sound.{IsSound}
+use Rattle.master.specs.Steps.{World, Steps, Declines, FailsTake}
 use Rattle.script.specs.declared.answer.Answer.{Answer}
 use Rattle.script.specs.declared.answer.Answer.TheVariants as answer
 use Rattle.script.specs.declared.node.Node.{Node}
 use Rattle.script.specs.declared.node.Node.TheVariants.{Down}
 use Rattle.script.specs.Served.{GoesOn, IsServed, IsUnserved, IsOf, Stands, AnswersLine, is_up, record_of}
 use Rattle.script.specs.Recovered.{Shows, IsRecovered}
-use Rattle.script.specs.Told.{Position, command_of, IsRecoveredAt, Tells}
+use Rattle.script.specs.Told.{Position, command_of, is_of_push, IsRecoveredAt, Tells}
 
 -- ---- a master goes on
 
 pub goes-nowhere : (d : MasterData) → GoesOn d d []
 goes-nowhere d = record { config = refl; durable = omega arith; logged = λ l. l; history = sym (append-nil d.history) }
+
+-- ---- a push
+
+refused_history : (old new : World) (r : Refusal) → FailsTake old r new → new.knows.history ≡ old.knows.history
+refused_history old new refusal.NoMemory h = ap (λ (w : World). w.knows.history) h
+refused_history old new refusal.Spent h = ap (λ (w : World). w.knows.history) h.1
+refused_history old new refusal.Halted h = ap (λ (d : MasterData). d.history) h.0
+refused_history old new r h = absurd h
+
+pushed_history : (old new : World) (r : Result StepAnswer Refusal) → Steps old Push r new → new.knows.history ≡ old.knows.history
+pushed_history old new (Ok (Opened b s)) h = ap (λ (d : MasterData). d.history) h.4
+pushed_history old new (Ok (Extended b s)) h = ap (λ (d : MasterData). d.history) h.1.5
+pushed_history old new (Ok (Applied place reply)) h = absurd h
+pushed_history old new (Err r) (inl h) = ap (λ (w : World). w.knows.history) h.1
+pushed_history old new (Err r) (inr h) = refused_history old new r h.1
+
+pub push_goes_on : (from : MasterData) (old new : World) (r : Result StepAnswer Refusal) → GoesOn from old.knows [] → Steps old Push r new
+    → Keeps 1 old new → IsLogged new.knows → GoesOn from new.knows []
+push_goes_on from old new r before push kept logged =
+    let was = before.durable in
+    let is = kept.durable in
+    record {
+      config = kept.config ∙ before.config;
+      durable = omega arith;
+      logged = λ _. logged;
+      history = pushed_history old new r push ∙ before.history;
+    }
+
+-- why it was refused
+pub refused_push : (old new : World) (r : Refusal) → Declines old Push r new → is_of_push r ≡ true
+refused_push old new r (inl h) = tested old.knows.is_halted (is_pushed old.knows.head) h.0
+  where
+    tested : (halted pushed : Bool) → (if halted then Some refusal.Halted else if pushed then Some refusal.Nothing else None) ≡ Some r → is_of_push r ≡ true
+    tested true pushed e = ap (λ (x : Option Refusal). is_of_push (unwrap_or x r)) (sym e)
+    tested false true e = ap (λ (x : Option Refusal). is_of_push (unwrap_or x r)) (sym e)
+    tested false false e = absurd (cc)
+refused_push old new refusal.NoMemory (inr h) = refl
+refused_push old new refusal.Spent (inr h) = refl
+refused_push old new refusal.Halted (inr h) = refl
+refused_push old new r (inr h) = absurd h.1
 
 -- ---- what the node stands for goes on
 

@@ -25,7 +25,7 @@ use Rattle.script.specs.Runs.{IsOfFleet, IsScriptLine, texts_of, answers_of, Are
 use Rattle.script.specs.Served.{Begins, Stands}
 use Rattle.script.specs.Texts.{answer_text}
 use Rattle.script.specs.Told.{Told, Position, at_start, IsRecordAt, IsIn, IsImageAfter, Tells, AreTelling}
-use Rattle.script.specs.Turns.{RunsText, PrintsText, TakesTurn, IsNoMore}
+use Rattle.script.specs.Turns.{RunsText, IsPrinted, PrintsText, TakesTurn, IsNoMore}
 
 -- ---- a longer history tells the same
 
@@ -140,6 +140,14 @@ pub telling_more : (config : Config) (history : List Record) (from : Position) (
     → AreTelling config history from told mid → Tells config history mid t.line t.answer next → AreTelling config history from (told ++ t ∷ []) next
 telling_more config history from [] mid t next are tells = (next, subst (λ (p : Position). Tells config history p t.line t.answer next) are tells, refl)
 telling_more config history from (first ∷ rest) mid t next are tells = (are.0, are.1, telling_more config history are.0 rest mid t next are.2 tells)
+
+-- ---- a line that was run
+
+pub answer_printed : (old new : Session) (text : List ℕ) (number : ℕ) (held holds : Option (List ℕ)) (answer : Answer) (r : Result (Unit {0}) ScriptFault)
+    → RunsText old text new answer → IsPrinted held holds answer r → PrintsText old new text number held holds r
+answer_printed old new text number held holds answer (Ok done) runs printed = (answer, runs, printed)
+answer_printed old new text number held holds answer (Err e) runs failed =
+    subst (λ (f : ScriptFault). PrintsText old new text number held holds (Err f)) (sym failed) (answer, runs)
 
 -- ---- a turn that failed
 

@@ -30,6 +30,11 @@ pub record RunsText (old : Session) (text : List ℕ) (new : Session) (answer : 
   pub of_fleet : IsOfFleet old.backups line
   pub answers : SessionAnswers old line new answer
 
+-- an answer was written, or the writer failed
+abbrev pub IsPrinted : Option (List ℕ) → Option (List ℕ) → Answer → Result (Unit {0}) ScriptFault → Type 0
+IsPrinted held holds answer (Ok done) = Appends held holds (answer_text answer)
+IsPrinted held holds answer (Err e) = e ≡ fault.WriteFailed
+
 -- its answer was written, where the writer didn't fail
 abbrev pub PrintsText : Session → Session → List ℕ → ℕ → Option (List ℕ) → Option (List ℕ) → Result (Unit {0}) ScriptFault → Type 0
 PrintsText old new text number held holds (Ok done) = (answer : Answer) × RunsText old text new answer × Appends held holds (answer_text answer)

@@ -7,9 +7,9 @@ ghost use Rattle.lines.specs.Reading.{IsLineText};
 ghost use Rattle.script.specs.Configuration.{config_of};
 ghost use Rattle.script.specs.Runs.{RunsScript};
 ghost use Rattle.script.specs.Served.{Begins};
-ghost use Rattle.script.specs.Turns.{IsNoMore, PrintsText, TakesTurn};
+ghost use Rattle.script.specs.Turns.{IsNoMore, IsPrinted, PrintsText, TakesTurn};
 
-use crate::answer::write_answer;
+use crate::answer::{Answer, write_answer};
 use crate::fault::ScriptFault;
 use crate::session::{LineFault, Session};
 use command_line::Options;
@@ -111,16 +111,23 @@ fn run_text<W: Write>(
         return Err(ScriptFault::BadLine(number));
     };
     match session.run_line(line) {
-        Ok(answer) => match write_answer(writer, &answer) {
-            Ok(()) => Ok(()),
-            Err(_) => Err(ScriptFault::WriteFailed),
-        },
+        Ok(answer) => print(writer, &answer),
         Err(LineFault::Bad) => {
             // No other line is said by this text.
             one_line();
             Err(ScriptFault::BadLine(number))
         }
         Err(LineFault::NoMemory) => Err(ScriptFault::NoMemory),
+    }
+}
+
+/// Writes an answer.
+fn print<W: Write>(writer: &mut W, answer: &Answer) -> Result<(), ScriptFault>
+    ensures { IsPrinted (W.contents writer.old) (W.contents writer.new) answer.now result }
+{
+    match write_answer(writer, answer) {
+        Ok(()) => Ok(()),
+        Err(_) => Err(ScriptFault::WriteFailed),
     }
 }
 

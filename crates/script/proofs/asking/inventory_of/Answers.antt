@@ -1,7 +1,31 @@
-use Rattle.std.proofs.Common.{arith, refl, get_or}
-use Rattle.script.proofs.Asked.{all-more}
-use Rattle.script.proofs.AskedOnce.{once-more}
+use Rattle.std.proofs.Common.{◌≡◌, ◌<◌, arith, refl, get_or, length}
+use Rattle.std.specs.Prelude.{Result, Ok, Err, OnErr}
+use Rattle.std.proofs.lemmas.Result.{IfOk-from_err}
+use Rattle.script.proofs.Asked.{all-more, left-shown}
+use Rattle.script.proofs.AskedOnce.{all-asked, once-more}
 use Rattle.script.proofs.asking.inventory_of.Goals as goal
+
+on_err : {T E P : Type 0} (r : Result T E) → P → OnErr r P
+on_err (Ok _) _ = tt
+on_err (Err _) holds = holds
+
+pub returns-in_err-more-clause-shown : goal.returns-in_err-more-clause-shown
+returns-in_err-more-clause-shown g c = IfOk-from_err c.from_residual.result _ c.from_residual.ensures.0
+
+pub returns-in_err-more-clause-once : goal.returns-in_err-more-clause-once
+returns-in_err-more-clause-once g c = IfOk-from_err c.from_residual.result _ c.from_residual.ensures.0
+
+pub returns-in_err-more-clause-refused : goal.returns-in_err-more-clause-refused
+returns-in_err-more-clause-refused g c = on_err c.from_residual.result (omega (arith, c.loop-backup-test.true))
+
+pub returns-in_err-append-clause-shown : goal.returns-in_err-append-clause-shown
+returns-in_err-append-clause-shown g c = IfOk-from_err c.from_residual-in_err-append.result _ c.from_residual-in_err-append.ensures.0
+
+pub returns-in_err-append-clause-once : goal.returns-in_err-append-clause-once
+returns-in_err-append-clause-once g c = IfOk-from_err c.from_residual-in_err-append.result _ c.from_residual-in_err-append.ensures.0
+
+pub returns-in_err-append-clause-refused : goal.returns-in_err-append-clause-refused
+returns-in_err-append-clause-refused g c = on_err c.from_residual-in_err-append.result (omega (arith, c.loop-backup-test.true))
 
 pub loop-backup-preserved : goal.loop-backup-preserved
 loop-backup-preserved g c =
@@ -17,3 +41,16 @@ loop-backup-preserved g c =
       once = once-more picture kept i (get_or kept i 0) list more c.append.new.self.items (omega arith) refl c.in_ok-append.ensures.items
           c.in_ok-more.ensures.shown c.in_ok-more.ensures.once before.all before.once;
     }
+
+pub returns-clause-shown : goal.returns-clause-shown
+returns-clause-shown g c =
+    let asked = all-asked _ _ _ _ c.loop-backup-test.false c.loop-backup.invariant in
+    rw c.new.ensures (left-shown _ _ _ asked.all)
+
+pub returns-clause-once : goal.returns-clause-once
+returns-clause-once g c =
+    let asked = all-asked _ _ _ _ c.loop-backup-test.false c.loop-backup.invariant in
+    rw c.new.ensures asked.once
+
+pub returns-clause-refused : goal.returns-clause-refused
+returns-clause-refused g c = tt
