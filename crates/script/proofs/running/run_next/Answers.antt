@@ -1,8 +1,21 @@
-use Rattle.std.proofs.Common.{inl, inr, List, ℕ, refl, sym, subst}
-use Rattle.lines.specs.declared.reading.Taken.TheVariants.{Ended, Last}
-use Rattle.lines.specs.Reading.{TakesLine}
+use Rattle.std.proofs.Common.{inl, inr, List, ℕ, [], ◌∷◌, ◌++◌, arith, refl, sym, subst}
+use Rattle.std.proofs.lemmas.List.{length-append}
+use Rattle.std.proofs.KnownBytes.{Keeps-refl}
+use Rattle.lines.specs.declared.reading.ReadFault.TheVariants.{Failed, NoMemory}
+use Rattle.lines.specs.declared.reading.Taken.TheVariants.{Ended, Last, Nothing, TooLong}
+use Rattle.lines.specs.Reading.{StopsIn, TakesLine}
 use Rattle.script.proofs.Turning.{turn_fault}
 use Rattle.script.proofs.running.run_next.Goals as goal
+
+pub returns-in-Ok : goal.returns-in-Ok
+returns-in-Ok g c =
+    let had = g.R.Read.remaining c.args.reader.now in
+    let left = g.R.Read.remaining c.next_line.new.reader in
+    let text = c.next_line.new.line.items in
+    let there : TakesLine had left text Ended = subst (TakesLine had left text) c.in-Ok-Ended.field-0-is c.in-Ok-Ended.ensures.taken in
+    let taken = subst (λ (l : List ℕ). TakesLine had left l Ended) (sym c.as_slice.ensures.value) there in
+    let ran = c.in-Ok.ensures in
+    (c.as_slice.result.now, taken.1, taken.0, ran.0, ran.1, ran.2)
 
 pub returns-in-Err : goal.returns-in-Err
 returns-in-Err g c =
@@ -31,3 +44,37 @@ returns-in-Err-run_text g c =
     let there : TakesLine had left text Last = subst (TakesLine had left text) c.in-Ok-Last.field-0-is c.in-Ok-Last.ensures.taken in
     let taken = subst (λ (l : List ℕ). TakesLine had left l Last) (sym c.as_slice-in-Ok-Last.ensures.value) there in
     turn_fault _ _ _ _ _ _ _ _ _ c.in-Err-run_text.fault taken.3 taken.0 (inr (refl, taken.2, taken.1)) c.in-Err-run_text.ensures
+
+pub returns-in-Ok-Nothing : goal.returns-in-Ok-Nothing
+returns-in-Ok-Nothing g c =
+    let had = g.R.Read.remaining c.args.reader.now in
+    let left = g.R.Read.remaining c.next_line.new.reader in
+    let text = c.next_line.new.line.items in
+    let there : TakesLine had left text Nothing = subst (TakesLine had left text) c.in-Ok-Nothing.field-0-is c.in-Ok-Nothing.ensures.taken in
+    inr (there.0, there.1, Keeps-refl _)
+
+pub returns-in-Ok-TooLong : goal.returns-in-Ok-TooLong
+returns-in-Ok-TooLong g c =
+    let had = g.R.Read.remaining c.args.reader.now in
+    let left = g.R.Read.remaining c.next_line.new.reader in
+    let text = c.next_line.new.line.items in
+    let there : TakesLine had left text TooLong = subst (TakesLine had left text) c.in-Ok-TooLong.field-0-is c.in-Ok-TooLong.ensures.taken in
+    (refl, text, there.0, inl (there.1, there.2), Keeps-refl _)
+
+pub returns-in-Err-Failed : goal.returns-in-Err-Failed
+returns-in-Err-Failed g c =
+    let had = g.R.Read.remaining c.args.reader.now in
+    let left = g.R.Read.remaining c.next_line.new.reader in
+    let text = c.next_line.new.line.items in
+    let there : StopsIn had left text Failed = subst (StopsIn had left text) c.in-Err-Failed.field-0-is c.in-Err-Failed.ensures.fault in
+    (text, there.0, there.1, Keeps-refl _)
+
+pub returns-in-Err-NoMemory : goal.returns-in-Err-NoMemory
+returns-in-Err-NoMemory g c =
+    let had = g.R.Read.remaining c.args.reader.now in
+    let left = g.R.Read.remaining c.next_line.new.reader in
+    let text = c.next_line.new.line.items in
+    let there : StopsIn had left text NoMemory = subst (StopsIn had left text) c.in-Err-NoMemory.field-0-is c.in-Err-NoMemory.ensures.fault in
+    let short = there.0.short in
+    let longer = length-append text (there.1 ∷ []) in
+    (text ++ there.1 ∷ [], there.2, omega arith, Keeps-refl _)
