@@ -1,4 +1,4 @@
-use Rattle.std.proofs.Common.{◌≡◌, ◌<◌, arith, refl, get_or, length}
+use Rattle.std.proofs.Common.{arith, refl, get_or}
 use Rattle.std.specs.Prelude.{Result, Ok, Err, OnErr}
 use Rattle.std.proofs.lemmas.Result.{IfOk-from_err}
 use Rattle.script.proofs.Asked.{all-more, left-shown}
