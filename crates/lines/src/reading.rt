@@ -43,11 +43,7 @@ pub fn next_line<R: Read>(reader: &mut R, line: &mut Vec<u8>) -> Result<Taken, R
     'bytes: while line.len() <= MAX_LINE_LEN {
         match next_byte(reader)? {
             Some(b'\n') => return Ok(Taken::Ended),
-            Some(byte) => {
-                if line.push(byte).is_err() {
-                    return Err(ReadFault::NoMemory);
-                }
-            }
+            Some(byte) => line.push(byte).map_err(|_| ReadFault::NoMemory)?,
             None if line.is_empty() => return Ok(Taken::Nothing),
             None => return Ok(Taken::Last),
         }

@@ -1,6 +1,6 @@
 use Rattle.std.proofs.Common.{◌≡◌, ◌≤◌, ◌≢◌, ◌++◌, ◌∷◌, [], length, arith, refl, rules}
 use Rattle.std.specs.Prelude.{Err}
-use Rattle.lines.specs.declared.reading.ReadFault.TheVariants.{Failed}
+use Rattle.lines.specs.declared.reading.ReadFault.TheVariants.{Failed, NoMemory}
 use Rattle.lines.proofs.Taking.{ended, failed, unkept, stops, last, longer, short_longer, unbroken_longer}
 use Rattle.lines.proofs.reading.next_line.Goals as goal
 
@@ -32,8 +32,10 @@ returns-in_err-next_byte-clause-fault g c =
     stops c.from_residual.result Failed _ is
     (failed _ _ _ c.bytes.line.items c.bytes.invariant.consumed c.in_err-next_byte.ensures.none_lost c.bytes.invariant.unbroken (search (rules, arith)))
 
-pub returns-then-is_err-clause-fault : goal.returns-then-is_err-clause-fault
-returns-then-is_err-clause-fault g c =
+pub returns-in_err-map_err-in-Some-clause-fault : goal.returns-in_err-map_err-in-Some-clause-fault
+returns-in_err-map_err-in-Some-clause-fault g c =
     let line = c.bytes.line.items in
+    let is : c.from_residual-in_err-map_err-in-Some.result ≡ Err NoMemory = search rules in
     let same : c.push.new.self.items ≡ line = search rules in
-    rw same (unkept _ _ _ line c.in_ok-next_byte.field-0 c.in-Some.byte c.bytes.invariant.consumed c.in-Some.is c.in_ok-next_byte.ensures.taken c.bytes.invariant.unbroken (search (rules, arith)))
+    stops c.from_residual-in_err-map_err-in-Some.result NoMemory _ is
+    (rw same (unkept _ _ _ line c.in_ok-next_byte.field-0 c.in-Some.byte c.bytes.invariant.consumed c.in-Some.is c.in_ok-next_byte.ensures.taken c.bytes.invariant.unbroken (search (rules, arith))))
