@@ -17,4 +17,4 @@ returns-clause-found c =
 pub returns-in_default-from_byte-clause-fault : goal.returns-in_default-from_byte-clause-fault
 returns-in_default-from_byte-clause-fault c =
     unknown_of c.args.bytes.now c.in-Some.byte.now (ltb-true 0 (length c.args.bytes.now) (sym c.in-Some.ensures.item.0)) (sym (c.in-Some.ensures.item.4 (omega arith) 0))
-        (sym c.from_byte.ensures.kind ∙ c.in_default-from_byte.is)
+    (sym c.from_byte.ensures.kind ∙ c.in_default-from_byte.is)
