@@ -160,10 +160,11 @@ def main():
         names = sorted(glob.glob(f"{top}/examples/*.txt"))
         tallies = list(sweep_scripts(program, names, [os.path.relpath(name, top) for name in names], words))
         tallies += sweep_command_lines(program)
-        programs = sorted(glob.glob(f"{top}/crates/*_tests/out/*_tests_tests"))
-        tallies += [sweep_tests(Program(path, folder)) for path in programs]
-        if not programs:
-            print("the tests: not run, since 'rt test' in their crates has not left their programs")
+        tests = f"{top}/crates/tests/out/tests_tests"
+        if os.path.exists(tests):
+            tallies.append(sweep_tests(Program(tests, folder)))
+        else:
+            print("the tests: not run, since 'rt test' in crates/tests has not left their program")
     failed = sum(tally.failed for tally in tallies)
     print(f"{sum(tally.runs for tally in tallies)} runs, {failed} failed")
     sys.exit(failed > 0)
