@@ -1,7 +1,7 @@
 //! What a run of the program is set to.
 
 /// What the command line says.
-#[derive(Clone, Copy, Debug, PartialEq, Eq)]
+#[derive(Clone, Copy, PartialEq, Eq)]
 pub struct Options {
     /// How many backups the fleet has. From 1 to 64, 3 by default.
     pub backups: u64,

@@ -4,7 +4,7 @@ use crate::key::Key;
 use crate::limits::{Ids, SafeVersion, Value, Version};
 
 /// What a segment is for.
-#[derive(Clone, Copy, Debug, PartialEq, Eq)]
+#[derive(Clone, Copy)]
 pub enum Role {
     Head,
     Survivor,
@@ -38,7 +38,7 @@ impl Role {
 }
 
 /// How a segment begins.
-#[derive(Clone, Copy, Debug, PartialEq, Eq)]
+#[derive(Clone, Copy)]
 pub struct Header {
     pub master: u64,
     pub segment: u64,
@@ -46,7 +46,7 @@ pub struct Header {
 }
 
 /// A key's value as of a version.
-#[derive(Clone, Debug, Drop)]
+#[derive(Clone, Drop)]
 pub struct Object {
     pub key: Key,
     pub version: Version,
@@ -54,7 +54,7 @@ pub struct Object {
 }
 
 /// The end of the object of a key and version, which lay in this segment.
-#[derive(Clone, Debug, Drop)]
+#[derive(Clone, Drop)]
 pub struct Tombstone {
     pub key: Key,
     pub version: Version,
@@ -62,7 +62,7 @@ pub struct Tombstone {
 }
 
 /// An entry of the log. Each value is within the limits of the format.
-#[derive(Clone, Debug, Drop)]
+#[derive(Clone, Drop)]
 pub enum Entry {
     Header(Header),
     /// The ids of all segments of the log.

@@ -8,7 +8,7 @@ use crate::view::KeyRef;
 use std::marker::Model;
 
 /// The places of a table from `first` to `last`, both included.
-#[derive(Clone, Copy, Debug, PartialEq, Eq)]
+#[derive(Clone, Copy)]
 pub struct Tablet {
     pub table: u64,
     pub first: u64,
@@ -16,7 +16,7 @@ pub struct Tablet {
 }
 
 /// How many bytes an object at a place of a table has.
-#[derive(Clone, Copy, Debug, PartialEq, Eq)]
+#[derive(Clone, Copy)]
 pub struct Size {
     pub table: u64,
     pub place: u64,
@@ -45,7 +45,7 @@ impl Tablet {
 }
 
 /// The tablets of a master, or of a will. A contract sees them as a list.
-#[derive(Clone, Debug, Drop)]
+#[derive(Drop)]
 pub struct Tablets {
     tablets: Vec<Tablet>,
 }

@@ -9,7 +9,7 @@ use crate::entry::Header;
 use crate::limits::{SafeVersion, Version};
 
 /// A key whose bytes lie elsewhere. Two are compared by table, then by bytes.
-#[derive(Clone, Copy, Debug, PartialEq, Eq, PartialOrd, Ord)]
+#[derive(Clone, Copy, PartialEq, Eq, PartialOrd, Ord)]
 pub struct KeyRef<'a> {
     pub table: u64,
     /// 1 to 1,024 bytes.

@@ -17,7 +17,7 @@ pub enum ReadFault {
 }
 
 /// What `next_line` found.
-#[derive(Clone, Copy, Debug, PartialEq, Eq)]
+#[derive(Clone, Copy, PartialEq, Eq)]
 pub enum Taken {
     /// A line that its line feed ended.
     Ended,

@@ -17,7 +17,7 @@ use std::alloc::Global;
 use std::marker::Model;
 
 /// A map from keys to versions and values. Each step walks the list of its objects.
-#[derive(Debug, Drop)]
+#[derive(Drop)]
 pub struct VersionedMap {
     alloc: Global,
     objects: Vec<Object>,

@@ -12,7 +12,7 @@ use std::alloc::Global;
 use std::marker::Model;
 
 /// Objects, in an order that whoever makes the list says. A contract sees them as a list.
-#[derive(Debug, Drop)]
+#[derive(Drop)]
 pub struct Objects {
     objects: Vec<Object>,
 }
@@ -50,7 +50,7 @@ impl Objects {
 }
 
 /// What a log stands for.
-#[derive(Debug, Drop)]
+#[derive(Drop)]
 pub struct Rebuilt {
     /// Sorted by table, then by key bytes; each key once.
     pub objects: Objects,

@@ -6,7 +6,7 @@ use crate::bytes::Bytes;
 use std::marker::Model;
 
 /// A replica that a backup shows.
-#[derive(Debug, Drop)]
+#[derive(Drop)]
 pub struct Holding {
     pub backup: u64,
     pub master: u64,
@@ -16,7 +16,7 @@ pub struct Holding {
 }
 
 /// The replicas that some backups show. A contract sees them as a list.
-#[derive(Debug, Drop)]
+#[derive(Drop)]
 pub struct Inventory {
     holdings: Vec<Holding>,
 }

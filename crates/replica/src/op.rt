@@ -3,7 +3,7 @@
 use thiserror::Error;
 
 /// What an op does to the replica that it names. Its bytes lie with the master.
-#[derive(Clone, Copy, Debug)]
+#[derive(Clone, Copy)]
 pub enum Act<'a> {
     /// An open replica with these bytes comes, where there was none.
     Open(&'a [u8]),
@@ -12,7 +12,7 @@ pub enum Act<'a> {
 }
 
 /// An op on the replica of a master's segment.
-#[derive(Clone, Copy, Debug)]
+#[derive(Clone, Copy)]
 pub struct Op<'a> {
     pub master: u64,
     pub segment: u64,

@@ -6,7 +6,7 @@ ghost use Rattle.entry.specs.View.{shown};
 use entry::EntryRef;
 
 /// The entries that are still to come, in the order in which they lie.
-#[derive(Debug, Drop)]
+#[derive(Drop)]
 pub struct Entries<'a> {
     pub(crate) rest: &'a [u8],
 }

@@ -23,7 +23,7 @@ pub const MAX_SEGMENT_LEN: usize = 8_388_608;
 const OPENING_LEN: usize = 18 + 5 + 9;
 
 /// A segment: its text. A contract sees the list of its entries.
-#[derive(Debug, Drop)]
+#[derive(Drop)]
 pub struct Segment {
     bytes: Vec<u8>,
 }

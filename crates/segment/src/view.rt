@@ -15,7 +15,7 @@ use crate::reading::check;
 use entry::{DigestRef, EntryRef, Header, SafeVersion};
 
 /// Bytes that were found to be a segment.
-#[derive(Clone, Copy, Debug)]
+#[derive(Clone, Copy)]
 pub struct SegmentRef<'a> {
     pub(crate) bytes: &'a [u8],
     ghost valid: { IsSegmentBytes bytes.now } by { IsSegmentBytes-prop bytes.now },
