@@ -1,5 +1,5 @@
 -- What a change of one backup makes of the picture.
-use Rattle.std.proofs.Common.{◌≡◌, ℕ, zero, suc, ◌+◌, ◌<◌, List, [], ◌∷◌, length, Bool, true, false, ◌==◌, ◌&&◌, cond, Option, None, Some, Err, Result, set, length-set, refl, sym, ◌∙◌, ap, ◌↔◌, arith}
+use Rattle.std.proofs.Common.{◌≡◌, ℕ, zero, suc, ◌+◌, ◌<◌, List, [], ◌∷◌, length, Bool, true, false, ◌==◌, ◌&&◌, cond, not, Option, None, Some, Err, Result, set, length-set, refl, sym, ◌∙◌, ap, ◌↔◌, arith}
 use mathlib.Core.Path.{fun_ext}
 use Rattle.std.specs.List.{slice_get}
 use Rattle.std.specs.Option.{IsSome}
@@ -9,12 +9,12 @@ use Rattle.std.proofs.lemmas.Option.{slice_get_within}
 use Rattle.replica.specs.declared.op.TakeFault.{TakeFault}
 use Rattle.replica.specs.declared.op.TakeFault.TheVariants as take_fault
 use Rattle.replica.specs.Op.{OpValue}
-use Rattle.replica.specs.Picture.{Replica, FleetState, with_replica}
+use Rattle.replica.specs.Picture.{Replica, FleetState, with_replica, survivors}
 use Rattle.replica.specs.Take.{effect, taken, with_effect, Refuses}
 use Rattle.backup.specs.declared.memory.MemoryBackup.{MemoryBackup}
 use Rattle.backup.specs.Acts.{Acts}
 use Rattle.backup.specs.Shelf.{replica_at}
-use Rattle.backup.specs.State.{replica_on, picture_of}
+use Rattle.backup.specs.State.{replica_on, picture_of, lost}
 
 -- one backup becomes another
 pub slice_get-set : (backups : List MemoryBackup) (b : ℕ) (new : MemoryBackup) (c : ℕ) → b < length backups → slice_get (set backups b new) c ≡ cond (b == c) (Some new) (slice_get backups c)
@@ -75,6 +75,25 @@ picture_of-same backups b old new m s change same = fun_ext (λ c. fun_ext (λ n
 -- a fleet with these backups and counts
 abbrev pub fleet_of : List MemoryBackup → ℕ → ℕ → ℕ → FleetState
 fleet_of backups takes end faults = record { backups = length backups; picture = picture_of backups; takes = takes; end = end; faults = faults }
+
+emptied_at : (old : Option MemoryBackup) (new : MemoryBackup) (n t : ℕ) (x : Bool) → replica_at new n t ≡ None
+    → replica_on (cond x (Some new) old) n t ≡ cond (not x) (replica_on old n t) None
+emptied_at old new n t false empty = refl
+emptied_at old new n t true empty = empty
+
+lost_at : (backups : List MemoryBackup) (b : ℕ) (new : MemoryBackup) → b < length backups → ((m s : ℕ) → replica_at new m s ≡ None)
+    → (c n t : ℕ) → picture_of (set backups b new) c n t ≡ survivors (λ d. not (b == d)) (picture_of backups) c n t
+lost_at backups b new within empty c n t =
+    rw (slice_get-set backups b new c within) (emptied_at (slice_get backups c) new n t (b == c) (empty n t))
+
+-- where the backup becomes one that holds nothing, the fleet has lost what it held
+pub lost_by : (backups : List MemoryBackup) (b : ℕ) (new : MemoryBackup) (takes end faults : ℕ) → b < length backups
+    → ((m s : ℕ) → replica_at new m s ≡ None)
+    → fleet_of (set backups b new) takes end faults ≡ lost (fleet_of backups takes end faults) b
+lost_by backups b new takes end faults within empty =
+    let left : picture_of (set backups b new) ≡ survivors (λ d. not (b == d)) (picture_of backups) =
+    fun_ext (λ c. fun_ext (λ n. fun_ext (λ t. lost_at backups b new within empty c n t))) in
+    rw (length-set, left) refl
 
 -- what the backup does is what the fleet does
 pub taken_by : (backups : List MemoryBackup) (b : ℕ) (old new : MemoryBackup) (op : OpValue) (takes end faults : ℕ) → Change backups b old new op.master op.segment
