@@ -1,5 +1,4 @@
-use Rattle.std.proofs.Common.{◌≡◌, ◌-◌, ◌++◌, ◌∷◌, [], take, length, refl, ◌∙◌, arith}
-use Rattle.std.proofs.lemmas.Grind.{common_steps}
+use Rattle.std.proofs.Common.{◌≡◌, ◌-◌, ◌++◌, ◌∷◌, [], take, length, refl, ◌∙◌}
 use Rattle.std.specs.Ordering.{nat_cmp}
 use Rattle.std.specs.BTreeMap.{get}
 use Rattle.entry.specs.Text.{Opening}
@@ -27,7 +26,7 @@ returns-in-Err-clause-fault c =
 pub copies-requires : goal.copies-requires
 copies-requires c =
     let ids = shown_ids c.opening-safe.result.0 in
-    let pushed : c.push.new.self.items ≡ c.in-Ok.others.items ++ c.args.head ∷ [] = grind (arith, common_steps) in
+    let pushed : c.push.new.self.items ≡ c.in-Ok.others.items ++ c.args.head ∷ [] = c.in_ok-push.ensures.items in
     let all =
     found-taken c.args.holdings.now c.args.master (get nat_cmp c.in_ok-best.best) c.in_ok-best.ensures (take (length ids - 1) ids) c.in-Ok.others.items
     c.in-Ok.ensures.found in
@@ -36,7 +35,7 @@ copies-requires c =
 pub returns-clause-ok : goal.returns-clause-ok
 returns-clause-ok c =
     let o : Opening = record { ids = shown_ids c.opening-safe.result.0; safe = c.opening-safe.result.1 } in
-    let pushed : c.push.new.self.items ≡ c.in-Ok.others.items ++ c.args.head ∷ [] = grind (arith, common_steps) in (
+    let pushed : c.push.new.self.items ≡ c.in-Ok.others.items ++ c.args.head ∷ [] = c.in_ok-push.ensures.items in (
       _,
       found-plan c.args.holdings.now c.args.master c.args.head.now o (get nat_cmp c.in_ok-best.best) c.in-Ok.others.items c.deref.result.now c.args.head _
           c.requires c.opening-safe.ensures c.in_ok-best.ensures c.in-Ok.ensures.found refl (c.deref.ensures.value ∙ pushed) c.in_ok-segments.ensures refl,
