@@ -48,7 +48,7 @@ impl Stored {
             backup,
             master,
             segment,
-            bytes: Bytes::from_slice(alloc, &self.bytes)?,
+            bytes: Bytes::new(Vec::from_slice(alloc, &self.bytes)?),
             is_open: self.is_open,
         })
     }

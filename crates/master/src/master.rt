@@ -419,8 +419,8 @@ impl<F: Fleet> Master<F> {
         if id != self.head.id() {
             return Ok(None);
         }
-        let bytes = Bytes::from_slice(self.alloc, self.head.image().bytes())?;
-        Ok(Some(bytes))
+        let bytes = Vec::from_slice(self.alloc, self.head.image().bytes())?;
+        Ok(Some(Bytes::new(bytes)))
     }
 
     /// Drops the master. The fleet comes back as it was left: what any backups hold stands for a prefix of the commands.

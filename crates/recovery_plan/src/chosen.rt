@@ -29,14 +29,6 @@ impl Segments {
         Segments { segments }
     }
 
-    /// The list of the segments. It takes no memory.
-    pub fn into_vec(self) -> Vec<Segment>
-        ensures { result.items ≡ self }
-    {
-        let Segments { segments } = self;
-        segments
-    }
-
     pub fn as_slice(&self) -> &[Segment]
         ensures { result.now ≡ self.now }
     {

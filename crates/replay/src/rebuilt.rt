@@ -34,14 +34,6 @@ impl Objects {
         Objects { objects }
     }
 
-    /// The list of the objects. It takes no memory.
-    pub fn into_vec(self) -> Vec<Object>
-        ensures { result.items ≡ self }
-    {
-        let Objects { objects } = self;
-        objects
-    }
-
     pub fn as_slice(&self) -> &[Object]
         ensures { result.now ≡ self.now }
     {

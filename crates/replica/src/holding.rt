@@ -38,14 +38,6 @@ impl Inventory {
         Inventory { holdings }
     }
 
-    /// The inventory as a list. It takes no memory.
-    pub fn into_vec(self) -> Vec<Holding>
-        ensures { result.items ≡ self }
-    {
-        let Inventory { holdings } = self;
-        holdings
-    }
-
     pub fn as_slice(&self) -> &[Holding]
         ensures { result.now ≡ self.now }
     {

@@ -37,7 +37,7 @@ fn inventory_of(alloc: Global, rows: &[Row<'_>]) -> Result<Inventory, AllocError
             backup: *backup,
             master: *owner,
             segment: *segment,
-            bytes: Bytes::from_slice(alloc, bytes)?,
+            bytes: Bytes::new(Vec::from_slice(alloc, bytes)?),
             is_open: *is_open,
         })?;
     }

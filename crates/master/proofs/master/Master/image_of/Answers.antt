@@ -29,7 +29,7 @@ returns-then-id-clause-image g c =
 pub returns-clause-image : goal.returns-clause-image
 returns-clause-image g c =
     let same = same_id c.args.id c.id.result c.if-id.false in
-    rw (← c.self.view_is, ← c.id.ensures.id, same, c.in_ok-bytes.ensures, c.bytes.ensures.text, c.image.ensures.image) refl
+    rw (← c.self.view_is, ← c.id.ensures.id, same, c.new.ensures, c.in_ok-bytes.ensures.items, c.bytes.ensures.text, c.image.ensures.image) refl
 
 pub returns-in_err-bytes-clause-refused : goal.returns-in_err-bytes-clause-refused
 returns-in_err-bytes-clause-refused g c =
