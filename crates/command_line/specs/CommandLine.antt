@@ -84,18 +84,22 @@ IsNumberIn option (Some text) n = IsNumeral 10 (without_leading_plus text)
 abbrev pub HasNumber : NumberOption → List Row → ℕ → Type 0
 HasNumber option rows n = IsNumberIn option (one_of option.name rows) n
 
+-- this holds of each option and its field
+pub record HasEach (Is : NumberOption → ℕ → Type 0) (o : Options) : Type 0 where
+  pub backups : Is backups o.backups
+  pub replicas : Is replicas o.replicas
+  pub step : Is step o.step
+  pub segment : Is segment o.segment
+  pub seglet : Is seglet o.seglet
+  pub seglets : Is seglets o.seglets
+  pub tables : Is tables o.tables
+  pub history : Is history o.history
+  pub bytes : Is bytes o.bytes
+  pub objects : Is objects o.objects
+
 -- each field is its option's number in the matches
-pub record HasOptions (rows : List Row) (o : Options) : Type 0 where
-  pub backups : HasNumber backups rows o.backups
-  pub replicas : HasNumber replicas rows o.replicas
-  pub step : HasNumber step rows o.step
-  pub segment : HasNumber segment rows o.segment
-  pub seglet : HasNumber seglet rows o.seglet
-  pub seglets : HasNumber seglets rows o.seglets
-  pub tables : HasNumber tables rows o.tables
-  pub history : HasNumber history rows o.history
-  pub bytes : HasNumber bytes rows o.bytes
-  pub objects : HasNumber objects rows o.objects
+abbrev pub HasOptions : List Row → Options → Type 0
+HasOptions rows o = HasEach (λ option n. HasNumber option rows n) o
 
 -- the options of a command line that names none
 abbrev pub default_options : Options
@@ -124,17 +128,8 @@ ReadsNumber default (Some text) n = IsNumeral 10 (without_leading_plus text)
     → n ≡ digits_value 10 (without_leading_plus text)
 
 -- each field is the number that its option's text writes, or its default without one
-pub record ReadsOptions (text : Text → Option Text) (o : Options) : Type 0 where
-  pub backups : ReadsNumber backups.default (text backups.name) o.backups
-  pub replicas : ReadsNumber replicas.default (text replicas.name) o.replicas
-  pub step : ReadsNumber step.default (text step.name) o.step
-  pub segment : ReadsNumber segment.default (text segment.name) o.segment
-  pub seglet : ReadsNumber seglet.default (text seglet.name) o.seglet
-  pub seglets : ReadsNumber seglets.default (text seglets.name) o.seglets
-  pub tables : ReadsNumber tables.default (text tables.name) o.tables
-  pub history : ReadsNumber history.default (text history.name) o.history
-  pub bytes : ReadsNumber bytes.default (text bytes.name) o.bytes
-  pub objects : ReadsNumber objects.default (text objects.name) o.objects
+abbrev pub ReadsOptions : (Text → Option Text) → Options → Type 0
+ReadsOptions text o = HasEach (λ option n. ReadsNumber option.default (text option.name) n) o
 
 -- the command has this shape, and nothing in it excludes anything or is for subcommands
 pub record IsCommand (app : App) (command : Command) : Type 0 where
