@@ -11,24 +11,25 @@ use Rattle.entry.specs.Text.{text_of}
 use Rattle.entry.specs.Meaning.{Versioned}
 use Rattle.segment.proofs.RowLemmas.{text_of-append}
 use Rattle.replica.specs.Picture.{Replica, FleetState}
-use Rattle.master.specs.declared.command.Command.{Command}
-use Rattle.master.specs.declared.command.Command.TheVariants.{Get, Put, Delete}
-use Rattle.master.specs.declared.command.Record.{Record}
+use Rattle.versioned_map.specs.declared.command.Command.{Command}
+use Rattle.versioned_map.specs.declared.command.Command.TheVariants.{Get, Put, Delete}
+use Rattle.versioned_map.specs.declared.command.Record.{Record}
 use Rattle.master.specs.declared.config.Config.{Config}
 use Rattle.master.specs.declared.head.UnitEnd.{UnitEnd}
 use Rattle.master.specs.Change.{appended}
-use Rattle.master.specs.Command.{command_key}
+use Rattle.versioned_map.specs.Command.{command_key}
 use Rattle.master.specs.Head.{HeadValue, IsHead, end_of}
 use Rattle.master.specs.HeadSteps.{first_opening, with_unit}
-use Rattle.master.specs.Log.{ends_of, commands_of, opening_state, state_of, Names, IsLog}
+use Rattle.versioned_map.specs.History.{commands_of}
+use Rattle.master.specs.Log.{ends_of, opening_state, state_of, Names, IsLog}
 use Rattle.master.specs.Master.{MasterData}
 use Rattle.master.specs.Mirror.{head_replica, IsMirrored}
-use Rattle.master.specs.Represents.{joined, unit_of}
-use Rattle.master.specs.Units.{put_unit, delete_unit}
-use Rattle.master.specs.Versioned.{State, is_met}
+use Rattle.versioned_map.specs.Represents.{joined, unit_of}
+use Rattle.versioned_map.specs.Units.{put_unit, delete_unit}
+use Rattle.versioned_map.specs.Versioned.{State, is_met}
 use Rattle.master.proofs.Durables.{units_of_history}
 use Rattle.master.proofs.Heads.{end_of_le}
-use Rattle.master.proofs.Units.{units_pushed}
+use Rattle.versioned_map.proofs.Units.{units_pushed}
 
 -- ---- lists
 

@@ -8,14 +8,14 @@ use Rattle.entry.specs.declared.entry.Object.{Object}
 use Rattle.entry.specs.declared.entry.Entry.{Entry}
 use Rattle.entry.specs.declared.entry.Entry.TheVariants as entry
 use Rattle.entry.specs.Meaning.{Versioned, Contents, among, versioned}
-use Rattle.master.specs.declared.command.Command.{Command}
-use Rattle.master.specs.declared.command.Command.TheVariants.{Get, Put, Delete}
+use Rattle.versioned_map.specs.declared.command.Command.{Command}
+use Rattle.versioned_map.specs.declared.command.Command.TheVariants.{Get, Put, Delete}
 use Rattle.master.specs.Log.{Names}
-use Rattle.master.specs.Represents.{unit_of, AreUnitsOf, joined}
-use Rattle.master.specs.Units.{put_unit, delete_unit, object_entry, tombstone_entry}
-use Rattle.master.specs.Versioned.{State, is_met, with_contents, after_command, after_put, after_delete, after}
-use Rattle.master.proofs.Keys.{key_eq-tells, at_key, at_other}
-use Rattle.master.proofs.Tops.{among_left, among_either}
+use Rattle.versioned_map.specs.Represents.{unit_of, AreUnitsOf, joined}
+use Rattle.versioned_map.specs.Units.{put_unit, delete_unit, object_entry, tombstone_entry}
+use Rattle.versioned_map.specs.Versioned.{State, is_met, with_contents, after_command, after_put, after_delete, after}
+use Rattle.versioned_map.proofs.Keys.{key_eq-tells, at_key, at_other}
+use Rattle.versioned_map.proofs.Tops.{among_left, among_either}
 
 among_right : (e : Entry) (xs ys : List Entry) → among ys e → among (xs ++ ys) e
 among_right e [] ys m = m

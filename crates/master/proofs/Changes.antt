@@ -14,14 +14,15 @@ use Rattle.entry.proofs.SpellingLemmas.{length-object, length-tombstone}
 use Rattle.master.specs.declared.change.Change.{Change}
 use Rattle.master.specs.declared.change.Change.TheVariants as change
 use Rattle.master.specs.declared.change.VersionsSpent.{VersionsSpent}
-use Rattle.master.specs.declared.command.If.{If}
-use Rattle.master.specs.declared.command.Command.{Command}
-use Rattle.master.specs.declared.command.Command.TheVariants.{Get, Put, Delete}
-use Rattle.master.specs.declared.command.Reply.TheVariants as reply
-use Rattle.master.specs.Versioned.{is_met, reply_given}
-use Rattle.master.specs.Units.{object_entry, tombstone_entry, put_unit}
-use Rattle.master.specs.Command.{command_key}
-use Rattle.master.specs.Change.{unit_of_change, version_in, is_empty, IsChangeOf, is_spent}
+use Rattle.versioned_map.specs.declared.command.If.{If}
+use Rattle.versioned_map.specs.declared.command.Command.{Command}
+use Rattle.versioned_map.specs.declared.command.Command.TheVariants.{Get, Put, Delete}
+use Rattle.versioned_map.specs.declared.command.Reply.TheVariants as reply
+use Rattle.versioned_map.specs.Versioned.{is_met, reply_given}
+use Rattle.versioned_map.specs.Units.{object_entry, tombstone_entry, put_unit}
+use Rattle.versioned_map.specs.Command.{command_key}
+use Rattle.versioned_map.specs.Versioned.{is_spent}
+use Rattle.master.specs.Change.{unit_of_change, version_in, is_empty, IsChangeOf}
 
 -- ---- lengths of units
 

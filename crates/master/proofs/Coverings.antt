@@ -8,22 +8,23 @@ use Rattle.entry.specs.declared.entry.Entry.TheVariants as entry
 use Rattle.entry.specs.Meaning.{among, versioned}
 use Rattle.entry.specs.Text.{is_data, data_in, IsSegment}
 use Rattle.replica.specs.Picture.{FleetState}
-use Rattle.master.specs.declared.command.Command.{Command}
+use Rattle.versioned_map.specs.declared.command.Command.{Command}
 use Rattle.master.specs.Covered.{IsInImage, IsInReplica, IsInLogBag, image_bag, log_bag, IsCovered}
 use Rattle.master.specs.HeadSteps.{first_opening}
-use Rattle.master.specs.Log.{IsLog, IsLogged, commands_of, opening_state, state_of}
+use Rattle.versioned_map.specs.History.{commands_of}
+use Rattle.master.specs.Log.{IsLog, IsLogged, opening_state, state_of}
 use Rattle.master.specs.Master.{MasterData}
 use Rattle.master.specs.Mirror.{Mirrors}
-use Rattle.master.specs.Represents.{Represents, joined, empty_state}
-use Rattle.master.specs.Units.{tombstone_entry}
-use Rattle.master.specs.Versioned.{after}
-use Rattle.master.proofs.Represented.{nothing_yet, units_added}
-use Rattle.master.proofs.Tops.{among_left}
+use Rattle.versioned_map.specs.Represents.{Represents, joined, empty_state}
+use Rattle.versioned_map.specs.Units.{tombstone_entry}
+use Rattle.versioned_map.specs.Versioned.{after}
+use Rattle.versioned_map.proofs.Represented.{nothing_yet, units_added}
+use Rattle.versioned_map.proofs.Tops.{among_left}
 use Rattle.master.proofs.Ends.{records_before}
 use Rattle.master.proofs.Fronts.{joined_split, front_data}
-use Rattle.master.proofs.Meanings.{clean_carried, meaning_carried}
+use Rattle.versioned_map.proofs.Meanings.{clean_carried, meaning_carried}
 use Rattle.master.proofs.Mirrored.{held_is_front}
-use Rattle.master.proofs.Units.{units_data, length-units}
+use Rattle.versioned_map.proofs.Units.{units_data, length-units}
 use Rattle.master.proofs.Buried.{buried_by_units, tombstone_names}
 
 -- ---- a master's log

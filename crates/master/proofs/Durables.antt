@@ -7,17 +7,18 @@ use Rattle.std.proofs.lemmas.List.{length-map, length-set}
 use Rattle.std.proofs.lemmas.Option.{slice_get-get_or, slice_get_within}
 use Rattle.entry.specs.declared.entry.Entry.{Entry}
 use Rattle.entry.specs.Text.{text_of}
-use Rattle.master.specs.declared.command.Record.{Record}
+use Rattle.versioned_map.specs.declared.command.Record.{Record}
 use Rattle.master.specs.declared.head.UnitEnd.{UnitEnd}
 use Rattle.master.specs.Head.{HeadValue, IsHead, fewest, everywhere}
 use Rattle.master.specs.HeadSteps.{with_replica, with_taken}
 use Rattle.master.specs.Master.{MasterData, IsMaster, durable_of}
-use Rattle.master.specs.Log.{IsLog, ends_of, commands_of, opening_state}
+use Rattle.versioned_map.specs.History.{commands_of}
+use Rattle.master.specs.Log.{IsLog, ends_of, opening_state}
 use Rattle.master.specs.Durable.{AreTaken, IsDurable}
 use Rattle.master.proofs.Ends.{records_before, records_before-rise, records_before-more, number_at, numbers_rise}
 use Rattle.master.proofs.Heads.{fewest_below, fewest_more, fewest-rise, fewest-taken, everywhere_closed, everywhere_open}
 use Rattle.master.proofs.Numbers.{number_within}
-use Rattle.master.proofs.Units.{length-units}
+use Rattle.versioned_map.proofs.Units.{length-units}
 
 -- the record of the unit at a place, or this number where there is no such unit
 abbrev number_at_or : List UnitEnd → ℕ → ℕ → ℕ

@@ -7,7 +7,7 @@ use Rattle.entry.specs.Text.{text_of}
 use Rattle.master.specs.declared.head.UnitEnd.{UnitEnd}
 use Rattle.master.specs.Head.{end_of}
 use Rattle.master.specs.Log.{ends_of}
-use Rattle.master.specs.Represents.{joined}
+use Rattle.versioned_map.specs.Represents.{joined}
 use Rattle.master.proofs.Heads.{text_more}
 
 -- How many records come before the one whose unit is at this place among those that hold something; all, where there is none.

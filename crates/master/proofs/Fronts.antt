@@ -16,17 +16,17 @@ use Rattle.entry.specs.Text.{text_of, is_data, entries_in, data_in, header_in, h
 use Rattle.entry.specs.Meaning.{Versioned, IsOfKey, among}
 use Rattle.entry.proofs.TextLemmas.{entries_in-text}
 use Rattle.segment.proofs.RowLemmas.{text_of-append, each-split}
-use Rattle.master.specs.declared.command.Command.{Command}
-use Rattle.master.specs.declared.command.Command.TheVariants.{Get, Put, Delete}
-use Rattle.master.specs.Command.{command_key}
+use Rattle.versioned_map.specs.declared.command.Command.{Command}
+use Rattle.versioned_map.specs.declared.command.Command.TheVariants.{Get, Put, Delete}
+use Rattle.versioned_map.specs.Command.{command_key}
 use Rattle.master.specs.HeadSteps.{first_opening}
-use Rattle.master.specs.Versioned.{State, is_met, after_command}
-use Rattle.master.specs.Units.{put_unit, delete_unit}
-use Rattle.master.specs.Represents.{unit_of, AreUnitsOf, joined}
+use Rattle.versioned_map.specs.Versioned.{State, is_met, after_command}
+use Rattle.versioned_map.specs.Units.{put_unit, delete_unit}
+use Rattle.versioned_map.specs.Represents.{unit_of, AreUnitsOf, joined}
 use Rattle.master.specs.Sound.{IsTextOfSegment}
 use Rattle.master.proofs.Heads.{text_more}
-use Rattle.master.proofs.Tops.{among_either, one_key}
-use Rattle.master.proofs.Units.{units_data}
+use Rattle.versioned_map.proofs.Tops.{among_either, one_key}
+use Rattle.versioned_map.proofs.Units.{units_data}
 
 -- ---- the first units
 

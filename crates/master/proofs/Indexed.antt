@@ -9,17 +9,17 @@ use Rattle.entry.specs.Text.{text_of}
 use Rattle.entry.specs.Meaning.{Versioned, Contents, version_of, versioned, contents_of}
 use Rattle.master.specs.declared.change.Change.{Change}
 use Rattle.master.specs.declared.change.Change.TheVariants as change
-use Rattle.master.specs.declared.command.Command.{Command}
-use Rattle.master.specs.declared.command.Command.TheVariants.{Get, Put, Delete}
-use Rattle.master.specs.declared.command.If.{If}
-use Rattle.master.specs.Command.{command_key}
+use Rattle.versioned_map.specs.declared.command.Command.{Command}
+use Rattle.versioned_map.specs.declared.command.Command.TheVariants.{Get, Put, Delete}
+use Rattle.versioned_map.specs.declared.command.If.{If}
+use Rattle.versioned_map.specs.Command.{command_key}
 use Rattle.master.specs.Change.{unit_of_change, IsChangeOf}
 use Rattle.master.specs.Index.{Stands, AreAt, slot_in, placed}
 use Rattle.master.specs.Log.{AreDistinct}
-use Rattle.master.specs.Units.{object_entry, tombstone_entry, put_unit, safe_given, safe_after_put}
-use Rattle.master.specs.Versioned.{State, is_met, put_version, with_contents, after_command, after_put, after_delete}
+use Rattle.versioned_map.specs.Units.{object_entry, tombstone_entry, put_unit, safe_given, safe_after_put}
+use Rattle.versioned_map.specs.Versioned.{State, is_met, put_version, with_contents, after_command, after_put, after_delete}
 use Rattle.master.proofs.Changes.{unmet, undeleted, clashes}
-use Rattle.master.proofs.Keys.{key_eq-tells}
+use Rattle.versioned_map.proofs.Keys.{key_eq-tells}
 use Rattle.master.proofs.Places.{contents_of-no_slot, found-at}
 use Rattle.master.proofs.Indexing.{AreAt-more, AreAt-push, AreAt-set, AreAt-remove, distinct-push, distinct-set, distinct-remove, contents-push}
 use Rattle.master.proofs.Indexing.{contents-set, contents-remove}

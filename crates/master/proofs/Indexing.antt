@@ -10,8 +10,8 @@ use Rattle.entry.specs.Order.{key_eq}
 use Rattle.entry.specs.Meaning.{Versioned, versioned, contents_of}
 use Rattle.master.specs.Index.{Stands, AreAt, slot_in}
 use Rattle.master.specs.Log.{AreDistinct}
-use Rattle.master.specs.Versioned.{with_contents}
-use Rattle.master.proofs.Keys.{key_eq-same, key_eq-true, key_eq-tells, at_key, at_other}
+use Rattle.versioned_map.specs.Versioned.{with_contents}
+use Rattle.versioned_map.proofs.Keys.{key_eq-same, key_eq-true, key_eq-tells, at_key, at_other}
 use Rattle.master.proofs.Places.{next_slot, none_before, some_before, contents_of-no_slot}
 
 -- ---- places

@@ -8,7 +8,7 @@ use Rattle.replica.specs.Op.{OpValue}
 use Rattle.replica.specs.Picture.{Replica, FleetState, is_same_place}
 use Rattle.replica.specs.Take.{Refuses, taken, with_effect, effect}
 use Rattle.replica.specs.declared.op.TakeFault.TheVariants as take_fault
-use Rattle.master.specs.declared.command.Command.{Command}
+use Rattle.versioned_map.specs.declared.command.Command.{Command}
 use Rattle.master.specs.declared.step.Refusal.{Refusal}
 use Rattle.master.specs.declared.step.Refusal.TheVariants as refusal
 use Rattle.master.specs.declared.step.Step.{Step}
@@ -19,7 +19,7 @@ use Rattle.master.specs.Head.{HeadValue}
 use Rattle.master.specs.Keeps.{Keeps}
 use Rattle.master.specs.Log.{state_of, IsLogged}
 use Rattle.master.specs.Master.{MasterData, durable_of}
-use Rattle.master.specs.Represents.{unit_of}
+use Rattle.versioned_map.specs.Represents.{unit_of}
 use Rattle.master.specs.Steps.{World, open_op, extend_op, AppliesTo, IsNextOp, FailsTake, Accepts, Steps}
 use Rattle.master.proofs.Appended.{same-appended, log_applied}
 use Rattle.master.proofs.Durables.{durable-units, durable-replica, durable-taken}

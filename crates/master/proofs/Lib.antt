@@ -2,12 +2,6 @@ pub mod Heads
 pub mod Runs
 pub mod Numbers
 pub mod Changes
-pub mod Keys
-pub mod Tops
-pub mod Units
-pub mod Represented
-pub mod Versions
-pub mod Meanings
 pub mod Places
 pub mod Indexing
 pub mod Indexed

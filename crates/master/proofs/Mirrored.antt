@@ -10,7 +10,7 @@ use Rattle.master.specs.HeadSteps.{with_replica, with_taken}
 use Rattle.master.specs.Log.{IsLog}
 use Rattle.master.specs.Master.{MasterData}
 use Rattle.master.specs.Mirror.{head_replica, IsAtMostOneAhead, Mirrors}
-use Rattle.master.specs.Represents.{joined}
+use Rattle.versioned_map.specs.Represents.{joined}
 use Rattle.master.proofs.Heads.{fewest_below, fewest-taken, everywhere_closed}
 use Rattle.master.proofs.Ends.{records_before, end_at}
 use Rattle.master.proofs.Fronts.{front, front_len, front_text}

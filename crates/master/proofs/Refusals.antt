@@ -6,18 +6,19 @@ use Rattle.std.proofs.lemmas.Bool.Decides.{nat_tests}
 use Rattle.entry.specs.declared.entry.Entry.{Entry}
 use Rattle.entry.specs.Tablet.{have_key}
 use Rattle.entry.specs.Text.{text_of}
-use Rattle.master.specs.declared.command.Command.{Command}
+use Rattle.versioned_map.specs.declared.command.Command.{Command}
 use Rattle.master.specs.declared.config.Config.{Config}
 use Rattle.master.specs.declared.step.Refusal.{Refusal}
 use Rattle.master.specs.declared.step.Refusal.TheVariants.{Halted, TooBig, NoTablet, HistoryFull, VersionsSpent, Full, Rolling, Nothing}
 use Rattle.master.specs.Causes.{early_refusal, late_refusal, command_refusal, unit_refusal, has_room, is_open, push_refusal}
-use Rattle.master.specs.Change.{is_too_big, is_spent, is_empty}
-use Rattle.master.specs.Command.{command_key}
+use Rattle.versioned_map.specs.Versioned.{is_spent}
+use Rattle.master.specs.Change.{is_too_big, is_empty}
+use Rattle.versioned_map.specs.Command.{command_key}
 use Rattle.master.specs.Config.{config_fault, has_backups}
 use Rattle.master.specs.Head.{HeadValue, IsLagging, fewest}
 use Rattle.master.specs.Log.{state_of}
 use Rattle.master.specs.Master.{MasterData}
-use Rattle.master.specs.Represents.{unit_of}
+use Rattle.versioned_map.specs.Represents.{unit_of}
 use Rattle.master.proofs.Heads.{fewest_all, fewest_at}
 
 -- ---- rows of tests

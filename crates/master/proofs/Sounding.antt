@@ -13,21 +13,22 @@ use Rattle.replica.specs.declared.holding.Holding.{Holding}
 use Rattle.replica.specs.Picture.{Replica, Picture, FleetState, survivors, IsHeld}
 use Rattle.replica.specs.Choice.{Choice, bag_of}
 use Rattle.replica.specs.Survival.{IsHeadLeft, HeadSurvives}
-use Rattle.master.specs.declared.command.Command.{Command}
+use Rattle.versioned_map.specs.declared.command.Command.{Command}
 use Rattle.master.specs.Head.{everywhere}
 use Rattle.master.specs.HeadSteps.{first_opening}
-use Rattle.master.specs.Log.{commands_of, opening_state, state_after, IsLog, IsLogged}
+use Rattle.versioned_map.specs.History.{commands_of}
+use Rattle.master.specs.Log.{opening_state, state_after, IsLog, IsLogged}
 use Rattle.master.specs.Master.{MasterData, durable_of}
 use Rattle.master.specs.Mirror.{Mirrors}
-use Rattle.master.specs.Represents.{Represents, joined}
+use Rattle.versioned_map.specs.Represents.{Represents, joined}
 use Rattle.master.specs.Sound.{IsTextOfSegment, IsHome, IsSurvivingChoice, IsPrefix, IsSound}
-use Rattle.master.specs.Versioned.{IsSafeAfter}
+use Rattle.versioned_map.specs.Versioned.{IsSafeAfter}
 use Rattle.master.proofs.Durables.{units_of_history, durable_records}
 use Rattle.master.proofs.Ends.{records_before, records_before-le, records_before-rise}
 use Rattle.master.proofs.Fronts.{units_front, joined_key, all_front, front, front_opening, front_bears, front_data, front_is}
 use Rattle.master.proofs.Mirrored.{IsFront, held_is_front}
-use Rattle.master.proofs.Represented.{nothing_yet, units_added}
-use Rattle.master.proofs.Versions.{safe_after}
+use Rattle.versioned_map.proofs.Represented.{nothing_yet, units_added}
+use Rattle.versioned_map.proofs.Versions.{safe_after}
 
 shown : (b : Bool) (o : Option Replica) (r : Replica) → cond b o None ≡ Some r → o ≡ Some r
 shown true o r is = is

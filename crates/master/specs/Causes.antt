@@ -3,16 +3,17 @@ use Rattle.std.specs.Prelude.{◌+◌, ◌==◌, ◌&&◌, length, Bool, nat_le,
 use Rattle.entry.specs.declared.entry.Entry.{Entry}
 use Rattle.entry.specs.Tablet.{have_key}
 use Rattle.entry.specs.Text.{text_of}
-use Rattle.master.specs.declared.command.Command.{Command}
+use Rattle.versioned_map.specs.declared.command.Command.{Command}
 use Rattle.master.specs.declared.step.Refusal.{Refusal}
 use Rattle.master.specs.declared.step.Refusal.TheVariants.{Halted, TooBig, NoTablet, HistoryFull, VersionsSpent, Full, Rolling, Nothing}
-use Rattle.master.specs.Command.{command_key}
-use Rattle.master.specs.Change.{is_too_big, is_spent, is_empty}
+use Rattle.versioned_map.specs.Command.{command_key}
+use Rattle.versioned_map.specs.Versioned.{is_spent}
+use Rattle.master.specs.Change.{is_too_big, is_empty}
 use Rattle.master.specs.Head.{HeadValue, fewest}
 use Rattle.master.specs.Log.{state_of}
 use Rattle.master.specs.Master.{MasterData}
-use Rattle.master.specs.Represents.{unit_of}
-use Rattle.master.specs.Versioned.{State}
+use Rattle.versioned_map.specs.Represents.{unit_of}
+use Rattle.versioned_map.specs.Versioned.{State}
 
 -- ---- a command
 

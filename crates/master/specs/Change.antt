@@ -8,12 +8,12 @@ use Rattle.entry.specs.declared.view.ObjectRef.{ObjectRef}
 use Rattle.entry.specs.View.{shown_object}
 use Rattle.master.specs.declared.change.Change.{Change}
 use Rattle.master.specs.declared.change.Change.TheVariants as change
-use Rattle.master.specs.declared.command.Command.{Command}
-use Rattle.master.specs.declared.command.Command.TheVariants.{Get, Put, Delete}
+use Rattle.versioned_map.specs.declared.command.Command.{Command}
+use Rattle.versioned_map.specs.declared.command.Command.TheVariants.{Get, Put, Delete}
 use Rattle.master.specs.Head.{HeadValue}
 use Rattle.master.specs.HeadSteps.{with_unit}
-use Rattle.master.specs.Versioned.{is_met, put_version}
-use Rattle.master.specs.Units.{object_entry, tombstone_entry, unit_given, safe_given}
+use Rattle.versioned_map.specs.Versioned.{is_met, put_version, is_spent}
+use Rattle.versioned_map.specs.Units.{object_entry, tombstone_entry, unit_given, safe_given}
 
 abbrev pub unit_of_change : ℕ → Command → Change → List Entry
 unit_of_change segment (Put k value when) (change.Create version) = object_entry k version value ∷ []
@@ -52,12 +52,6 @@ is_nothing _ = false
 abbrev pub is_empty : List Entry → Bool
 is_empty [] = true
 is_empty (e ∷ es) = false
-
--- a put that would be done, with a version above the greatest
-abbrev pub is_spent : ℕ → Option Versioned → Command → Bool
-is_spent safe x (Get k) = false
-is_spent safe x (Put k value when) = is_met when x && nat_lt (2 ^ 62) (put_version safe x)
-is_spent safe x (Delete k) = false
 
 -- from the safe version and what the key has, the change does what the command does
 pub record IsChangeOf (safe : ℕ) (x : Option Versioned) (command : Command) (change : Change) : Type 0 where

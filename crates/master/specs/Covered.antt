@@ -9,7 +9,7 @@ use Rattle.replica.specs.Picture.{Replica, Picture, FleetState}
 use Rattle.master.specs.Log.{state_of, IsLogged}
 use Rattle.master.specs.Master.{MasterData}
 use Rattle.master.specs.Mirror.{Mirrors}
-use Rattle.master.specs.Units.{tombstone_entry}
+use Rattle.versioned_map.specs.Units.{tombstone_entry}
 
 -- the ids of the log: the head's
 abbrev pub IsInLog : MasterData → ℕ → Type 0

@@ -1,6 +1,6 @@
 -- What steps keep, whatever they answer.
 use Rattle.std.specs.Prelude.{◌≡◌, ℕ, ◌+◌, ◌≤◌, List, ◌++◌}
-use Rattle.master.specs.declared.command.Record.{Record}
+use Rattle.versioned_map.specs.declared.command.Record.{Record}
 use Rattle.master.specs.Master.{durable_of}
 use Rattle.master.specs.Steps.{World}
 

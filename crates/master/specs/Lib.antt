@@ -1,15 +1,10 @@
-pub mod Command
 pub mod Config
-pub mod Versioned
-pub mod Units
 pub mod Head
 pub mod HeadSteps
 pub mod Change
 pub mod Master
 pub mod Steps
 pub mod Causes
-pub mod Membership
-pub mod Represents
 pub mod Index
 pub mod Log
 pub mod Mirror

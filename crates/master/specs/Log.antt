@@ -7,24 +7,17 @@ use Rattle.entry.specs.declared.entry.Entry.TheVariants as entry
 use Rattle.entry.specs.Tablet.{have_key}
 use Rattle.entry.specs.Text.{text_of}
 use Rattle.entry.specs.Meaning.{contents_of}
-use Rattle.master.specs.declared.command.Command.{Command}
-use Rattle.master.specs.declared.command.Record.{Record}
-use Rattle.master.specs.declared.command.Reply.{Reply}
+use Rattle.versioned_map.specs.declared.command.Command.{Command}
 use Rattle.master.specs.declared.head.UnitEnd.{UnitEnd}
-use Rattle.master.specs.Command.{command_key}
+use Rattle.versioned_map.specs.Command.{command_key}
 use Rattle.master.specs.HeadSteps.{first_opening}
 use Rattle.master.specs.Index.{AreAt, slot_in}
 use Rattle.master.specs.Master.{MasterData}
-use Rattle.master.specs.Represents.{AreUnitsOf, joined, empty_state}
-use Rattle.master.specs.Versioned.{State, after, replies}
+use Rattle.versioned_map.specs.Represents.{AreUnitsOf, joined, empty_state}
+use Rattle.versioned_map.specs.History.{commands_of, replies_of}
+use Rattle.versioned_map.specs.Versioned.{State, after, replies}
 
 -- ---- history
-
-abbrev pub commands_of : List Record → List Command
-commands_of records = map (λ (r : Record). r.command) records
-
-abbrev pub replies_of : List Record → List Reply
-replies_of records = map (λ (r : Record). r.reply) records
 
 -- the state that the history begins with: a new master has no keys
 abbrev pub opening_state : MasterData → State

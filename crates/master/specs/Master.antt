@@ -1,6 +1,6 @@
 -- A master as clauses see it.
 use Rattle.std.specs.Prelude.{◌≡◌, ℕ, ◌<◌, ◌≤◌, List, [], length, Bool, false, None, slice_get}
-use Rattle.master.specs.declared.command.Record.{Record}
+use Rattle.versioned_map.specs.declared.command.Record.{Record}
 use Rattle.master.specs.declared.config.Config.{Config}
 use Rattle.master.specs.Config.{config_fault}
 use Rattle.std.specs.List.{AllByRecursion}

@@ -11,11 +11,12 @@ use Rattle.replica.specs.Picture.{Replica, Picture, FleetState, survivors, IsHel
 use Rattle.replica.specs.Choice.{Choice, IsChoice, bag_of}
 use Rattle.replica.specs.Survival.{BothSurvive}
 use Rattle.master.specs.declared.config.Config.{Config}
-use Rattle.master.specs.Log.{commands_of, opening_state, state_after, IsLogged}
+use Rattle.versioned_map.specs.History.{commands_of}
+use Rattle.master.specs.Log.{opening_state, state_after, IsLogged}
 use Rattle.master.specs.Master.{MasterData, durable_of}
 use Rattle.master.specs.Mirror.{Mirrors}
 use Rattle.master.specs.Steps.{home}
-use Rattle.master.specs.Versioned.{IsSafeAfter}
+use Rattle.versioned_map.specs.Versioned.{IsSafeAfter}
 
 -- the bytes are a segment's, whose header names this master and segment
 pub record IsTextOfSegment (bytes : List ℕ) (master segment : ℕ) : Type 0 where

@@ -7,7 +7,7 @@ use Rattle.replica.specs.Picture.{FleetState}
 use Rattle.replica.specs.Take.{Refuses, taken, limited}
 use Rattle.replica.specs.declared.op.TakeFault.{TakeFault}
 use Rattle.replica.specs.declared.op.TakeFault.TheVariants as take_fault
-use Rattle.master.specs.declared.command.Command.{Command}
+use Rattle.versioned_map.specs.declared.command.Command.{Command}
 use Rattle.master.specs.declared.config.Config.{Config}
 use Rattle.master.specs.declared.step.Step.{Step}
 use Rattle.master.specs.declared.step.Step.TheVariants.{Apply, Push}
@@ -25,8 +25,8 @@ use Rattle.master.specs.Head.{HeadValue, end_of, IsLagging}
 use Rattle.master.specs.HeadSteps.{with_replica, with_taken}
 use Rattle.master.specs.Log.{state_of}
 use Rattle.master.specs.Master.{MasterData, MasterValue}
-use Rattle.master.specs.Represents.{unit_of}
-use Rattle.master.specs.Versioned.{reply_to}
+use Rattle.versioned_map.specs.Represents.{unit_of}
+use Rattle.versioned_map.specs.Versioned.{reply_to}
 
 pub record World : Type 0 where
   pub knows : MasterData

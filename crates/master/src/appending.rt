@@ -8,11 +8,11 @@ ghost use Rattle.entry.specs.Text.{text_of};
 ghost use Rattle.entry.specs.View.{shown};
 ghost use Rattle.master.specs.Head.{IsHead};
 ghost use Rattle.master.specs.Index.{placed};
-ghost use Rattle.master.specs.Units.{object_entry, tombstone_entry};
+ghost use Rattle.versioned_map.specs.Units.{object_entry, tombstone_entry};
 ghost use Rattle.master.specs.Change.{unit_of_change, is_empty, appended};
 
 use crate::change::Change;
-use crate::command::{Command, Record};
+use versioned_map::{Command, Record};
 use crate::head::Head;
 use crate::index::place_change;
 use entry::{EntryRef, Key, NoMemory, ObjectRef, TombstoneRef, Value, Version};

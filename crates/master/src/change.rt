@@ -3,10 +3,11 @@
 ghost use Rattle.std.specs.Prelude.{◌≡◌, ℕ, List, Option, None, Some, true, IfOk, IfErr};
 ghost use Rattle.entry.specs.declared.key.Key.{Key};
 ghost use Rattle.entry.specs.Meaning.{Versioned};
-ghost use Rattle.master.specs.Versioned.{reply_given};
-ghost use Rattle.master.specs.Change.{version_in, versioned_in, is_nothing, safe_of_change, IsChangeOf, is_spent, is_too_big};
+ghost use Rattle.versioned_map.specs.Versioned.{reply_given};
+ghost use Rattle.versioned_map.specs.Versioned.{is_spent};
+ghost use Rattle.master.specs.Change.{version_in, versioned_in, is_nothing, safe_of_change, IsChangeOf, is_too_big};
 
-use crate::command::{Command, If, Reply};
+use versioned_map::{Command, If, Reply};
 use entry::{ObjectRef, SafeVersion, Value, Version};
 use std::alloc::{AllocError, Global};
 

@@ -6,7 +6,6 @@
 
 mod appending;
 mod change;
-mod command;
 mod config;
 mod head;
 mod index;
@@ -14,13 +13,8 @@ mod laws;
 mod master;
 mod step;
 
-pub use command::{Command, If, Record, Reply};
 pub use config::{Config, ConfigFault};
-pub use laws::{
-    empty_represented, entries_bounded, meaning_by_members, members_represent, one_meaning,
-    represented_safe, run_represented, states_go_on, unit_represented, units_are_data, units_go_on,
-    versions_bounded,
-};
 pub use master::Master;
 pub use segment::{Segment, SegmentFault, read_segment};
 pub use step::{Look, Refusal, Shown, Step, StepAnswer};
+pub use versioned_map::{Command, If, Record, Reply};

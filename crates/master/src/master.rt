@@ -13,7 +13,7 @@ ghost use Rattle.master.specs.Steps.{World, world, home, AppliesTo, Accepts, Dec
 
 use crate::appending::{enact, unit_len};
 use crate::change::{Change, change_of, is_too_big};
-use crate::command::{Command, Record, Reply};
+use versioned_map::{Command, Record, Reply};
 use crate::config::Config;
 use crate::head::Head;
 use crate::index::{object_at, slot_of};
@@ -61,11 +61,12 @@ impl<F: Fleet> Master<F> {
     ghost use Rattle.std.specs.Prelude.{Option, ◌==◌, if◌then◌else◌};
     ghost use Rattle.std.specs.Result.{result_err};
     ghost use Rattle.master.specs.Causes.{early_refusal, unit_refusal, command_refusal};
-    ghost use Rattle.master.specs.Command.{command_key};
+    ghost use Rattle.versioned_map.specs.Command.{command_key};
     ghost use Rattle.master.specs.Index.{AreAt, slot_in};
-    ghost use Rattle.master.specs.Units.{unit_given};
-    ghost use Rattle.master.specs.Versioned.{reply_given};
-    ghost use Rattle.master.specs.Change.{shown_versioned, IsChangeOf, is_spent};
+    ghost use Rattle.versioned_map.specs.Units.{unit_given};
+    ghost use Rattle.versioned_map.specs.Versioned.{reply_given};
+    ghost use Rattle.versioned_map.specs.Versioned.{is_spent};
+    ghost use Rattle.master.specs.Change.{shown_versioned, IsChangeOf};
     ghost use Rattle.master.specs.Steps.{IsShown};
     ghost use Rattle.master.specs.Head.{IsLagging};
 

@@ -4,7 +4,7 @@ ghost use Rattle.std.specs.Prelude.{◌≡◌, IfOk, Some};
 ghost use Rattle.master.specs.declared.step.Refusal.TheVariants as refusal;
 ghost use Rattle.master.specs.Names.{refusal_name};
 
-use crate::command::{Command, Reply};
+use versioned_map::{Command, Reply};
 use entry::NoMemory;
 use replica::Bytes;
 use std::alloc::{AllocError, AllocFailed};

@@ -4,9 +4,13 @@ use Rattle.replica.specs.declared.op.Op.{Op}
 use Rattle.replica.specs.declared.op.Act.{Act}
 use Rattle.replica.specs.declared.op.Act.TheVariants as act
 
+-- a replica is opened with these bytes, extended at its end, closed, written whole, or freed
 pub data ActValue : Type 0 where
   Open : List ℕ → ActValue
   Extend : ℕ → List ℕ → ActValue
+  Close : ActValue
+  Seal : List ℕ → ActValue
+  Free : ActValue
 
 pub record OpValue : Type 0 where
   pub master : ℕ

@@ -1,8 +1,8 @@
 -- What an op does to a fleet.
-use Rattle.std.specs.Prelude.{◌≡◌, ℕ, ◌+◌, ◌-◌, ◌^◌, ◌<◌, ◌⊎◌, ◌==◌, ◌&&◌, ◌++◌, length, min, true, Option, Some, None, Result, Ok, Err, nat_lt, if◌then◌else◌}
+use Rattle.std.specs.Prelude.{◌≡◌, ℕ, ◌+◌, ◌-◌, ◌^◌, ◌<◌, ◌⊎◌, ◌==◌, ◌&&◌, ◌++◌, length, min, true, false, Option, Some, None, Result, Ok, Err, nat_lt, if◌then◌else◌}
 use Rattle.replica.specs.declared.op.TakeFault.{TakeFault}
 use Rattle.replica.specs.declared.op.TakeFault.TheVariants as take_fault
-use Rattle.replica.specs.Op.{ActValue, Open, Extend, OpValue}
+use Rattle.replica.specs.Op.{ActValue, Open, Extend, Close, Seal, Free, OpValue}
 use Rattle.replica.specs.Picture.{Replica, FleetState, with_replica}
 
 -- what the act makes of the replica that it names; None where it doesn't fit
@@ -12,6 +12,12 @@ effect (Open bytes) (Some r) = None
 effect (Extend at bytes) None = None
 effect (Extend at bytes) (Some r) =
     if r.is_open && (at == length r.bytes) then Some (Some (record { bytes = r.bytes ++ bytes; is_open = true })) else None
+effect Close None = None
+effect Close (Some r) = if r.is_open then Some (Some (record { bytes = r.bytes; is_open = false })) else None
+effect (Seal bytes) None = Some (Some (record { bytes = bytes; is_open = false }))
+effect (Seal bytes) (Some r) = None
+effect Free None = None
+effect Free (Some r) = Some None
 
 abbrev pub with_effect : FleetState → ℕ → OpValue → Option (Option Replica) → Option FleetState
 with_effect f b op None = None

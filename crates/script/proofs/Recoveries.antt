@@ -16,11 +16,12 @@ use Rattle.recovery_plan.specs.declared.fault.PlanFault.{PlanFault}
 use Rattle.recovery_plan.specs.declared.fault.PlanFault.TheVariants as plan_fault
 use Rattle.recovery_plan.specs.Planned.{IsChoiceOf, IsPlanOf, IsFirstBad, IsFault, NamesLoss}
 use Rattle.recovery_plan.proofs.Bests.{among-right}
-use Rattle.master.specs.Log.{commands_of, opening_state, state_after}
+use Rattle.versioned_map.specs.History.{commands_of}
+use Rattle.master.specs.Log.{opening_state, state_after}
 use Rattle.master.specs.Master.{MasterData}
 use Rattle.master.specs.Sound.{IsHome, IsSound}
-use Rattle.master.specs.Versioned.{IsSafeAfter}
-use Rattle.master.proofs.Meanings.{one_contents}
+use Rattle.versioned_map.specs.Versioned.{IsSafeAfter}
+use Rattle.versioned_map.proofs.Meanings.{one_contents}
 use Rattle.script.specs.Recovered.{Shows, IsRecovered, IsPlanLoss, IsPlanWant, IsLossOrMemory, IsWant, IsReplayWant}
 use Rattle.script.specs.declared.recovery.RecoveryFault.{RecoveryFault}
 use Rattle.script.specs.declared.recovery.RecoveryFault.TheVariants as fault

@@ -10,10 +10,10 @@ use Rattle.entry.specs.Bag.{IsAmong}
 use Rattle.replay.specs.declared.rebuilt.Rebuilt.{Rebuilt}
 use Rattle.replica.specs.declared.holding.Holding.{Holding}
 use Rattle.replica.specs.Picture.{Replica, Picture, FleetState, survivors, IsHeld}
-use Rattle.master.specs.declared.command.Command.{Command}
-use Rattle.master.specs.declared.command.Record.{Record}
+use Rattle.versioned_map.specs.declared.command.Command.{Command}
+use Rattle.versioned_map.specs.declared.command.Record.{Record}
 use Rattle.master.specs.declared.config.Config.{Config}
-use Rattle.master.specs.declared.command.Reply.{Reply}
+use Rattle.versioned_map.specs.declared.command.Reply.{Reply}
 use Rattle.master.specs.declared.step.Refusal.{Refusal}
 use Rattle.master.specs.declared.step.Refusal.TheVariants as refusal
 use Rattle.master.specs.declared.step.Step.TheVariants.{Push}

@@ -9,13 +9,13 @@ use Rattle.std.proofs.KnownBytes.{Appends-nil, Appends-trans, Appends-kept, Cons
 use Rattle.std.specs.List.{All}
 use Rattle.lines.specs.Grammar.{LineValue}
 use Rattle.lines.specs.Reading.{IsLineText}
-use Rattle.master.specs.declared.command.Command.{Command}
-use Rattle.master.specs.declared.command.Record.{Record}
+use Rattle.versioned_map.specs.declared.command.Command.{Command}
+use Rattle.versioned_map.specs.declared.command.Record.{Record}
 use Rattle.master.specs.declared.config.Config.{Config}
-use Rattle.master.specs.Log.{commands_of}
+use Rattle.versioned_map.specs.History.{commands_of}
 use Rattle.master.specs.Master.{MasterData}
-use Rattle.master.specs.Represents.{empty_state}
-use Rattle.master.specs.Versioned.{after}
+use Rattle.versioned_map.specs.Represents.{empty_state}
+use Rattle.versioned_map.specs.Versioned.{after}
 use Rattle.script.specs.declared.answer.Answer.{Answer}
 use Rattle.script.specs.declared.answer.Answer.TheVariants as answer
 use Rattle.script.specs.declared.fault.ScriptFault.{ScriptFault}

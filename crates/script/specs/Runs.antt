@@ -4,11 +4,11 @@ use Rattle.std.specs.List.{All, flat_map}
 use Rattle.std.specs.Io.KnownBytes.{Appends, Consumes, IsAtEnd}
 use Rattle.lines.specs.Grammar.{LineValue, Says, Lose}
 use Rattle.lines.specs.Reading.{IsUnbroken, IsLineText}
-use Rattle.master.specs.declared.command.Record.{Record}
+use Rattle.versioned_map.specs.declared.command.Record.{Record}
 use Rattle.master.specs.declared.config.Config.{Config}
-use Rattle.master.specs.Log.{commands_of, replies_of}
-use Rattle.master.specs.Represents.{empty_state}
-use Rattle.master.specs.Versioned.{replies}
+use Rattle.versioned_map.specs.History.{commands_of, replies_of}
+use Rattle.versioned_map.specs.Represents.{empty_state}
+use Rattle.versioned_map.specs.Versioned.{replies}
 use Rattle.script.specs.declared.fault.ScriptFault.{ScriptFault}
 use Rattle.script.specs.declared.fault.ScriptFault.TheVariants.{BadLine, ReadFailed, WriteFailed, NoMemory}
 use Rattle.script.specs.Texts.{answer_text}

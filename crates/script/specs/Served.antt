@@ -3,9 +3,9 @@ use Rattle.std.specs.Prelude.{◌≡◌, ◌⊎◌, ℕ, ◌<◌, ◌≤◌, Lis
 use Rattle.backup.specs.State.{state_of}
 use Rattle.lines.specs.Grammar.{LineValue}
 use Rattle.replica.specs.Picture.{Picture, survivors}
-use Rattle.master.specs.declared.command.Command.{Command}
-use Rattle.master.specs.declared.command.Record.{Record}
-use Rattle.master.specs.declared.command.Reply.{Reply}
+use Rattle.versioned_map.specs.declared.command.Command.{Command}
+use Rattle.versioned_map.specs.declared.command.Record.{Record}
+use Rattle.versioned_map.specs.declared.command.Reply.{Reply}
 use Rattle.master.specs.declared.config.Config.{Config}
 use Rattle.master.specs.declared.step.Refusal.{Refusal}
 use Rattle.master.specs.declared.step.Refusal.TheVariants.{NoMemory}

@@ -8,8 +8,8 @@ use Rattle.entry.specs.declared.entry.Object.{Object}
 use Rattle.recovery_plan.specs.Texts.{plan_fault_text}
 use Rattle.replay.specs.declared.rebuilt.Rebuilt.{Rebuilt}
 use Rattle.replay.specs.Texts.{replay_fault_text}
-use Rattle.master.specs.declared.command.Reply.{Reply}
-use Rattle.master.specs.declared.command.Reply.TheVariants as reply
+use Rattle.versioned_map.specs.declared.command.Reply.{Reply}
+use Rattle.versioned_map.specs.declared.command.Reply.TheVariants as reply
 use Rattle.master.specs.Names.{refusal_name}
 use Rattle.script.specs.declared.answer.Answer.{Answer}
 use Rattle.script.specs.declared.answer.Answer.TheVariants as answer

@@ -7,20 +7,21 @@ use Rattle.entry.specs.Meaning.{contents_of}
 use Rattle.entry.specs.Order.{key_cmp}
 use Rattle.entry.specs.Text.{text_of}
 use Rattle.lines.specs.Grammar.{LineValue, Idle, Put, Get, Hex, Stop, Crash, Lose, Recover}
-use Rattle.master.specs.declared.command.Command.{Command}
-use Rattle.master.specs.declared.command.Command.TheVariants as command
-use Rattle.master.specs.declared.command.If.TheVariants.{Any}
-use Rattle.master.specs.declared.command.Record.{Record}
-use Rattle.master.specs.declared.command.Reply.{Reply}
+use Rattle.versioned_map.specs.declared.command.Command.{Command}
+use Rattle.versioned_map.specs.declared.command.Command.TheVariants as command
+use Rattle.versioned_map.specs.declared.command.If.TheVariants.{Any}
+use Rattle.versioned_map.specs.declared.command.Record.{Record}
+use Rattle.versioned_map.specs.declared.command.Reply.{Reply}
 use Rattle.master.specs.declared.config.Config.{Config}
 use Rattle.master.specs.declared.step.Refusal.{Refusal}
 use Rattle.master.specs.declared.step.Refusal.TheVariants as refusal
 use Rattle.master.specs.Causes.{command_refusal}
 use Rattle.master.specs.HeadSteps.{first_opening}
-use Rattle.master.specs.Log.{commands_of, IsLogged}
+use Rattle.versioned_map.specs.History.{commands_of}
+use Rattle.master.specs.Log.{IsLogged}
 use Rattle.master.specs.Master.{MasterData}
-use Rattle.master.specs.Represents.{AreUnitsOf, joined, empty_state}
-use Rattle.master.specs.Versioned.{after}
+use Rattle.versioned_map.specs.Represents.{AreUnitsOf, joined, empty_state}
+use Rattle.versioned_map.specs.Versioned.{after}
 use Rattle.replay.specs.declared.rebuilt.Rebuilt.{Rebuilt}
 use Rattle.script.specs.declared.answer.Answer.{Answer}
 use Rattle.script.specs.declared.answer.Answer.TheVariants as answer

@@ -5,7 +5,7 @@ use crate::runs::{new_master, rebuilt};
 use backup::MemoryFleet;
 use entry::{Entry, EntryRef, Object};
 use master::{If, Look, Master, Shown, Step, StepAnswer};
-use plain::{VersionedMap, meaning};
+use versioned_map::{VersionedMap, meaning};
 use segment::SegmentRef;
 use std::alloc::Global;
 use std::test::Fail;

@@ -4,7 +4,7 @@ use Rattle.entry.specs.declared.entry.Entry.{Entry}
 use Rattle.entry.specs.Text.{text_of}
 use Rattle.entry.specs.View.{shown}
 use Rattle.master.specs.Change.{is_empty}
-use Rattle.master.specs.Units.{object_entry, tombstone_entry}
+use Rattle.versioned_map.specs.Units.{object_entry, tombstone_entry}
 use Rattle.master.proofs.appending.append_change.Goals as goal
 
 pub returns-in-Replace-clause-ok : goal.returns-in-Replace-clause-ok

@@ -7,7 +7,7 @@ use Rattle.master.specs.Invariant.{IsKept}
 use Rattle.master.specs.Log.{state_of}
 use Rattle.master.specs.Master.{MasterData}
 use Rattle.master.specs.Steps.{AppliesTo}
-use Rattle.master.specs.Versioned.{reply_to}
+use Rattle.versioned_map.specs.Versioned.{reply_to}
 use Rattle.master.proofs.Kept.{IsJudged, applied, reply_is, fits, command_kept, command_applies}
 use Rattle.master.proofs.master.Master.add.Goals as goal
 

@@ -1,0 +1,138 @@
+-- What a master knows of its log, its fleet apart.
+use Rattle.std.specs.Prelude.{◌≡◌, ℕ, zero, suc, List, [], ◌∷◌, ◌++◌, length, take, Option, Some, None, slice_get, min, nat_lt, if◌then◌else◌}
+use Rattle.std.specs.List.{flat_map}
+use Rattle.entry.specs.declared.tablet.Tablet.{Tablet}
+use Rattle.entry.specs.declared.entry.Entry.{Entry}
+use Rattle.entry.specs.declared.entry.Entry.TheVariants as entry
+use Rattle.entry.specs.declared.entry.Role.TheVariants as role
+use Rattle.versioned_map.specs.declared.command.Record.{Record}
+use Rattle.versioned_map.specs.History.{commands_of}
+use Rattle.versioned_map.specs.Versioned.{State, after}
+
+-- ---- data
+
+pub record LogConfig : Type 0 where
+  pub master : ℕ
+  pub replicas : ℕ
+  -- the backups of each segment's replicas
+  pub homes : ℕ → List ℕ
+  pub tablets : List Tablet
+
+-- what a head begins with: its id, the other ids of its digest, and the recorded safe version
+pub record Start : Type 0 where
+  pub id : ℕ
+  pub others : List ℕ
+  pub safe : ℕ
+
+-- what one record appended, which is something
+pub record LogUnit : Type 0 where
+  pub number : ℕ
+  pub entries : List Entry
+
+pub record Head : Type 0 where
+  pub start : Start
+  -- what it was given before the history began
+  pub loaded : List Entry
+  pub units : List LogUnit
+  -- how many units each replica has, of those that were opened
+  pub taken : List ℕ
+
+-- no roll is under way; or this many replicas of a new head were opened; or all were, and this many of the old
+-- head are closed
+pub data Phase : Type 0 where
+  Ready : Phase
+  Opened : ℕ → Start → Phase
+  Closed : ℕ → Start → Phase
+
+pub record LogData : Type 0 where
+  pub config : LogConfig
+  -- the state that the history begins with
+  pub opening : State
+  pub history : List Record
+  pub head : Head
+  pub phase : Phase
+  -- the first id that no segment had yet
+  pub next : ℕ
+
+-- ---- words
+
+-- the backups of a segment's replicas
+abbrev pub homes : LogData → ℕ → List ℕ
+homes d s = d.config.homes s
+
+-- the backup is that of the segment's replica of this number
+abbrev pub IsHomeAt : LogData → ℕ → ℕ → ℕ → Type 0
+IsHomeAt d s j b = slice_get (homes d s) j ≡ Some b
+
+abbrev pub IsHome : LogData → ℕ → ℕ → Type 0
+IsHome d s b = (j : ℕ) × IsHomeAt d s j b
+
+-- the ids of a head's digest
+abbrev pub ids_of : Start → List ℕ
+ids_of n = n.others ++ n.id ∷ []
+
+-- what a head opens with
+abbrev pub start_entries : ℕ → Start → List Entry
+start_entries master n = entry.Header (record {
+  master = master;
+  segment = n.id;
+  role = role.Head;
+}) ∷ entry.Digest (ids_of n) ∷ entry.Safe n.safe ∷ []
+
+-- the entries of units, in order
+abbrev pub entries_of : List LogUnit → List Entry
+entries_of us = flat_map (λ (u : LogUnit). u.entries) us
+
+-- the head's objects and tombstones, up to this many units
+abbrev pub front_entries : Head → ℕ → List Entry
+front_entries h count = h.loaded ++ entries_of (take count h.units)
+
+-- the head's entries, up to this many units
+abbrev pub head_entries : ℕ → Head → ℕ → List Entry
+head_entries master h count = start_entries master h.start ++ front_entries h count
+
+-- the head that a roll is opening
+abbrev pub new_of : Phase → Option Start
+new_of Ready = None
+new_of (Opened j n) = Some n
+new_of (Closed j n) = Some n
+
+-- how many replicas of the new head were opened, of this many
+abbrev pub opened_of : ℕ → Phase → ℕ
+opened_of replicas Ready = 0
+opened_of replicas (Opened j n) = j
+opened_of replicas (Closed j n) = replicas
+
+-- how many replicas of the old head were closed
+abbrev pub closed_of : Phase → ℕ
+closed_of Ready = 0
+closed_of (Opened j n) = 0
+closed_of (Closed j n) = j
+
+-- ---- history
+
+-- the versioned map's state after the first records, and after all
+abbrev pub state_after : LogData → ℕ → State
+state_after d count = after d.opening (take count (commands_of d.history))
+
+abbrev pub state_of : LogData → State
+state_of d = after d.opening (commands_of d.history)
+
+-- how many records come before the one whose unit is at this place; all of them, where there is none
+abbrev pub records_before : List LogUnit → ℕ → ℕ → ℕ
+records_before [] all place = all
+records_before (u ∷ us) all zero = u.number
+records_before (u ∷ us) all (suc place) = records_before us all place
+
+-- the fewest units that one of the replicas has, at most this many
+abbrev pub fewest : ℕ → List ℕ → ℕ
+fewest units [] = units
+fewest units (n ∷ ns) = min n (fewest units ns)
+
+-- how many units every replica of the head has
+abbrev pub everywhere : LogData → ℕ
+everywhere d = if nat_lt (length d.head.taken) d.config.replicas then 0 else fewest (length d.head.units) d.head.taken
+
+-- how many of the first records are durable
+abbrev pub durable_of : LogData → ℕ
+durable_of d = records_before d.head.units (length d.history) (everywhere d)

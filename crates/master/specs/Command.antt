@@ -1,9 +1,0 @@
--- What clients ask.
-use Rattle.entry.specs.declared.key.Key.{Key}
-use Rattle.master.specs.declared.command.Command.{Command}
-use Rattle.master.specs.declared.command.Command.TheVariants.{Get, Put, Delete}
-
-abbrev pub command_key : Command → Key
-command_key (Get k) = k
-command_key (Put k value when) = k
-command_key (Delete k) = k

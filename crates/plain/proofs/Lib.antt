@@ -1,4 +1,0 @@
-pub mod Failing
-pub mod ObjectLists
-pub mod Listings
-pub mod Puts

@@ -1,5 +1,0 @@
-use Rattle.plain.proofs.Listings.{IsListing}
-use Rattle.plain.proofs.bag.meaning.Given as goal
-
-abbrev pub invariant-loop-entry : goal.invariant-loop-entry
-invariant-loop-entry l = IsListing l.bag l.entry-index l.objects.items

@@ -1,0 +1,11 @@
+pub mod Keys
+pub mod Tops
+pub mod Units
+pub mod UnitKeys
+pub mod Meanings
+pub mod Represented
+pub mod Versions
+pub mod Failing
+pub mod ObjectLists
+pub mod Listings
+pub mod Puts
