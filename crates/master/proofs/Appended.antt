@@ -15,11 +15,11 @@ use Rattle.versioned_map.specs.declared.command.Command.{Command}
 use Rattle.versioned_map.specs.declared.command.Command.TheVariants.{Get, Put, Delete}
 use Rattle.versioned_map.specs.declared.command.Record.{Record}
 use Rattle.master.specs.declared.config.Config.{Config}
-use Rattle.master.specs.declared.head.UnitEnd.{UnitEnd}
+use Rattle.log_head.specs.declared.head.UnitEnd.{UnitEnd}
 use Rattle.master.specs.Change.{appended}
 use Rattle.versioned_map.specs.Command.{command_key}
-use Rattle.master.specs.Head.{HeadValue, IsHead, end_of}
-use Rattle.master.specs.HeadSteps.{first_opening, with_unit}
+use Rattle.log_head.specs.Head.{HeadValue, IsHead, end_of}
+use Rattle.log_head.specs.Steps.{first_opening, with_unit}
 use Rattle.versioned_map.specs.History.{commands_of}
 use Rattle.master.specs.Log.{ends_of, opening_state, state_of, Names, IsLog}
 use Rattle.master.specs.Master.{MasterData}
@@ -28,7 +28,7 @@ use Rattle.versioned_map.specs.Represents.{joined, unit_of}
 use Rattle.versioned_map.specs.Units.{put_unit, delete_unit}
 use Rattle.versioned_map.specs.Versioned.{State, is_met}
 use Rattle.master.proofs.Durables.{units_of_history}
-use Rattle.master.proofs.Heads.{end_of_le}
+use Rattle.log_head.proofs.Heads.{end_of_le}
 use Rattle.versioned_map.proofs.Units.{units_pushed}
 
 -- ---- lists

@@ -10,7 +10,7 @@ use Rattle.entry.specs.Text.{is_data, data_in, IsSegment}
 use Rattle.replica.specs.Picture.{FleetState}
 use Rattle.versioned_map.specs.declared.command.Command.{Command}
 use Rattle.master.specs.Covered.{IsInImage, IsInReplica, IsInLogBag, image_bag, log_bag, IsCovered}
-use Rattle.master.specs.HeadSteps.{first_opening}
+use Rattle.log_head.specs.Steps.{first_opening}
 use Rattle.versioned_map.specs.History.{commands_of}
 use Rattle.master.specs.Log.{IsLog, IsLogged, opening_state, state_of}
 use Rattle.master.specs.Master.{MasterData}

@@ -4,11 +4,11 @@ use Rattle.std.specs.Prelude.{slice_get}
 use Rattle.std.specs.Option.{option_map_or}
 use Rattle.entry.specs.declared.entry.Entry.{Entry}
 use Rattle.entry.specs.Text.{text_of}
-use Rattle.master.specs.declared.head.UnitEnd.{UnitEnd}
-use Rattle.master.specs.Head.{end_of}
+use Rattle.log_head.specs.declared.head.UnitEnd.{UnitEnd}
+use Rattle.log_head.specs.Head.{end_of}
 use Rattle.master.specs.Log.{ends_of}
 use Rattle.versioned_map.specs.Represents.{joined}
-use Rattle.master.proofs.Heads.{text_more}
+use Rattle.log_head.proofs.Heads.{text_more}
 
 -- How many records come before the one whose unit is at this place among those that hold something; all, where there is none.
 abbrev pub records_before : List (List Entry) → ℕ → ℕ

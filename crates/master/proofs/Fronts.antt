@@ -19,12 +19,12 @@ use Rattle.segment.proofs.RowLemmas.{text_of-append, each-split}
 use Rattle.versioned_map.specs.declared.command.Command.{Command}
 use Rattle.versioned_map.specs.declared.command.Command.TheVariants.{Get, Put, Delete}
 use Rattle.versioned_map.specs.Command.{command_key}
-use Rattle.master.specs.HeadSteps.{first_opening}
+use Rattle.log_head.specs.Steps.{first_opening}
 use Rattle.versioned_map.specs.Versioned.{State, is_met, after_command}
 use Rattle.versioned_map.specs.Units.{put_unit, delete_unit}
 use Rattle.versioned_map.specs.Represents.{unit_of, AreUnitsOf, joined}
 use Rattle.master.specs.Sound.{IsTextOfSegment}
-use Rattle.master.proofs.Heads.{text_more}
+use Rattle.log_head.proofs.Heads.{text_more}
 use Rattle.versioned_map.proofs.Tops.{among_either, one_key}
 use Rattle.versioned_map.proofs.Units.{units_data}
 

@@ -15,7 +15,7 @@ use Rattle.master.specs.declared.step.Step.{Step}
 use Rattle.master.specs.declared.step.Step.TheVariants.{Apply, Push}
 use Rattle.master.specs.declared.step.StepAnswer.{StepAnswer}
 use Rattle.master.specs.declared.step.StepAnswer.TheVariants.{Applied, Opened, Extended}
-use Rattle.master.specs.Head.{HeadValue}
+use Rattle.log_head.specs.Head.{HeadValue}
 use Rattle.master.specs.Keeps.{Keeps}
 use Rattle.master.specs.Log.{state_of, IsLogged}
 use Rattle.master.specs.Master.{MasterData, durable_of}

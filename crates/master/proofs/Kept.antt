@@ -19,7 +19,7 @@ use Rattle.master.specs.Causes.{command_refusal}
 use Rattle.master.specs.Change.{unit_of_change, is_empty, safe_of_change, appended, IsChangeOf}
 use Rattle.versioned_map.specs.Command.{command_key}
 use Rattle.master.specs.Config.{config_fault}
-use Rattle.master.specs.Head.{IsHead}
+use Rattle.log_head.specs.Head.{IsHead}
 use Rattle.master.specs.Index.{AreAt, slot_in, placed}
 use Rattle.master.specs.Invariant.{IsKept}
 use Rattle.versioned_map.specs.History.{commands_of}

@@ -5,13 +5,13 @@ use Rattle.std.proofs.lemmas.List.{length-take}
 use Rattle.entry.specs.declared.entry.Entry.{Entry}
 use Rattle.entry.specs.Text.{text_of}
 use Rattle.replica.specs.Picture.{Replica, FleetState}
-use Rattle.master.specs.Head.{HeadValue, end_of, fewest, everywhere}
-use Rattle.master.specs.HeadSteps.{with_replica, with_taken}
+use Rattle.log_head.specs.Head.{HeadValue, end_of, fewest, everywhere}
+use Rattle.log_head.specs.Steps.{with_replica, with_taken}
 use Rattle.master.specs.Log.{IsLog}
 use Rattle.master.specs.Master.{MasterData}
 use Rattle.master.specs.Mirror.{head_replica, IsAtMostOneAhead, Mirrors}
 use Rattle.versioned_map.specs.Represents.{joined}
-use Rattle.master.proofs.Heads.{fewest_below, fewest-taken, everywhere_closed}
+use Rattle.log_head.proofs.Heads.{fewest_below, fewest-taken, everywhere_closed}
 use Rattle.master.proofs.Ends.{records_before, end_at}
 use Rattle.master.proofs.Fronts.{front, front_len, front_text}
 

@@ -4,8 +4,8 @@ use Rattle.std.specs.Prelude.{slice_get}
 use Rattle.std.specs.List.{AllByRecursion}
 use Rattle.std.specs.Option.{option_map_or}
 use Rattle.entry.specs.declared.entry.Entry.{Entry}
-use Rattle.master.specs.declared.head.UnitEnd.{UnitEnd}
-use Rattle.master.specs.Head.{HeadValue}
+use Rattle.log_head.specs.declared.head.UnitEnd.{UnitEnd}
+use Rattle.log_head.specs.Head.{HeadValue}
 use Rattle.master.specs.Change.{appended}
 
 -- each of the units is of one of so many records

@@ -8,8 +8,8 @@ use Rattle.replica.specs.Take.{Refuses, taken, limited}
 use Rattle.replica.specs.declared.op.TakeFault.{TakeFault}
 use Rattle.replica.specs.declared.op.TakeFault.TheVariants as take_fault
 use Rattle.master.specs.declared.step.Step.TheVariants.{Push}
-use Rattle.master.specs.Head.{HeadValue, IsHead, IsLagging}
-use Rattle.master.specs.HeadSteps.{with_replica, with_taken}
+use Rattle.log_head.specs.Head.{HeadValue, IsHead, IsLagging}
+use Rattle.log_head.specs.Steps.{with_replica, with_taken}
 use Rattle.master.specs.Invariant.{IsKept}
 use Rattle.master.specs.Log.{IsLogged}
 use Rattle.master.specs.Master.{MasterData}

@@ -15,11 +15,11 @@ use Rattle.versioned_map.specs.Versioned.{is_spent}
 use Rattle.master.specs.Change.{is_too_big, is_empty}
 use Rattle.versioned_map.specs.Command.{command_key}
 use Rattle.master.specs.Config.{config_fault, has_backups}
-use Rattle.master.specs.Head.{HeadValue, IsLagging, fewest}
+use Rattle.log_head.specs.Head.{HeadValue, IsLagging, fewest}
 use Rattle.master.specs.Log.{state_of}
 use Rattle.master.specs.Master.{MasterData}
 use Rattle.versioned_map.specs.Represents.{unit_of}
-use Rattle.master.proofs.Heads.{fewest_all, fewest_at}
+use Rattle.log_head.proofs.Heads.{fewest_all, fewest_at}
 
 -- ---- rows of tests
 

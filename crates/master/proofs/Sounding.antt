@@ -14,8 +14,8 @@ use Rattle.replica.specs.Picture.{Replica, Picture, FleetState, survivors, IsHel
 use Rattle.replica.specs.Choice.{Choice, bag_of}
 use Rattle.replica.specs.Survival.{IsHeadLeft, HeadSurvives}
 use Rattle.versioned_map.specs.declared.command.Command.{Command}
-use Rattle.master.specs.Head.{everywhere}
-use Rattle.master.specs.HeadSteps.{first_opening}
+use Rattle.log_head.specs.Head.{everywhere}
+use Rattle.log_head.specs.Steps.{first_opening}
 use Rattle.versioned_map.specs.History.{commands_of}
 use Rattle.master.specs.Log.{opening_state, state_after, IsLog, IsLogged}
 use Rattle.master.specs.Master.{MasterData, durable_of}

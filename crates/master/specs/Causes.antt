@@ -9,7 +9,7 @@ use Rattle.master.specs.declared.step.Refusal.TheVariants.{Halted, TooBig, NoTab
 use Rattle.versioned_map.specs.Command.{command_key}
 use Rattle.versioned_map.specs.Versioned.{is_spent}
 use Rattle.master.specs.Change.{is_too_big, is_empty}
-use Rattle.master.specs.Head.{HeadValue, fewest}
+use Rattle.log_head.specs.Head.{HeadValue, fewest}
 use Rattle.master.specs.Log.{state_of}
 use Rattle.master.specs.Master.{MasterData}
 use Rattle.versioned_map.specs.Represents.{unit_of}

@@ -10,8 +10,8 @@ use Rattle.master.specs.declared.change.Change.{Change}
 use Rattle.master.specs.declared.change.Change.TheVariants as change
 use Rattle.versioned_map.specs.declared.command.Command.{Command}
 use Rattle.versioned_map.specs.declared.command.Command.TheVariants.{Get, Put, Delete}
-use Rattle.master.specs.Head.{HeadValue}
-use Rattle.master.specs.HeadSteps.{with_unit}
+use Rattle.log_head.specs.Head.{HeadValue}
+use Rattle.log_head.specs.Steps.{with_unit}
 use Rattle.versioned_map.specs.Versioned.{is_met, put_version, is_spent}
 use Rattle.versioned_map.specs.Units.{object_entry, tombstone_entry, unit_given, safe_given}
 

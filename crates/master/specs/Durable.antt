@@ -1,9 +1,9 @@
 -- What is durable, in terms of takes that answered Ok: these alone count as taken.
 use Rattle.std.specs.Prelude.{◌≡◌, ℕ, ◌<◌, ◌≤◌, List, ◌++◌, length, Some, slice_get}
 use Rattle.entry.specs.declared.entry.Entry.{Entry}
-use Rattle.master.specs.declared.head.UnitEnd.{UnitEnd}
-use Rattle.master.specs.Head.{HeadValue, IsHead}
-use Rattle.master.specs.HeadSteps.{with_replica, with_taken}
+use Rattle.log_head.specs.declared.head.UnitEnd.{UnitEnd}
+use Rattle.log_head.specs.Head.{HeadValue, IsHead}
+use Rattle.log_head.specs.Steps.{with_replica, with_taken}
 use Rattle.master.specs.Log.{IsLog}
 use Rattle.master.specs.Master.{MasterData, IsMaster, durable_of}
 

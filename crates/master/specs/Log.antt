@@ -8,9 +8,9 @@ use Rattle.entry.specs.Tablet.{have_key}
 use Rattle.entry.specs.Text.{text_of}
 use Rattle.entry.specs.Meaning.{contents_of}
 use Rattle.versioned_map.specs.declared.command.Command.{Command}
-use Rattle.master.specs.declared.head.UnitEnd.{UnitEnd}
+use Rattle.log_head.specs.declared.head.UnitEnd.{UnitEnd}
 use Rattle.versioned_map.specs.Command.{command_key}
-use Rattle.master.specs.HeadSteps.{first_opening}
+use Rattle.log_head.specs.Steps.{first_opening}
 use Rattle.master.specs.Index.{AreAt, slot_in}
 use Rattle.master.specs.Master.{MasterData}
 use Rattle.versioned_map.specs.Represents.{AreUnitsOf, joined, empty_state}

@@ -5,9 +5,9 @@ use Rattle.master.specs.declared.config.Config.{Config}
 use Rattle.master.specs.Config.{config_fault}
 use Rattle.std.specs.List.{AllByRecursion}
 use Rattle.std.specs.Option.{option_map_or}
-use Rattle.master.specs.declared.head.UnitEnd.{UnitEnd}
-use Rattle.master.specs.Head.{HeadValue, everywhere}
-use Rattle.master.specs.HeadSteps.{fresh_head}
+use Rattle.log_head.specs.declared.head.UnitEnd.{UnitEnd}
+use Rattle.log_head.specs.Head.{HeadValue, everywhere}
+use Rattle.log_head.specs.Steps.{fresh_head}
 
 -- what a master knows, its fleet apart
 pub record MasterData : Type 0 where

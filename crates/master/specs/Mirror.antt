@@ -3,8 +3,8 @@ use Rattle.std.specs.Prelude.{◌≡◌, ℕ, ◌<◌, ◌≤◌, ◌⊎◌, len
 use Rattle.entry.specs.Text.{text_of}
 use Rattle.replica.specs.Picture.{Replica, FleetState}
 use Rattle.master.specs.declared.config.Config.{Config}
-use Rattle.master.specs.Head.{HeadValue, end_of, IsLagging}
-use Rattle.master.specs.HeadSteps.{with_replica, with_taken}
+use Rattle.log_head.specs.Head.{HeadValue, end_of, IsLagging}
+use Rattle.log_head.specs.Steps.{with_replica, with_taken}
 use Rattle.master.specs.Master.{MasterData}
 use Rattle.master.specs.Steps.{home}
 

@@ -21,8 +21,8 @@ use Rattle.master.specs.declared.step.Refusal.{Refusal}
 use Rattle.master.specs.declared.step.Refusal.TheVariants as refusal
 use Rattle.master.specs.Causes.{command_refusal, push_refusal}
 use Rattle.master.specs.Change.{appended}
-use Rattle.master.specs.Head.{HeadValue, end_of, IsLagging}
-use Rattle.master.specs.HeadSteps.{with_replica, with_taken}
+use Rattle.log_head.specs.Head.{HeadValue, end_of, IsLagging}
+use Rattle.log_head.specs.Steps.{with_replica, with_taken}
 use Rattle.master.specs.Log.{state_of}
 use Rattle.master.specs.Master.{MasterData, MasterValue}
 use Rattle.versioned_map.specs.Represents.{unit_of}

@@ -6,7 +6,7 @@ ghost use Rattle.entry.specs.declared.entry.Entry.{Entry};
 ghost use Rattle.entry.specs.declared.entry.Entry.TheVariants as entry;
 ghost use Rattle.entry.specs.Text.{text_of};
 ghost use Rattle.entry.specs.View.{shown};
-ghost use Rattle.master.specs.Head.{IsHead};
+ghost use Rattle.log_head.specs.Head.{IsHead};
 ghost use Rattle.master.specs.Index.{placed};
 ghost use Rattle.versioned_map.specs.Units.{object_entry, tombstone_entry};
 ghost use Rattle.master.specs.Change.{unit_of_change, is_empty, appended};

@@ -68,7 +68,7 @@ impl<F: Fleet> Master<F> {
     ghost use Rattle.versioned_map.specs.Versioned.{is_spent};
     ghost use Rattle.master.specs.Change.{shown_versioned, IsChangeOf};
     ghost use Rattle.master.specs.Steps.{IsShown};
-    ghost use Rattle.master.specs.Head.{IsLagging};
+    ghost use Rattle.log_head.specs.Head.{IsLagging};
 
     /// A master whose head is to be opened. It takes nothing from the fleet, and hands it back where memory ran out.
     pub fn new(alloc: Global, config: Config, fleet: F) -> Result<Master<F>, (NoMemory, F)>

@@ -16,7 +16,7 @@ use Rattle.master.specs.declared.config.Config.{Config}
 use Rattle.master.specs.declared.step.Refusal.{Refusal}
 use Rattle.master.specs.declared.step.Refusal.TheVariants as refusal
 use Rattle.master.specs.Causes.{command_refusal}
-use Rattle.master.specs.HeadSteps.{first_opening}
+use Rattle.log_head.specs.Steps.{first_opening}
 use Rattle.versioned_map.specs.History.{commands_of}
 use Rattle.master.specs.Log.{IsLogged}
 use Rattle.master.specs.Master.{MasterData}

@@ -1,9 +1,9 @@
 use Rattle.std.proofs.Common.{◌≡◌, ℕ, Option, Some, None, length, rules, refl, sym, subst, ◌∙◌}
 use Rattle.std.specs.Prelude.{slice_get}
 use Rattle.std.specs.Option.{option_map, option_map_or}
-use Rattle.master.specs.declared.head.UnitEnd.{UnitEnd}
+use Rattle.log_head.specs.declared.head.UnitEnd.{UnitEnd}
 use Rattle.master.specs.Durable.{IsDurable}
-use Rattle.master.specs.Head.{everywhere}
+use Rattle.log_head.specs.Head.{everywhere}
 use Rattle.master.specs.Master.{MasterData, durable_of}
 use Rattle.master.proofs.Durables.{durable_is}
 use Rattle.master.proofs.master.Master.durable.Goals as goal

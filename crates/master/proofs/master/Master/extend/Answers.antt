@@ -5,7 +5,7 @@ use Rattle.replica.specs.Op.{OpValue, Extend}
 use Rattle.replica.specs.Picture.{FleetState}
 use Rattle.replica.specs.Take.{Refuses, taken}
 use Rattle.replica.specs.declared.op.TakeFault.{TakeFault}
-use Rattle.master.specs.Head.{IsLagging}
+use Rattle.log_head.specs.Head.{IsLagging}
 use Rattle.master.specs.Master.{MasterData}
 use Rattle.master.specs.declared.step.Step.TheVariants.{Push}
 use Rattle.master.specs.Steps.{world, home, Declines, extend_op}

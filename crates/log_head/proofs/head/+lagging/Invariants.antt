@@ -1,5 +1,5 @@
 use Rattle.std.proofs.Common.{length}
-use Rattle.master.proofs.head.+lagging.Given as goal
+use Rattle.log_head.proofs.head.+lagging.Given as goal
 
 abbrev pub decreases-lagging : goal.decreases-lagging
 decreases-lagging l = length l.taken.now

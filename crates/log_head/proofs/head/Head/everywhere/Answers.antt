@@ -2,9 +2,10 @@ use Rattle.std.proofs.Common.{◌≡◌, true, length, sym, ◌∙◌, ap, arith
 use Rattle.std.specs.Prelude.{◌==◌}
 use Rattle.std.proofs.lemmas.Bool.{eqb-true}
 use Rattle.std.proofs.lemmas.Option.{same_Some}
-use Rattle.master.specs.Head.{HeadValue, everywhere, fewest}
-use Rattle.master.proofs.Heads.{everywhere_open, fewest_all, fewest_at}
-use Rattle.master.proofs.head.Head.everywhere.Goals as goal
+use Rattle.log_head.specs.Head.{HeadValue, everywhere}
+use Rattle.log_model.specs.Data.{fewest}
+use Rattle.log_head.proofs.Heads.{everywhere_open, fewest_all, fewest_at}
+use Rattle.log_head.proofs.head.Head.everywhere.Goals as goal
 
 -- where all replicas were opened, the fewest units that one has
 opened : (h : HeadValue) → (length h.taken == h.replicas) ≡ true → everywhere h ≡ fewest (length h.units) h.taken

@@ -38,7 +38,7 @@ pub struct Head {
 
 impl Model for Head {
     ghost use Rattle.std.specs.Prelude.{◌≤◌, vec_capacity};
-    ghost use Rattle.master.specs.Head.{HeadValue, IsHead};
+    ghost use Rattle.log_head.specs.Head.{HeadValue, IsHead};
 
     ghost Value = { HeadValue };
 
@@ -48,9 +48,10 @@ impl Model for Head {
 }
 
 impl Head {
-    ghost use Rattle.master.specs.declared.head.UnitEnd.{UnitEnd as UnitValue};
-    ghost use Rattle.master.specs.Head.{HeadValue, IsHead, end_of, everywhere, IsLagging};
-    ghost use Rattle.master.specs.HeadSteps.{fresh_head, with_unit, with_replica, with_taken};
+    ghost use Rattle.log_head.specs.declared.head.UnitEnd.{UnitEnd as UnitValue};
+    ghost use Rattle.log_head.specs.Head.{HeadValue, IsHead, end_of, everywhere, IsLagging};
+    ghost use Rattle.log_head.specs.Steps.{fresh_head, with_unit, with_replica, with_taken};
+    ghost use Rattle.log_model.specs.Data.{Start};
 
     /// The first head of a master. Its opening alone is in its image, and no replica was opened.
     pub fn begin(
@@ -60,11 +61,11 @@ impl Head {
         safe: SafeVersion,
     ) -> Result<Head, NoMemory>
         requires { replicas ≤ 64 }
-        ensures { IfOk result (λ head. head ≡ fresh_head master replicas safe) }
+        ensures { IfOk result (λ head. head ≡ fresh_head master replicas (record { id = 1; others = []; safe = safe })) }
     {
         let taken = Vec::with_capacity(alloc, replicas)?;
         let image = first_image(alloc, master, safe)?;
-        let opening = image.bytes_len();
+        let opening = image.bytes().len();
         Ok(Head {
             id: 1,
             replicas,
@@ -220,23 +221,24 @@ impl Head {
         ensures ok { OnOk result (self.new ≡ with_unit self.old number (map shown unit.now)) }
         ensures full { IsErrOf result AppendFault.Full → (limit < length (text_of self.old.image) + length (text_of (map shown unit.now))) }
         ensures err { OnErr result (self.new ≡ self.old) }
+        ensures valid { OnOk result (IsHead self.new) }
     {
         if self.units.reserve(1).is_err() {
             return Err(AppendFault::NoMemory);
         }
         self.image.append_unit(unit, limit)?;
-        let end = self.image.bytes_len();
+        let end = self.image.bytes().len();
         self.units.push_reserved(UnitEnd { number, end });
         Ok(())
     }
 }
 
-ghost use Rattle.master.specs.Head.{IsLagging};
-ghost use Rattle.master.specs.HeadSteps.{first_opening};
+ghost use Rattle.log_head.specs.Head.{IsLagging};
+ghost use Rattle.log_model.specs.Data.{start_entries};
 
 /// The opening of a master's first head, whose digest lists that head alone.
 fn first_image(alloc: Global, master: u64, safe: SafeVersion) -> Result<Segment, NoMemory>
-    ensures { IfOk result (λ image. image ≡ first_opening master safe) }
+    ensures { IfOk result (λ image. image ≡ start_entries master (record { id = 1; others = []; safe = safe })) }
 {
     let mut ids = Vec::with_capacity(alloc, 1)?;
     ids.push(1)?;

@@ -10,8 +10,10 @@ use Rattle.std.proofs.lemmas.Option.{same_Some, slice_get-get_or, slice_get_with
 use Rattle.entry.specs.declared.entry.Entry.{Entry}
 use Rattle.entry.specs.Text.{text_of}
 use Rattle.segment.proofs.RowLemmas.{text_of-append}
-use Rattle.master.specs.declared.head.UnitEnd.{UnitEnd}
-use Rattle.master.specs.Head.{HeadValue, end_of, EndAt, IsLagging, fewest, everywhere}
+use Rattle.log_head.specs.declared.head.UnitEnd.{UnitEnd}
+use Rattle.log_model.specs.Data.{fewest}
+use Rattle.log_model.proofs.Fewest.{fewest_below}
+use Rattle.log_head.specs.Head.{HeadValue, end_of, EndAt, IsLagging, everywhere}
 
 pub EndAt_le : (us : List UnitEnd) (from len : ℕ) → EndAt from us len → from ≤ len
 EndAt_le [] from len e = omega arith
@@ -122,11 +124,6 @@ fewest_above : (units n : ℕ) (ns : List ℕ) → n ≤ units → AllByRecursio
 fewest_above units n [] le all = le
 fewest_above units n (m ∷ ns) le all = let here = all.0 in let later = fewest_above units n ns le all.1 in omega arith
 
-pub fewest_below : (units n j : ℕ) (ns : List ℕ) → slice_get ns j ≡ Some n → fewest units ns ≤ n
-fewest_below units n j [] e = absurd (cc)
-fewest_below units n zero (m ∷ ns) e = let same = same_Some m n e in omega arith
-fewest_below units n (suc j) (m ∷ ns) e = let later = fewest_below units n j ns e in omega arith
-
 pub fewest_at : (units n j : ℕ) (ns : List ℕ) → slice_get ns j ≡ Some n → n < units → AllByRecursion (λ m. n ≤ m) ns → fewest units ns ≡ n
 fewest_at units n j ns e lt all =
     let low = fewest_above units n ns (omega arith) all in
@@ -135,26 +132,10 @@ fewest_at units n j ns e lt all =
 
 -- ---- what every replica has
 
--- each of these has more than this many
-abbrev pub HaveMore : ℕ → List ℕ → Type 0
-HaveMore w ns = (j : ℕ) → j < length ns → (n : ℕ) × (slice_get ns j ≡ Some n) × (w < n)
-
-pub fewest_more : (units w : ℕ) (ns : List ℕ) → w < units → HaveMore w ns → w < fewest units ns
-fewest_more units w [] lt more = lt
-fewest_more units w (n ∷ ns) lt more =
-    let first = more 0 (omega arith) in
-    let same : n ≡ first.0 = same_Some n first.0 first.1 in
-    let above : w < first.0 = first.2 in
-    let later = fewest_more units w ns lt (λ j le. more (suc j) (omega arith)) in omega arith
-
-pub fewest-rise : (a b : ℕ) (ns : List ℕ) → a ≤ b → fewest a ns ≤ fewest b ns
-fewest-rise a b [] le = le
-fewest-rise a b (n ∷ ns) le = let later = fewest-rise a b ns le in omega arith
-
-pub fewest-taken : (units : ℕ) (ns : List ℕ) (j : ℕ) → fewest units ns ≤ fewest units (slice_set ns j (unwrap_or (slice_get ns j) 0 + 1))
-fewest-taken units [] j = omega arith
-fewest-taken units (n ∷ ns) zero = omega arith
-fewest-taken units (n ∷ ns) (suc j) = let later = fewest-taken units ns j in omega arith
+pub fewest_taken : (units : ℕ) (ns : List ℕ) (j : ℕ) → fewest units ns ≤ fewest units (slice_set ns j (unwrap_or (slice_get ns j) 0 + 1))
+fewest_taken units [] j = omega arith
+fewest_taken units (n ∷ ns) zero = omega arith
+fewest_taken units (n ∷ ns) (suc j) = let later = fewest_taken units ns j in omega arith
 
 -- whether each replica was opened
 module _ (h : HeadValue) where

@@ -1,9 +1,10 @@
 -- The head of the log.
-use Rattle.std.specs.Prelude.{◌≡◌, ℕ, zero, suc, ◌<◌, ◌≤◌, List, [], ◌∷◌, length, take, Option, Some, None, slice_get, min, nat_lt, if◌then◌else◌}
+use Rattle.std.specs.Prelude.{◌≡◌, ℕ, zero, suc, ◌<◌, ◌≤◌, List, [], ◌∷◌, length, take, Option, Some, None, slice_get, nat_lt, if◌then◌else◌}
 use Rattle.entry.specs.declared.entry.Entry.{Entry}
-use Rattle.entry.specs.Text.{text_of}
+use Rattle.entry.specs.Text.{text_of, IsSegment}
 use Rattle.std.specs.List.{AllByRecursion}
-use Rattle.master.specs.declared.head.UnitEnd.{UnitEnd}
+use Rattle.log_model.specs.Data.{fewest}
+use Rattle.log_head.specs.declared.head.UnitEnd.{UnitEnd}
 
 pub record HeadValue : Type 0 where
   pub id : ℕ
@@ -28,17 +29,15 @@ abbrev pub EndAt : ℕ → List UnitEnd → ℕ → Type 0
 EndAt from [] len = from ≡ len
 EndAt from (u ∷ us) len = (from ≤ u.end) × EndAt u.end us len
 
+-- what holds of every head
 pub record IsHead (h : HeadValue) : Type 0 where
+  pub segment : IsSegment h.image
+  pub limit : length (text_of h.image) ≤ 8388608
   pub units : EndAt h.opening h.units (length (text_of h.image))
   pub opened : length h.taken ≤ h.replicas
   pub few : h.replicas ≤ 64
   -- each replica has some of the first units
   pub taken : AllByRecursion (λ n. n ≤ length h.units) h.taken
-
--- the fewest units that one of the replicas has, at most this many
-abbrev pub fewest : ℕ → List ℕ → ℕ
-fewest units [] = units
-fewest units (n ∷ ns) = min n (fewest units ns)
 
 -- the replica that has the fewest units, the first of several; None where each has all of them
 abbrev pub IsLagging : ℕ → List ℕ → Option ℕ → Type 0

@@ -1,7 +1,7 @@
 use Rattle.std.proofs.Common.{◌≡◌, ap, length, arith}
-use Rattle.master.specs.Head.{HeadValue}
-use Rattle.master.proofs.Heads.{EndAt_le, end_of_le, end_of_last}
-use Rattle.master.proofs.head.Head.end_of.Goals as goal
+use Rattle.log_head.specs.Head.{HeadValue}
+use Rattle.log_head.proofs.Heads.{EndAt_le, end_of_le, end_of_last}
+use Rattle.log_head.proofs.head.Head.end_of.Goals as goal
 
 pub returns-in-None-clause-within : goal.returns-in-None-clause-within
 returns-in-None-clause-within c = rw (← c.self.view_is) (EndAt_le c.self.inside.units.items c.self.inside.opening _ c.self.invariant.1.units)

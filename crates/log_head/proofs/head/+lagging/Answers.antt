@@ -1,5 +1,5 @@
-use Rattle.master.proofs.Heads.{lagging_first, lagging_none, lagging_before, lagging_later}
-use Rattle.master.proofs.head.+lagging.Goals as goal
+use Rattle.log_head.proofs.Heads.{lagging_first, lagging_none, lagging_before, lagging_later}
+use Rattle.log_head.proofs.head.+lagging.Goals as goal
 
 pub returns-in-None : goal.returns-in-None
 returns-in-None t c = lagging_first c.args.units c.args.taken.now c.in-len1-up.len_at_least c.in-None.ensures c.if-first-units.true

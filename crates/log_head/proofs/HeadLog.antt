@@ -1,0 +1,234 @@
+-- The head of the log that an image holds, through each step of a head.
+use Rattle.std.proofs.Common.{◌≡◌, ℕ, zero, suc, ◌+◌, ◌-◌, ◌≤◌, ◌<◌, List, [], ◌∷◌, ◌++◌, length, take, drop, refl, sym, ap, subst, ◌∙◌, append_assoc, add-one, arith}
+use Rattle.std.specs.Prelude.{Option, Some, None, slice_get, slice_set, unwrap_or}
+use Rattle.std.specs.List.{AllByRecursion}
+use Rattle.std.proofs.lemmas.List.{append-nil, length-append, take_at, take_all}
+use Rattle.std.proofs.lemmas.Grind.{flat_map-append}
+use Rattle.entry.specs.declared.entry.Entry.{Entry}
+use Rattle.entry.specs.Format.{IsEntry}
+use Rattle.entry.specs.Text.{text_of, entries_in, opening_of, IsSegment}
+use Rattle.entry.proofs.TextLemmas.{entries_in-text}
+use Rattle.segment.proofs.RowLemmas.{text_of-append, each-split}
+use Rattle.log_model.specs.Data.{Start, LogUnit, Head, ids_of, start_entries, entries_of, front_entries, head_entries}
+use Rattle.log_model.specs.Steps.{units_between}
+use Rattle.log_head.specs.declared.head.UnitEnd.{UnitEnd}
+use Rattle.log_head.specs.Head.{HeadValue, end_of}
+use Rattle.log_head.specs.Steps.{fresh_head, with_unit, with_replica, with_taken}
+use Rattle.log_head.specs.Log.{but_last, start_in, entries_between, units_from, head_of, AreEnds, IsImageOf}
+use Rattle.log_head.proofs.Heads.{text_more}
+
+-- ---- the opening
+
+but_last_is : (xs : List ℕ) (x : ℕ) → but_last (xs ++ x ∷ []) ≡ xs
+but_last_is [] x = refl
+but_last_is (y ∷ []) x = refl
+but_last_is (y ∷ z ∷ zs) x = ap (λ (l : List ℕ). y ∷ l) (but_last_is (z ∷ zs) x)
+
+-- ---- the units
+
+drop_at : (xs ys : List ℕ) (n : ℕ) → n ≡ length xs → drop n (xs ++ ys) ≡ ys
+drop_at [] ys n is = ap (λ (k : ℕ). drop k ys) is
+drop_at (x ∷ xs) ys zero is = absurd (omega arith)
+drop_at (x ∷ xs) ys (suc n) is = drop_at xs ys n (omega arith)
+
+-- the bytes of a middle part
+middle : (xs ys zs : List ℕ) (from to : ℕ) → from ≡ length xs → to ≡ from + length ys → take (to - from) (drop from (xs ++ (ys ++ zs))) ≡ ys
+middle xs ys zs from to at size =
+    let len : to - from ≡ length ys = omega arith in
+    ap (take (to - from)) (drop_at xs (ys ++ zs) from at) ∙ take_at ys zs (to - from) (sym len)
+
+entries_of_cons : (u : LogUnit) (us : List LogUnit) → entries_of (u ∷ us) ≡ u.entries ++ entries_of us
+entries_of_cons u us = refl
+
+-- the units are read from the bytes behind any others
+units_are : (us : List LogUnit) (es : List UnitEnd) (before : List ℕ) (from : ℕ) → from ≡ length before → AllByRecursion IsEntry (entries_of us) → AreEnds from es us
+    → units_from (before ++ text_of (entries_of us)) from es ≡ us
+units_are [] [] before from at each ends = refl
+units_are [] (e ∷ es) before from at each ends = absurd ends
+units_are (u ∷ us) [] before from at each ends = absurd ends
+units_are (u ∷ us) (e ∷ es) before from at each ends =
+    let split = each-split u.entries (entries_of us) each in
+    let own = text_of u.entries in
+    let rest = text_of (entries_of us) in
+    let parts : text_of (entries_of (u ∷ us)) ≡ text_of u.entries ++ text_of (entries_of us) = text_of-append u.entries (entries_of us) in
+    let here : entries_between (before ++ text_of (entries_of (u ∷ us))) from e.end ≡ u.entries =
+    ap (λ (bs : List ℕ). entries_in (take (e.end - from) (drop from (before ++ bs)))) parts
+    ∙ ap entries_in (middle before own rest from e.end at ends.1)
+    ∙ entries_in-text u.entries split.0 in
+    let size : e.end ≡ length (before ++ text_of u.entries) = ends.1 ∙ ap (λ (n : ℕ). n + length (text_of u.entries)) at ∙ sym (length-append before (text_of u.entries)) in
+    let later : units_from (before ++ text_of (entries_of (u ∷ us))) e.end es ≡ us =
+    ap (λ (bs : List ℕ). units_from (before ++ bs) e.end es) parts
+    ∙ ap (λ (bs : List ℕ). units_from bs e.end es) (sym (append_assoc before own rest))
+    ∙ units_are us es (before ++ own) e.end size split.1 ends.2 in
+    (λ i. record { number = ends.0 i; entries = here i } ∷ later i)
+
+module _ (master : ℕ) (h : HeadValue) (l : Head) (is : IsImageOf master h l) where
+  -- the head's entries up to a unit, nothing being loaded
+  entries_at : (n : ℕ) → head_entries master l n ≡ start_entries master l.start ++ entries_of (take n l.units)
+  entries_at n = ap (λ (es : List Entry). start_entries master l.start ++ (es ++ entries_of (take n l.units))) is.none_loaded
+
+  units_all : take (length l.units) l.units ≡ l.units
+  units_all = take_all (length l.units) l.units (omega arith)
+
+  image_is : h.image ≡ start_entries master l.start ++ entries_of l.units
+  image_is = is.image ∙ entries_at (length l.units)
+      ∙ ap (λ (us : List LogUnit). start_entries master l.start ++ entries_of us) units_all
+
+  text_is : text_of h.image ≡ text_of (start_entries master l.start) ++ text_of (entries_of l.units)
+  text_is = ap text_of image_is ∙ text_of-append (start_entries master l.start) (entries_of l.units)
+
+  -- what the image says is this head
+  pub head_is : IsSegment h.image → head_of h ≡ l
+  head_is segment =
+      let each = subst (λ (es : List Entry). AllByRecursion IsEntry es) image_is segment.each in
+      let split = each-split (start_entries master l.start) (entries_of l.units) each in
+      let start : start_in h.id (opening_of h.image) ≡ l.start =
+      (λ i. start_in (sym is.id i) (opening_of (image_is i))) ∙ ap (λ (ids : List ℕ). record { id = l.start.id; others = ids; safe = l.start.safe }) (but_last_is l.start.others l.start.id) in
+      let units : units_from (text_of h.image) h.opening h.units ≡ l.units =
+      ap (λ (bs : List ℕ). units_from bs h.opening h.units) text_is
+      ∙ units_are l.units h.units (text_of (start_entries master l.start)) h.opening is.opening split.1 is.ends in
+      (λ i. record { start = start i; loaded = sym is.none_loaded i; units = units i; taken = sym is.taken i })
+
+  -- ---- ends
+
+  ends_are : (us : List LogUnit) (es : List UnitEnd) (from n : ℕ) → AreEnds from es us → end_of from es n ≡ from + length (text_of (entries_of (take n us)))
+  ends_are us es from zero ends = omega arith
+  ends_are [] [] from (suc n) ends = omega arith
+  ends_are [] (e ∷ es) from (suc n) ends = absurd ends
+  ends_are (u ∷ us) [] from (suc n) ends = absurd ends
+  ends_are (u ∷ us) (e ∷ es) from (suc n) ends =
+      let later = ends_are us es e.end n ends.2 in
+      let parts = text_more u.entries (entries_of (take n us)) in
+      let here = ends.1 in omega arith
+
+  -- a replica with the first units is as long as these end
+  pub end_is : (n : ℕ) → end_of h.opening h.units n ≡ length (text_of (head_entries master l n))
+  end_is n =
+      let at = ends_are l.units h.units h.opening n is.ends in
+      let opening = is.opening in
+      let parts = text_more (start_entries master l.start) (entries_of (take n l.units)) in
+      let whole : length (text_of (head_entries master l n)) ≡ length (text_of (start_entries master l.start ++ entries_of (take n l.units))) =
+      ap (λ (es : List Entry). length (text_of es)) (entries_at n) in
+      omega arith
+
+  count_is : length h.units ≡ length l.units
+  count_is = go h.opening h.units l.units is.ends where
+    go : (from : ℕ) (es : List UnitEnd) (us : List LogUnit) → AreEnds from es us → length es ≡ length us
+    go from [] [] ends = refl
+    go from [] (u ∷ us) ends = absurd ends
+    go from (e ∷ es) [] ends = absurd ends
+    go from (e ∷ es) (u ∷ us) ends = ap suc (go e.end es us ends.2)
+
+  -- ---- parts of the image
+
+  take_drop : (n : ℕ) (us : List LogUnit) → entries_of (take n us) ++ entries_of (drop n us) ≡ entries_of us
+  take_drop zero us = refl
+  take_drop (suc n) [] = refl
+  take_drop (suc n) (u ∷ us) =
+      append_assoc u.entries (entries_of (take n us)) (entries_of (drop n us)) ∙ ap (λ (es : List Entry). u.entries ++ es) (take_drop n us)
+
+  between : (us : List LogUnit) (m n : ℕ) → m ≤ n → entries_of (take m us) ++ entries_of (units_between us m n) ≡ entries_of (take n us)
+  between us zero n le = refl
+  between us (suc m) zero le = absurd (omega arith)
+  between [] (suc m) (suc n) le = refl
+  between (u ∷ us) (suc m) (suc n) le =
+      append_assoc u.entries (entries_of (take m us)) (entries_of (units_between us m n))
+      ∙ ap (λ (es : List Entry). u.entries ++ es) (between us m n (omega arith))
+
+  -- the bytes of the image up to a unit
+  pub front_is : (n : ℕ) → take (end_of h.opening h.units n) (text_of h.image) ≡ text_of (head_entries master l n)
+  front_is n =
+      let front = start_entries master l.start ++ entries_of (take n l.units) in
+      let rest = entries_of (drop n l.units) in
+      let image : h.image ≡ (start_entries master l.start ++ entries_of (take n l.units)) ++ entries_of (drop n l.units) =
+      image_is ∙ ap (λ (es : List Entry). start_entries master l.start ++ es) (sym (take_drop n l.units))
+      ∙ sym (append_assoc (start_entries master l.start) (entries_of (take n l.units)) (entries_of (drop n l.units))) in
+      let bytes : text_of h.image ≡ text_of front ++ text_of rest = ap text_of image ∙ text_of-append front rest in
+      let len : end_of h.opening h.units n ≡ length (text_of front) = end_is n ∙ ap (λ (es : List Entry). length (text_of es)) (entries_at n) in
+      ap (take (end_of h.opening h.units n)) bytes ∙ take_at (text_of front) (text_of rest) (end_of h.opening h.units n) (sym len)
+      ∙ ap text_of (sym (entries_at n))
+
+  -- the bytes of the image between two units are those of the units between them
+  pub part_is : (m n : ℕ) → m ≤ n
+      → take (end_of h.opening h.units n - end_of h.opening h.units m) (drop (end_of h.opening h.units m) (text_of h.image))
+      ≡ text_of (entries_of (units_between l.units m n))
+  part_is m n le =
+      let front = start_entries master l.start ++ entries_of (take m l.units) in
+      let own = entries_of (units_between l.units m n) in
+      let rest = entries_of (drop n l.units) in
+      let image : h.image ≡ front ++ (own ++ rest) =
+      image_is ∙ ap (λ (es : List Entry). start_entries master l.start ++ es)
+      (sym (take_drop n l.units) ∙ ap (λ (es : List Entry). es ++ entries_of (drop n l.units)) (sym (between l.units m n le))
+      ∙ append_assoc (entries_of (take m l.units)) (entries_of (units_between l.units m n)) (entries_of (drop n l.units)))
+      ∙ sym (append_assoc (start_entries master l.start) (entries_of (take m l.units)) (own ++ rest)) in
+      let bytes : text_of h.image ≡ text_of front ++ (text_of own ++ text_of rest) =
+      ap text_of image ∙ text_of-append front (own ++ rest) ∙ ap (λ (bs : List ℕ). text_of front ++ bs) (text_of-append own rest) in
+      let from : end_of h.opening h.units m ≡ length (text_of front) = end_is m ∙ ap (λ (es : List Entry). length (text_of es)) (entries_at m) in
+      let upto : end_of h.opening h.units n ≡ length (text_of (start_entries master l.start ++ entries_of (take n l.units))) =
+      end_is n ∙ ap (λ (es : List Entry). length (text_of es)) (entries_at n) in
+      let joined : start_entries master l.start ++ entries_of (take n l.units) ≡ front ++ own =
+      ap (λ (es : List Entry). start_entries master l.start ++ es) (sym (between l.units m n le))
+      ∙ sym (append_assoc (start_entries master l.start) (entries_of (take m l.units)) own) in
+      let sum = text_more front own in
+      let whole : length (text_of (start_entries master l.start ++ entries_of (take n l.units))) ≡ length (text_of (front ++ own)) =
+      ap (λ (es : List Entry). length (text_of es)) joined in
+      let to : end_of h.opening h.units n ≡ end_of h.opening h.units m + length (text_of own) = omega arith in
+      ap (λ (bs : List ℕ). take (end_of h.opening h.units n - end_of h.opening h.units m) (drop (end_of h.opening h.units m) bs)) bytes
+      ∙ middle (text_of front) (text_of own) (text_of rest) (end_of h.opening h.units m) (end_of h.opening h.units n) from to
+
+  -- ---- steps
+
+  entries_push : (us : List LogUnit) (u : LogUnit) → entries_of (us ++ u ∷ []) ≡ entries_of us ++ u.entries
+  entries_push [] u = append-nil u.entries
+  entries_push (v ∷ us) u = ap (λ (es : List Entry). v.entries ++ es) (entries_push us u) ∙ sym (append_assoc v.entries (entries_of us) u.entries)
+
+  ends_push : (us : List LogUnit) (es : List UnitEnd) (from : ℕ) (u : LogUnit) (e : UnitEnd) → AreEnds from es us → e.number ≡ u.number
+      → e.end ≡ from + length (text_of (entries_of us)) + length (text_of u.entries) → AreEnds from (es ++ e ∷ []) (us ++ u ∷ [])
+  ends_push [] [] from u e ends number at = (number, omega arith, tt)
+  ends_push [] (x ∷ es) from u e ends number at = absurd ends
+  ends_push (v ∷ us) [] from u e ends number at = absurd ends
+  ends_push (v ∷ us) (x ∷ es) from u e ends number at =
+      let parts = text_more v.entries (entries_of us) in
+      let here = ends.1 in
+      (ends.0, ends.1, ends_push us es x.end u e ends.2 number (omega arith))
+
+  -- with one more unit the image holds the head with one more unit
+  pub image_with_unit : (number : ℕ) (unit : List Entry)
+      → IsImageOf master (with_unit h number unit) (record l { units = l.units ++ record { number = number; entries = unit } ∷ [] })
+  image_with_unit number unit =
+      let u : LogUnit = record { number = number; entries = unit } in
+      let more : List LogUnit = l.units ++ u ∷ [] in
+      let all : take (length (l.units ++ u ∷ [])) (l.units ++ u ∷ []) ≡ l.units ++ u ∷ [] = take_all (length (l.units ++ u ∷ [])) (l.units ++ u ∷ []) (omega arith) in
+      let whole : text_of h.image ≡ text_of (start_entries master l.start) ++ text_of (entries_of l.units) = text_is in
+      let size : length (text_of h.image) ≡ h.opening + length (text_of (entries_of l.units)) =
+      ap length text_is ∙ length-append (text_of (start_entries master l.start)) (text_of (entries_of l.units))
+      ∙ ap (λ (n : ℕ). n + length (text_of (entries_of l.units))) (sym is.opening) in
+      let end = text_more h.image unit in
+      record {
+        id = is.id;
+        none_loaded = is.none_loaded;
+        image = ap (λ (es : List Entry). es ++ unit) image_is
+            ∙ append_assoc (start_entries master l.start) (entries_of l.units) unit
+            ∙ ap (λ (es : List Entry). start_entries master l.start ++ es) (sym (entries_push l.units u) ∙ ap entries_of (sym all))
+            ∙ ap (λ (es : List Entry). start_entries master l.start ++ (es ++ entries_of (take (length (l.units ++ u ∷ [])) (l.units ++ u ∷ [])))) (sym is.none_loaded);
+        opening = is.opening;
+        ends = ends_push l.units h.units h.opening u (record { number = number; end = length (text_of (h.image ++ unit)) }) is.ends refl (omega arith);
+        taken = is.taken;
+      }
+
+  -- what replicas have changes nothing else
+  pub image_with_counts : (ks : List ℕ) → IsImageOf master (record h { taken = ks }) (record l { taken = ks })
+  image_with_counts ks = record {
+    id = is.id;
+    none_loaded = is.none_loaded;
+    image = is.image;
+    opening = is.opening;
+    ends = is.ends;
+    taken = refl;
+  }
+
+-- a head that begins
+pub image_fresh : (master replicas : ℕ) (start : Start)
+    → IsImageOf master (fresh_head master replicas start) (record { start = start; loaded = []; units = []; taken = [] })
+image_fresh master replicas start =
+    record { id = refl; none_loaded = refl; image = sym (append-nil (start_entries master start)); opening = refl; ends = tt; taken = refl }

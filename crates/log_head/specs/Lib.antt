@@ -1,0 +1,4 @@
+pub mod Head
+pub mod Steps
+pub mod Log
+pub mod Laws

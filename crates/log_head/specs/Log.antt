@@ -1,0 +1,53 @@
+-- What a head is to the log: its opening, and the units that stand in its image between the ends.
+use Rattle.std.specs.Prelude.{◌≡◌, ℕ, ◌+◌, ◌-◌, List, [], ◌∷◌, length, take, drop, Option, Some, None}
+use Rattle.entry.specs.declared.entry.Entry.{Entry}
+use Rattle.entry.specs.Text.{text_of, entries_in, Opening, opening_of}
+use Rattle.log_model.specs.Data.{Start, LogUnit, Head, start_entries, head_entries}
+use Rattle.log_head.specs.declared.head.UnitEnd.{UnitEnd}
+use Rattle.log_head.specs.Head.{HeadValue}
+
+-- the ids of a digest but the last, which is the head's own
+abbrev pub but_last : List ℕ → List ℕ
+but_last [] = []
+but_last (x ∷ []) = []
+but_last (x ∷ y ∷ ys) = x ∷ but_last (y ∷ ys)
+
+-- what a head of this id begins with whose image bears this digest and safe version
+abbrev pub start_in : ℕ → Option Opening → Start
+start_in id None = record { id = id; others = []; safe = 0 }
+start_in id (Some o) = record { id = id; others = but_last o.ids; safe = o.safe }
+
+-- the entries that stand in the bytes between two offsets
+abbrev pub entries_between : List ℕ → ℕ → ℕ → List Entry
+entries_between bytes from to = entries_in (take (to - from) (drop from bytes))
+
+-- the units with these ends, the first of which begins at the offset
+abbrev pub units_from : List ℕ → ℕ → List UnitEnd → List LogUnit
+units_from bytes from [] = []
+units_from bytes from (e ∷ es) =
+    record { number = e.number; entries = entries_between bytes from e.end } ∷ units_from bytes e.end es
+
+-- the head as the log knows it
+abbrev pub head_of : HeadValue → Head
+head_of h = record {
+  start = start_in h.id (opening_of h.image);
+  loaded = [];
+  units = units_from (text_of h.image) h.opening h.units;
+  taken = h.taken;
+}
+
+-- the ends are those of the units, the first of which begins at the offset
+abbrev pub AreEnds : ℕ → List UnitEnd → List LogUnit → Type 0
+AreEnds from [] [] = Unit {0}
+AreEnds from (e ∷ es) (u ∷ us) = (e.number ≡ u.number) × (e.end ≡ from + length (text_of u.entries)) × AreEnds e.end es us
+AreEnds from [] (u ∷ us) = ⊥
+AreEnds from (e ∷ es) [] = ⊥
+
+-- The image holds this head of the log, and its units end where it says.
+pub record IsImageOf (master : ℕ) (h : HeadValue) (l : Head) : Type 0 where
+  pub id : l.start.id ≡ h.id
+  pub none_loaded : l.loaded ≡ []
+  pub image : h.image ≡ head_entries master l (length l.units)
+  pub opening : h.opening ≡ length (text_of (start_entries master l.start))
+  pub ends : AreEnds h.opening h.units l.units
+  pub taken : l.taken ≡ h.taken
