@@ -61,7 +61,8 @@ impl Head {
         safe: SafeVersion,
     ) -> Result<Head, NoMemory>
         requires { replicas ≤ 64 }
-        ensures { IfOk result (λ head. head ≡ fresh_head master replicas (record { id = 1; others = []; safe = safe })) }
+        ensures begun { IfOk result (λ head. head ≡ fresh_head master replicas (record { id = 1; others = []; safe = safe })) }
+        ensures valid { IfOk result (λ head. IsHead head) }
     {
         let taken = Vec::with_capacity(alloc, replicas)?;
         let image = first_image(alloc, master, safe)?;
@@ -193,7 +194,8 @@ impl Head {
     /// Counts a replica that was opened.
     pub fn open(&mut self)
         requires { length self.old.taken < self.old.replicas }
-        ensures { self.new ≡ with_replica self.old }
+        ensures opened { self.new ≡ with_replica self.old }
+        ensures valid { IsHead self.new }
     {
         self.taken.push_reserved(0)
     }
@@ -202,7 +204,8 @@ impl Head {
     pub fn extend(&mut self, replica: usize)
         requires lags { IfSome (slice_get self.old.taken replica) (λ n. n < length self.old.units) }
         requires opened { replica < length self.old.taken }
-        ensures { self.new ≡ with_taken self.old replica }
+        ensures extended { self.new ≡ with_taken self.old replica }
+        ensures valid { IsHead self.new }
     {
         self.taken[replica] += 1;
     }

@@ -14,15 +14,15 @@ use Rattle.replica.specs.Picture.{Replica, FleetState}
 use Rattle.versioned_map.specs.declared.command.Command.{Command}
 use Rattle.versioned_map.specs.declared.command.Command.TheVariants.{Get, Put, Delete}
 use Rattle.versioned_map.specs.declared.command.Record.{Record}
-use Rattle.master.specs.declared.config.Config.{Config}
+use Rattle.master_core.specs.declared.config.Config.{Config}
 use Rattle.log_head.specs.declared.head.UnitEnd.{UnitEnd}
-use Rattle.master.specs.Change.{appended}
+use Rattle.master_core.specs.Change.{appended}
 use Rattle.versioned_map.specs.Command.{command_key}
 use Rattle.log_head.specs.Head.{HeadValue, IsHead, end_of}
 use Rattle.log_head.specs.Steps.{first_opening, with_unit}
 use Rattle.versioned_map.specs.History.{commands_of}
-use Rattle.master.specs.Log.{ends_of, opening_state, state_of, Names, IsLog}
-use Rattle.master.specs.Master.{MasterData}
+use Rattle.master_core.specs.Log.{ends_of, opening_state, state_of, Names, IsLog}
+use Rattle.master_core.specs.Data.{MasterData}
 use Rattle.master.specs.Mirror.{head_replica, IsMirrored}
 use Rattle.versioned_map.specs.Represents.{joined, unit_of}
 use Rattle.versioned_map.specs.Units.{put_unit, delete_unit}

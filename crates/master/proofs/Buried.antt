@@ -10,7 +10,7 @@ use Rattle.entry.specs.declared.entry.Entry.TheVariants as entry
 use Rattle.entry.specs.Meaning.{Versioned, Contents, among, versioned}
 use Rattle.versioned_map.specs.declared.command.Command.{Command}
 use Rattle.versioned_map.specs.declared.command.Command.TheVariants.{Get, Put, Delete}
-use Rattle.master.specs.Log.{Names}
+use Rattle.master_core.specs.Log.{Names}
 use Rattle.versioned_map.specs.Represents.{unit_of, AreUnitsOf, joined}
 use Rattle.versioned_map.specs.Units.{put_unit, delete_unit, object_entry, tombstone_entry}
 use Rattle.versioned_map.specs.Versioned.{State, is_met, with_contents, after_command, after_put, after_delete, after}

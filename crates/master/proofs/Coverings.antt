@@ -12,8 +12,8 @@ use Rattle.versioned_map.specs.declared.command.Command.{Command}
 use Rattle.master.specs.Covered.{IsInImage, IsInReplica, IsInLogBag, image_bag, log_bag, IsCovered}
 use Rattle.log_head.specs.Steps.{first_opening}
 use Rattle.versioned_map.specs.History.{commands_of}
-use Rattle.master.specs.Log.{IsLog, IsLogged, opening_state, state_of}
-use Rattle.master.specs.Master.{MasterData}
+use Rattle.master_core.specs.Log.{IsLog, IsLogged, opening_state, state_of}
+use Rattle.master_core.specs.Data.{MasterData}
 use Rattle.master.specs.Mirror.{Mirrors}
 use Rattle.versioned_map.specs.Represents.{Represents, joined, empty_state}
 use Rattle.versioned_map.specs.Units.{tombstone_entry}

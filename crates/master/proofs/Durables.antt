@@ -11,9 +11,9 @@ use Rattle.versioned_map.specs.declared.command.Record.{Record}
 use Rattle.log_head.specs.declared.head.UnitEnd.{UnitEnd}
 use Rattle.log_head.specs.Head.{HeadValue, IsHead, fewest, everywhere}
 use Rattle.log_head.specs.Steps.{with_replica, with_taken}
-use Rattle.master.specs.Master.{MasterData, IsMaster, durable_of}
+use Rattle.master_core.specs.Data.{MasterData, IsMaster, durable_of}
 use Rattle.versioned_map.specs.History.{commands_of}
-use Rattle.master.specs.Log.{IsLog, ends_of, opening_state}
+use Rattle.master_core.specs.Log.{IsLog, ends_of, opening_state}
 use Rattle.master.specs.Durable.{AreTaken, IsDurable}
 use Rattle.master.proofs.Ends.{records_before, records_before-rise, records_before-more, number_at, numbers_rise}
 use Rattle.log_head.proofs.Heads.{fewest_below, fewest_more, fewest-rise, fewest-taken, everywhere_closed, everywhere_open}

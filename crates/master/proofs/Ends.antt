@@ -6,7 +6,7 @@ use Rattle.entry.specs.declared.entry.Entry.{Entry}
 use Rattle.entry.specs.Text.{text_of}
 use Rattle.log_head.specs.declared.head.UnitEnd.{UnitEnd}
 use Rattle.log_head.specs.Head.{end_of}
-use Rattle.master.specs.Log.{ends_of}
+use Rattle.master_core.specs.Log.{ends_of}
 use Rattle.versioned_map.specs.Represents.{joined}
 use Rattle.log_head.proofs.Heads.{text_more}
 

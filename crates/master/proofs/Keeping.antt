@@ -9,22 +9,22 @@ use Rattle.replica.specs.Picture.{Replica, FleetState, is_same_place}
 use Rattle.replica.specs.Take.{Refuses, taken, with_effect, effect}
 use Rattle.replica.specs.declared.op.TakeFault.TheVariants as take_fault
 use Rattle.versioned_map.specs.declared.command.Command.{Command}
-use Rattle.master.specs.declared.step.Refusal.{Refusal}
-use Rattle.master.specs.declared.step.Refusal.TheVariants as refusal
-use Rattle.master.specs.declared.step.Step.{Step}
-use Rattle.master.specs.declared.step.Step.TheVariants.{Apply, Push}
-use Rattle.master.specs.declared.step.StepAnswer.{StepAnswer}
-use Rattle.master.specs.declared.step.StepAnswer.TheVariants.{Applied, Opened, Extended}
+use Rattle.master_core.specs.declared.step.Refusal.{Refusal}
+use Rattle.master_core.specs.declared.step.Refusal.TheVariants as refusal
+use Rattle.master_core.specs.declared.step.Step.{Step}
+use Rattle.master_core.specs.declared.step.Step.TheVariants.{Apply, Push}
+use Rattle.master_core.specs.declared.step.StepAnswer.{StepAnswer}
+use Rattle.master_core.specs.declared.step.StepAnswer.TheVariants.{Applied, Opened, Extended}
 use Rattle.log_head.specs.Head.{HeadValue}
 use Rattle.master.specs.Keeps.{Keeps}
-use Rattle.master.specs.Log.{state_of, IsLogged}
-use Rattle.master.specs.Master.{MasterData, durable_of}
+use Rattle.master_core.specs.Log.{state_of, IsLogged}
+use Rattle.master_core.specs.Data.{MasterData, durable_of}
 use Rattle.versioned_map.specs.Represents.{unit_of}
 use Rattle.master.specs.Steps.{World, open_op, extend_op, AppliesTo, IsNextOp, FailsTake, Accepts, Steps}
 use Rattle.master.proofs.Appended.{same-appended, log_applied}
 use Rattle.master.proofs.Durables.{durable-units, durable-replica, durable-taken}
 use Rattle.master.proofs.Mirroring.{same_place-tells}
-use Rattle.master.proofs.Refusals.{is_admitted, passed_early}
+use Rattle.master_core.proofs.Refusals.{is_admitted, passed_early}
 
 -- ---- many steps
 

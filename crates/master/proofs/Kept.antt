@@ -9,31 +9,31 @@ use Rattle.entry.specs.Text.{text_of}
 use Rattle.entry.specs.Meaning.{Contents, contents_of}
 use Rattle.segment.proofs.RowLemmas.{text_of-append}
 use Rattle.replica.specs.Picture.{FleetState}
-use Rattle.master.specs.declared.change.Change.{Change}
+use Rattle.master_core.specs.declared.change.Change.{Change}
 use Rattle.versioned_map.specs.declared.command.Command.{Command}
 use Rattle.versioned_map.specs.declared.command.Record.{Record}
 use Rattle.versioned_map.specs.declared.command.Reply.{Reply}
-use Rattle.master.specs.declared.config.Config.{Config}
-use Rattle.master.specs.declared.step.StepAnswer.TheVariants.{Applied}
-use Rattle.master.specs.Causes.{command_refusal}
-use Rattle.master.specs.Change.{unit_of_change, is_empty, safe_of_change, appended, IsChangeOf}
+use Rattle.master_core.specs.declared.config.Config.{Config}
+use Rattle.master_core.specs.declared.step.StepAnswer.TheVariants.{Applied}
+use Rattle.master_core.specs.Causes.{command_refusal}
+use Rattle.master_core.specs.Change.{unit_of_change, is_empty, safe_of_change, appended, IsChangeOf}
 use Rattle.versioned_map.specs.Command.{command_key}
-use Rattle.master.specs.Config.{config_fault}
+use Rattle.master_core.specs.Config.{config_fault}
 use Rattle.log_head.specs.Head.{IsHead}
-use Rattle.master.specs.Index.{AreAt, slot_in, placed}
+use Rattle.master_core.specs.Index.{AreAt, slot_in, placed}
 use Rattle.master.specs.Invariant.{IsKept}
 use Rattle.versioned_map.specs.History.{commands_of}
-use Rattle.master.specs.Log.{opening_state, state_of, IsLegal, IsLog, IsIndex}
-use Rattle.master.specs.Master.{MasterData, IsMaster, fresh_data}
+use Rattle.master_core.specs.Log.{opening_state, state_of, IsLegal, IsLog, IsIndex}
+use Rattle.master_core.specs.Data.{MasterData, IsMaster, fresh_data}
 use Rattle.master.specs.Mirror.{IsMirrored, Mirrors}
 use Rattle.versioned_map.specs.Represents.{unit_of}
 use Rattle.master.specs.Steps.{AppliesTo}
 use Rattle.versioned_map.specs.Units.{safe_given}
 use Rattle.versioned_map.specs.Versioned.{State, with_contents, reply_given, reply_to, replies, after, after_command}
 use Rattle.master.proofs.Appended.{map-push, image-appended, log_applied, mirrored-appended}
-use Rattle.master.proofs.Indexed.{given, command_at, Indexes, goes_on}
+use Rattle.master_core.proofs.Indexed.{given, command_at, Indexes, goes_on}
 use Rattle.master.proofs.Numbers.{AreOf-appended, replicas-appended}
-use Rattle.master.proofs.Refusals.{IsAdmitted, is_admitted, passed_early, unit_fits}
+use Rattle.master_core.proofs.Refusals.{IsAdmitted, is_admitted, passed_early, unit_fits}
 use Rattle.versioned_map.proofs.Units.{states_pushed}
 
 pub fresh_kept : (c : Config) (f : FleetState) → config_fault c ≡ None → c.backups ≤ f.backups → ((b s : ℕ) → f.picture b c.master s ≡ None)

@@ -7,8 +7,8 @@ use Rattle.entry.specs.Text.{text_of}
 use Rattle.replica.specs.Picture.{Replica, FleetState}
 use Rattle.log_head.specs.Head.{HeadValue, end_of, fewest, everywhere}
 use Rattle.log_head.specs.Steps.{with_replica, with_taken}
-use Rattle.master.specs.Log.{IsLog}
-use Rattle.master.specs.Master.{MasterData}
+use Rattle.master_core.specs.Log.{IsLog}
+use Rattle.master_core.specs.Data.{MasterData}
 use Rattle.master.specs.Mirror.{head_replica, IsAtMostOneAhead, Mirrors}
 use Rattle.versioned_map.specs.Represents.{joined}
 use Rattle.log_head.proofs.Heads.{fewest_below, fewest-taken, everywhere_closed}

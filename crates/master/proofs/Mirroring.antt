@@ -10,13 +10,13 @@ use Rattle.entry.specs.Text.{text_of}
 use Rattle.replica.specs.Op.{OpValue, Open, Extend}
 use Rattle.replica.specs.Picture.{Replica, FleetState, with_replica as replaced, is_same_place}
 use Rattle.replica.specs.Take.{taken, effect}
-use Rattle.master.specs.declared.config.Config.{Config}
+use Rattle.master_core.specs.declared.config.Config.{Config}
 use Rattle.log_head.specs.Head.{HeadValue, IsHead, end_of}
 use Rattle.log_head.specs.Steps.{with_replica, with_taken}
 use Rattle.master.specs.Mirror.{head_replica, IsOpenedHome, IsMirrored}
 use Rattle.master.specs.Steps.{home}
 use Rattle.log_head.proofs.Heads.{end_of_le, end_of_next}
-use Rattle.master.proofs.Homes.{homes_apart}
+use Rattle.master_core.proofs.Homes.{homes_apart}
 
 same_place-true : (b m s c n t : ℕ) → b ≡ c → m ≡ n → s ≡ t → is_same_place b m s c n t ≡ true
 same_place-true b m s c n t p q r = grind (arith, nat_tests)

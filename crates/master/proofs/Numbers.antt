@@ -6,7 +6,7 @@ use Rattle.std.specs.Option.{option_map_or}
 use Rattle.entry.specs.declared.entry.Entry.{Entry}
 use Rattle.log_head.specs.declared.head.UnitEnd.{UnitEnd}
 use Rattle.log_head.specs.Head.{HeadValue}
-use Rattle.master.specs.Change.{appended}
+use Rattle.master_core.specs.Change.{appended}
 
 -- each of the units is of one of so many records
 abbrev pub AreOf : ℕ → List UnitEnd → Type 0

@@ -7,17 +7,17 @@ use Rattle.replica.specs.Picture.{FleetState}
 use Rattle.replica.specs.Take.{Refuses, taken, limited}
 use Rattle.replica.specs.declared.op.TakeFault.{TakeFault}
 use Rattle.replica.specs.declared.op.TakeFault.TheVariants as take_fault
-use Rattle.master.specs.declared.step.Step.TheVariants.{Push}
+use Rattle.master_core.specs.declared.step.Step.TheVariants.{Push}
 use Rattle.log_head.specs.Head.{HeadValue, IsHead, IsLagging}
 use Rattle.log_head.specs.Steps.{with_replica, with_taken}
 use Rattle.master.specs.Invariant.{IsKept}
-use Rattle.master.specs.Log.{IsLogged}
-use Rattle.master.specs.Master.{MasterData}
+use Rattle.master_core.specs.Log.{IsLogged}
+use Rattle.master_core.specs.Data.{MasterData}
 use Rattle.master.specs.Mirror.{head_replica, IsMirrored, IsAtMostOneAhead, Mirrors}
-use Rattle.master.specs.Causes.{push_refusal}
+use Rattle.master_core.specs.Causes.{push_refusal}
 use Rattle.master.specs.Steps.{World, with_head, home, open_op, extend_op, IsNextOp, Declines, refusal_of, is_halting}
 use Rattle.master.proofs.Mirroring.{placed, open_taken, open_mirrored, extend_taken, extend_mirrored}
-use Rattle.master.proofs.Refusals.{has_homes, push_waits, push_lags}
+use Rattle.master_core.proofs.Refusals.{has_homes, push_waits, push_lags}
 
 -- the same knowledge, halted or not
 abbrev pub with_halt : MasterData → Bool → MasterData

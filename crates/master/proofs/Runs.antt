@@ -2,9 +2,9 @@
 use Rattle.std.proofs.Common.{◌≡◌, List, [], ◌∷◌, ◌++◌, refl, sym, subst}
 use Rattle.std.specs.Prelude.{Result}
 use Rattle.master.specs.Steps.{World, Steps, IsRun}
-use Rattle.master.specs.declared.step.Step.{Step}
-use Rattle.master.specs.declared.step.StepAnswer.{StepAnswer}
-use Rattle.master.specs.declared.step.Refusal.{Refusal}
+use Rattle.master_core.specs.declared.step.Step.{Step}
+use Rattle.master_core.specs.declared.step.StepAnswer.{StepAnswer}
+use Rattle.master_core.specs.declared.step.Refusal.{Refusal}
 
 run_on : (old mid new : World) (steps : List Step) (answers : List (Result StepAnswer Refusal)) (s : Step) (a : Result StepAnswer Refusal) →
     IsRun old steps answers mid → Steps mid s a new → IsRun old (steps ++ s ∷ []) (answers ++ a ∷ []) new

@@ -17,8 +17,8 @@ use Rattle.versioned_map.specs.declared.command.Command.{Command}
 use Rattle.log_head.specs.Head.{everywhere}
 use Rattle.log_head.specs.Steps.{first_opening}
 use Rattle.versioned_map.specs.History.{commands_of}
-use Rattle.master.specs.Log.{opening_state, state_after, IsLog, IsLogged}
-use Rattle.master.specs.Master.{MasterData, durable_of}
+use Rattle.master_core.specs.Log.{opening_state, state_after, IsLog, IsLogged}
+use Rattle.master_core.specs.Data.{MasterData, durable_of}
 use Rattle.master.specs.Mirror.{Mirrors}
 use Rattle.versioned_map.specs.Represents.{Represents, joined}
 use Rattle.master.specs.Sound.{IsTextOfSegment, IsHome, IsSurvivingChoice, IsPrefix, IsSound}

@@ -6,8 +6,8 @@ use Rattle.entry.specs.declared.entry.Entry.TheVariants as entry
 use Rattle.entry.specs.Text.{is_data, data_in, IsSegment}
 use Rattle.entry.specs.Meaning.{IsMeaning, IsClean, among, versioned}
 use Rattle.replica.specs.Picture.{Replica, Picture, FleetState}
-use Rattle.master.specs.Log.{state_of, IsLogged}
-use Rattle.master.specs.Master.{MasterData}
+use Rattle.master_core.specs.Log.{state_of, IsLogged}
+use Rattle.master_core.specs.Data.{MasterData}
 use Rattle.master.specs.Mirror.{Mirrors}
 use Rattle.versioned_map.specs.Units.{tombstone_entry}
 

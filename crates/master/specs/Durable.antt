@@ -4,8 +4,8 @@ use Rattle.entry.specs.declared.entry.Entry.{Entry}
 use Rattle.log_head.specs.declared.head.UnitEnd.{UnitEnd}
 use Rattle.log_head.specs.Head.{HeadValue, IsHead}
 use Rattle.log_head.specs.Steps.{with_replica, with_taken}
-use Rattle.master.specs.Log.{IsLog}
-use Rattle.master.specs.Master.{MasterData, IsMaster, durable_of}
+use Rattle.master_core.specs.Log.{IsLog}
+use Rattle.master_core.specs.Data.{MasterData, IsMaster, durable_of}
 
 -- this replica took the unit of the record at this number whole, where the record appended one
 abbrev pub IsTakenBy : HeadValue → ℕ → ℕ → Type 0

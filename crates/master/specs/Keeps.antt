@@ -1,7 +1,7 @@
 -- What steps keep, whatever they answer.
 use Rattle.std.specs.Prelude.{◌≡◌, ℕ, ◌+◌, ◌≤◌, List, ◌++◌}
 use Rattle.versioned_map.specs.declared.command.Record.{Record}
-use Rattle.master.specs.Master.{durable_of}
+use Rattle.master_core.specs.Data.{durable_of}
 use Rattle.master.specs.Steps.{World}
 
 pub record Keeps (most : ℕ) (old new : World) : Type 0 where

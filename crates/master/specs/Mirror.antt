@@ -2,10 +2,10 @@
 use Rattle.std.specs.Prelude.{◌≡◌, ℕ, ◌<◌, ◌≤◌, ◌⊎◌, length, take, false, true, Some, slice_get}
 use Rattle.entry.specs.Text.{text_of}
 use Rattle.replica.specs.Picture.{Replica, FleetState}
-use Rattle.master.specs.declared.config.Config.{Config}
+use Rattle.master_core.specs.declared.config.Config.{Config}
 use Rattle.log_head.specs.Head.{HeadValue, end_of, IsLagging}
 use Rattle.log_head.specs.Steps.{with_replica, with_taken}
-use Rattle.master.specs.Master.{MasterData}
+use Rattle.master_core.specs.Data.{MasterData}
 use Rattle.master.specs.Steps.{home}
 
 -- a replica of the head that has the first units

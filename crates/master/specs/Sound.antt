@@ -10,10 +10,10 @@ use Rattle.segment.specs.Bytes.{IsSegmentBytes}
 use Rattle.replica.specs.Picture.{Replica, Picture, FleetState, survivors, IsHeld}
 use Rattle.replica.specs.Choice.{Choice, IsChoice, bag_of}
 use Rattle.replica.specs.Survival.{BothSurvive}
-use Rattle.master.specs.declared.config.Config.{Config}
+use Rattle.master_core.specs.declared.config.Config.{Config}
 use Rattle.versioned_map.specs.History.{commands_of}
-use Rattle.master.specs.Log.{opening_state, state_after, IsLogged}
-use Rattle.master.specs.Master.{MasterData, durable_of}
+use Rattle.master_core.specs.Log.{opening_state, state_after, IsLogged}
+use Rattle.master_core.specs.Data.{MasterData, durable_of}
 use Rattle.master.specs.Mirror.{Mirrors}
 use Rattle.master.specs.Steps.{home}
 use Rattle.versioned_map.specs.Versioned.{IsSafeAfter}

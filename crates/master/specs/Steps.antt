@@ -8,23 +8,23 @@ use Rattle.replica.specs.Take.{Refuses, taken, limited}
 use Rattle.replica.specs.declared.op.TakeFault.{TakeFault}
 use Rattle.replica.specs.declared.op.TakeFault.TheVariants as take_fault
 use Rattle.versioned_map.specs.declared.command.Command.{Command}
-use Rattle.master.specs.declared.config.Config.{Config}
-use Rattle.master.specs.declared.step.Step.{Step}
-use Rattle.master.specs.declared.step.Step.TheVariants.{Apply, Push}
-use Rattle.master.specs.declared.step.StepAnswer.{StepAnswer}
-use Rattle.master.specs.declared.step.StepAnswer.TheVariants.{Applied, Opened, Extended}
-use Rattle.master.specs.declared.step.Look.{Look}
-use Rattle.master.specs.declared.step.Look.TheVariants.{Image}
-use Rattle.master.specs.declared.step.Shown.{Shown}
-use Rattle.master.specs.declared.step.Shown.TheVariants.{Image as ImageShown}
-use Rattle.master.specs.declared.step.Refusal.{Refusal}
-use Rattle.master.specs.declared.step.Refusal.TheVariants as refusal
-use Rattle.master.specs.Causes.{command_refusal, push_refusal}
-use Rattle.master.specs.Change.{appended}
+use Rattle.master_core.specs.declared.config.Config.{Config}
+use Rattle.master_core.specs.declared.step.Step.{Step}
+use Rattle.master_core.specs.declared.step.Step.TheVariants.{Apply, Push}
+use Rattle.master_core.specs.declared.step.StepAnswer.{StepAnswer}
+use Rattle.master_core.specs.declared.step.StepAnswer.TheVariants.{Applied, Opened, Extended}
+use Rattle.master_core.specs.declared.step.Look.{Look}
+use Rattle.master_core.specs.declared.step.Look.TheVariants.{Image}
+use Rattle.master_core.specs.declared.step.Shown.{Shown}
+use Rattle.master_core.specs.declared.step.Shown.TheVariants.{Image as ImageShown}
+use Rattle.master_core.specs.declared.step.Refusal.{Refusal}
+use Rattle.master_core.specs.declared.step.Refusal.TheVariants as refusal
+use Rattle.master_core.specs.Causes.{command_refusal, push_refusal}
+use Rattle.master_core.specs.Change.{appended}
 use Rattle.log_head.specs.Head.{HeadValue, end_of, IsLagging}
 use Rattle.log_head.specs.Steps.{with_replica, with_taken}
-use Rattle.master.specs.Log.{state_of}
-use Rattle.master.specs.Master.{MasterData, MasterValue}
+use Rattle.master_core.specs.Log.{state_of}
+use Rattle.master_core.specs.Data.{MasterData, MasterValue}
 use Rattle.versioned_map.specs.Represents.{unit_of}
 use Rattle.versioned_map.specs.Versioned.{reply_to}
 

@@ -1,13 +1,13 @@
 //! One master over a fleet of backups.
 
 ghost use Rattle.std.specs.Prelude.{List, ◌⊎◌, ◌≡◌, ◌≤◌, ◌<◌, ◌^◌, ℕ, None, Some, false, true, length, IfOk, IfErr, IfSome, OnOk, OnErr};
-ghost use Rattle.master.specs.Config.{config_fault};
+ghost use Rattle.master_core.specs.Config.{config_fault};
 ghost use Rattle.master.specs.Covered.{IsCovered};
 ghost use Rattle.master.specs.Durable.{IsDurable};
 ghost use Rattle.master.specs.Invariant.{IsKept};
 ghost use Rattle.master.specs.Keeps.{Keeps};
-ghost use Rattle.master.specs.Log.{IsLegal, IsLogged};
-ghost use Rattle.master.specs.Master.{fresh_data, durable_of};
+ghost use Rattle.master_core.specs.Log.{IsLegal, IsLogged};
+ghost use Rattle.master_core.specs.Data.{fresh_data, durable_of};
 ghost use Rattle.master.specs.Sound.{IsSound};
 ghost use Rattle.master.specs.Steps.{World, world, home, AppliesTo, Accepts, Declines, Steps, IsRun, refusal_of, is_halting};
 
@@ -38,7 +38,7 @@ pub struct Master<F: Fleet> {
 }
 
 impl<F: Fleet> Model for Master<F> {
-    ghost use Rattle.master.specs.Master.{MasterValue};
+    ghost use Rattle.master_core.specs.Data.{MasterValue};
     ghost use Rattle.master.specs.Invariant.{IsKept};
 
     ghost Value = { MasterValue F };
@@ -60,13 +60,13 @@ impl<F: Fleet> Master<F> {
     ghost use Rattle.entry.specs.Meaning.{Versioned};
     ghost use Rattle.std.specs.Prelude.{Option, ◌==◌, if◌then◌else◌};
     ghost use Rattle.std.specs.Result.{result_err};
-    ghost use Rattle.master.specs.Causes.{early_refusal, unit_refusal, command_refusal};
+    ghost use Rattle.master_core.specs.Causes.{early_refusal, unit_refusal, command_refusal};
     ghost use Rattle.versioned_map.specs.Command.{command_key};
-    ghost use Rattle.master.specs.Index.{AreAt, slot_in};
+    ghost use Rattle.master_core.specs.Index.{AreAt, slot_in};
     ghost use Rattle.versioned_map.specs.Units.{unit_given};
     ghost use Rattle.versioned_map.specs.Versioned.{reply_given};
     ghost use Rattle.versioned_map.specs.Versioned.{is_spent};
-    ghost use Rattle.master.specs.Change.{shown_versioned, IsChangeOf};
+    ghost use Rattle.master_core.specs.Change.{shown_versioned, IsChangeOf};
     ghost use Rattle.master.specs.Steps.{IsShown};
     ghost use Rattle.log_head.specs.Head.{IsLagging};
 

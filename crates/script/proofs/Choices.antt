@@ -12,7 +12,7 @@ use Rattle.recovery_plan.specs.declared.chosen.Plan.{Plan}
 use Rattle.recovery_plan.specs.Good.{IsGood}
 use Rattle.recovery_plan.specs.Planned.{IsChoiceOf, IsPlanOf, AgreeOnDigest}
 use Rattle.recovery_plan.proofs.Plans.{all-map}
-use Rattle.master.specs.Master.{MasterData}
+use Rattle.master_core.specs.Data.{MasterData}
 use Rattle.master.specs.Sound.{IsTextOfSegment, IsSurvivingChoice, IsSound}
 use Rattle.script.specs.Recovered.{Shows}
 

@@ -6,14 +6,14 @@ use Rattle.replica.specs.declared.holding.Holding.{Holding}
 use Rattle.replica.specs.Picture.{FleetState, survivors, IsHeld}
 use Rattle.replica.specs.Survival.{BothSurvive}
 use Rattle.replay.specs.declared.rebuilt.Rebuilt.{Rebuilt}
-use Rattle.master.specs.declared.config.Config.{Config}
-use Rattle.master.specs.declared.step.Step.{Step}
-use Rattle.master.specs.declared.step.Step.TheVariants.{Apply, Push}
-use Rattle.master.specs.declared.step.StepAnswer.{StepAnswer}
-use Rattle.master.specs.declared.step.StepAnswer.TheVariants.{Applied, Opened, Extended}
-use Rattle.master.specs.declared.step.Refusal.{Refusal}
-use Rattle.master.specs.declared.step.Refusal.TheVariants.{TooBig, Full, VersionsSpent, HistoryFull, NoMemory, Halted, Rolling, Nothing, Spent, NoTablet}
-use Rattle.master.specs.Master.{MasterData, fresh_data}
+use Rattle.master_core.specs.declared.config.Config.{Config}
+use Rattle.master_core.specs.declared.step.Step.{Step}
+use Rattle.master_core.specs.declared.step.Step.TheVariants.{Apply, Push}
+use Rattle.master_core.specs.declared.step.StepAnswer.{StepAnswer}
+use Rattle.master_core.specs.declared.step.StepAnswer.TheVariants.{Applied, Opened, Extended}
+use Rattle.master_core.specs.declared.step.Refusal.{Refusal}
+use Rattle.master_core.specs.declared.step.Refusal.TheVariants.{TooBig, Full, VersionsSpent, HistoryFull, NoMemory, Halted, Rolling, Nothing, Spent, NoTablet}
+use Rattle.master_core.specs.Data.{MasterData, fresh_data}
 use Rattle.master.specs.Sound.{IsHome, IsSound}
 use Rattle.master.specs.Steps.{World, Accepts, FailsTake, Declines, Steps, IsRun}
 use Rattle.script.specs.Kept.{is_kept}

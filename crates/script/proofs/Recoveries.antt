@@ -17,8 +17,8 @@ use Rattle.recovery_plan.specs.declared.fault.PlanFault.TheVariants as plan_faul
 use Rattle.recovery_plan.specs.Planned.{IsChoiceOf, IsPlanOf, IsFirstBad, IsFault, NamesLoss}
 use Rattle.recovery_plan.proofs.Bests.{among-right}
 use Rattle.versioned_map.specs.History.{commands_of}
-use Rattle.master.specs.Log.{opening_state, state_after}
-use Rattle.master.specs.Master.{MasterData}
+use Rattle.master_core.specs.Log.{opening_state, state_after}
+use Rattle.master_core.specs.Data.{MasterData}
 use Rattle.master.specs.Sound.{IsHome, IsSound}
 use Rattle.versioned_map.specs.Versioned.{IsSafeAfter}
 use Rattle.versioned_map.proofs.Meanings.{one_contents}

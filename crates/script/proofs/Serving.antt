@@ -12,17 +12,17 @@ use Rattle.replica.specs.declared.holding.Holding.{Holding}
 use Rattle.replica.specs.Picture.{Replica, Picture, FleetState, survivors, IsHeld}
 use Rattle.versioned_map.specs.declared.command.Command.{Command}
 use Rattle.versioned_map.specs.declared.command.Record.{Record}
-use Rattle.master.specs.declared.config.Config.{Config}
+use Rattle.master_core.specs.declared.config.Config.{Config}
 use Rattle.versioned_map.specs.declared.command.Reply.{Reply}
-use Rattle.master.specs.declared.step.Refusal.{Refusal}
-use Rattle.master.specs.declared.step.Refusal.TheVariants as refusal
-use Rattle.master.specs.declared.step.Step.TheVariants.{Push}
-use Rattle.master.specs.declared.step.StepAnswer.{StepAnswer}
-use Rattle.master.specs.declared.step.StepAnswer.TheVariants.{Applied, Opened, Extended}
-use Rattle.master.specs.Causes.{is_pushed}
+use Rattle.master_core.specs.declared.step.Refusal.{Refusal}
+use Rattle.master_core.specs.declared.step.Refusal.TheVariants as refusal
+use Rattle.master_core.specs.declared.step.Step.TheVariants.{Push}
+use Rattle.master_core.specs.declared.step.StepAnswer.{StepAnswer}
+use Rattle.master_core.specs.declared.step.StepAnswer.TheVariants.{Applied, Opened, Extended}
+use Rattle.master_core.specs.Causes.{is_pushed}
 use Rattle.master.specs.Keeps.{Keeps}
-use Rattle.master.specs.Log.{IsLogged}
-use Rattle.master.specs.Master.{MasterData, durable_of}
+use Rattle.master_core.specs.Log.{IsLogged}
+use Rattle.master_core.specs.Data.{MasterData, durable_of}
 use Rattle.master.specs.Sound.{IsSound}
 use Rattle.master.specs.Steps.{World, Steps, Declines, FailsTake}
 use Rattle.script.specs.declared.answer.Answer.{Answer}

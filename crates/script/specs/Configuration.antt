@@ -2,7 +2,7 @@
 use Rattle.std.specs.Prelude.{ℕ, zero, suc, ◌-◌, ◌^◌, List, [], ◌∷◌, ◌++◌}
 use Rattle.entry.specs.declared.tablet.Tablet.{Tablet}
 use Rattle.command_line.specs.declared.settings.Options.{Options}
-use Rattle.master.specs.declared.config.Config.{Config}
+use Rattle.master_core.specs.declared.config.Config.{Config}
 
 -- a table as one tablet
 abbrev pub whole_table : ℕ → Tablet

@@ -17,8 +17,8 @@ use Rattle.replay.specs.declared.fault.ReplayFault.TheVariants as replay_fault
 use Rattle.replay.specs.declared.rebuilt.Rebuilt.{Rebuilt}
 use Rattle.replay.specs.Rebuilt.{IsRebuilt, IsRefusal}
 use Rattle.versioned_map.specs.History.{commands_of}
-use Rattle.master.specs.Log.{opening_state, state_after}
-use Rattle.master.specs.Master.{MasterData, durable_of}
+use Rattle.master_core.specs.Log.{opening_state, state_after}
+use Rattle.master_core.specs.Data.{MasterData, durable_of}
 use Rattle.versioned_map.specs.Versioned.{IsSafeAfter}
 use Rattle.script.specs.declared.recovery.RecoveryFault.{RecoveryFault}
 use Rattle.script.specs.declared.recovery.RecoveryFault.TheVariants.{Plan, Replay}

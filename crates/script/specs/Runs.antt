@@ -5,7 +5,7 @@ use Rattle.std.specs.Io.KnownBytes.{Appends, Consumes, IsAtEnd}
 use Rattle.lines.specs.Grammar.{LineValue, Says, Lose}
 use Rattle.lines.specs.Reading.{IsUnbroken, IsLineText}
 use Rattle.versioned_map.specs.declared.command.Record.{Record}
-use Rattle.master.specs.declared.config.Config.{Config}
+use Rattle.master_core.specs.declared.config.Config.{Config}
 use Rattle.versioned_map.specs.History.{commands_of, replies_of}
 use Rattle.versioned_map.specs.Represents.{empty_state}
 use Rattle.versioned_map.specs.Versioned.{replies}

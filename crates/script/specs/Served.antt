@@ -6,12 +6,12 @@ use Rattle.replica.specs.Picture.{Picture, survivors}
 use Rattle.versioned_map.specs.declared.command.Command.{Command}
 use Rattle.versioned_map.specs.declared.command.Record.{Record}
 use Rattle.versioned_map.specs.declared.command.Reply.{Reply}
-use Rattle.master.specs.declared.config.Config.{Config}
-use Rattle.master.specs.declared.step.Refusal.{Refusal}
-use Rattle.master.specs.declared.step.Refusal.TheVariants.{NoMemory}
-use Rattle.master.specs.Causes.{command_refusal}
-use Rattle.master.specs.Log.{IsLogged}
-use Rattle.master.specs.Master.{MasterData, durable_of}
+use Rattle.master_core.specs.declared.config.Config.{Config}
+use Rattle.master_core.specs.declared.step.Refusal.{Refusal}
+use Rattle.master_core.specs.declared.step.Refusal.TheVariants.{NoMemory}
+use Rattle.master_core.specs.Causes.{command_refusal}
+use Rattle.master_core.specs.Log.{IsLogged}
+use Rattle.master_core.specs.Data.{MasterData, durable_of}
 use Rattle.master.specs.Sound.{IsSound}
 use Rattle.script.specs.declared.answer.Answer.{Answer}
 use Rattle.script.specs.declared.node.Node.{Node}

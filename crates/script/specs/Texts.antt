@@ -10,7 +10,7 @@ use Rattle.replay.specs.declared.rebuilt.Rebuilt.{Rebuilt}
 use Rattle.replay.specs.Texts.{replay_fault_text}
 use Rattle.versioned_map.specs.declared.command.Reply.{Reply}
 use Rattle.versioned_map.specs.declared.command.Reply.TheVariants as reply
-use Rattle.master.specs.Names.{refusal_name}
+use Rattle.master_core.specs.Names.{refusal_name}
 use Rattle.script.specs.declared.answer.Answer.{Answer}
 use Rattle.script.specs.declared.answer.Answer.TheVariants as answer
 use Rattle.script.specs.declared.fault.ScriptFault.{ScriptFault}

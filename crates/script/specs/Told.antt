@@ -12,14 +12,14 @@ use Rattle.versioned_map.specs.declared.command.Command.TheVariants as command
 use Rattle.versioned_map.specs.declared.command.If.TheVariants.{Any}
 use Rattle.versioned_map.specs.declared.command.Record.{Record}
 use Rattle.versioned_map.specs.declared.command.Reply.{Reply}
-use Rattle.master.specs.declared.config.Config.{Config}
-use Rattle.master.specs.declared.step.Refusal.{Refusal}
-use Rattle.master.specs.declared.step.Refusal.TheVariants as refusal
-use Rattle.master.specs.Causes.{command_refusal}
+use Rattle.master_core.specs.declared.config.Config.{Config}
+use Rattle.master_core.specs.declared.step.Refusal.{Refusal}
+use Rattle.master_core.specs.declared.step.Refusal.TheVariants as refusal
+use Rattle.master_core.specs.Causes.{command_refusal}
 use Rattle.log_head.specs.Steps.{first_opening}
 use Rattle.versioned_map.specs.History.{commands_of}
-use Rattle.master.specs.Log.{IsLogged}
-use Rattle.master.specs.Master.{MasterData}
+use Rattle.master_core.specs.Log.{IsLogged}
+use Rattle.master_core.specs.Data.{MasterData}
 use Rattle.versioned_map.specs.Represents.{AreUnitsOf, joined, empty_state}
 use Rattle.versioned_map.specs.Versioned.{after}
 use Rattle.replay.specs.declared.rebuilt.Rebuilt.{Rebuilt}

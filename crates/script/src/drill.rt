@@ -2,8 +2,8 @@
 
 ghost use Rattle.std.specs.Prelude.{◌≡◌, ◌≤◌, ℕ, None, IfOk, IfErr};
 ghost use Rattle.replica.specs.Survival.{BothSurvive};
-ghost use Rattle.master.specs.Config.{config_fault};
-ghost use Rattle.master.specs.Master.{fresh_data};
+ghost use Rattle.master_core.specs.Config.{config_fault};
+ghost use Rattle.master_core.specs.Data.{fresh_data};
 ghost use Rattle.master.specs.Sound.{IsHome};
 ghost use Rattle.master.specs.Steps.{World, IsRun};
 ghost use Rattle.script.specs.Kept.{is_kept};

@@ -2,8 +2,8 @@
 
 ghost use Rattle.std.specs.Prelude.{◌≡◌, ◌<◌, [], true, false, Some, IfOk, IfErr};
 ghost use Rattle.lines.specs.Grammar.{LineValue};
-ghost use Rattle.master.specs.declared.config.Config.{Config};
-ghost use Rattle.master.specs.Master.{MasterData, durable_of};
+ghost use Rattle.master_core.specs.declared.config.Config.{Config};
+ghost use Rattle.master_core.specs.Data.{MasterData, durable_of};
 ghost use Rattle.script.specs.Served.{GoesOn, IsServed, IsUnserved, IsOf, AnswersLine, is_up};
 ghost use Rattle.script.specs.Told.{command_of, is_of_push};
 

@@ -3,7 +3,7 @@
 ghost use Rattle.std.specs.Prelude.{◌≡◌, ℕ, Bool, IfOk, IfErr, Some};
 ghost use Rattle.replica.specs.Picture.{Picture, survivors};
 ghost use Rattle.replica.specs.Survival.{BothSurvive};
-ghost use Rattle.master.specs.Master.{MasterData};
+ghost use Rattle.master_core.specs.Data.{MasterData};
 ghost use Rattle.master.specs.Sound.{IsHome, IsSound};
 ghost use Rattle.script.specs.Recovered.{Shows, IsRecovered, IsLossOrMemory, IsWant, IsRebuiltFrom, IsRefusedFrom};
 ghost use Rattle.script.specs.Texts.{recovery_fault_text};

@@ -1,8 +1,8 @@
 //! Runs a script, line by line.
 
 ghost use Rattle.std.specs.Prelude.{◌≡◌, None};
-ghost use Rattle.master.specs.Config.{config_fault};
-ghost use Rattle.master.specs.declared.config.Config.{Config};
+ghost use Rattle.master_core.specs.Config.{config_fault};
+ghost use Rattle.master_core.specs.declared.config.Config.{Config};
 ghost use Rattle.lines.specs.Reading.{IsLineText};
 ghost use Rattle.script.specs.Configuration.{config_of};
 ghost use Rattle.script.specs.Runs.{RunsScript};

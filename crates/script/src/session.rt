@@ -2,8 +2,8 @@
 
 ghost use Rattle.std.specs.Prelude.{◌≡◌, ◌≤◌, length, None, IfOk, IfErr};
 ghost use Rattle.lines.specs.Grammar.{IsKey, IsLine, shown};
-ghost use Rattle.master.specs.Config.{config_fault};
-ghost use Rattle.master.specs.declared.config.Config.{Config};
+ghost use Rattle.master_core.specs.Config.{config_fault};
+ghost use Rattle.master_core.specs.declared.config.Config.{Config};
 ghost use Rattle.script.specs.Configuration.{config_of};
 ghost use Rattle.script.specs.declared.session.LineFault.TheVariants as line_fault;
 ghost use Rattle.script.specs.Runs.{IsOfFleet};

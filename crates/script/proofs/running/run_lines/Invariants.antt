@@ -1,4 +1,4 @@
-use Rattle.master.specs.declared.config.Config.{Config}
+use Rattle.master_core.specs.declared.config.Config.{Config}
 use Rattle.script.specs.Served.{Begins}
 use Rattle.script.proofs.Turning.{Running}
 use Rattle.script.proofs.running.run_lines.Given as goal

@@ -1,11 +1,11 @@
 use Rattle.std.proofs.Common.{◌≡◌, ◌++◌, ◌∷◌, [], None, length, rules, refl, sym, ap, subst, ◌∙◌}
 use Rattle.replica.specs.Picture.{FleetState}
-use Rattle.master.specs.declared.step.StepAnswer.TheVariants.{Applied}
-use Rattle.master.specs.Causes.{command_refusal}
-use Rattle.master.specs.Change.{safe_of_change}
+use Rattle.master_core.specs.declared.step.StepAnswer.TheVariants.{Applied}
+use Rattle.master_core.specs.Causes.{command_refusal}
+use Rattle.master_core.specs.Change.{safe_of_change}
 use Rattle.master.specs.Invariant.{IsKept}
-use Rattle.master.specs.Log.{state_of}
-use Rattle.master.specs.Master.{MasterData}
+use Rattle.master_core.specs.Log.{state_of}
+use Rattle.master_core.specs.Data.{MasterData}
 use Rattle.master.specs.Steps.{AppliesTo}
 use Rattle.versioned_map.specs.Versioned.{reply_to}
 use Rattle.master.proofs.Kept.{IsJudged, applied, reply_is, fits, command_kept, command_applies}

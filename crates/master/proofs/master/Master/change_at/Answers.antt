@@ -1,7 +1,7 @@
 use Rattle.std.proofs.Common.{◌≡◌, Option, sym, ◌∙◌, ap, refl}
 use Rattle.entry.specs.Meaning.{Versioned, contents_of}
 use Rattle.versioned_map.specs.Command.{command_key}
-use Rattle.master.specs.Change.{version_in, shown_versioned}
+use Rattle.master_core.specs.Change.{version_in, shown_versioned}
 use Rattle.master.proofs.master.Master.change_at.Goals.{in-None, in-Some}
 use Rattle.master.proofs.master.Master.change_at.Goals as goal
 

@@ -4,7 +4,7 @@ use Rattle.std.specs.Option.{option_map, option_map_or}
 use Rattle.log_head.specs.declared.head.UnitEnd.{UnitEnd}
 use Rattle.master.specs.Durable.{IsDurable}
 use Rattle.log_head.specs.Head.{everywhere}
-use Rattle.master.specs.Master.{MasterData, durable_of}
+use Rattle.master_core.specs.Data.{MasterData, durable_of}
 use Rattle.master.proofs.Durables.{durable_is}
 use Rattle.master.proofs.master.Master.durable.Goals as goal
 

@@ -6,8 +6,8 @@ use Rattle.replica.specs.Picture.{FleetState}
 use Rattle.replica.specs.Take.{Refuses, taken}
 use Rattle.replica.specs.declared.op.TakeFault.{TakeFault}
 use Rattle.log_head.specs.Head.{IsLagging}
-use Rattle.master.specs.Master.{MasterData}
-use Rattle.master.specs.declared.step.Step.TheVariants.{Push}
+use Rattle.master_core.specs.Data.{MasterData}
+use Rattle.master_core.specs.declared.step.Step.TheVariants.{Push}
 use Rattle.master.specs.Steps.{world, home, Declines, extend_op}
 use Rattle.master.proofs.Pushes.{with_halt, extend_kept, extend_right, extend_failed_kept, extend_declines}
 use Rattle.master.proofs.master.Master.extend.Goals as goal

@@ -1,7 +1,7 @@
 use Rattle.std.proofs.Common.{refl, sym, subst}
 use Rattle.replica.specs.Picture.{FleetState}
 use Rattle.master.specs.Invariant.{IsKept}
-use Rattle.master.specs.Master.{MasterData}
+use Rattle.master_core.specs.Data.{MasterData}
 use Rattle.master.proofs.Pushes.{limited_kept}
 use Rattle.master.proofs.master.Master.limit.Goals as goal
 

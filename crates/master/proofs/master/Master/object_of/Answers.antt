@@ -3,8 +3,8 @@ use Rattle.entry.specs.declared.entry.Object.{Object}
 use Rattle.entry.specs.declared.view.ObjectRef.{ObjectRef}
 use Rattle.entry.specs.View.{shown_object}
 use Rattle.entry.specs.Meaning.{versioned}
-use Rattle.master.specs.Change.{shown_versioned}
-use Rattle.master.proofs.Places.{contents_of-no_slot, found-at}
+use Rattle.master_core.specs.Change.{shown_versioned}
+use Rattle.master_core.proofs.Places.{contents_of-no_slot, found-at}
 use Rattle.master.proofs.master.Master.object_of.Goals as goal
 
 shows : (r : Option ObjectRef) (o : Object) → IsSomeAnd r (λ found. shown_object found ≡ o) → shown_versioned r ≡ Some (versioned o)

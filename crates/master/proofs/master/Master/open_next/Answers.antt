@@ -4,8 +4,8 @@ use Rattle.replica.specs.Op.{OpValue, Open}
 use Rattle.replica.specs.Picture.{FleetState}
 use Rattle.replica.specs.Take.{Refuses, taken}
 use Rattle.replica.specs.declared.op.TakeFault.{TakeFault}
-use Rattle.master.specs.Master.{MasterData}
-use Rattle.master.specs.declared.step.Step.TheVariants.{Push}
+use Rattle.master_core.specs.Data.{MasterData}
+use Rattle.master_core.specs.declared.step.Step.TheVariants.{Push}
 use Rattle.master.specs.Steps.{world, home, Declines, open_op}
 use Rattle.master.proofs.Pushes.{with_halt, open_kept, open_right, open_failed_kept, open_declines}
 use Rattle.master.proofs.master.Master.open_next.Goals as goal

@@ -1,6 +1,6 @@
 use Rattle.std.proofs.Common.{refl, inl, sym, ◌∙◌}
-use Rattle.master.specs.Master.{MasterData}
-use Rattle.master.proofs.Refusals.{push_done}
+use Rattle.master_core.specs.Data.{MasterData}
+use Rattle.master_core.proofs.Refusals.{push_done}
 use Rattle.master.proofs.master.Master.push.Goals as goal
 
 pub returns-in-None-clause-refused : goal.returns-in-None-clause-refused

@@ -1,7 +1,7 @@
 use Rattle.std.proofs.Common.{◌≤◌, length}
 use Rattle.entry.specs.Text.{text_of, IsSegment}
 use Rattle.replica.specs.Picture.{FleetState}
-use Rattle.master.specs.Master.{MasterData}
+use Rattle.master_core.specs.Data.{MasterData}
 use Rattle.master.proofs.Coverings.{is_covered}
 use Rattle.master.proofs.Sounding.{mirrored_is_sound}
 use Rattle.master.proofs.master.Master.show_sound.Goals as goal

@@ -1,9 +1,9 @@
 use Rattle.std.proofs.Common.{IfOk, IfErr, Ok, Err}
 use Rattle.std.specs.Prelude.{Result}
-use Rattle.master.specs.declared.step.Refusal.{Refusal}
-use Rattle.master.specs.declared.step.Step.{Step}
-use Rattle.master.specs.declared.step.Step.TheVariants.{Apply, Push}
-use Rattle.master.specs.declared.step.StepAnswer.{StepAnswer}
+use Rattle.master_core.specs.declared.step.Refusal.{Refusal}
+use Rattle.master_core.specs.declared.step.Step.{Step}
+use Rattle.master_core.specs.declared.step.Step.TheVariants.{Apply, Push}
+use Rattle.master_core.specs.declared.step.StepAnswer.{StepAnswer}
 use Rattle.master.specs.Steps.{World, world, Accepts, Declines, Steps}
 use Rattle.master.proofs.Keeping.{steps_keep}
 use Rattle.master.proofs.master.Master.step.Goals.{in-Apply, in-Push}

@@ -1,5 +1,5 @@
 use Rattle.std.proofs.Common.{◌≡◌, subst, sym, ◌∙◌}
-use Rattle.master.specs.Master.{MasterData}
+use Rattle.master_core.specs.Data.{MasterData}
 use Rattle.script.specs.declared.node.Node.{Node}
 use Rattle.script.specs.declared.node.Node.TheVariants.{Up, Down}
 use Rattle.script.specs.Served.{IsOf}

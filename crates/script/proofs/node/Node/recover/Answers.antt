@@ -1,7 +1,7 @@
 use Rattle.std.proofs.Common.{ap, refl, subst, ◌∙◌}
 use Rattle.backup.specs.State.{state_of}
 use Rattle.lines.specs.Grammar.{Recover}
-use Rattle.master.specs.declared.config.Config.{Config}
+use Rattle.master_core.specs.declared.config.Config.{Config}
 use Rattle.script.specs.declared.answer.Answer.TheVariants as answer
 use Rattle.script.specs.declared.node.Node.{Node}
 use Rattle.script.specs.declared.node.Node.TheVariants.{Down}

@@ -1,5 +1,5 @@
 use Rattle.std.proofs.Common.{◌≡◌, ap, refl, subst}
-use Rattle.master.specs.Master.{MasterData}
+use Rattle.master_core.specs.Data.{MasterData}
 use Rattle.master.specs.Steps.{World}
 use Rattle.script.specs.declared.node.Node.{Node}
 use Rattle.script.specs.declared.node.Node.TheVariants.{Up}

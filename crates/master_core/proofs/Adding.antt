@@ -1,0 +1,194 @@
+-- A command that no test refuses is added to a core.
+use Rattle.std.proofs.Common.{◌≡◌, ◌⊎◌, ℕ, suc, ◌+◌, ◌≤◌, inl, inr, false, List, [], ◌∷◌, ◌++◌, length, refl, sym, ap, subst, ◌∙◌, arith}
+use Rattle.std.specs.Prelude.{Option, None}
+use Rattle.std.proofs.lemmas.List.{append-nil, length-append, map-append}
+use Rattle.entry.specs.declared.entry.Object.{Object}
+use Rattle.entry.specs.declared.entry.Entry.{Entry}
+use Rattle.entry.specs.declared.entry.Entry.TheVariants as entry
+use Rattle.entry.specs.Text.{text_of, IsSegment}
+use Rattle.entry.specs.Meaning.{Contents, contents_of}
+use Rattle.segment.proofs.RowLemmas.{text_of-append}
+use Rattle.versioned_map.specs.declared.command.Command.{Command}
+use Rattle.versioned_map.specs.declared.command.Record.{Record}
+use Rattle.versioned_map.specs.declared.command.Reply.{Reply}
+use Rattle.versioned_map.specs.Command.{command_key}
+use Rattle.versioned_map.specs.History.{commands_of, replies_of, IsLegal}
+use Rattle.versioned_map.specs.Units.{safe_given}
+use Rattle.versioned_map.specs.Versioned.{State, with_contents, replies, after, after_command}
+use Rattle.versioned_map.proofs.Units.{states_pushed}
+use Rattle.log_head.specs.Head.{HeadValue, IsHead}
+use Rattle.log_head.specs.Log.{head_of, IsImageOf}
+use Rattle.log_head.proofs.HeadLog.{head_is, image_with_unit}
+use Rattle.log_model.specs.Data.{Head, Ready, LogData, head_entries}
+use Rattle.log_model.specs.Steps.{with_unit, applied, Fits, MayApply}
+use Rattle.master_core.specs.declared.change.Change.{Change}
+use Rattle.master_core.specs.declared.step.StepAnswer.TheVariants.{Applied}
+use Rattle.master_core.specs.Causes.{command_refusal, dead_segment, unit_now}
+use Rattle.master_core.specs.Change.{unit_of_change, is_empty, safe_of_change, appended, IsChangeOf}
+use Rattle.master_core.specs.Data.{MasterData}
+use Rattle.master_core.specs.Index.{AreAt, placed}
+use Rattle.master_core.specs.Invariant.{IsIndex, IsCore, IsJudged}
+use Rattle.master_core.specs.Log.{log_config, opening_of, log_of, state_now}
+use Rattle.master_core.specs.Steps.{reply_now, record_now, Applies}
+use Rattle.master_core.proofs.Finding.{unit_here}
+use Rattle.master_core.proofs.Indexed.{given, command_at, Indexes, goes_on}
+use Rattle.master_core.proofs.Refusals.{IsAdmitted, is_admitted, passed_early, unit_fits}
+
+-- ---- the head with a unit, where there is one
+
+pub same_appended : (h : HeadValue) (n : ℕ) (u : List Entry) → ((appended h n u).id ≡ h.id) × ((appended h n u).replicas ≡ h.replicas)
+same_appended h n [] = (refl, refl)
+same_appended h n (e ∷ es) = (refl, refl)
+
+image_appended : (h : HeadValue) (n : ℕ) (u : List Entry) → (appended h n u).image ≡ h.image ++ u
+image_appended h n [] = sym (append-nil h.image)
+image_appended h n (e ∷ es) = refl
+
+-- the head of the log has that unit, too
+head_appended : (master : ℕ) (h : HeadValue) (n : ℕ) (u : List Entry) → IsImageOf master h (head_of h) → IsHead (appended h n u)
+    → (head_of (appended h n u) ≡ record (head_of h) { units = with_unit (head_of h).units n u }) × IsImageOf master (appended h n u) (head_of (appended h n u))
+head_appended master h n [] is head = (refl, is)
+head_appended master h n (e ∷ es) is head =
+    let more = image_with_unit master h (head_of h) is n (e ∷ es) in
+    let same = head_is master (appended h n (e ∷ es)) (record (head_of h) { units = with_unit (head_of h).units n (e ∷ es) }) more head.segment in
+    (same, subst (λ (l : Head). IsImageOf master (appended h n (e ∷ es)) l) (sym same) more)
+
+-- it fits
+fits_then : (d : MasterData) (n : ℕ) (u : List Entry) → IsCore d → IsHead (appended d.head n u) → (u ≡ []) ⊎ Fits (log_of d) u
+fits_then d n [] core head = inl refl
+fits_then d n (e ∷ es) core head = inr (record {
+  ready = refl;
+  segment = subst (λ (image : List Entry). IsSegment (image ++ (e ∷ es))) core.image.image head.segment;
+  limit = subst (λ (image : List Entry). length (text_of (image ++ (e ∷ es))) ≤ 8388608) core.image.image head.limit;
+})
+
+-- where a change puts its object, if it makes one
+abbrev pub IsPlaced : MasterData → Command → Change → ℕ → Type 0
+IsPlaced d command change at =
+    (segment : ℕ) (front : List Entry) (o : Object) → unit_of_change segment command change ≡ front ++ entry.Object o ∷ []
+    → at ≡ length (text_of d.head.image) + length (text_of front)
+
+module _ (d : MasterData) (core : IsCore d) (command : Command) (change : Change) (slot : Option ℕ) (judged : IsJudged d command change slot) where
+  unit_is : unit_of_change d.head.id command change ≡ unit_now d command
+  unit_is = judged.change_of.unit d.head.id ∙ unit_here d command core
+
+  -- a unit that is appended is within the segment
+  pub fits : command_refusal d command ≡ None → is_empty (unit_of_change d.head.id command change) ≡ false
+      → length (text_of d.head.image) + length (text_of (unit_of_change d.head.id command change)) ≤ d.config.segment
+  fits passed some =
+      subst (λ (u : List Entry). length (text_of d.head.image) + length (text_of u) ≤ d.config.segment) (sym unit_is)
+      (unit_fits d command passed (ap is_empty (sym unit_is) ∙ some))
+
+  module _ (seat at : ℕ) (passed : command_refusal d command ≡ None) (is_placed : IsPlaced d command change at)
+      (head : IsHead (appended d.head (length d.history) (unit_of_change d.head.id command change))) where
+    abbrev unit : List Entry
+    unit = unit_of_change d.head.id command change
+
+    abbrev os : List Object
+    os = core.index.0
+
+    index : IsIndex d os
+    index = core.index.1
+
+    abbrev pub added : MasterData
+    added = record {
+      config = d.config;
+      head = appended d.head (length d.history) (unit_of_change d.head.id command change);
+      places = placed d.places change slot at;
+      safe = safe_of_change d.safe change;
+      history = d.history ++ record_now d seat command ∷ [];
+      is_halted = d.is_halted;
+    }
+
+    admitted : IsAdmitted d command
+    admitted = is_admitted d command (passed_early d command passed)
+
+    -- ---- the log
+
+    head_then : head_of added.head ≡ record (head_of d.head) { units = with_unit (head_of d.head).units (length d.history) (unit_now d command) }
+    head_then =
+        (head_appended d.config.master d.head (length d.history) unit core.image head).0
+        ∙ ap (λ (u : List Entry). record (head_of d.head) { units = with_unit (head_of d.head).units (length d.history) u }) unit_is
+
+    log_then : log_of added ≡ applied (log_of d) (dead_segment d command) (record_now d seat command)
+    log_then = λ i. record {
+      config = log_config d.config;
+      opening = opening_of d;
+      history = d.history ++ record_now d seat command ∷ [];
+      head = head_then i;
+      phase = Ready;
+      next = suc ((same_appended d.head (length d.history) unit).0 i);
+    }
+
+    pub may : MayApply (log_of d) (dead_segment d command) (record_now d seat command)
+    may = record {
+      key = admitted.key;
+      fits = subst (λ (u : List Entry). (u ≡ []) ⊎ Fits (log_of d) u) unit_is (fits_then d (length d.history) unit core head);
+    }
+
+    -- ---- the history
+
+    commands_then : commands_of added.history ≡ commands_of d.history ++ command ∷ []
+    commands_then = map-append (λ (r : Record). r.command) d.history (record_now d seat command ∷ [])
+
+    state_then : state_now added ≡ after_command (state_now d) command
+    state_then = ap (after (opening_of d)) commands_then ∙ (states_pushed (opening_of d) (commands_of d.history) command).0
+
+    legal_then : IsLegal (opening_of d) added.history
+    legal_then =
+        map-append (λ (r : Record). r.reply) d.history (record_now d seat command ∷ [])
+        ∙ ap (λ (rs : List Reply). rs ++ reply_now d command ∷ []) core.legal
+        ∙ sym ((states_pushed (opening_of d) (commands_of d.history) command).1) ∙ ap (replies (opening_of d)) (sym commands_then)
+
+    -- ---- the index
+
+    at_objects : IsChangeOf d.safe (contents_of os (command_key command)) command change
+    at_objects =
+        subst (λ (s : ℕ). IsChangeOf s (contents_of os (command_key command)) command change) (sym index.safe)
+        (subst (λ (contents : Contents). IsChangeOf (state_now d).safe (contents (command_key command)) command change) (sym index.contents) judged.change_of)
+
+    index_on : Indexes (d.head.image ++ unit) (placed d.places change slot at)
+        (with_contents (contents_of os) (command_key command) (given d.safe (contents_of os (command_key command)) command))
+    index_on =
+        goes_on d.head.image d.head.id at d.places os d.safe index.places index.distinct command change slot (judged.slot_of os index.places) at_objects
+        (λ front o is. is_placed d.head.id front o is
+        ∙ sym (ap length (text_of-append d.head.image front) ∙ length-append (text_of d.head.image) (text_of front)))
+
+    -- what the index and the versioned map say of the key is one
+    given_is : (s : ℕ) (contents : Contents) → d.safe ≡ s → contents_of os ≡ contents
+        → given d.safe (contents_of os (command_key command)) command ≡ given s (contents (command_key command)) command
+    given_is s contents a b = λ i. given (a i) (b i (command_key command)) command
+
+    index_then : (o : List Object) × IsIndex added o
+    index_then =
+        let at_command = command_at (state_now d) command in (
+          index_on.os,
+          record {
+            places = subst (λ (image : List Entry). AreAt image (placed d.places change slot at) index_on.os)
+                (sym (image_appended d.head (length d.history) unit)) index_on.at;
+            distinct = index_on.distinct;
+            contents =
+                index_on.same
+                ∙ (λ i. with_contents (index.contents i) (command_key command) (given_is (state_now d).safe (state_now d).contents index.safe index.contents i))
+                ∙ ap (λ (s : State). s.contents) (sym (state_then ∙ at_command));
+            safe = at_objects.safe_after
+                ∙ (λ i. safe_given (index.safe i) (index.contents i (command_key command)) command)
+                ∙ ap (λ (s : State). s.safe) (sym (state_then ∙ at_command));
+          },
+        )
+
+    -- ---- the core
+
+    pub added_core : IsCore added
+    added_core = record {
+      config = core.config;
+      replicas = (same_appended d.head (length d.history) unit).1 ∙ core.replicas;
+      history = (let room = admitted.room in let count = length-append d.history (record_now d seat command ∷ []) in omega arith);
+      head = head;
+      image = (head_appended d.config.master d.head (length d.history) unit core.image head).1;
+      legal = legal_then;
+      index = index_then;
+    }
+
+    pub added_applies : Applies d seat command (Applied (length d.history) (reply_now d command)) added
+    added_applies = record { passed = passed; told = refl; config = refl; running = admitted.running; log = log_then }

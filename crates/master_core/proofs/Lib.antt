@@ -1,0 +1,10 @@
+pub mod Changes
+pub mod Places
+pub mod Indexing
+pub mod Indexed
+pub mod Refusals
+pub mod Homes
+pub mod Finding
+pub mod Counted
+pub mod Beginning
+pub mod Adding

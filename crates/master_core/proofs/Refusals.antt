@@ -1,0 +1,142 @@
+-- Which test refuses a step.
+use Rattle.std.proofs.Common.{◌≡◌, ℕ, ◌+◌, ◌<◌, ◌≤◌, Bool, true, false, cond, List, length, refl, arith}
+use Rattle.std.specs.Prelude.{Option, Some, None, not, nat_le, ◌==◌, ◌&&◌, is_none}
+use Rattle.std.proofs.lemmas.Bool.{and_parts, leb-true, leb-false}
+use Rattle.std.proofs.lemmas.Bool.Decides.{nat_tests}
+use Rattle.entry.specs.declared.entry.Entry.{Entry}
+use Rattle.entry.specs.Tablet.{have_key}
+use Rattle.entry.specs.Text.{text_of}
+use Rattle.versioned_map.specs.declared.command.Command.{Command}
+use Rattle.master_core.specs.declared.config.Config.{Config}
+use Rattle.master_core.specs.declared.step.Refusal.{Refusal}
+use Rattle.master_core.specs.declared.step.Refusal.TheVariants.{Halted, TooBig, NoTablet, HistoryFull, VersionsSpent, Full, Rolling, Nothing}
+use Rattle.master_core.specs.Causes.{early_refusal, late_refusal, command_refusal, unit_refusal, has_room, is_open, unit_now, push_refusal}
+use Rattle.versioned_map.specs.Versioned.{is_spent}
+use Rattle.master_core.specs.Change.{is_too_big, is_empty}
+use Rattle.versioned_map.specs.Command.{command_key}
+use Rattle.master_core.specs.Config.{config_fault, has_backups}
+use Rattle.log_head.specs.Head.{HeadValue, IsLagging}
+use Rattle.log_model.specs.Data.{fewest}
+use Rattle.master_core.specs.Log.{state_now}
+use Rattle.master_core.specs.Data.{MasterData}
+use Rattle.log_head.proofs.Heads.{fewest_all, fewest_at}
+
+-- ---- rows of tests
+
+passes : {R : Type 0} (b : Bool) (r : R) (rest : Option R) → cond b (Some r) rest ≡ None → (b ≡ false) × (rest ≡ None)
+passes true r rest e = absurd (cc)
+passes false r rest e = (refl, e)
+
+not_not : (b : Bool) → not b ≡ false → b ≡ true
+not_not true e = refl
+not_not false e = absurd (cc)
+
+-- ---- a configuration
+
+pub record HasHomes (c : Config) : Type 0 where
+  pub some : 0 < c.replicas
+  pub many : c.replicas ≤ c.backups
+  pub few : c.backups ≤ 64
+
+pub has_homes : (c : Config) → config_fault c ≡ None → HasHomes c
+has_homes c ok =
+    let all = and_parts _ _ (not_not (has_backups c) (passes (not (has_backups c)) _ _ ok).0) in
+    let front = and_parts _ _ all.0 in
+    let one = leb-true 1 c.replicas front.0 in
+    record { some = omega arith; many = leb-true c.replicas c.backups front.1; few = leb-true c.backups 64 all.1 }
+
+-- ---- a command
+
+-- what holds where no test refuses a command before its key is looked up
+pub record IsAdmitted (d : MasterData) (command : Command) : Type 0 where
+  pub running : d.is_halted ≡ false
+  pub key : have_key d.config.tablets (command_key command) ≡ true
+  pub room : length d.history < d.config.history
+
+pub is_admitted : (d : MasterData) (command : Command) → early_refusal d command ≡ None → IsAdmitted d command
+is_admitted d command e =
+    let a = passes d.is_halted Halted _ e in
+    let b = passes (is_too_big command d.config.segment) TooBig _ a.1 in
+    let t = passes (not (have_key d.config.tablets (command_key command))) NoTablet _ b.1 in
+    let h = passes (nat_le d.config.history (length d.history)) HistoryFull None t.1 in
+    record { running = a.0; key = not_not _ t.0; room = leb-false d.config.history (length d.history) h.0 }
+
+early_first : (d : MasterData) (command : Command) (o late : Option Refusal) → cond (is_none o) late o ≡ None → (o ≡ None) × (late ≡ None)
+early_first d command None late e = (refl, e)
+early_first d command (Some r) late e = absurd (cc)
+
+pub passed_early : (d : MasterData) (command : Command) → command_refusal d command ≡ None → early_refusal d command ≡ None
+passed_early d command e = (early_first d command (early_refusal d command) (late_refusal d command) e).0
+
+module _ (d : MasterData) (command : Command) where
+  abbrev spent : Bool
+  spent = is_spent (state_now d).safe ((state_now d).contents (command_key command)) command
+
+  abbrev own_unit : List Entry
+  own_unit = unit_now d command
+
+  pub refused_early : (r : Refusal) → early_refusal d command ≡ Some r → command_refusal d command ≡ Some r
+  refused_early r e = rw e refl
+
+  pub refused_spent : early_refusal d command ≡ None → spent ≡ true → command_refusal d command ≡ Some VersionsSpent
+  refused_spent e s = rw (e, s) refl
+
+  pub refused_late : (o : Option Refusal) → early_refusal d command ≡ None → spent ≡ false → unit_refusal d own_unit ≡ o
+      → command_refusal d command ≡ o
+  refused_late o e s u = rw (e, s, u) refl
+
+-- a unit that is appended is within the segment
+has_room_then : (d : MasterData) (u : List Entry) → is_empty u ≡ false → unit_refusal d u ≡ None → has_room d u ≡ true
+has_room_then d u some e =
+    let rest : cond (is_open d.head && (not (has_room d u) && not false)) (Some Full) (cond (not (is_open d.head && has_room d u)) (Some Rolling) None) ≡ None =
+    rw some at e in
+    let a = passes (is_open d.head && (not (has_room d u) && not false)) Full _ rest in
+    (and_parts _ _ (not_not (is_open d.head && has_room d u) (passes (not (is_open d.head && has_room d u)) Rolling None a.1).0)).1
+
+pub unit_fits : (d : MasterData) (command : Command) → command_refusal d command ≡ None → is_empty (unit_now d command) ≡ false
+    → length (text_of d.head.image) + length (text_of (unit_now d command)) ≤ d.config.segment
+unit_fits d command passed some =
+    let late = (early_first d command (early_refusal d command) (late_refusal d command) passed).1 in
+    let unit = (passes (is_spent (state_now d).safe ((state_now d).contents (command_key command)) command) VersionsSpent _ late).1 in
+    let room = has_room_then d (unit_now d command) some unit in
+    leb-true (length (text_of d.head.image) + length (text_of (unit_now d command))) d.config.segment room
+
+-- what a head that is open and what one that isn't, with room or without, make of a unit
+pub refused_closed : (d : MasterData) (u : List Entry) → is_empty u ≡ false → is_open d.head ≡ false → unit_refusal d u ≡ Some Rolling
+refused_closed d u some closed = rw (some, closed) refl
+
+pub refused_full : (d : MasterData) (u : List Entry) → is_empty u ≡ false → is_open d.head ≡ true → has_room d u ≡ false → unit_refusal d u ≡ Some Full
+refused_full d u some opened full = rw (some, opened, full) refl
+
+pub refused_not : (d : MasterData) (u : List Entry) → is_empty u ≡ false → is_open d.head ≡ true → has_room d u ≡ true → unit_refusal d u ≡ None
+refused_not d u some opened room = rw (some, opened, room) refl
+
+-- ---- a push
+
+is_open-false : (h : HeadValue) → length h.taken < h.replicas → is_open h ≡ false
+is_open-false h lt = grind (arith, nat_tests)
+
+pub push_waits : (d : MasterData) → d.is_halted ≡ false → length d.head.taken < d.head.replicas → push_refusal d ≡ None
+push_waits d running lt = let closed = is_open-false d.head lt in rw (running, closed) refl
+
+pub push_lags : (d : MasterData) (j : ℕ) → d.is_halted ≡ false → IsLagging (length d.head.units) d.head.taken (Some j) → push_refusal d ≡ None
+push_lags d j running lagging =
+    let some = lagging.2 in
+    let few : fewest (length d.head.units) d.head.taken ≡ lagging.0 =
+    fewest_at (length d.head.units) lagging.0 j d.head.taken lagging.1 lagging.2 lagging.3 in
+    let less : (fewest (length d.head.units) d.head.taken == length d.head.units) ≡ false = grind (arith, nat_tests) in
+    rw (running, less, and_false (is_open d.head)) refl
+  where
+    and_false : (b : Bool) → (b && false) ≡ false
+    and_false true = refl
+    and_false false = refl
+
+pub push_done : (d : MasterData) → d.is_halted ≡ false → is_open d.head ≡ true → IsLagging (length d.head.units) d.head.taken None
+    → push_refusal d ≡ Some Nothing
+push_done d running opened all =
+    let few : fewest (length d.head.units) d.head.taken ≡ length d.head.units = fewest_all (length d.head.units) d.head.taken all in
+    let same : (fewest (length d.head.units) d.head.taken == length d.head.units) ≡ true = grind (arith, nat_tests) in
+    rw (running, opened, same) refl
+
+pub push_halted : (d : MasterData) → d.is_halted ≡ true → push_refusal d ≡ Some Halted
+push_halted d halted = rw halted refl

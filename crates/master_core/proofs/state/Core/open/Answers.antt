@@ -1,0 +1,32 @@
+use Rattle.std.proofs.Common.{sym, subst}
+use Rattle.log_head.specs.Head.{HeadValue, IsHead}
+use Rattle.master_core.specs.Data.{MasterData}
+use Rattle.master_core.specs.Invariant.{IsCore}
+use Rattle.master_core.proofs.Beginning.{counted_core}
+use Rattle.master_core.proofs.state.Core.open.Goals as goal
+
+pub invariant_of-self : goal.invariant_of-self
+invariant_of-self c =
+    let d : MasterData = record {
+      config = c.self.inside.config;
+      head = c.self.inside.head;
+      places = c.self.inside.places.items;
+      safe = c.self.inside.safe;
+      history = c.self.inside.history.items;
+      is_halted = c.self.inside.is_halted;
+    } in
+    subst (λ (h : HeadValue). IsCore (record d { head = h })) (sym c.open.ensures.opened)
+    (counted_core d _ c.self.invariant (subst (λ (h : HeadValue). IsHead h) c.open.ensures.opened c.open.ensures.valid))
+
+pub returns-clause-valid : goal.returns-clause-valid
+returns-clause-valid c =
+    let d : MasterData = record {
+      config = c.self.inside.config;
+      head = c.self.inside.head;
+      places = c.self.inside.places.items;
+      safe = c.self.inside.safe;
+      history = c.self.inside.history.items;
+      is_halted = c.self.inside.is_halted;
+    } in
+    subst (λ (h : HeadValue). IsCore (record d { head = h })) (sym c.open.ensures.opened)
+    (counted_core d _ c.self.invariant (subst (λ (h : HeadValue). IsHead h) c.open.ensures.opened c.open.ensures.valid))

@@ -1,0 +1,71 @@
+-- Changes: what they append to the head, and which one a command makes.
+use Rattle.std.specs.Prelude.{◌≡◌, ℕ, ◌+◌, ◌*◌, ◌/◌, ◌^◌, ◌&&◌, max, List, [], ◌∷◌, length, Bool, true, false, nat_lt, Option}
+use Rattle.std.specs.Borrow.{Bor}
+use Rattle.std.specs.Option.{option_map, option_copied}
+use Rattle.entry.specs.declared.entry.Entry.{Entry}
+use Rattle.entry.specs.Meaning.{Versioned, versioned}
+use Rattle.entry.specs.declared.view.ObjectRef.{ObjectRef}
+use Rattle.entry.specs.View.{shown_object}
+use Rattle.master_core.specs.declared.change.Change.{Change}
+use Rattle.master_core.specs.declared.change.Change.TheVariants as change
+use Rattle.versioned_map.specs.declared.command.Command.{Command}
+use Rattle.versioned_map.specs.declared.command.Command.TheVariants.{Get, Put, Delete}
+use Rattle.log_head.specs.Head.{HeadValue}
+use Rattle.log_head.specs.Steps.{with_unit}
+use Rattle.versioned_map.specs.Versioned.{is_met, put_version, is_spent}
+use Rattle.versioned_map.specs.Units.{object_entry, tombstone_entry, unit_given, safe_given}
+
+-- what a command appends whose change this is, where the dead object lies in this segment
+abbrev pub unit_of_change : ℕ → Command → Change → List Entry
+unit_of_change segment (Put k value when) (change.Create version) = object_entry k version value ∷ []
+unit_of_change segment (Put k value when) (change.Replace dead version) =
+    tombstone_entry k dead segment ∷ object_entry k version value ∷ []
+unit_of_change segment (Delete k) (change.Delete dead) = tombstone_entry k dead segment ∷ []
+unit_of_change segment _ _ = []
+
+-- the head with a record's unit, where there is one
+abbrev pub appended : HeadValue → ℕ → List Entry → HeadValue
+appended h number [] = h
+appended h number (e ∷ es) = with_unit h number (e ∷ es)
+
+-- what the safe version is after a change
+abbrev pub safe_of_change : ℕ → Change → ℕ
+safe_of_change safe change.Nothing = safe
+safe_of_change safe (change.Create version) = version + 1
+safe_of_change safe (change.Replace dead version) = safe
+safe_of_change safe (change.Delete dead) = max safe (dead + 1)
+
+-- ---- the change that a command makes
+
+abbrev pub version_in : Option Versioned → Option ℕ
+version_in x = option_map (λ (v : Versioned). v.version) x
+
+-- what a key has whose object this is
+abbrev pub shown_versioned : Option ObjectRef → Option Versioned
+shown_versioned present = option_map (λ (o : ObjectRef). versioned (shown_object o)) present
+
+abbrev pub versioned_in : Option (Bor ObjectRef) → Option Versioned
+versioned_in present = shown_versioned (option_copied present)
+
+-- the command does nothing to the map
+abbrev pub is_nothing : Change → Bool
+is_nothing change.Nothing = true
+is_nothing _ = false
+
+abbrev pub is_empty : List Entry → Bool
+is_empty [] = true
+is_empty (e ∷ es) = false
+
+-- from the safe version and what the key has, the change does what the command does
+pub record IsChangeOf (safe : ℕ) (x : Option Versioned) (command : Command) (change : Change) : Type 0 where
+  pub unit : (segment : ℕ) → unit_of_change segment command change ≡ unit_given safe segment x command
+  pub safe_after : safe_of_change safe change ≡ safe_given safe x command
+  -- it is none just where the command appends nothing
+  pub nothing : (segment : ℕ) → is_nothing change ≡ is_empty (unit_given safe segment x command)
+  pub not_spent : is_spent safe x command ≡ false
+
+-- a put whose tombstone and object are longer than a quarter of a segment of this many bytes
+abbrev pub is_too_big : Command → ℕ → Bool
+is_too_big (Get k) segment = false
+is_too_big (Put k value when) segment = nat_lt (segment / 4) (50 + 2 * length k.bytes + length value)
+is_too_big (Delete k) segment = false

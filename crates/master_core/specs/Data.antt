@@ -1,0 +1,29 @@
+-- What a master knows, its fleet apart.
+use Rattle.std.specs.Prelude.{ℕ, List, [], Bool, false}
+use Rattle.versioned_map.specs.declared.command.Record.{Record}
+use Rattle.log_model.specs.Steps.{first_start}
+use Rattle.log_head.specs.Head.{HeadValue}
+use Rattle.log_head.specs.Steps.{fresh_head}
+use Rattle.master_core.specs.declared.config.Config.{Config}
+
+pub record MasterData : Type 0 where
+  pub config : Config
+  pub head : HeadValue
+  -- where the live objects begin in the head's image
+  pub places : List ℕ
+  -- the version that the next new key gets
+  pub safe : ℕ
+  pub history : List Record
+  -- a backup failed: no step is accepted any more
+  pub is_halted : Bool
+
+-- a new master's
+abbrev pub fresh_data : Config → MasterData
+fresh_data config = record {
+  config = config;
+  head = fresh_head config.master config.replicas first_start;
+  places = [];
+  safe = 1;
+  history = [];
+  is_halted = false;
+}

@@ -1,0 +1,43 @@
+-- What holds of every master's core.
+use Rattle.std.specs.Prelude.{◌≡◌, ℕ, ◌<◌, ◌≤◌, List, length, Option, None, IfSome}
+use Rattle.entry.specs.declared.entry.Object.{Object}
+use Rattle.entry.specs.Meaning.{contents_of}
+use Rattle.versioned_map.specs.declared.command.Command.{Command}
+use Rattle.versioned_map.specs.Command.{command_key}
+use Rattle.versioned_map.specs.History.{IsLegal}
+use Rattle.log_head.specs.Head.{IsHead}
+use Rattle.log_head.specs.Log.{head_of, IsImageOf}
+use Rattle.master_core.specs.declared.change.Change.{Change}
+use Rattle.master_core.specs.Change.{IsChangeOf}
+use Rattle.master_core.specs.Config.{config_fault}
+use Rattle.master_core.specs.Data.{MasterData}
+use Rattle.master_core.specs.Index.{AreAt, AreDistinct, slot_in}
+use Rattle.master_core.specs.Log.{opening_of, state_now}
+
+-- The places are those of the objects that the versioned map has.
+pub record IsIndex (d : MasterData) (os : List Object) : Type 0 where
+  pub places : AreAt d.head.image d.places os
+  pub distinct : AreDistinct os
+  pub contents : contents_of os ≡ (state_now d).contents
+  pub safe : d.safe ≡ (state_now d).safe
+
+pub record IsCore (d : MasterData) : Type 0 where
+  pub config : config_fault d.config ≡ None
+  pub replicas : d.head.replicas ≡ d.config.replicas
+  pub history : length d.history ≤ d.config.history
+  pub head : IsHead d.head
+  pub image : IsImageOf d.config.master d.head (head_of d.head)
+  pub legal : IsLegal (opening_of d) d.history
+  pub index : (os : List Object) × IsIndex d os
+
+-- ---- what is found out of a command
+
+-- the slot is that of the command's key
+abbrev pub IsSlotOf : MasterData → Command → Option ℕ → Type 0
+IsSlotOf d command slot = (os : List Object) → AreAt d.head.image d.places os → slot ≡ slot_in os (command_key command)
+
+-- the change is the command's, and the slot that of its key
+pub record IsJudged (d : MasterData) (command : Command) (change : Change) (slot : Option ℕ) : Type 0 where
+  pub within : IfSome slot (λ (s : ℕ). s < length d.places)
+  pub slot_of : IsSlotOf d command slot
+  pub change_of : IsChangeOf (state_now d).safe ((state_now d).contents (command_key command)) command change

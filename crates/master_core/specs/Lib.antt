@@ -1,0 +1,10 @@
+pub mod Config
+pub mod Data
+pub mod Log
+pub mod Change
+pub mod Causes
+pub mod Steps
+pub mod Index
+pub mod Invariant
+pub mod Shown
+pub mod Names

@@ -1,0 +1,122 @@
+-- The log of a master, its images, and its index, in words that clauses cite.
+use Rattle.std.specs.Prelude.{◌≡◌, ℕ, zero, suc, ◌+◌, ◌*◌, ◌%◌, ◌==◌, List, [], ◌∷◌, length, take, Bool, false, Option, Some, None, unwrap_or, if◌then◌else◌}
+use Rattle.std.specs.Option.{option_map, option_map_or}
+use Rattle.entry.specs.declared.key.Key.{Key}
+use Rattle.entry.specs.declared.entry.Entry.{Entry}
+use Rattle.entry.specs.declared.entry.Entry.TheVariants as entry
+use Rattle.entry.specs.Meaning.{Versioned, object_at}
+use Rattle.entry.specs.Order.{key_eq}
+use Rattle.entry.specs.Text.{text_of, entries_in}
+use Rattle.segment.specs.Bytes.{standing_at}
+use Rattle.versioned_map.specs.Represents.{empty_state}
+use Rattle.versioned_map.specs.Versioned.{State}
+use Rattle.log_model.specs.Data.{LogConfig, Ready, LogData, state_of}
+use Rattle.clean_model.specs.Memory.{Place as EntryPlace, Memory, no_pass}
+use Rattle.log_head.specs.Log.{head_of}
+use Rattle.master_core.specs.declared.config.Config.{Config}
+use Rattle.master_core.specs.Data.{MasterData}
+
+-- ---- placement
+
+-- the backup of a replica of a segment
+abbrev pub home : Config → ℕ → ℕ → ℕ
+home c segment j = (segment * c.step + j) % c.backups
+
+-- those of so many replicas, from this one on
+abbrev pub homes_from : Config → ℕ → ℕ → ℕ → List ℕ
+homes_from c segment j zero = []
+homes_from c segment j (suc n) = home c segment j ∷ homes_from c segment (suc j) n
+
+-- ---- the log
+
+abbrev pub log_config : Config → LogConfig
+log_config c = record {
+  master = c.master;
+  replicas = c.replicas;
+  homes = λ segment. homes_from c segment 0 c.replicas;
+  tablets = c.tablets;
+}
+
+-- the state that the history begins with: a new master has no keys
+abbrev pub opening_of : MasterData → State
+opening_of d = empty_state
+
+-- the log: one head, and no roll
+abbrev pub log_of : MasterData → LogData
+log_of d = record {
+  config = log_config d.config;
+  opening = opening_of d;
+  history = d.history;
+  head = head_of d.head;
+  phase = Ready;
+  next = suc d.head.id;
+}
+
+-- the versioned map's state after the history
+abbrev pub state_now : MasterData → State
+state_now d = state_of (log_of d)
+
+-- ---- images
+
+-- the entries that memory has of a segment: only the head has an image
+abbrev pub image_of : MasterData → ℕ → Option (List Entry)
+image_of d segment = if segment == d.head.id then Some d.head.image else None
+
+abbrev pub images_of : MasterData → ℕ → List Entry
+images_of d segment = unwrap_or (image_of d segment) []
+
+-- ---- the index
+
+-- where an entry lies: the segment, and how many bytes of its image come before it
+pub record Place : Type 0 where
+  pub segment : ℕ
+  pub at : ℕ
+
+abbrev pub is_object_of : Key → Entry → Bool
+is_object_of k (entry.Header h) = false
+is_object_of k (entry.Digest ids) = false
+is_object_of k (entry.Safe version) = false
+is_object_of k (entry.Object o) = key_eq k o.key
+is_object_of k (entry.Tombstone t) = false
+
+-- an object of the key stands at this offset of the image
+abbrev pub has_object_at : List Entry → Key → ℕ → Bool
+has_object_at image k at = option_map_or (is_object_of k) (standing_at at (text_of image)) false
+
+-- the first of the offsets at which an object of the key stands
+abbrev pub first_at : List Entry → Key → List ℕ → Option ℕ
+first_at image k [] = None
+first_at image k (at ∷ places) = if has_object_at image k at then Some at else first_at image k places
+
+-- what the index finds
+abbrev pub find : MasterData → Key → Option Place
+find d k = option_map (λ (at : ℕ). record { segment = d.head.id; at = at }) (first_at d.head.image k d.places)
+
+-- a key's object is found where it stands, and nothing of a key that has none
+abbrev pub Finds : (ℕ → List Entry) → Key → Option Place → Option Versioned → Type 0
+Finds images k None None = Unit {0}
+Finds images k None (Some x) = ⊥
+Finds images k (Some p) None = ⊥
+Finds images k (Some p) (Some x) = standing_at p.at (text_of (images p.segment)) ≡ Some (object_at k x)
+
+-- The index finds just the objects of the versioned map.
+abbrev pub IsIndexed : MasterData → Type 0
+IsIndexed d = (k : Key) → Finds (images_of d) k (find d k) ((state_now d).contents k)
+
+-- ---- memory
+
+-- how many entries of an image come before an offset
+abbrev pub position_of : List Entry → ℕ → ℕ
+position_of image at = length (entries_in (take at (text_of image)))
+
+-- memory as compaction and cleaning see it: no pass is open, and nothing waits to be freed
+abbrev pub memory_of : MasterData → Memory
+memory_of d = record {
+  images = images_of d;
+  index = λ k. option_map (λ (p : Place). record { segment = p.segment; position = position_of (images_of d p.segment) p.at }) (find d k);
+  pass = no_pass;
+  rest = [];
+  sealed = λ s. 0;
+  commits = false;
+  waiting = [];
+}

@@ -1,0 +1,375 @@
+//! What a master knows, and the steps that take nothing from its fleet.
+
+ghost use Rattle.std.specs.Prelude.{List, ◌⊎◌, ◌≡◌, ◌≤◌, ◌<◌, ◌^◌, ℕ, None, Some, false, true, length, IfOk, IfErr, IfSome, OnOk, OnErr};
+ghost use Rattle.std.specs.Prelude.{Option, ◌==◌, if◌then◌else◌, slice_get};
+ghost use Rattle.std.specs.Option.{option_map};
+ghost use Rattle.std.specs.Result.{result_err};
+ghost use Rattle.entry.specs.Meaning.{versioned};
+ghost use Rattle.entry.specs.View.{shown_object, shown_key};
+ghost use Rattle.entry.specs.Text.{text_of};
+ghost use Rattle.log_head.specs.Head.{IsHead};
+ghost use Rattle.log_model.specs.Data.{durable_of};
+ghost use Rattle.log_model.specs.Steps.{MayApply};
+ghost use Rattle.versioned_map.specs.Command.{command_key};
+ghost use Rattle.master_core.specs.Causes.{early_refusal, unit_refusal, command_refusal, dead_segment, unit_now};
+ghost use Rattle.master_core.specs.Change.{IsChangeOf};
+ghost use Rattle.master_core.specs.Config.{config_fault};
+ghost use Rattle.master_core.specs.Data.{fresh_data};
+ghost use Rattle.master_core.specs.Invariant.{IsCore, IsJudged, IsSlotOf};
+ghost use Rattle.master_core.specs.Log.{log_of, state_now, image_of, home};
+ghost use Rattle.master_core.specs.Shown.{IsShown};
+ghost use Rattle.master_core.specs.Steps.{Applies, reply_now, record_now, opened_data, extended_data, failed_data, refusal_of};
+
+use crate::change::{Change, change_of, is_too_big};
+use crate::config::Config;
+use crate::index::{find, place_change};
+use crate::step::{Look, Refusal, Shown, StepAnswer};
+use crate::unit::{enact, unit_len};
+use entry::{NoMemory, ObjectRef, SafeVersion};
+use log_head::Head;
+use replica::{Bytes, TakeFault};
+use segment::AppendFault;
+use std::alloc::Global;
+use std::marker::Model;
+use versioned_map::{Command, Record, Reply};
+
+/// What a master knows: its configuration, its head, where the live objects lie, the safe version, and its history.
+#[derive(Drop)]
+pub struct Core {
+    alloc: Global,
+    config: Config,
+    head: Head,
+    /// Where the live objects begin in the head's image.
+    places: Vec<usize>,
+    safe: SafeVersion,
+    history: Vec<Record>,
+    is_halted: bool,
+}
+
+impl Model for Core {
+    ghost use Rattle.master_core.specs.Data.{MasterData};
+    ghost use Rattle.master_core.specs.Invariant.{IsCore};
+
+    ghost Value = { MasterData };
+
+    ghost view = { λ m. record {
+      config = m.config;
+      head = m.head;
+      places = m.places.items;
+      safe = m.safe;
+      history = m.history.items;
+      is_halted = m.is_halted;
+    } };
+
+    ghost invariant = { λ m. IsCore (record {
+      config = m.config;
+      head = m.head;
+      places = m.places.items;
+      safe = m.safe;
+      history = m.history.items;
+      is_halted = m.is_halted;
+    }) };
+}
+
+impl Core {
+    /// The core of a new master. Its head is in memory alone.
+    pub fn new(alloc: Global, config: Config) -> Result<Core, NoMemory>
+        requires { config_fault config ≡ None }
+        ensures made { IfOk result (λ core. core ≡ fresh_data config) }
+        ensures valid { IfOk result (λ core. IsCore core) }
+    {
+        let replicas = config.replicas as usize;
+        let head = Head::begin(alloc, config.master, replicas, SafeVersion::first())?;
+        let core = Core {
+            alloc,
+            config,
+            head,
+            places: Vec::new(alloc),
+            safe: SafeVersion::first(),
+            history: Vec::new(alloc),
+            is_halted: false,
+        };
+        core.show_valid();
+        Ok(core)
+    }
+
+    /// What holds of every core.
+    pub fn show_valid(&self)
+        ensures { IsCore self.now }
+    {
+        let _is_halted = self.is_halted;
+    }
+
+    /// The master's number.
+    pub fn master(&self) -> u64
+        ensures { result ≡ self.now.config.master }
+    {
+        self.config.master
+    }
+
+    /// Whether a backup failed.
+    pub fn is_halted(&self) -> bool
+        ensures { result ≡ self.now.is_halted }
+    {
+        self.is_halted
+    }
+
+    /// The head of the log.
+    pub fn head(&self) -> &Head
+        ensures head { result.now ≡ self.now.head }
+        ensures valid { IsCore self.now }
+    {
+        &self.head
+    }
+
+    /// The backup of a replica of the head.
+    pub fn home(&self, replica: usize) -> u64
+        requires { replica < 64 }
+        ensures { result ≡ home self.now.config self.now.head.id replica }
+    {
+        self.config.home(self.head.id(), replica)
+    }
+
+    /// The accepted commands, with their replies.
+    pub fn history(&self) -> &[Record]
+        ensures { result.now ≡ self.now.history }
+    {
+        self.history.as_slice()
+    }
+
+    /// How many of the first records have units that every replica of the head took.
+    pub fn durable(&self) -> u64
+        ensures { result ≡ durable_of (log_of self.now) }
+    {
+        match self.head.first_missing() {
+            None => self.history.len() as u64,
+            Some(number) => number as u64,
+        }
+    }
+
+    // ---- a command
+
+    /// The tests that come before the key is looked up.
+    fn admit(&self, command: &Command) -> Result<(), Refusal>
+        ensures { result_err result ≡ early_refusal self.now command.now }
+    {
+        if self.is_halted {
+            return Err(Refusal::Halted);
+        }
+        if is_too_big(command, self.config.segment) {
+            return Err(Refusal::TooBig);
+        }
+        if !self.config.tablets.have(&command.key().view()) {
+            return Err(Refusal::NoTablet);
+        }
+        if self.history.len() as u64 >= self.config.history {
+            return Err(Refusal::HistoryFull);
+        }
+        Ok(())
+    }
+
+    /// Whether the unit of a change, if it makes one, can be appended.
+    fn fit(&self, command: &Command, change: &Change) -> Result<(), Refusal>
+        ensures { IsChangeOf (state_now self.now).safe ((state_now self.now).contents (command_key command.now)) command.now change.now →
+            result_err result ≡ unit_refusal self.now (unit_now self.now command.now) }
+    {
+        if change.is_nothing() {
+            return Ok(());
+        }
+        if !self.head.is_open() {
+            return Err(Refusal::Rolling);
+        }
+        let limit = self.config.segment as usize;
+        if !self.head.fits(unit_len(command, change), limit) {
+            return Err(Refusal::Full);
+        }
+        Ok(())
+    }
+
+    /// The object of the command's key, and which of the places it has.
+    fn find(&self, command: &Command) -> Option<(usize, ObjectRef<'_>)>
+        ensures within { IfSome result (λ found. found.0 < length self.entry.now.places) }
+        ensures slot { IsSlotOf self.entry.now command.now (option_map (λ found. found.0) result) }
+        ensures object { option_map (λ found. versioned (shown_object found.1)) result ≡ (state_now self.entry.now).contents (command_key command.now) }
+    {
+        find(self.places.as_slice(), self.head.image(), &command.key().view())
+    }
+
+    /// What a command does, and which of the places has its key: all tests, in order.
+    fn judge(&self, command: &Command) -> Result<(Change, Option<(usize, ObjectRef<'_>)>), Refusal>
+        ensures passed { IfOk result (λ _. command_refusal self.entry.now command.now ≡ None) }
+        ensures judged { IfOk result (λ judged. IsJudged self.entry.now command.now judged.0 (option_map (λ found. found.0) judged.1)) }
+        ensures object { IfOk result (λ judged. option_map (λ found. versioned (shown_object found.1)) judged.1 ≡ (state_now self.entry.now).contents (command_key command.now)) }
+        ensures refused { IfErr result (λ r. command_refusal self.entry.now command.now ≡ Some r) }
+    {
+        self.admit(command)?;
+        let found = self.find(command);
+        let version = match &found {
+            None => None,
+            Some((_, object)) => Some(object.version),
+        };
+        let Ok(change) = change_of(command, self.safe, version) else {
+            return Err(Refusal::VersionsSpent);
+        };
+        self.fit(command, &change)?;
+        Ok((change, found))
+    }
+
+    /// What a command does, which of the places has its key, and the reply, for the history and for the client.
+    fn consider(&self, command: &Command) -> Result<(Change, Option<usize>, Reply, Reply), Refusal>
+        ensures passed { IfOk result (λ _. command_refusal self.now command.now ≡ None) }
+        ensures judged { IfOk result (λ considered. IsJudged self.now command.now considered.0 considered.1) }
+        ensures reply { IfOk result (λ considered. considered.2 ≡ reply_now self.now command.now) }
+        ensures answer { IfOk result (λ considered. considered.3 ≡ considered.2) }
+        ensures refused { IfErr result (λ r. (command_refusal self.now command.now ≡ Some r)
+            ⊎ ((command_refusal self.now command.now ≡ None) × (r ≡ Refusal.NoMemory))) }
+    {
+        match self.judge(command) {
+            Err(refusal) => Err(refusal),
+            Ok((change, found)) => {
+                let (slot, reply) = match &found {
+                    None => (None, change.reply(self.alloc, command, None)?),
+                    Some((slot, object)) => {
+                        (Some(*slot), change.reply(self.alloc, command, Some(object))?)
+                    }
+                };
+                let answer = reply.copy()?;
+                Ok((change, slot, reply, answer))
+            }
+        }
+    }
+
+    /// Whether a step with this command would be refused, and by which test; want of memory apart.
+    pub fn would(&self, command: &Command) -> Result<(), Refusal>
+        ensures { result_err result ≡ command_refusal self.now command.now }
+    {
+        match self.judge(command) {
+            Ok(_) => Ok(()),
+            Err(refusal) => Err(refusal),
+        }
+    }
+
+    /// The reply to a command that no test refuses, before it is applied. Nothing changes.
+    pub fn answer_to(&self, command: &Command) -> Result<Reply, NoMemory>
+        requires { command_refusal self.now command.now ≡ None }
+        ensures { IfOk result (λ reply. reply ≡ reply_now self.now command.now) }
+    {
+        match self.consider(command) {
+            Ok((_, _, reply, _)) => Ok(reply),
+            Err(_) => Err(NoMemory),
+        }
+    }
+
+    /// One command: it is answered, and its record and its unit are added; or it is refused, and nothing changes.
+    pub fn apply(&mut self, seat: u64, command: Command) -> Result<StepAnswer, Refusal>
+        ensures applied { IfOk result (λ answer. Applies self.old seat command answer self.new) }
+        ensures may { OnOk result (MayApply (log_of self.old) (dead_segment self.old command) (record_now self.old seat command)) }
+        ensures valid { OnOk result (IsCore self.new) }
+        ensures refused { IfErr result (λ r. (command_refusal self.old command ≡ Some r)
+            ⊎ ((command_refusal self.old command ≡ None) × (r ≡ Refusal.NoMemory))) }
+        ensures err { OnErr result (self.new ≡ self.old) }
+    {
+        let (change, slot, reply, answer) = self.consider(&command)?;
+        let record = Record {
+            seat,
+            command,
+            reply,
+        };
+        let place = self.add(record, &change, slot)?;
+        Ok(StepAnswer::Applied(place, answer))
+    }
+
+    /// Adds the record of a command that passed all tests, and appends the unit of its change. The place of the record.
+    fn add(
+        &mut self,
+        accepted: Record,
+        change: &Change,
+        slot: Option<usize>,
+    ) -> Result<u64, NoMemory>
+        requires passed { command_refusal self.old accepted.command ≡ None }
+        requires judged { IsJudged self.old accepted.command change.now slot }
+        requires reply { accepted.reply ≡ reply_now self.old accepted.command }
+        ensures added { IfOk result (λ place. Applies self.old accepted.seat accepted.command (StepAnswer.Applied place accepted.reply) self.new) }
+        ensures may { OnOk result (MayApply (log_of self.old) (dead_segment self.old accepted.command) (record_now self.old accepted.seat accepted.command)) }
+        ensures valid { OnOk result (IsCore self.new) }
+        ensures refused { OnErr result (self.new ≡ self.old) }
+    {
+        let place = self.history.len() as u64;
+        enact(
+            &mut self.head,
+            &mut self.places,
+            &mut self.history,
+            &accepted.command,
+            change,
+            slot,
+            self.config.segment as usize,
+        )?;
+        self.safe = change.safe_after(self.safe);
+        self.history.push_reserved(accepted);
+        Ok(place)
+    }
+
+    // ---- replicas
+
+    /// Counts a replica of the head that was opened.
+    pub fn open(&mut self)
+        requires { length self.old.head.taken < self.old.head.replicas }
+        ensures opened { self.new ≡ opened_data self.old }
+        ensures valid { IsCore self.new }
+    {
+        self.head.open();
+    }
+
+    /// Counts a unit that a replica of the head took.
+    pub fn extend(&mut self, replica: usize)
+        requires lags { IfSome (slice_get self.old.head.taken replica) (λ n. n < length self.old.head.units) }
+        requires opened { replica < length self.old.head.taken }
+        ensures extended { self.new ≡ extended_data self.old replica }
+        ensures valid { IsCore self.new }
+    {
+        self.head.extend(replica);
+    }
+
+    /// What a fault of a take answers; after a fault of a backup the master stays halted. No op of a master is Wrong.
+    pub fn fail(&mut self, fault: TakeFault) -> Refusal
+        requires { fault ≡ TakeFault.Wrong → ⊥ }
+        ensures answer { result ≡ refusal_of fault }
+        ensures failed { self.new ≡ failed_data self.old fault }
+        ensures valid { IsCore self.new }
+    {
+        match fault {
+            TakeFault::NoMemory => Refusal::NoMemory,
+            TakeFault::Spent => Refusal::Spent,
+            TakeFault::Fault => {
+                self.is_halted = true;
+                Refusal::Halted
+            }
+            TakeFault::Wrong => unreachable!(),
+        }
+    }
+
+    // ---- what is shown
+
+    /// What is to be shown. Nothing changes.
+    pub fn look(&self, look: Look) -> Result<Shown, NoMemory>
+        ensures shown { IfOk result (λ shown. IsShown self.now look shown) }
+        // Memory is wanted for the image alone.
+        ensures refused { OnErr result (look ≡ Look.Image self.now.head.id) }
+    {
+        match look {
+            Look::Image(id) => Ok(Shown::Image(self.image_of(id)?)),
+        }
+    }
+
+    /// The bytes of a segment's image; `None` where there is no such image.
+    fn image_of(&self, id: u64) -> Result<Option<Bytes>, NoMemory>
+        ensures image { IfOk result (λ image. image ≡ option_map text_of (image_of self.now id)) }
+        ensures refused { OnErr result (id ≡ self.now.head.id) }
+    {
+        if id != self.head.id() {
+            return Ok(None);
+        }
+        let bytes = Vec::from_slice(self.alloc, self.head.image().bytes())?;
+        Ok(Some(Bytes::new(bytes)))
+    }
+}

@@ -1,0 +1,128 @@
+//! What a master is asked to do, and what it answers.
+
+ghost use Rattle.std.specs.Prelude.{◌≡◌, IfOk, Some};
+ghost use Rattle.master_core.specs.declared.step.Refusal.TheVariants as refusal;
+ghost use Rattle.master_core.specs.Names.{refusal_name};
+
+use versioned_map::{Command, Reply};
+use entry::NoMemory;
+use replica::Bytes;
+use std::alloc::{AllocError, AllocFailed};
+use std::error::Error;
+use std::fmt;
+
+/// A step of a master.
+#[derive(Drop)]
+pub enum Step {
+    /// One command of a seat. It takes nothing from the fleet.
+    Apply(u64, Command),
+    /// One op handed to one backup: the next unit where a replica lags, or the head opened on its next backup.
+    Push,
+}
+
+impl Step {
+    /// The same step, in memory of its own.
+    pub fn copy(&self) -> Result<Step, AllocError>
+        ensures { IfOk result (λ copy. copy ≡ self.now) }
+    {
+        match self {
+            Step::Apply(seat, command) => Ok(Step::Apply(*seat, command.copy()?)),
+            Step::Push => Ok(Step::Push),
+        }
+    }
+}
+
+/// What an accepted step did.
+#[derive(Drop)]
+pub enum StepAnswer {
+    /// The place of the command's record in the history, from 0, and the reply.
+    Applied(u64, Reply),
+    /// The backup and the segment.
+    Extended(u64, u64),
+    /// The backup and the segment.
+    Opened(u64, u64),
+}
+
+/// Why a step was refused. The numbers are fixed; those that are missing belong to steps that don't exist yet.
+#[derive(Clone, Copy, Debug, PartialEq, Eq)]
+pub enum Refusal {
+    /// 1: the key and the value of a put are too big for a quarter of a segment.
+    TooBig,
+    /// 2: the unit doesn't fit the head, and no other head may begin.
+    Full,
+    /// 3: no version is left for the put.
+    VersionsSpent,
+    /// 4: the history has as many records as it takes.
+    HistoryFull,
+    /// 5: memory ran out, and nothing changed.
+    NoMemory,
+    /// 6: a backup failed, in this step or an earlier one.
+    Halted,
+    /// 7: the head is not open yet.
+    Rolling,
+    /// 8: nothing waits.
+    Nothing,
+    /// 10: the fleet takes no more ops.
+    Spent,
+    /// 12: no tablet of the master has the key's place.
+    NoTablet,
+}
+
+impl Error for Refusal {}
+
+impl fmt::Display for Refusal {
+    ghost output = { λ refusal. Some (refusal_name refusal) };
+
+    fn fmt<W: fmt::Write>(&self, f: &mut fmt::Formatter<W>) -> fmt::Result {
+        f.write_str(match self {
+            Refusal::TooBig => "TooBig",
+            Refusal::Full => "Full",
+            Refusal::VersionsSpent => "VersionsSpent",
+            Refusal::HistoryFull => "HistoryFull",
+            Refusal::NoMemory => "NoMemory",
+            Refusal::Halted => "Halted",
+            Refusal::Rolling => "Rolling",
+            Refusal::Nothing => "Nothing",
+            Refusal::Spent => "Spent",
+            Refusal::NoTablet => "NoTablet",
+        })
+    }
+}
+
+impl From<AllocError> for Refusal {
+    ghost from_gives = { λ _ e. e ≡ refusal.NoMemory };
+
+    fn from(_error: AllocError) -> Refusal {
+        Refusal::NoMemory
+    }
+}
+
+impl<T: Drop> From<AllocFailed<T>> for Refusal {
+    ghost from_gives = { λ _ e. e ≡ refusal.NoMemory };
+
+    fn from(_error: AllocFailed<T>) -> Refusal {
+        Refusal::NoMemory
+    }
+}
+
+impl From<NoMemory> for Refusal {
+    ghost from_gives = { λ _ e. e ≡ refusal.NoMemory };
+
+    fn from(_error: NoMemory) -> Refusal {
+        Refusal::NoMemory
+    }
+}
+
+/// What is to be shown of a master.
+#[derive(Clone, Copy)]
+pub enum Look {
+    /// The image of a segment.
+    Image(u64),
+}
+
+/// What is shown of a master.
+#[derive(Drop)]
+pub enum Shown {
+    /// The bytes of the image, or `None` where there is no such image.
+    Image(Option<Bytes>),
+}

@@ -1,0 +1,153 @@
+//! From a command and its change to the unit that the head takes.
+
+ghost use Rattle.std.specs.Prelude.{◌≡◌, false, ℕ, ◌+◌, ◌^◌, ◌<◌, ◌≤◌, List, [], ◌∷◌, ◌++◌, length, vec_len, vec_capacity, IfSome, OnOk, OnErr, IsErrOf};
+ghost use Rattle.entry.specs.declared.entry.Object.{Object};
+ghost use Rattle.entry.specs.declared.entry.Entry.{Entry};
+ghost use Rattle.entry.specs.declared.entry.Entry.TheVariants as entry;
+ghost use Rattle.entry.specs.Text.{text_of};
+ghost use Rattle.entry.specs.View.{shown};
+ghost use Rattle.log_head.specs.Head.{IsHead};
+ghost use Rattle.master_core.specs.Index.{placed};
+ghost use Rattle.versioned_map.specs.Units.{object_entry, tombstone_entry};
+ghost use Rattle.master_core.specs.Change.{unit_of_change, is_empty, appended};
+
+use crate::change::Change;
+use crate::index::place_change;
+use entry::{EntryRef, Key, NoMemory, ObjectRef, TombstoneRef, Value, Version};
+use log_head::Head;
+use segment::AppendFault;
+use versioned_map::{Command, Record};
+
+/// The object that a put makes, as it lies in the command.
+fn object_of<'a>(key: &'a Key, version: Version, value: &'a Value) -> EntryRef<'a>
+    ensures { shown result ≡ object_entry key.entry.now version value.entry.now }
+{
+    let key = key.view();
+    EntryRef::Object(ObjectRef {
+        key,
+        version,
+        value: value.as_slice(),
+    })
+}
+
+/// The tombstone of the key's object of this version, which lies in this segment.
+fn tombstone_of(key: &Key, version: Version, segment: u64) -> EntryRef<'_>
+    ensures { shown result ≡ tombstone_entry key.entry.now version segment }
+{
+    let key = key.view();
+    EntryRef::Tombstone(TombstoneRef {
+        key,
+        version,
+        segment,
+    })
+}
+
+/// Where in the unit of a change its object begins.
+#[tactic(auto, using(crate::proofs::Changes::front_of_replacing))]
+fn object_offset(command: &Command, change: &Change) -> usize
+    ensures behind { (segment : ℕ) (front : List Entry) (o : Object) →
+        unit_of_change segment command.now change.now ≡ front ++ entry.Object o ∷ [] → result ≡ length (text_of front) }
+    ensures small { result ≤ 2 ^ 32 }
+{
+    match change {
+        Change::Replace(_, _) => 27 + command.key().bytes.as_slice().len(),
+        _ => 0,
+    }
+}
+
+/// How many bytes the unit of a change has.
+#[tactic(auto, using(crate::proofs::Changes::unit_lengths))]
+pub fn unit_len(command: &Command, change: &Change) -> usize
+    ensures len { (segment : ℕ) → result ≡ length (text_of (unit_of_change segment command.now change.now)) }
+    ensures small { result ≤ 2 ^ 32 }
+{
+    match command {
+        Command::Get(_) => 0,
+        Command::Delete(key) => match change {
+            Change::Delete(_) => 27 + key.bytes.as_slice().len(),
+            _ => 0,
+        },
+        Command::Put(key, value, _) => {
+            let key_len = key.bytes.as_slice().len();
+            let object_len = 23 + key_len + value.as_slice().len();
+            match change {
+                Change::Create(_) => object_len,
+                Change::Replace(_, _) => 27 + key_len + object_len,
+                _ => 0,
+            }
+        }
+    }
+}
+
+/// Appends the unit of a change to the head.
+fn append_change(
+    head: &mut Head,
+    command: &Command,
+    change: &Change,
+    number: usize,
+    limit: usize,
+) -> Result<(), AppendFault>
+    requires { limit ≤ 8388608 }
+    ensures ok { OnOk result (head.new ≡ appended head.old number (unit_of_change head.old.id command.now change.now)) }
+    ensures full { let unit = unit_of_change head.old.id command.now change.now in
+        IsErrOf result AppendFault.Full → (is_empty unit ≡ false) × (limit < length (text_of head.old.image) + length (text_of unit)) }
+    ensures err { OnErr result (head.new ≡ head.old) }
+    ensures valid { OnOk result (IsHead head.new) }
+{
+    let segment = head.id();
+    match command {
+        Command::Get(_) => Ok(()),
+        Command::Delete(key) => match change {
+            Change::Delete(dead) => {
+                head.append(&[tombstone_of(key, *dead, segment)], number, limit)
+            }
+            _ => Ok(()),
+        },
+        Command::Put(key, value, _) => match change {
+            Change::Create(version) => {
+                head.append(&[object_of(key, *version, value)], number, limit)
+            }
+            Change::Replace(dead, version) => {
+                let tombstone = tombstone_of(key, *dead, segment);
+                let object = object_of(key, *version, value);
+                head.append(&[tombstone, object], number, limit)
+            }
+            _ => Ok(()),
+        },
+    }
+}
+
+/// Appends the unit of a change, which fits, and keeps the places of the live objects. The history gets room for its record.
+pub fn enact(
+    head: &mut Head,
+    places: &mut Vec<usize>,
+    history: &mut Vec<Record>,
+    command: &Command,
+    change: &Change,
+    slot: Option<usize>,
+    limit: usize,
+) -> Result<(), NoMemory>
+    requires slot { IfSome slot (λ slot. slot < vec_len places.old) }
+    requires limit { limit ≤ 8388608 }
+    requires fits { let unit = unit_of_change head.old.id command.now change.now in
+        is_empty unit ≡ false → length (text_of head.old.image) + length (text_of unit) ≤ limit }
+    ensures valid { OnOk result (IsHead head.new) }
+    ensures head { OnOk result (head.new ≡ appended head.old (length history.old.items) (unit_of_change head.old.id command.now change.now)) }
+    ensures places { OnOk result ((at : ℕ) × ((segment : ℕ) (front : List Entry) (o : Object) →
+        unit_of_change segment command.now change.now ≡ front ++ entry.Object o ∷ [] → at ≡ length (text_of head.old.image) + length (text_of front))
+        × (places.new.items ≡ placed places.old.items change.now slot at)) }
+    ensures history { history.new.items ≡ history.old.items }
+    ensures room { OnOk result (vec_len history.new < vec_capacity history.new) }
+    ensures err { OnErr result ((head.new ≡ head.old) × (places.new.items ≡ places.old.items)) }
+{
+    let at = head.image().bytes().len() + object_offset(command, change);
+    history.reserve(1)?;
+    places.reserve(1)?;
+    match append_change(head, command, change, history.len(), limit) {
+        Ok(()) => {}
+        Err(AppendFault::Full) => unreachable!(),
+        Err(AppendFault::NoMemory) => return Err(NoMemory),
+    }
+    place_change(places, change, slot, at);
+    Ok(())
+}
