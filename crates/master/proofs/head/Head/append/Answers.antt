@@ -13,7 +13,7 @@ invariant_of-self-2 c =
     let units = c.self.inside.units.items in
     let unit : UnitEnd = record { number = c.args.number; end = c.bytes_len-end.result } in
     let more : length (text_of c.self.inside.image) ≤ c.bytes_len-end.result =
-    rw (c.bytes_len-end.ensures, c.in_ok-append_unit.ensures.ok) (omega (arith, text_more c.self.inside.image (map shown c.args.unit.now))) in
+    rw (c.bytes_len-end.ensures, c.in_ok-append.ensures.ok) (omega (arith, text_more c.self.inside.image (map shown c.args.unit.now))) in
     let items : c.push_reserved.new.self.items ≡ units ++ unit ∷ [] =
     c.push_reserved.ensures.items ∙ rw c.reserve.ensures.items refl in
     let count : length units ≤ length (units ++ unit ∷ []) = omega (arith, length-append units (unit ∷ [])) in
