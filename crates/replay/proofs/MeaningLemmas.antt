@@ -237,9 +237,5 @@ AreClaims-from_sort view es before after is permutation sorted =
 
 pub refused-for : (segments : List (List Entry)) (cs : List Claimed) (f : ReplayFault) → AreClaims (bag_of segments) cs →
     IsRefusedFor (has_clash cs) f → IsRefusal segments f
-refused-for segments cs (fault.Double n) are h = h
-refused-for segments cs fault.Stranger are h = h
-refused-for segments cs (fault.MissingGroup n) are h = h
 refused-for segments cs fault.NoMemory are h = tt
 refused-for segments cs fault.Clash are h = clash-unclean (bag_of segments) cs are h
-refused-for segments cs (fault.Stray k) are h = h
