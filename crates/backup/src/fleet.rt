@@ -71,7 +71,7 @@ impl MemoryFleet {
 }
 
 impl Fleet for MemoryFleet {
-    ghost use Rattle.std.specs.Prelude.{◌≡◌, ◌<◌, ◌↔◌, IfOk, None, Err};
+    ghost use Rattle.std.specs.Prelude.{◌≡◌, ◌<◌, ◌≤◌, ◌↔◌, [], IfOk, None, Err};
     ghost use Rattle.entry.specs.Bag.{IsAmong};
     ghost use Rattle.replica.specs.Op.{shown_op};
     ghost use Rattle.replica.specs.Picture.{IsHeld, IsOnce};
@@ -105,6 +105,7 @@ impl Fleet for MemoryFleet {
     fn holdings(&self, alloc: Global, backup: u64) -> Result<Vec<Holding>, NoMemory>
         ensures shown { IfOk result (λ hs. (h : Holding) → IsAmong h hs.items ↔ ((h.backup ≡ backup) × IsHeld (state_of self.now).picture h)) }
         ensures once { IfOk result (λ hs. IsOnce hs.items) }
+        ensures none { IfOk result (λ hs. (state_of self.now).backups ≤ backup → hs.items ≡ []) }
         ensures rising { IfOk result (λ hs. IsRising hs.items) }
     {
         let mut list = Vec::new(alloc);
