@@ -18,7 +18,7 @@ use Rattle.replay.specs.declared.fault.ReplayFault.{ReplayFault}
 use Rattle.replay.specs.declared.fault.ReplayFault.TheVariants as fault
 use Rattle.replay.specs.Rebuilt.{IsRefusal}
 use Rattle.replay.specs.Claims.{Claimed, IsRefusedFor, claim_of, claims_of, object_of, objects_in, tops, has_clash, bound_of_claims}
-use Rattle.replay.proofs.KeyOrder.{key_eq-decides, key_cmp-same}
+use Rattle.entry.proofs.KeyOrder.{key_eq-decides, key_cmp-same}
 use Rattle.replay.proofs.ClaimOrder.{Rises, Rises-from_sorted, before_by, rank}
 use Rattle.replay.proofs.ScanLemmas.{tops-among, tops-highest, tops-some, tops-sorted, keys_of, objects_in-among, objects_in-has, unclashed, clash-found, is_clash-tells}
 
