@@ -7,3 +7,4 @@ pub mod Passing
 pub mod FrontLemmas
 pub mod TextLemmas
 pub mod KeyOrder
+pub mod Disjoint
