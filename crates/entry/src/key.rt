@@ -7,8 +7,8 @@ ghost use Rattle.std.specs.Prelude.{refl, nat_eq, ◌≡◌, ◌<◌, ◌≤◌,
 ghost use Rattle.entry.specs.Key.{IsKeyBytes, place_of};
 ghost use Rattle.entry.specs.Order.{key_cmp, key_cmp-total, key_eq-ties};
 
-use crate::fault::KeyFault;
-use std::alloc::{AllocError, Global};
+use crate::fault::{KeyFault, NoMemory};
+use std::alloc::Global;
 use std::cmp::Ordering;
 use std::marker::Model;
 
@@ -34,7 +34,7 @@ impl Model for KeyBytes {
 
 impl KeyBytes {
     /// A copy of these bytes.
-    pub(crate) fn from_slice(alloc: Global, bytes: &[u8]) -> Result<KeyBytes, AllocError>
+    pub(crate) fn from_slice(alloc: Global, bytes: &[u8]) -> Result<KeyBytes, NoMemory>
         requires not_empty { 0 < length bytes.now }
         requires limit { length bytes.now ≤ MAX_KEY_LEN }
         ensures { IfOk result (λ copy. copy ≡ bytes.now) }

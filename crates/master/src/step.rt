@@ -5,7 +5,6 @@ ghost use Rattle.master.specs.declared.step.Refusal.TheVariants as refusal;
 ghost use Rattle.master.specs.Names.{refusal_name};
 
 use crate::command::{Command, Reply};
-use entry::NoMemory;
 use replica::Bytes;
 use std::alloc::{AllocError, AllocFailed};
 use std::error::Error;
@@ -101,14 +100,6 @@ impl<T: Drop> From<AllocFailed<T>> for Refusal {
     ghost from_gives = { λ _ e. e ≡ refusal.NoMemory };
 
     fn from(_error: AllocFailed<T>) -> Refusal {
-        Refusal::NoMemory
-    }
-}
-
-impl From<NoMemory> for Refusal {
-    ghost from_gives = { λ _ e. e ≡ refusal.NoMemory };
-
-    fn from(_error: NoMemory) -> Refusal {
         Refusal::NoMemory
     }
 }

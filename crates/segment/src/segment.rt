@@ -13,7 +13,7 @@ use crate::fault::AppendFault;
 use crate::unit::{len_within, write_all};
 use crate::view::SegmentRef;
 use entry::{Entry, EntryRef, Header, Ids, NoMemory, Role, SafeVersion, write_entry};
-use std::alloc::{AllocError, Global};
+use std::alloc::Global;
 use std::marker::Model;
 
 /// The most bytes of a segment.
@@ -149,7 +149,7 @@ impl<'a> SegmentRef<'a> {
     ghost use Rattle.segment.specs.View.{entries_of};
 
     /// A segment of its own.
-    pub fn to_segment(&self, alloc: Global) -> Result<Segment, AllocError>
+    pub fn to_segment(&self, alloc: Global) -> Result<Segment, NoMemory>
         ensures { IfOk result (λ segment. segment ≡ entries_of self.now) }
     {
         let bytes = Vec::from_slice(alloc, self.bytes)?;
