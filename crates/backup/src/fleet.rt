@@ -19,7 +19,7 @@ pub struct MemoryFleet {
 }
 
 impl MemoryFleet {
-    ghost use Rattle.std.specs.Prelude.{◌≡◌, ◌<◌, ◌↔◌, IfOk};
+    ghost use Rattle.std.specs.Prelude.{◌≡◌, ◌≤◌, ◌↔◌, IfOk};
     ghost use Rattle.entry.specs.Bag.{IsAmong};
     ghost use Rattle.replica.specs.Picture.{IsHeld};
     ghost use Rattle.backup.specs.Inventory.{IsRising};
@@ -49,12 +49,15 @@ impl MemoryFleet {
         self.backups.len() as u64
     }
 
-    /// Makes a backup lose all that it holds. An empty one has its number from then on.
+    /// Makes a backup lose all that it holds. An empty one has its number from then on. A number that is no backup's changes
+    /// nothing.
     pub fn lose(&mut self, backup: u64)
-        requires { backup < (state_of self.old).backups }
-        ensures { state_of self.new ≡ lost (state_of self.old) backup }
+        ensures lost { state_of self.new ≡ lost (state_of self.old) backup }
+        ensures none { (state_of self.old).backups ≤ backup → state_of self.new ≡ state_of self.old }
     {
-        self.backups[backup as usize].clear();
+        if let Some(memory) = self.backups.get_mut(backup as usize) {
+            memory.clear();
+        }
     }
 
     /// All replicas of all backups, by backup, then by master, then by segment.
@@ -71,7 +74,7 @@ impl MemoryFleet {
 }
 
 impl Fleet for MemoryFleet {
-    ghost use Rattle.std.specs.Prelude.{◌≡◌, ◌<◌, ◌↔◌, IfOk, None, Err};
+    ghost use Rattle.std.specs.Prelude.{◌≡◌, ◌<◌, ◌≤◌, ◌↔◌, [], IfOk, None, Err};
     ghost use Rattle.entry.specs.Bag.{IsAmong};
     ghost use Rattle.replica.specs.Op.{shown_op};
     ghost use Rattle.replica.specs.Picture.{IsHeld, IsOnce};
@@ -105,6 +108,7 @@ impl Fleet for MemoryFleet {
     fn holdings(&self, alloc: Global, backup: u64) -> Result<Vec<Holding>, NoMemory>
         ensures shown { IfOk result (λ hs. (h : Holding) → IsAmong h hs.items ↔ ((h.backup ≡ backup) × IsHeld (state_of self.now).picture h)) }
         ensures once { IfOk result (λ hs. IsOnce hs.items) }
+        ensures none { IfOk result (λ hs. (state_of self.now).backups ≤ backup → hs.items ≡ []) }
         ensures rising { IfOk result (λ hs. IsRising hs.items) }
     {
         let mut list = Vec::new(alloc);

@@ -4,8 +4,9 @@ ghost use Rattle.std.specs.Prelude.{◌≡◌, Some, IfOk, true};
 ghost use Rattle.replica.specs.Op.{Extend};
 ghost use Rattle.backup.specs.Acts.{Acts};
 
+use entry::NoMemory;
 use replica::{Bytes, Holding, TakeFault};
-use std::alloc::{AllocError, Global};
+use std::alloc::Global;
 use std::marker::Model;
 
 /// A replica that a backup holds.
@@ -41,7 +42,7 @@ impl Stored {
         backup: u64,
         master: u64,
         segment: u64,
-    ) -> Result<Holding, AllocError>
+    ) -> Result<Holding, NoMemory>
         ensures { IfOk result (λ h. h ≡ record { backup = backup; master = master; segment = segment; bytes = self.now.bytes; is_open = self.now.is_open }) }
     {
         Ok(Holding {

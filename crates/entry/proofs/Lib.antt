@@ -6,3 +6,5 @@ pub mod PrefixFree
 pub mod Passing
 pub mod FrontLemmas
 pub mod TextLemmas
+pub mod KeyOrder
+pub mod Disjoint

@@ -1,6 +1,6 @@
 -- Tablets: which keys are in them, and which rows of them are in order.
-use Rattle.std.specs.Prelude.{List, [], ◌∷◌, Bool, true, false, ◌==◌, ◌&&◌, ◌||◌, nat_lt, nat_le}
-use Rattle.std.specs.List.{list_any}
+use Rattle.std.specs.Prelude.{◌≡◌, ℕ, List, [], ◌∷◌, Bool, true, false, ◌==◌, ◌&&◌, ◌||◌, nat_lt, nat_le, Some}
+use Rattle.std.specs.List.{list_any, slice_get}
 use Rattle.entry.specs.declared.key.Key.{Key}
 use Rattle.entry.specs.declared.tablet.Tablet.{Tablet}
 use Rattle.entry.specs.Key.{place_of}
@@ -30,3 +30,10 @@ are_in_order (t ∷ u ∷ ts) = is_tablet t && (is_before t u && are_in_order (u
 abbrev pub are_tablets : List Tablet → Bool
 are_tablets [] = false
 are_tablets (t ∷ ts) = are_in_order (t ∷ ts)
+
+-- ---- a law
+
+-- No key lies in two of them.
+abbrev pub TabletsAreDisjoint : Type 0
+TabletsAreDisjoint = (ts : List Tablet) (k : Key) (i j : ℕ) (t u : Tablet) → are_tablets ts ≡ true →
+    slice_get ts i ≡ Some t → slice_get ts j ≡ Some u → has_key t k ≡ true → has_key u k ≡ true → i ≡ j

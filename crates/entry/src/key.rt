@@ -1,13 +1,14 @@
 //! Keys, and the place of each.
 
 ghost use Rattle.std.specs.Cmp.{partial_equiv_from_equiv, partial_order_from_agreeing_total};
-ghost use Rattle.std.specs.Cmp.Lexicographic.{pointwise, slice_cmp, nat_list_eq_equiv, nat_list_cmp_total, texts_ties};
-ghost use Rattle.std.specs.Ordering.{nat_cmp, as_partial_cmp};
-ghost use Rattle.std.specs.Prelude.{refl, nat_eq, ◌≡◌, ◌<◌, ◌≤◌, ◌↔◌, ℕ, List, length, IfOk, IsErrOf};
+ghost use Rattle.std.specs.Cmp.Lexicographic.{pointwise, nat_list_eq_equiv};
+ghost use Rattle.std.specs.Ordering.{as_partial_cmp};
+ghost use Rattle.std.specs.Prelude.{refl, nat_eq, ◌≡◌, ◌<◌, ◌≤◌, ◌↔◌, length, IfOk, IsErrOf};
 ghost use Rattle.entry.specs.Key.{IsKeyBytes, place_of};
+ghost use Rattle.entry.specs.Order.{key_cmp, key_cmp-total, key_eq-ties};
 
-use crate::fault::KeyFault;
-use std::alloc::{AllocError, Global};
+use crate::fault::{KeyFault, NoMemory};
+use std::alloc::Global;
 use std::cmp::Ordering;
 use std::marker::Model;
 
@@ -21,6 +22,9 @@ pub struct KeyBytes {
 }
 
 impl Model for KeyBytes {
+    ghost use Rattle.std.specs.Prelude.{ℕ, List};
+    ghost use Rattle.entry.specs.Key.{IsKeyBytes};
+
     ghost Value = { List ℕ };
 
     ghost view = { λ k. k.bytes.items };
@@ -30,7 +34,7 @@ impl Model for KeyBytes {
 
 impl KeyBytes {
     /// A copy of these bytes.
-    pub(crate) fn from_slice(alloc: Global, bytes: &[u8]) -> Result<KeyBytes, AllocError>
+    pub(crate) fn from_slice(alloc: Global, bytes: &[u8]) -> Result<KeyBytes, NoMemory>
         requires not_empty { 0 < length bytes.now }
         requires limit { length bytes.now ≤ MAX_KEY_LEN }
         ensures { IfOk result (λ copy. copy ≡ bytes.now) }
@@ -47,8 +51,8 @@ impl KeyBytes {
     }
 }
 
-/// A key: a table, and bytes in it.
-#[derive(Clone, Debug, Drop, PartialEq, Eq, PartialOrd, Ord)]
+/// A key: a table, and bytes in it. Keys are ordered by table, then by bytes.
+#[derive(Clone, Debug, Drop, PartialEq, Eq)]
 pub struct Key {
     pub table: u64,
     pub bytes: KeyBytes,
@@ -103,26 +107,26 @@ impl Eq for KeyBytes {
     ghost laws = { nat_list_eq_equiv };
 }
 
-impl PartialOrd for KeyBytes {
-    ghost partial_cmp = { as_partial_cmp (slice_cmp nat_cmp) };
+impl PartialOrd for Key {
+    ghost partial_cmp = { as_partial_cmp key_cmp };
 
-    ghost laws = { partial_order_from_agreeing_total (slice_cmp nat_cmp) nat_list_cmp_total (λ x y. refl) texts_ties };
+    ghost laws = { partial_order_from_agreeing_total key_cmp key_cmp-total (λ x y. refl) key_eq-ties };
 
-    fn partial_cmp(&self, other: &KeyBytes) -> Option<Ordering> {
+    fn partial_cmp(&self, other: &Key) -> Option<Ordering> {
         Some(self.cmp(other))
     }
 }
 
-impl Ord for KeyBytes {
-    ghost cmp = { slice_cmp nat_cmp };
+impl Ord for Key {
+    ghost cmp = { key_cmp };
 
-    ghost total = { nat_list_cmp_total };
+    ghost total = { key_cmp-total };
 
     ghost matches_partial_cmp = { λ x y. refl };
 
-    ghost matches_eq = { texts_ties };
+    ghost matches_eq = { key_eq-ties };
 
-    fn cmp(&self, other: &KeyBytes) -> Ordering {
-        self.bytes.cmp(&other.bytes)
+    fn cmp(&self, other: &Key) -> Ordering {
+        self.view().cmp(&other.view())
     }
 }

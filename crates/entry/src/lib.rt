@@ -16,7 +16,7 @@ mod writing;
 pub use entry::{Entry, Header, Object, Role, Tombstone};
 pub use fault::{EntryFault, KeyFault, NoMemory};
 pub use key::{Key, KeyBytes, MAX_KEY_LEN, place};
-pub use laws::{one_reading, one_spelling};
+pub use laws::{one_reading, one_spelling, one_tablet};
 pub use limits::{Ids, MAX_VALUE_LEN, SafeVersion, Value, Version};
 pub use reading::read_entry;
 pub use tablet::{Size, Tablet, Tablets};

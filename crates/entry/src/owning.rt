@@ -5,15 +5,16 @@ ghost use Rattle.entry.specs.Format.{HoldsList};
 ghost use Rattle.entry.specs.View.{shown, shown_key, shown_object, shown_tombstone, shown_ids};
 
 use crate::entry::{Entry, Object, Tombstone};
+use crate::fault::NoMemory;
 use crate::key::{Key, KeyBytes};
 use crate::limits::{Ids, Value};
 use crate::reading::u64_at;
 use crate::view::{DigestRef, EntryRef, KeyRef, ObjectRef, TombstoneRef};
-use std::alloc::{AllocError, Global};
+use std::alloc::Global;
 
 impl<'a> KeyRef<'a> {
     /// A key of its own.
-    pub fn to_key(&self, alloc: Global) -> Result<Key, AllocError>
+    pub fn to_key(&self, alloc: Global) -> Result<Key, NoMemory>
         ensures { IfOk result (λ key. key ≡ shown_key self.now) }
     {
         let bytes = KeyBytes::from_slice(alloc, self.bytes)?;
@@ -26,7 +27,7 @@ impl<'a> KeyRef<'a> {
 
 impl<'a> ObjectRef<'a> {
     /// An object of its own.
-    pub fn to_object(&self, alloc: Global) -> Result<Object, AllocError>
+    pub fn to_object(&self, alloc: Global) -> Result<Object, NoMemory>
         ensures { IfOk result (λ object. object ≡ shown_object self.now) }
     {
         let key = self.key.to_key(alloc)?;
@@ -41,7 +42,7 @@ impl<'a> ObjectRef<'a> {
 
 impl<'a> TombstoneRef<'a> {
     /// A tombstone of its own.
-    fn to_tombstone(&self, alloc: Global) -> Result<Tombstone, AllocError>
+    fn to_tombstone(&self, alloc: Global) -> Result<Tombstone, NoMemory>
         ensures { IfOk result (λ tombstone. tombstone ≡ shown_tombstone self.now) }
     {
         let key = self.key.to_key(alloc)?;
@@ -71,7 +72,7 @@ impl<'a> DigestRef<'a> {
     }
 
     /// The ids, in memory of their own.
-    fn to_ids(&self, alloc: Global) -> Result<Ids, AllocError>
+    fn to_ids(&self, alloc: Global) -> Result<Ids, NoMemory>
         ensures { IfOk result (λ ids. ids ≡ shown_ids self.now) }
     {
         let mut ids = Vec::with_capacity(alloc, self.count)?;
@@ -84,7 +85,7 @@ impl<'a> DigestRef<'a> {
 
 impl<'a> EntryRef<'a> {
     /// An entry of its own. A header and a safe version take no memory.
-    pub fn to_entry(&self, alloc: Global) -> Result<Entry, AllocError>
+    pub fn to_entry(&self, alloc: Global) -> Result<Entry, NoMemory>
         ensures ok { IfOk result (λ entry. entry ≡ shown self.now) }
         ensures err { OnErr result (HoldsList (shown self.now)) }
     {

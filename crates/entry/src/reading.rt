@@ -17,8 +17,7 @@ pub(crate) fn u64_at(bytes: &[u8], at: usize) -> u64
     requires { at + 8 ≤ length bytes.now }
     ensures { result ≡ number_at 8 at bytes.now }
 {
-    let b = &bytes[at..];
-    u64::from_be_bytes([b[0], b[1], b[2], b[3], b[4], b[5], b[6], b[7]])
+    u64::from_be_bytes(bytes[at..at + 8].try_into().unwrap())
 }
 
 #[tactic(auto, unfolding(crate::specs::Format::number_at))]
@@ -26,8 +25,7 @@ fn u32_at(bytes: &[u8], at: usize) -> u32
     requires { at + 4 ≤ length bytes.now }
     ensures { result ≡ number_at 4 at bytes.now }
 {
-    let b = &bytes[at..];
-    u32::from_be_bytes([b[0], b[1], b[2], b[3]])
+    u32::from_be_bytes(bytes[at..at + 4].try_into().unwrap())
 }
 
 #[tactic(auto, unfolding(crate::specs::Format::number_at))]
@@ -35,8 +33,7 @@ fn u16_at(bytes: &[u8], at: usize) -> u16
     requires { at + 2 ≤ length bytes.now }
     ensures { result ≡ number_at 2 at bytes.now }
 {
-    let b = &bytes[at..];
-    u16::from_be_bytes([b[0], b[1]])
+    u16::from_be_bytes(bytes[at..at + 2].try_into().unwrap())
 }
 
 fn read_header(bytes: &[u8]) -> Result<(EntryRef<'_>, usize), EntryFault>

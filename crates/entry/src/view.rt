@@ -7,9 +7,10 @@ ghost use Rattle.entry.specs.Format.{ids_at};
 
 use crate::entry::Header;
 use crate::limits::{SafeVersion, Version};
+use std::cmp::Ordering;
 
-/// A key whose bytes lie elsewhere. Two are compared by table, then by bytes.
-#[derive(Clone, Copy, PartialEq, Eq, PartialOrd, Ord)]
+/// A key whose bytes lie elsewhere. Keys are ordered by table, then by bytes.
+#[derive(Clone, Copy, PartialEq, Eq)]
 pub struct KeyRef<'a> {
     pub table: u64,
     /// 1 to 1,024 bytes.
@@ -53,4 +54,41 @@ pub enum EntryRef<'a> {
     Safe(SafeVersion),
     Object(ObjectRef<'a>),
     Tombstone(TombstoneRef<'a>),
+}
+
+impl<'a> PartialOrd for KeyRef<'a> {
+    ghost use Rattle.std.specs.Prelude.{refl};
+    ghost use Rattle.std.specs.Cmp.{partial_order_from_agreeing_total, on_total};
+    ghost use Rattle.std.specs.Ordering.{on, as_partial_cmp};
+    ghost use Rattle.entry.specs.Order.{key_cmp, key_cmp-total, key_eq-ties};
+    ghost use Rattle.entry.specs.View.{shown_key};
+
+    ghost partial_cmp = { as_partial_cmp (on shown_key key_cmp) };
+
+    ghost laws = { partial_order_from_agreeing_total (on shown_key key_cmp) (on_total shown_key key_cmp-total) (λ x y. refl)
+        (λ x y. key_eq-ties (shown_key x) (shown_key y)) };
+
+    fn partial_cmp(&self, other: &KeyRef<'a>) -> Option<Ordering> {
+        Some(self.cmp(other))
+    }
+}
+
+impl<'a> Ord for KeyRef<'a> {
+    ghost use Rattle.std.specs.Prelude.{refl};
+    ghost use Rattle.std.specs.Cmp.{on_total};
+    ghost use Rattle.std.specs.Ordering.{on};
+    ghost use Rattle.entry.specs.Order.{key_cmp, key_cmp-total, key_eq-ties};
+    ghost use Rattle.entry.specs.View.{shown_key};
+
+    ghost cmp = { on shown_key key_cmp };
+
+    ghost total = { on_total shown_key key_cmp-total };
+
+    ghost matches_partial_cmp = { λ x y. refl };
+
+    ghost matches_eq = { λ x y. key_eq-ties (shown_key x) (shown_key y) };
+
+    fn cmp(&self, other: &KeyRef<'a>) -> Ordering {
+        (self.table, self.bytes).cmp(&(other.table, other.bytes))
+    }
 }

@@ -229,7 +229,7 @@ impl Head {
         if self.units.reserve(1).is_err() {
             return Err(AppendFault::NoMemory);
         }
-        self.image.append_unit(unit, limit)?;
+        self.image.append(unit, limit)?;
         let end = self.image.bytes().len();
         self.units.push_reserved(UnitEnd { number, end });
         Ok(())

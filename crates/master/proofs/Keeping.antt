@@ -92,7 +92,7 @@ module _ (f : FleetState) (b : ℕ) (op : OpValue) where
   fault_beside : (g : FleetState) → Refuses f b op take_fault.Fault g → IsBeside op.master f g
   fault_beside g (inl same) = subst (IsBeside op.master f) (sym same) (record { takes = (omega arith, omega arith); others = λ c m s other. refl })
   fault_beside g (inr took) =
-      let taken = taken_beside took.0 took.1 in
+      let taken = taken_beside took.0 took.1.1 in
       subst (IsBeside op.master f) (sym took.2) (record { takes = taken.takes; others = taken.others })
 
 -- ---- a step

@@ -91,7 +91,7 @@ module _ (d : MasterData) (f : FleetState) (b : ℕ) (op : OpValue) (next : Head
     mirrored = rw same (record { backups = before.backups; held = before.held; each = before.each });
   }
   fault_mirrors g (inr t) =
-      let mid = taken_mirrors t.0 t.1 in
+      let mid = taken_mirrors t.0 t.1.1 in
       let same = t.2 in
       record {
         next = next;

@@ -4,12 +4,11 @@ ghost use Rattle.std.specs.Prelude.{◌≡◌, IfOk, Some};
 ghost use Rattle.master_core.specs.declared.step.Refusal.TheVariants as refusal;
 ghost use Rattle.master_core.specs.Names.{refusal_name};
 
-use versioned_map::{Command, Reply};
-use entry::NoMemory;
 use replica::Bytes;
 use std::alloc::{AllocError, AllocFailed};
 use std::error::Error;
 use std::fmt;
+use versioned_map::{Command, Reply};
 
 /// A step of a master.
 #[derive(Drop)]
@@ -101,14 +100,6 @@ impl<T: Drop> From<AllocFailed<T>> for Refusal {
     ghost from_gives = { λ _ e. e ≡ refusal.NoMemory };
 
     fn from(_error: AllocFailed<T>) -> Refusal {
-        Refusal::NoMemory
-    }
-}
-
-impl From<NoMemory> for Refusal {
-    ghost from_gives = { λ _ e. e ≡ refusal.NoMemory };
-
-    fn from(_error: NoMemory) -> Refusal {
         Refusal::NoMemory
     }
 }

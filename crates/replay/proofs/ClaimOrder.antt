@@ -8,9 +8,9 @@ use Rattle.std.specs.declared.cmp.Ordering.{Ordering}
 use Rattle.std.specs.declared.cmp.Ordering.TheVariants.{Less, Equal, Greater}
 use Rattle.std.proofs.lemmas.Cmp.{nat_cmp_total, nat_list_cmp_total, on_total, then_total, upto, ranked}
 use Rattle.entry.specs.Bag.{IsAmong}
-use Rattle.entry.specs.Order.{key_cmp}
+use Rattle.entry.specs.Order.{key_cmp, key_cmp-total}
 use Rattle.replay.specs.Claims.{Claimed, claim_cmp}
-use Rattle.replay.proofs.KeyOrder.{key_cmp-total, key_cmp-same}
+use Rattle.entry.proofs.KeyOrder.{key_cmp-same}
 
 claim_cmp-total : IsTotalOrder claim_cmp
 claim_cmp-total =

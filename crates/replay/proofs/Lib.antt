@@ -1,4 +1,3 @@
-pub mod KeyOrder
 pub mod ClaimOrder
 pub mod ScanLemmas
 pub mod MeaningLemmas

@@ -18,7 +18,7 @@ use Rattle.replay.specs.declared.fault.ReplayFault.{ReplayFault}
 use Rattle.replay.specs.declared.fault.ReplayFault.TheVariants as fault
 use Rattle.replay.specs.Rebuilt.{IsRefusal}
 use Rattle.replay.specs.Claims.{Claimed, IsRefusedFor, claim_of, claims_of, object_of, objects_in, tops, has_clash, bound_of_claims}
-use Rattle.replay.proofs.KeyOrder.{key_eq-decides, key_cmp-same}
+use Rattle.entry.proofs.KeyOrder.{key_eq-decides, key_cmp-same}
 use Rattle.replay.proofs.ClaimOrder.{Rises, Rises-from_sorted, before_by, rank}
 use Rattle.replay.proofs.ScanLemmas.{tops-among, tops-highest, tops-some, tops-sorted, keys_of, objects_in-among, objects_in-has, unclashed, clash-found, is_clash-tells}
 
@@ -195,6 +195,17 @@ pub tops-mean : (es : List Entry) (cs : List Claimed) → AreClaims es cs → ha
     IsMeaning (among es) (contents_of (objects_in (tops cs)))
 tops-mean es cs are none k x = (present es cs are k x, absent es cs are k x none)
 
+abbrev claim_of_object : Object → Claimed
+claim_of_object o = record { key = o.key; version = o.version; dead = false; value = o.value }
+
+-- where no neighbours clash, the entries are clean
+pub unclashed-clean : (es : List Entry) (cs : List Claimed) → AreClaims es cs → has_clash cs ≡ false → IsClean (among es)
+unclashed-clean es cs are none o p m n key version =
+    unclashed cs (claim_of_object o) (claim_of_object p) are.up none
+    (are.all (claim_of_object o) (claims_of-has es (entry.Object o) (claim_of_object o) m refl))
+    (are.all (claim_of_object p) (claims_of-has es (entry.Object p) (claim_of_object p) n refl))
+    (record { key = key; version = version; first = refl; second = refl })
+
 pub clash-unclean : (es : List Entry) (cs : List Claimed) → AreClaims es cs → has_clash cs ≡ true → IsClean (among es) → ⊥
 clash-unclean es cs are h clean =
     let p = clash-found cs h in
@@ -237,9 +248,5 @@ AreClaims-from_sort view es before after is permutation sorted =
 
 pub refused-for : (segments : List (List Entry)) (cs : List Claimed) (f : ReplayFault) → AreClaims (bag_of segments) cs →
     IsRefusedFor (has_clash cs) f → IsRefusal segments f
-refused-for segments cs (fault.Double n) are h = h
-refused-for segments cs fault.Stranger are h = h
-refused-for segments cs (fault.MissingGroup n) are h = h
 refused-for segments cs fault.NoMemory are h = tt
 refused-for segments cs fault.Clash are h = clash-unclean (bag_of segments) cs are h
-refused-for segments cs (fault.Stray k) are h = h

@@ -12,7 +12,7 @@ use Rattle.entry.specs.declared.entry.Object.{Object}
 use Rattle.entry.specs.Bag.{IsAmong}
 use Rattle.entry.specs.Order.{key_cmp, key_eq}
 use Rattle.replay.specs.Claims.{Claimed, is_clash, is_last, next_clashes, has_clash, tops, object_of, objects_in}
-use Rattle.replay.proofs.KeyOrder.{key_eq-decides, key_cmp-between, key_cmp-less}
+use Rattle.entry.proofs.KeyOrder.{key_eq-decides, key_cmp-between, key_cmp-less}
 use Rattle.replay.proofs.ClaimOrder.{Precedes, Rises, rank, keys-up, ranks-up}
 
 -- ---- the last of each key

@@ -87,4 +87,3 @@ objects_in (c ∷ cs) = if c.dead then objects_in cs else object_of c ∷ object
 abbrev pub IsRefusedFor : Bool → ReplayFault → Type 0
 IsRefusedFor clash fault.NoMemory = ⊤
 IsRefusedFor clash fault.Clash = clash ≡ true
-IsRefusedFor clash _ = ⊥

@@ -23,4 +23,3 @@ pub record IsRebuilt (segments : List (List Entry)) (recorded : ℕ) (r : Rebuil
 abbrev pub IsRefusal : List (List Entry) → ReplayFault → Type 0
 IsRefusal segments fault.NoMemory = ⊤
 IsRefusal segments fault.Clash = ¬ IsClean (among (bag_of segments))
-IsRefusal segments _ = ⊥

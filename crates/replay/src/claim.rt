@@ -6,8 +6,8 @@ ghost use Rattle.entry.specs.Format.{IsObject};
 ghost use Rattle.entry.specs.Limits.{IsValue};
 ghost use Rattle.entry.specs.View.{shown};
 
-use entry::{EntryRef, KeyRef, Object, ObjectRef, Version};
-use std::alloc::{AllocError, Global};
+use entry::{EntryRef, KeyRef, NoMemory, Object, ObjectRef, Version};
+use std::alloc::Global;
 
 /// A key's value as of a version, or its end. Claims are ordered by key, then by version, and of one version the
 /// tombstone's stands last.
@@ -56,7 +56,7 @@ impl<'a> Claim<'a> {
     }
 
     /// The object that a claim which is not a tombstone's stands for.
-    pub fn to_object(&self, alloc: Global) -> Result<Object, AllocError>
+    pub fn to_object(&self, alloc: Global) -> Result<Object, NoMemory>
         ensures object { IfOk result (λ object. object ≡ object_of (claimed self.now)) }
         ensures valid { IsObject (object_of (claimed self.now)) }
     {

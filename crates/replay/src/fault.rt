@@ -4,25 +4,18 @@ ghost use Rattle.std.specs.Prelude.{◌≡◌, Some};
 ghost use Rattle.replay.specs.declared.fault.ReplayFault.TheVariants as replay_fault;
 ghost use Rattle.replay.specs.Texts.{replay_fault_text};
 
-use entry::Key;
 use std::alloc::{AllocError, AllocFailed};
 use std::error::Error;
 use std::fmt;
 
-/// Why a replay is refused. A number is that of a segment.
-#[derive(Debug, Drop)]
+/// Why a replay is refused. The numbers are fixed; those that are missing belong to replays in parts, which don't exist yet:
+/// 1 Double(segment), 2 Stranger, 3 MissingGroup(segment), 6 Stray(key).
+#[derive(Clone, Copy, Debug, PartialEq, Eq)]
 pub enum ReplayFault {
-    /// The group of this segment was taken before.
-    Double(u64),
-    /// The group is none of the partition's.
-    Stranger,
-    /// The group of this segment never came.
-    MissingGroup(u64),
+    /// 4: memory ran out.
     NoMemory,
-    /// Two objects of one key and version have different values.
+    /// 5: two objects of one key and version have different values.
     Clash,
-    /// This key lies outside the partition.
-    Stray(Key),
 }
 
 impl Error for ReplayFault {}
@@ -31,14 +24,10 @@ impl fmt::Display for ReplayFault {
     ghost output = { λ fault. Some (replay_fault_text fault) };
 
     fn fmt<W: fmt::Write>(&self, f: &mut fmt::Formatter<W>) -> fmt::Result {
-        match self {
-            ReplayFault::Double(segment) => write!(f, "Double {segment}"),
-            ReplayFault::Stranger => write!(f, "Stranger"),
-            ReplayFault::MissingGroup(segment) => write!(f, "MissingGroup {segment}"),
-            ReplayFault::NoMemory => write!(f, "NoMemory"),
-            ReplayFault::Clash => write!(f, "Clash"),
-            ReplayFault::Stray(_) => write!(f, "Stray"),
-        }
+        f.write_str(match self {
+            ReplayFault::NoMemory => "NoMemory",
+            ReplayFault::Clash => "Clash",
+        })
     }
 }
 

@@ -5,11 +5,12 @@ ghost use Rattle.replay.specs.Claims.{claimed, claims_of};
 ghost use Rattle.replay.specs.Bags.{bag_of};
 
 use crate::claim::Claim;
+use entry::NoMemory;
 use segment::Segment;
-use std::alloc::{AllocError, Global};
+use std::alloc::Global;
 
 /// The claims of the segments' objects and tombstones.
-pub fn claims_in<'a>(alloc: Global, segments: &'a [Segment]) -> Result<Vec<Claim<'a>>, AllocError>
+pub fn claims_in<'a>(alloc: Global, segments: &'a [Segment]) -> Result<Vec<Claim<'a>>, NoMemory>
     ensures { IfOk result (λ claims. map claimed claims.items ≡ claims_of (bag_of segments.entry.now)) }
 {
     let mut claims = Vec::new(alloc);
@@ -17,7 +18,7 @@ pub fn claims_in<'a>(alloc: Global, segments: &'a [Segment]) -> Result<Vec<Claim
         for entry in segment.entries() {
             if let Some(claim) = Claim::of(&entry) {
                 if claims.push(claim).is_err() {
-                    return Err(AllocError);
+                    return Err(NoMemory);
                 }
             }
         }

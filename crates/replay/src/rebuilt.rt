@@ -1,6 +1,8 @@
 //! The objects of a log, and a safe version for what follows it.
 
-ghost use Rattle.std.specs.Prelude.{◌≡◌, IfOk, IfErr};
+ghost use Rattle.std.specs.Prelude.{◌≡◌, IfOk, IfErr, OnOk};
+ghost use Rattle.entry.specs.Meaning.{IsClean, among};
+ghost use Rattle.replay.specs.Bags.{bag_of};
 ghost use Rattle.replay.specs.Rebuilt.{IsRebuilt, IsRefusal};
 
 use crate::fault::ReplayFault;
@@ -54,6 +56,7 @@ pub struct Rebuilt {
 /// even where a later version covers them. For n entries it takes n log n steps.
 pub fn rebuild_plain(alloc: Global, plan: &Plan) -> Result<Rebuilt, ReplayFault>
     ensures ok { IfOk result (IsRebuilt plan.now.segments plan.now.safe) }
+    ensures clean { OnOk result (IsClean (among (bag_of plan.now.segments))) }
     ensures err { IfErr result (IsRefusal plan.now.segments) }
 {
     let mut claims = claims_in(alloc, plan.segments.as_slice())?;

@@ -37,16 +37,20 @@ taken f b op = if nat_lt b f.backups then with_effect f b op (effect op.act (f.p
 abbrev pub faulted : FleetState → FleetState
 faulted f = record { backups = f.backups; picture = f.picture; takes = f.takes; end = f.end; faults = f.faults + 1 }
 
+-- the fleet was not spent, and took the op
+abbrev pub Takes : FleetState → ℕ → OpValue → FleetState → Type 0
+Takes old b op new = (old.takes < old.end) × (taken old b op ≡ Some new)
+
 -- A refused op is not taken; after a fault nobody knows whether it was.
 abbrev pub Refuses : FleetState → ℕ → OpValue → TakeFault → FleetState → Type 0
 Refuses old b op take_fault.NoMemory new = new ≡ old
 Refuses old b op take_fault.Wrong new = (taken old b op ≡ None) × (new ≡ old)
-Refuses old b op take_fault.Fault new = (new ≡ faulted old) ⊎ ((mid : FleetState) × (taken old b op ≡ Some mid) × (new ≡ faulted mid))
+Refuses old b op take_fault.Fault new = (new ≡ faulted old) ⊎ ((mid : FleetState) × Takes old b op mid × (new ≡ faulted mid))
 Refuses old b op take_fault.Spent new = (old.takes ≡ old.end) × (new ≡ old)
 
 -- what a take does, by its answer
 abbrev pub TakeGives : FleetState → ℕ → OpValue → Result Unit TakeFault → FleetState → Type 0
-TakeGives old b op (Ok u) new = (old.takes < old.end) × (taken old b op ≡ Some new)
+TakeGives old b op (Ok u) new = Takes old b op new
 TakeGives old b op (Err fault) new = Refuses old b op fault new
 
 -- the greatest number of 64 bits

@@ -1,6 +1,6 @@
 //! What a fleet of backups promises.
 
-ghost use Rattle.std.specs.Prelude.{◌≡◌, ℕ, IfOk, ◌↔◌};
+ghost use Rattle.std.specs.Prelude.{◌≡◌, ◌≤◌, ℕ, [], IfOk, ◌↔◌};
 ghost use Rattle.entry.specs.Bag.{IsAmong};
 ghost use Rattle.replica.specs.Op.{shown_op};
 ghost use Rattle.replica.specs.Picture.{FleetState, IsHeld, IsOnce};
@@ -23,10 +23,11 @@ pub trait Fleet {
     fn take(&mut self, backup: u64, op: &Op<'_>) -> Result<(), TakeFault>
         ensures { TakeGives (state self.old) backup (shown_op op.now) result (state self.new) };
 
-    /// All replicas that a backup holds, each once; none of a backup that there isn't.
+    /// All replicas that a backup holds, each once; none for a number that is no backup's.
     fn holdings(&self, alloc: Global, backup: u64) -> Result<Vec<Holding>, NoMemory>
         ensures shown { IfOk result (λ hs. (h : Holding) → IsAmong h hs.items ↔ ((h.backup ≡ backup) × IsHeld (state self.now).picture h)) }
-        ensures once { IfOk result (λ hs. IsOnce hs.items) };
+        ensures once { IfOk result (λ hs. IsOnce hs.items) }
+        ensures none { IfOk result (λ hs. (state self.now).backups ≤ backup → hs.items ≡ []) };
 
     /// How many ops were taken.
     fn takes(&self) -> u64

@@ -86,14 +86,10 @@ module _ (hs : List Holding) (m : ℕ) (d : MasterData) (p : Picture) (keep : �
 
   -- the log that was chosen is clean
   pub replay-want : (c : Choice) (plan : Plan) (e : ReplayFault) → IsPlanOf hs m c plan → IsRefusal plan.segments e → IsReplayWant e
-  replay-want c plan (replay_fault.Double id) planned says = absurd says
-  replay-want c plan replay_fault.Stranger planned says = absurd says
-  replay-want c plan (replay_fault.MissingGroup id) planned says = absurd says
   replay-want c plan replay_fault.NoMemory planned says = tt
   replay-want c plan replay_fault.Clash planned says =
       let clean : IsClean (among (bag_of c)) = sound.clean keep c (surviving-choice hs m d p keep is shows c planned.choice) in
       absurd (says (subst (λ es. IsClean (among es)) (sym (bag-of-plan hs m c plan planned)) clean))
-  replay-want c plan (replay_fault.Stray k) planned says = absurd says
 
 pub refused-plan : (hs : List Holding) (m : ℕ) (e : PlanFault) → IsFault hs m e → NamesLoss hs m e → IsSomeLoss hs m (fault.Plan e)
 refused-plan hs m e says loss d p keep sound is shows = plan-loss hs m d p keep sound is shows e says loss

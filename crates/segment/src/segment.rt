@@ -13,7 +13,7 @@ use crate::fault::AppendFault;
 use crate::unit::{len_within, write_all};
 use crate::view::SegmentRef;
 use entry::{Entry, EntryRef, Header, Ids, NoMemory, Role, SafeVersion, write_entry};
-use std::alloc::{AllocError, Global};
+use std::alloc::Global;
 use std::marker::Model;
 
 /// The most bytes of a segment.
@@ -42,7 +42,7 @@ impl Model for Segment {
 }
 
 /// Appends the spelling of an entry.
-fn append(entry: Entry, bytes: &mut Vec<u8>) -> Result<(), NoMemory>
+fn append_entry(entry: Entry, bytes: &mut Vec<u8>) -> Result<(), NoMemory>
     ensures valid { IsEntry entry }
     ensures ok { OnOk result (bytes.new.items ≡ bytes.old.items ++ spelling entry) }
 {
@@ -71,16 +71,16 @@ impl Segment {
             segment: id,
             role: Role::Head,
         };
-        append(Entry::Header(header), &mut bytes)?;
+        append_entry(Entry::Header(header), &mut bytes)?;
         let ids = Ids::new(Vec::from_slice(alloc, ids.as_slice())?);
-        append(Entry::Digest(ids), &mut bytes)?;
-        append(Entry::Safe(safe), &mut bytes)?;
+        append_entry(Entry::Digest(ids), &mut bytes)?;
+        append_entry(Entry::Safe(safe), &mut bytes)?;
         Ok(Segment { bytes })
     }
 
     /// Appends objects and tombstones, all or none of them, where the segment then has at most `limit` bytes. The
     /// answer is the offset of the first.
-    pub fn append_unit(&mut self, unit: &[EntryRef<'_>], limit: usize) -> Result<usize, AppendFault>
+    pub fn append(&mut self, unit: &[EntryRef<'_>], limit: usize) -> Result<usize, AppendFault>
         requires data { are_data (map shown unit.now) ≡ true }
         requires limit { limit ≤ MAX_SEGMENT_LEN }
         ensures ok { OnOk result (self.new ≡ self.old ++ map shown unit.now) }
@@ -149,7 +149,7 @@ impl<'a> SegmentRef<'a> {
     ghost use Rattle.segment.specs.View.{entries_of};
 
     /// A segment of its own.
-    pub fn to_segment(&self, alloc: Global) -> Result<Segment, AllocError>
+    pub fn to_segment(&self, alloc: Global) -> Result<Segment, NoMemory>
         ensures { IfOk result (λ segment. segment ≡ entries_of self.now) }
     {
         let bytes = Vec::from_slice(alloc, self.bytes)?;

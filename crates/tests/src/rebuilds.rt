@@ -109,7 +109,8 @@ const NEXT: Line<'static> = (1, "a", 2, Some(b'y'));
 /// The greatest version that the recorded safe version lies above, the segments, and what they are rebuilt to.
 type Row<'a> = (u64, &'a [Log<'a>], &'a str);
 
-/// In any order the entry of greatest rank counts; two values of one version clash; objects are sorted by table and key.
+/// In any order the entry of greatest rank counts; two values of one version clash, also where a later version covers them;
+/// objects are sorted by table and key.
 const ROWS: &[Row<'static>] = &[
     (
         1,
@@ -132,6 +133,14 @@ const ROWS: &[Row<'static>] = &[
     (
         1,
         &[(FIRST, &[OBJECT]), (SECOND, &[(1, "a", 1, Some(b'y'))])],
+        "Clash",
+    ),
+    (
+        1,
+        &[
+            (FIRST, &[OBJECT]),
+            (SECOND, &[(1, "a", 1, Some(b'y')), NEXT]),
+        ],
         "Clash",
     ),
     (

@@ -11,7 +11,7 @@ use Rattle.log_head.proofs.head.Head.append.Goals as goal
 grown : (c : goal.After-push_reserved) → IsHead (record {
   id = c.self.inside.id;
   replicas = c.self.inside.replicas;
-  image = c.append_unit.new.self;
+  image = c.append.new.self;
   opening = c.self.inside.opening;
   units = c.push_reserved.new.self.items;
   taken = c.self.inside.taken.items;
@@ -21,9 +21,9 @@ grown c =
     let units = c.self.inside.units.items in
     let end = length c.bytes-end.result.now in
     let unit : UnitEnd = record { number = c.args.number; end = length c.bytes-end.result.now } in
-    let at : length c.bytes-end.result.now ≡ length (text_of c.append_unit.new.self) = ap length c.bytes-end.ensures.text in
-    let parts : length (text_of c.append_unit.new.self) ≡ length (text_of c.self.inside.image) + length (text_of (map shown c.args.unit.now)) =
-    ap (λ (es : List Entry). length (text_of es)) c.in_ok-append_unit.ensures.ok ∙ text_more c.self.inside.image (map shown c.args.unit.now) in
+    let at : length c.bytes-end.result.now ≡ length (text_of c.append.new.self) = ap length c.bytes-end.ensures.text in
+    let parts : length (text_of c.append.new.self) ≡ length (text_of c.self.inside.image) + length (text_of (map shown c.args.unit.now)) =
+    ap (λ (es : List Entry). length (text_of es)) c.in_ok-append.ensures.ok ∙ text_more c.self.inside.image (map shown c.args.unit.now) in
     let more : length (text_of c.self.inside.image) ≤ length c.bytes-end.result.now = omega arith in
     let items : c.push_reserved.new.self.items ≡ units ++ unit ∷ [] =
     c.push_reserved.ensures.items ∙ rw c.reserve.ensures.items refl in

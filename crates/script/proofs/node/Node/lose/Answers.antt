@@ -17,6 +17,6 @@ returns c = λ config.
     (λ d of. kept d (subst (λ (n : Node). IsOf n d) c.in-Down.is of))
     (λ history at up made. (up ∙ ap is_up c.in-Down.is, refl, rests at false (up ∙ ap is_up c.in-Down.is))) in
     elim c.if-backup-backups.branch as (λ _. AnswersLine c.args.self.now config (Lose c.args.backup) c.if-backup-backups.self (answer.Lost c.args.backup)) [
-      | then-backup-backups w ↦ rw w.self-is (stays w.lose.new.self (λ d. lost_of d c.in-Down.fleet w.lose.new.self c.args.backup w.lose.ensures))
+      | then-backup-backups w ↦ rw w.self-is (stays w.lose.new.self (λ d. lost_of d c.in-Down.fleet w.lose.new.self c.args.backup w.lose.ensures.lost))
       | else-backup-backups w ↦ rw w.self-is (stays c.in-Down.fleet (λ d of. of))
     ]

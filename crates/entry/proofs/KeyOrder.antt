@@ -1,19 +1,15 @@
 -- Keys in order.
 use Rattle.std.proofs.Common.{◌≡◌, ℕ, ◌<◌, true, false, refl, sym, ap, subst, ◌∙◌}
 use Rattle.std.specs.Bool.{Decides}
-use Rattle.std.specs.Cmp.{IsTotalOrder}
 use Rattle.std.specs.Cmp.Lexicographic.{slice_cmp, texts_ties}
 use Rattle.std.specs.Ordering.{nat_cmp, ordering_then, ordering_reverse, is_gt, is_eq, MatchOrdering}
 use Rattle.std.specs.declared.cmp.Ordering.{Ordering}
 use Rattle.std.specs.declared.cmp.Ordering.TheVariants.{Less, Equal, Greater}
 use Rattle.std.proofs.lemmas.Bool.Decides.{Decides-eqb, Decides-and, Decides-like}
-use Rattle.std.proofs.lemmas.Cmp.{nat_cmp_total, nat_list_cmp_total, on_total, then_total, tied_itself, ranked}
+use Rattle.std.proofs.lemmas.Cmp.{tied_itself, ranked}
 use Rattle.std.proofs.lemmas.Slice.Eq.{bytes_eq-Decides}
 use Rattle.entry.specs.declared.key.Key.{Key}
-use Rattle.entry.specs.Order.{key_cmp, key_eq}
-
-pub key_cmp-total : IsTotalOrder key_cmp
-key_cmp-total = then_total (on_total (λ (k : Key). k.table) nat_cmp_total) (on_total (λ (k : Key). k.bytes) nat_list_cmp_total)
+use Rattle.entry.specs.Order.{key_cmp, key_eq, key_cmp-total}
 
 pub key_eq-decides : (a b : Key) → Decides (key_eq a b) (a ≡ b)
 key_eq-decides a b =

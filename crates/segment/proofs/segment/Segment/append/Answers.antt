@@ -3,7 +3,7 @@ use Rattle.entry.specs.Text.{text_of, entries_in}
 use Rattle.entry.specs.View.{shown}
 use Rattle.segment.proofs.WalkLemmas.{IsTextOf-entries_in, IsSegmentBytes-from_text}
 use Rattle.segment.proofs.UnitLemmas.{IsTextOf-append}
-use Rattle.segment.proofs.segment.Segment.append_unit.Goals as goal
+use Rattle.segment.proofs.segment.Segment.append.Goals as goal
 
 pub invariant_of-self-2 : goal.invariant_of-self-2
 invariant_of-self-2 c =
