@@ -111,7 +111,8 @@ module _ (master : ℕ) (h : HeadValue) (l : Head) (is : IsImageOf master h l) w
       ap (λ (es : List Entry). length (text_of es)) (entries_at n) in
       omega arith
 
-  count_is : length h.units ≡ length l.units
+  -- there are as many ends as units
+  pub count_is : length h.units ≡ length l.units
   count_is = go h.opening h.units l.units is.ends where
     go : (from : ℕ) (es : List UnitEnd) (us : List LogUnit) → AreEnds from es us → length es ≡ length us
     go from [] [] ends = refl

@@ -1,6 +1,5 @@
 -- What every step keeps.
-use Rattle.std.proofs.Common.{◌≡◌, ℕ, ◌+◌, ◌≤◌, inl, inr, Bool, true, false, List, [], ◌∷◌, ◌++◌, length, refl, sym, ap, subst, ◌∙◌}
-use Rattle.std.proofs.Common.{append_assoc, arith}
+use Rattle.std.proofs.Common.{◌≡◌, ℕ, ◌+◌, ◌≤◌, inl, inr, Bool, true, false, List, [], ◌∷◌, ◌++◌, length, refl, sym, ap, subst, ◌∙◌, append_assoc, arith}
 use Rattle.std.specs.Prelude.{Option, Some, None, Result, Ok, Err, nat_lt}
 use Rattle.std.proofs.lemmas.List.{append-nil, length-append}
 use Rattle.std.proofs.lemmas.Option.{same_Some}
@@ -9,22 +8,27 @@ use Rattle.replica.specs.Picture.{Replica, FleetState, is_same_place}
 use Rattle.replica.specs.Take.{Refuses, taken, with_effect, effect}
 use Rattle.replica.specs.declared.op.TakeFault.TheVariants as take_fault
 use Rattle.versioned_map.specs.declared.command.Command.{Command}
+use Rattle.log_model.specs.Data.{LogData, durable_of}
+use Rattle.log_model.specs.Kept.{IsKept as IsLogKept}
+use Rattle.log_model.specs.Ops.{LogOp, op_of}
+use Rattle.log_model.specs.Steps.{IsNext}
+use Rattle.log_model.proofs.Durables.{durable-apply, durable-next}
+use Rattle.log_model.proofs.Texts.{same_place-tells}
 use Rattle.master_core.specs.declared.step.Refusal.{Refusal}
 use Rattle.master_core.specs.declared.step.Refusal.TheVariants as refusal
 use Rattle.master_core.specs.declared.step.Step.{Step}
 use Rattle.master_core.specs.declared.step.Step.TheVariants.{Apply, Push}
 use Rattle.master_core.specs.declared.step.StepAnswer.{StepAnswer}
 use Rattle.master_core.specs.declared.step.StepAnswer.TheVariants.{Applied, Opened, Extended}
-use Rattle.log_head.specs.Head.{HeadValue}
+use Rattle.master_core.specs.Causes.{dead_segment}
+use Rattle.master_core.specs.Data.{MasterData}
+use Rattle.master_core.specs.Log.{log_of}
+use Rattle.master_core.specs.Steps.{Applies, record_now}
+use Rattle.master.specs.Invariant.{IsKept}
 use Rattle.master.specs.Keeps.{Keeps}
-use Rattle.master_core.specs.Log.{state_of, IsLogged}
-use Rattle.master_core.specs.Data.{MasterData, durable_of}
-use Rattle.versioned_map.specs.Represents.{unit_of}
-use Rattle.master.specs.Steps.{World, open_op, extend_op, AppliesTo, IsNextOp, FailsTake, Accepts, Steps}
-use Rattle.master.proofs.Appended.{same-appended, log_applied}
-use Rattle.master.proofs.Durables.{durable-units, durable-replica, durable-taken}
-use Rattle.master.proofs.Mirroring.{same_place-tells}
-use Rattle.master_core.proofs.Refusals.{is_admitted, passed_early}
+use Rattle.master.specs.Pushes.{IsNextOp, Pushes}
+use Rattle.master.specs.Steps.{Accepts, FailsTake, Steps}
+use Rattle.master.specs.World.{World}
 
 -- ---- many steps
 
@@ -97,10 +101,22 @@ module _ (f : FleetState) (b : ℕ) (op : OpValue) where
 
 -- ---- a step
 
-module _ (old new : World) (logged : IsLogged old.knows) where
+is_next : (d e : LogData) (o : LogOp) (answer : StepAnswer) → IsNextOp d o answer e → IsNext d o e
+is_next d e o (Opened backup segment) is = inl is.0
+is_next d e o (Extended backup segment) is = inr (inl is.0.extends)
+is_next d e o (Applied place reply) is = absurd is
+
+module _ (old new : World) (kept : IsKept old.knows old.fleet) where
+  log_kept : IsLogKept (log_of old.knows) kept.before
+  log_kept = record {
+    texts = kept.held.texts;
+    held = record { placed = kept.held.placed; logged = kept.held.logged; mirrored = kept.held.mirrored };
+    standing = kept.held.standing;
+  }
+
   -- a step that adds no record
   silent : new.knows.config ≡ old.knows.config → new.knows.history ≡ old.knows.history → IsBeside old.knows.config.master old.fleet new.fleet
-      → durable_of old.knows ≤ durable_of new.knows → Keeps 1 old new
+      → durable_of (log_of old.knows) ≤ durable_of (log_of new.knows) → Keeps 1 old new
   silent config history beside durable = record {
     config = config;
     takes = beside.takes;
@@ -112,54 +128,31 @@ module _ (old new : World) (logged : IsLogged old.knows) where
   unchanged : new ≡ old → Keeps 1 old new
   unchanged same = subst (Keeps 1 old) (sym same) (keeps_same 1 old)
 
-  applied : (seat : ℕ) (command : Command) (answer : StepAnswer) → AppliesTo old seat command answer new → Keeps 1 old new
-  applied seat command answer a =
+  applied : (seat : ℕ) (command : Command) (answer : StepAnswer) → Applies old.knows seat command answer new.knows → new.fleet ≡ old.fleet → Keeps 1 old new
+  applied seat command answer a fleet =
       let d = old.knows in
-      let unit = unit_of (state_of d) d.head.id command in
-      let same = same-appended d.head (length d.history) unit in
-      let beside = subst (IsBeside d.config.master old.fleet) (sym a.fleet) (beside_same d.config.master old.fleet) in
-      let key = (is_admitted d command (passed_early d command a.passed)).key in
+      let beside = subst (IsBeside d.config.master old.fleet) (sym fleet) (beside_same d.config.master old.fleet) in
       record {
         config = a.config;
         takes = beside.takes;
         others = beside.others;
-        durable = durable-units d new.knows logged.log.0 (unit ∷ []) logged.log.1
-            (log_applied d new.knows logged.log.0 _ logged.log.1 key a.config a.history a.head)
-            (ap (λ (h : HeadValue). h.taken) a.head ∙ same.2) (ap (λ (h : HeadValue). h.replicas) a.head ∙ same.3);
-        history = (_, a.history);
+        durable = subst (λ (l : LogData). durable_of (log_of old.knows) ≤ durable_of l) (sym a.log)
+            (durable-apply (log_of d) kept.before log_kept (dead_segment d command) (record_now d seat command));
+        history = (record_now d seat command ∷ [], ap (λ (l : LogData). l.history) a.log);
       }
 
-  opened : (b s : ℕ) → Accepts old Push (Opened b s) new → Keeps 1 old new
-  opened b s t =
-      let is = t.4 in
-      silent (ap (λ (d : MasterData). d.config) is) (ap (λ (d : MasterData). d.history) is)
-      (taken_beside old.fleet b (open_op old.knows) new.fleet t.3)
-      (durable-replica old.knows new.knows logged.log.0 logged.log.1 (ap (λ (d : MasterData). d.history) is) t.1.waiting
-      (ap (λ (d : MasterData). d.head) is))
-
-  extended : (b s : ℕ) → Accepts old Push (Extended b s) new → Keeps 1 old new
-  extended b s t =
-      let j = t.1.0 in
-      let units = t.1.1 in
-      let is = t.1.5 in
-      silent (ap (λ (d : MasterData). d.config) is) (ap (λ (d : MasterData). d.history) is)
-      (taken_beside old.fleet b (extend_op old.knows units) new.fleet t.1.4)
-      (durable-taken old.knows new.knows logged.log.0 j logged.log.1 (ap (λ (d : MasterData). d.history) is)
-      (ap (λ (d : MasterData). d.head) is))
-
-  -- a push hands out ops of its own master
-  own_op : (b : ℕ) (op : OpValue) → IsNextOp old.knows b op → op.master ≡ old.knows.config.master
-  own_op b op (inl t) = ap (λ (o : OpValue). o.master) t.1
-  own_op b op (inr t) = ap (λ (o : OpValue). o.master) t.3
+  pushed : (answer : StepAnswer) → Pushes old answer new → Keeps 1 old new
+  pushed answer p =
+      silent (ap (λ (d : MasterData). d.config) p.rest) (ap (λ (d : MasterData). d.history) p.rest)
+      (taken_beside old.fleet p.op.backup (op_of old.knows.config.master p.op) new.fleet p.takes.1)
+      (durable-next (log_of old.knows) kept.before log_kept p.op (log_of new.knows) (is_next (log_of old.knows) (log_of new.knows) p.op answer p.next))
 
   halts : FailsTake old refusal.Halted new → Keeps 1 old new
   halts t =
       let is = t.0 in
-      let b = t.1.0 in
-      let op = t.1.1 in
       silent (ap (λ (d : MasterData). d.config) is) (ap (λ (d : MasterData). d.history) is)
-      (subst (λ (m : ℕ). IsBeside m old.fleet new.fleet) (own_op b op t.1.2) (fault_beside old.fleet b op new.fleet t.1.3))
-      (subst (λ (d : MasterData). durable_of old.knows ≤ durable_of d) (sym is) (omega arith))
+      (fault_beside old.fleet t.1.0.backup (op_of old.knows.config.master t.1.0) new.fleet t.1.4)
+      (subst (λ (d : MasterData). durable_of (log_of old.knows) ≤ durable_of (log_of d)) (sym is) (omega arith))
 
   failed : (r : Refusal) → FailsTake old r new → Keeps 1 old new
   failed refusal.NoMemory t = unchanged t
@@ -174,14 +167,12 @@ module _ (old new : World) (logged : IsLogged old.knows) where
   failed refusal.NoTablet t = absurd t
 
   step_keeps : (step : Step) (result : Result StepAnswer Refusal) → Steps old step result new → Keeps 1 old new
-  step_keeps (Apply seat command) (Ok answer) t = applied seat command answer t
+  step_keeps (Apply seat command) (Ok answer) t = applied seat command answer t.0 t.1
   step_keeps (Apply seat command) (Err r) t = unchanged t.0
-  step_keeps Push (Ok (Opened b s)) t = opened b s t
-  step_keeps Push (Ok (Extended b s)) t = extended b s t
-  step_keeps Push (Ok (Applied place reply)) t = absurd t
+  step_keeps Push (Ok answer) t = pushed answer t
   step_keeps Push (Err r) (inl t) = unchanged t.1
   step_keeps Push (Err r) (inr t) = failed r t.1
 
-pub steps_keep : (old new : World) (step : Step) (result : Result StepAnswer Refusal) → IsLogged old.knows → Steps old step result new
+pub steps_keep : (old new : World) (step : Step) (result : Result StepAnswer Refusal) → IsKept old.knows old.fleet → Steps old step result new
     → Keeps 1 old new
-steps_keep old new step result logged t = step_keeps old new logged step result t
+steps_keep old new step result kept t = step_keeps old new kept step result t

@@ -1,10 +1,38 @@
--- What holds of every master and its fleet.
-use Rattle.replica.specs.Picture.{FleetState}
-use Rattle.master_core.specs.Log.{IsLogged}
-use Rattle.master_core.specs.Data.{MasterData, IsMaster}
-use Rattle.master.specs.Mirror.{Mirrors}
+-- What a master keeps: the laws of a log hold of what it knows, its memory, and the backups before a fault.
+use Rattle.std.specs.Prelude.{◌≡◌, ◌⊎◌, ℕ, ◌≤◌, [], false, Some}
+use Rattle.entry.specs.declared.entry.Entry.{Entry}
+use Rattle.replica.specs.Picture.{Picture, FleetState}
+use Rattle.log_head.specs.Log.{head_of}
+use Rattle.log_model.specs.Data.{LogData}
+use Rattle.log_model.specs.Kept.{IsPast}
+use Rattle.log_model.specs.Ops.{LogOp, taken}
+use Rattle.log_model.specs.Steps.{IsNext}
+use Rattle.clean_model.specs.Held.{IsHeld}
+use Rattle.clean_model.specs.Memory.{Memory, no_pass}
+use Rattle.master_core.specs.Data.{MasterData}
+use Rattle.master_core.specs.Invariant.{IsCore}
+use Rattle.master_core.specs.Log.{log_of}
+
+-- the memory is that of the master's head, and no pass is open
+pub record IsMemoryOf (d : MasterData) (m : Memory) : Type 0 where
+  pub image : m.images d.head.id ≡ d.head.image
+  pub pass : m.pass ≡ no_pass
+
+-- the backups are as before, or have the next op besides
+abbrev pub IsAfter : LogData → Picture → Picture → Type 0
+IsAfter d before now = (now ≡ before) ⊎ ((o : LogOp) × (e : LogData) × IsNext d o e × (taken before d.config.master o ≡ Some now))
 
 pub record IsKept (d : MasterData) (f : FleetState) : Type 0 where
-  pub valid : IsMaster d
-  pub logged : IsLogged d
-  pub mirrors : Mirrors d f
+  pub core : IsCore d
+  -- the digest lists the head alone
+  pub alone : (head_of d.head).start.others ≡ []
+  pub memory : Memory
+  pub memory_is : IsMemoryOf d memory
+  -- what the backups held before a fault
+  pub before : Picture
+  pub held : IsHeld (log_of d) memory before
+  -- no head went before
+  pub first : IsPast (log_of d) before []
+  pub backups : d.config.backups ≤ f.backups
+  pub now : IsAfter (log_of d) before f.picture
+  pub running : d.is_halted ≡ false → f.picture ≡ before

@@ -1,8 +1,9 @@
 -- What steps keep, whatever they answer.
 use Rattle.std.specs.Prelude.{◌≡◌, ℕ, ◌+◌, ◌≤◌, List, ◌++◌}
+use Rattle.log_model.specs.Data.{durable_of}
 use Rattle.versioned_map.specs.declared.command.Record.{Record}
-use Rattle.master_core.specs.Data.{durable_of}
-use Rattle.master.specs.Steps.{World}
+use Rattle.master_core.specs.Log.{log_of}
+use Rattle.master.specs.World.{World}
 
 pub record Keeps (most : ℕ) (old new : World) : Type 0 where
   pub config : new.knows.config ≡ old.knows.config
@@ -11,6 +12,6 @@ pub record Keeps (most : ℕ) (old new : World) : Type 0 where
   -- no replica of another master changed
   pub others : (b m s : ℕ) → (m ≡ old.knows.config.master → ⊥) → new.fleet.picture b m s ≡ old.fleet.picture b m s
   -- what was durable is durable
-  pub durable : durable_of old.knows ≤ durable_of new.knows
+  pub durable : durable_of (log_of old.knows) ≤ durable_of (log_of new.knows)
   -- the history goes on from what it was
   pub history : (more : List Record) × (new.knows.history ≡ old.knows.history ++ more)

@@ -102,7 +102,7 @@ indexed d core k =
 -- ---- the segment of the dead object
 
 -- where the index finds the command's key it names the head
-head_or_none : (d : MasterData) (command : Command) → IsCore d
+pub head_or_none : (d : MasterData) (command : Command) → IsCore d
     → (dead_segment d command ≡ d.head.id) ⊎ ((state_now d).contents (command_key command) ≡ None)
 head_or_none d command core = go (first_at d.head.image (command_key command) d.places) refl ((state_now d).contents (command_key command)) refl
     (indexed d core (command_key command)) where

@@ -1,6 +1,6 @@
 use Rattle.std.proofs.Common.{◌≡◌, ◌+◌, ◌++◌, ◌∷◌, [], length, vec_len, rules, arith}
 use Rattle.std.proofs.lemmas.List.{length-append}
-use Rattle.master.specs.Steps.{world}
+use Rattle.master.specs.World.{world}
 use Rattle.master.proofs.Keeping.{keeps_same, keeps_pushed}
 use Rattle.master.proofs.Runs.{run_pushed}
 use Rattle.master.proofs.master.Master.run.Goals as goal
@@ -15,7 +15,7 @@ loop-step-preserved g c =
     record {
       ran = run_pushed (world g.F.Fleet.state c.args.self.now) (world g.F.Fleet.state c.loop-step.self) (world g.F.Fleet.state c.step-answer.new.self)
           c.loop-step.yielded c.loop-step.answers.items c.push_reserved.new.self.items c.in-Some.step c.step-answer.result items before.ran
-          c.step-answer.ensures.gives;
+          c.step-answer.ensures.gives (record { keeps = c.step-answer.ensures.keeps; valid = c.step-answer.ensures.valid });
       keeps = keeps_pushed (world g.F.Fleet.state c.args.self.now) (world g.F.Fleet.state c.loop-step.self)
           (world g.F.Fleet.state c.step-answer.new.self) c.loop-step.yielded c.in-Some.step before.keeps c.step-answer.ensures.keeps;
       count = omega (arith, length-append c.loop-step.yielded (c.in-Some.step ∷ []));

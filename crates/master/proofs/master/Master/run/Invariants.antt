@@ -1,6 +1,7 @@
 use Rattle.std.proofs.Common.{◌≡◌, ◌≤◌, length, vec_len, vec_capacity}
 use Rattle.master.specs.Keeps.{Keeps}
-use Rattle.master.specs.Steps.{world, IsRun}
+use Rattle.master.specs.Steps.{IsRun}
+use Rattle.master.specs.World.{world}
 use Rattle.master.proofs.master.Master.run.Given as goal
 
 abbrev pub invariant-loop-step : goal.invariant-loop-step

@@ -4,7 +4,8 @@ use Rattle.master_core.specs.declared.step.Refusal.{Refusal}
 use Rattle.master_core.specs.declared.step.Step.{Step}
 use Rattle.master_core.specs.declared.step.Step.TheVariants.{Apply, Push}
 use Rattle.master_core.specs.declared.step.StepAnswer.{StepAnswer}
-use Rattle.master.specs.Steps.{World, world, Accepts, Declines, Steps}
+use Rattle.master.specs.Steps.{Accepts, Declines, Steps}
+use Rattle.master.specs.World.{World, world}
 use Rattle.master.proofs.Keeping.{steps_keep}
 use Rattle.master.proofs.master.Master.step.Goals.{in-Apply, in-Push}
 use Rattle.master.proofs.master.Master.step.Goals as goal
@@ -27,4 +28,4 @@ returns-clause-gives g c = elim c.match-step.branch [
 pub returns-clause-keeps : goal.returns-clause-keeps
 returns-clause-keeps g c =
     steps_keep (world g.F.Fleet.state c.args.self.now) (world g.F.Fleet.state c.match-step.self) c.args.step c.match-step.outcome
-    c.show_kept.ensures.logged (returns-clause-gives g c)
+    c.show_kept.ensures (returns-clause-gives g c)

@@ -1,0 +1,153 @@
+-- The op that comes next, taken or not, keeps what holds of a master.
+use Rattle.std.proofs.Common.{◌≡◌, ℕ, ◌+◌, ◌<◌, ◌≤◌, ◌⊎◌, inl, inr, Bool, true, false, List, [], length, Some, refl, sym, ap, subst, ◌∙◌, arith}
+use Rattle.std.specs.Prelude.{Option, None, nat_lt}
+use Rattle.std.specs.Option.{option_map}
+use Rattle.std.proofs.lemmas.Bool.Decides.{nat_tests}
+use Rattle.std.proofs.lemmas.Option.{same_Some}
+use Rattle.replica.specs.Picture.{Replica, Picture, FleetState, with_replica}
+use Rattle.replica.specs.Take.{Refuses, Takes, taken as fleet_taken, with_effect, effect}
+use Rattle.replica.specs.declared.op.TakeFault.{TakeFault}
+use Rattle.replica.specs.declared.op.TakeFault.TheVariants as take_fault
+use Rattle.log_model.specs.Data.{Head, LogData}
+use Rattle.log_model.specs.Kept.{IsPast}
+use Rattle.log_model.specs.Ops.{LogOp, op_of, taken}
+use Rattle.log_model.specs.Steps.{IsNext}
+use Rattle.clean_model.specs.Held.{IsHeld}
+use Rattle.clean_model.proofs.Takes.{take_keeps}
+use Rattle.master_core.specs.declared.step.StepAnswer.{StepAnswer}
+use Rattle.master_core.specs.declared.step.Step.TheVariants.{Push}
+use Rattle.master_core.specs.Causes.{push_refusal}
+use Rattle.master_core.specs.Data.{MasterData}
+use Rattle.master_core.specs.Invariant.{IsCore}
+use Rattle.master_core.specs.Log.{log_of}
+use Rattle.master_core.specs.Steps.{halted, refusal_of, failed_data}
+use Rattle.master_core.proofs.Beginning.{halted_core}
+use Rattle.master.specs.Invariant.{IsKept}
+use Rattle.master.specs.Pushes.{IsNextOp}
+use Rattle.master.specs.Steps.{Declines}
+use Rattle.master.specs.World.{World}
+
+-- ---- the fleet and the picture
+
+-- a fleet that has the backup takes what its picture takes
+fleet_takes : (f : FleetState) (o : LogOp) (master : ℕ) (q : Picture) → o.backup < f.backups → taken f.picture master o ≡ Some q
+    → fleet_taken f o.backup (op_of master o) ≡ Some (record f { picture = q; takes = f.takes + 1 })
+fleet_takes f o master q lt is =
+    let within : nat_lt o.backup f.backups ≡ true = grind (arith, nat_tests) in
+    rw within (go (effect o.act (f.picture o.backup master o.segment)) is)
+  where
+    go : (x : Option (Option Replica)) → option_map (λ (r : Option Replica). with_replica f.picture o.backup master o.segment r) x ≡ Some q
+        → with_effect f o.backup (op_of master o) x ≡ Some (record f { picture = q; takes = f.takes + 1 })
+    go None e = absurd (cc)
+    go (Some r) e = ap (λ (p : Picture). Some (record f { picture = p; takes = f.takes + 1 })) (same_Some _ q e)
+
+none_some : (f : FleetState) (o : Option FleetState) → o ≡ Some f → o ≡ None → ⊥
+none_some f o a b = let both = sym a ∙ b in cc
+
+-- ---- an op
+
+module _ (d : MasterData) (ks : List ℕ) (f : FleetState) (o : LogOp) (kept : IsKept d f) (running : d.is_halted ≡ false)
+    (next : IsNext (log_of d) o (log_of (record d { head = record d.head { taken = ks } }))) (backup : o.backup < d.config.backups) where
+  abbrev e : MasterData
+  e = record d { head = record d.head { taken = ks } }
+
+  abbrev master : ℕ
+  master = d.config.master
+
+  abbrev here : f.picture ≡ kept.before
+  here = kept.running running
+
+  then_is : (q : Picture) × (taken kept.before d.config.master o ≡ Some q) × IsHeld (log_of e) kept.memory q
+  then_is = take_keeps (log_of d) (log_of e) kept.memory kept.before o kept.held next
+
+  took : taken f.picture d.config.master o ≡ Some then_is.0
+  took = ap (λ (p : Picture). taken p d.config.master o) here ∙ then_is.1
+
+  fits : fleet_taken f o.backup (op_of d.config.master o) ≡ Some (record f { picture = then_is.0; takes = f.takes + 1 })
+  fits = let le = kept.backups in fleet_takes f o d.config.master then_is.0 (omega arith) took
+
+  pub right : fleet_taken f o.backup (op_of d.config.master o) ≡ None → ⊥
+  right none = none_some _ _ fits none
+
+  -- the fleet is the one that took the op
+  picture_is : (g : FleetState) → fleet_taken f o.backup (op_of d.config.master o) ≡ Some g → (then_is.0 ≡ g.picture) × (g.backups ≡ f.backups)
+  picture_is g is =
+      let same = same_Some (record f { picture = then_is.0; takes = f.takes + 1 }) g (sym fits ∙ is) in
+      (ap (λ (h : FleetState). h.picture) same, sym (ap (λ (h : FleetState). h.backups) same))
+
+  -- no head went before, as before
+  first_then : (q : Picture) → IsPast (log_of e) q []
+  first_then q = record {
+    numbered = kept.first.numbered;
+    whole = λ h m. absurd m;
+    older = λ h m. absurd m;
+    segment = λ h m. absurd m;
+    held = λ h b m other home. absurd m;
+  }
+
+  pub taken_kept : (g : FleetState) → IsCore e → fleet_taken f o.backup (op_of d.config.master o) ≡ Some g → IsKept e g
+  taken_kept g core is =
+      let same = picture_is g is in
+      record {
+        core = core;
+        alone = kept.alone;
+        memory = kept.memory;
+        memory_is = record { image = kept.memory_is.image; pass = kept.memory_is.pass };
+        before = then_is.0;
+        held = then_is.2;
+        first = first_then then_is.0;
+        backups = (let le = kept.backups in let count = same.1 in omega arith);
+        now = inl (sym same.0);
+        running = λ going. sym same.0;
+      }
+
+  -- ---- a fault
+
+  -- after a fault the backups are as before, or have the op
+  fault_kept : (g : FleetState) → Refuses f o.backup (op_of d.config.master o) take_fault.Fault g → IsKept (halted d) g
+  fault_kept g refused = record {
+    core = halted_core d kept.core;
+    alone = kept.alone;
+    memory = kept.memory;
+    memory_is = record { image = kept.memory_is.image; pass = kept.memory_is.pass };
+    before = kept.before;
+    held = kept.held;
+    first = kept.first;
+    backups = go refused;
+    now = after refused;
+    running = λ never. absurd (cc);
+  } where
+    go : Refuses f o.backup (op_of d.config.master o) take_fault.Fault g → d.config.backups ≤ g.backups
+    go (inl same) = let le = kept.backups in let count : g.backups ≡ f.backups = ap (λ (h : FleetState). h.backups) same in omega arith
+    go (inr t) =
+        let le = kept.backups in
+        let count : g.backups ≡ t.0.backups = ap (λ (h : FleetState). h.backups) t.2 in
+        let was = (picture_is t.0 t.1.1).1 in omega arith
+
+    after : Refuses f o.backup (op_of d.config.master o) take_fault.Fault g
+        → (g.picture ≡ kept.before) ⊎ ((p : LogOp) × (x : LogData) × IsNext (log_of d) p x × (taken kept.before d.config.master p ≡ Some g.picture))
+    after (inl same) = inl (ap (λ (h : FleetState). h.picture) same ∙ here)
+    after (inr t) = inr (
+      o,
+      log_of e,
+      next,
+      then_is.1 ∙ ap (λ (p : Picture). Some p) ((picture_is t.0 t.1.1).0 ∙ sym (ap (λ (h : FleetState). h.picture) t.2)),
+    )
+
+  pub failed_kept : (g : FleetState) (fault : TakeFault) → Refuses f o.backup (op_of d.config.master o) fault g → IsKept (failed_data d fault) g
+  failed_kept g take_fault.NoMemory refused = subst (IsKept d) (sym refused) kept
+  failed_kept g take_fault.Wrong refused = absurd (right refused.0)
+  failed_kept g take_fault.Fault refused = fault_kept g refused
+  failed_kept g take_fault.Spent refused = subst (IsKept d) (sym refused.1) kept
+
+  pub not_wrong : (g : FleetState) (x : TakeFault) → Refuses f o.backup (op_of d.config.master o) x g → x ≡ take_fault.Wrong → ⊥
+  not_wrong g x refused is = right ((rw is at refused).0)
+
+  pub failed_declines : (g : FleetState) (fault : TakeFault) (answer : StepAnswer) → IsNextOp (log_of d) o answer (log_of e) → push_refusal d ≡ None
+      → Refuses f o.backup (op_of d.config.master o) fault g
+      → Declines (record { knows = d; fleet = f }) Push (refusal_of fault) (record { knows = failed_data d fault; fleet = g })
+  failed_declines g take_fault.NoMemory answer is passed refused = inr (passed, ap (λ (h : FleetState). record { knows = d; fleet = h }) refused)
+  failed_declines g take_fault.Wrong answer is passed refused = absurd (right refused.0)
+  failed_declines g take_fault.Fault answer is passed refused = inr (passed, (refl, (o, answer, e, is, refused)))
+  failed_declines g take_fault.Spent answer is passed refused =
+      inr (passed, (refused.0, ap (λ (h : FleetState). record { knows = d; fleet = h }) refused.1))

@@ -1,0 +1,44 @@
+-- A new master is kept.
+use Rattle.std.proofs.Common.{◌≡◌, ℕ, ◌≤◌, inl, List, [], Some, refl, sym, ap, subst}
+use Rattle.std.specs.Prelude.{None}
+use Rattle.replica.specs.Picture.{FleetState}
+use Rattle.log_head.proofs.HeadLog.{head_is, image_fresh}
+use Rattle.log_head.specs.Steps.{fresh_head}
+use Rattle.log_model.specs.Data.{Ready, LogData}
+use Rattle.log_model.specs.Kept.{IsPast}
+use Rattle.log_model.specs.Steps.{first_start, fresh}
+use Rattle.log_model.proofs.Pasts.{past_begins}
+use Rattle.clean_model.specs.Held.{IsHeld}
+use Rattle.clean_model.specs.Steps.{first_memory}
+use Rattle.clean_model.proofs.Firsts.{fresh_held}
+use Rattle.master_core.specs.declared.config.Config.{Config}
+use Rattle.master_core.specs.Config.{config_fault}
+use Rattle.master_core.specs.Data.{fresh_data}
+use Rattle.master_core.specs.Invariant.{IsCore}
+use Rattle.master_core.specs.Log.{log_config, opening_of, log_of}
+use Rattle.master.specs.Invariant.{IsKept}
+use Rattle.master.proofs.Placing.{placed}
+
+log_fresh : (c : Config) → IsCore (fresh_data c) → log_of (fresh_data c) ≡ fresh (log_config c)
+log_fresh c core =
+    let same = head_is c.master (fresh_head c.master c.replicas first_start) _ (image_fresh c.master c.replicas first_start) core.head.segment in
+    λ i. record { config = log_config c; opening = opening_of (fresh_data c); history = []; head = same i; phase = Ready; next = 2 }
+
+pub fresh_kept : (c : Config) (f : FleetState) → config_fault c ≡ None → IsCore (fresh_data c) → c.backups ≤ f.backups
+    → ((b s : ℕ) → f.picture b c.master s ≡ None) → IsKept (fresh_data c) f
+fresh_kept c f ok core backups nothing =
+    let same = log_fresh c core in
+    record {
+      core = core;
+      alone = ap (λ (l : LogData). l.head.start.others) same;
+      memory = first_memory (log_config c);
+      memory_is = record { image = refl; pass = refl };
+      before = f.picture;
+      held = subst (λ (l : LogData). IsHeld l (first_memory (log_config c)) f.picture) (sym same)
+          (fresh_held (log_config c) f.picture
+          (record { placed = placed c ok; segment = core.head.segment; limit = core.head.limit; nothing = nothing }));
+      first = subst (λ (l : LogData). IsPast l f.picture []) (sym same) (past_begins (log_config c) f.picture);
+      backups = backups;
+      now = inl refl;
+      running = λ going. refl;
+    }

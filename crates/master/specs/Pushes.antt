@@ -1,0 +1,40 @@
+-- The op that a push hands to a backup.
+use Rattle.std.specs.Prelude.{◌≡◌, ℕ, ◌+◌, ◌<◌, length, false, Some, slice_get, unwrap_or}
+use Rattle.log_head.specs.Head.{IsLagging}
+use Rattle.log_model.specs.Data.{LogData}
+use Rattle.log_model.specs.Ops.{LogOp, op_of}
+use Rattle.log_model.specs.Steps.{OpensFirst, Extends}
+use Rattle.replica.specs.Take.{Takes}
+use Rattle.master_core.specs.declared.step.StepAnswer.{StepAnswer}
+use Rattle.master_core.specs.declared.step.StepAnswer.TheVariants.{Applied, Opened, Extended}
+use Rattle.master_core.specs.Data.{MasterData}
+use Rattle.master_core.specs.Log.{log_of}
+use Rattle.master.specs.World.{World}
+
+-- how many units of the head a replica has, and how many it has after its next Extend
+abbrev pub units_on : LogData → ℕ → ℕ
+units_on d j = unwrap_or (slice_get d.head.taken j) 0
+
+abbrev pub reach : LogData → ℕ → ℕ
+reach d j = units_on d j + 1
+
+-- the replica that has the fewest units, the first of several, takes those up to its reach
+pub record ExtendsNext (d : LogData) (o : LogOp) (e : LogData) : Type 0 where
+  pub extends : Extends d o e
+  pub lagging : IsLagging (length d.head.units) d.head.taken (Some extends.j)
+  pub reached : extends.to ≡ reach d extends.j
+
+-- what the answer of a push says of its op: the head is opened on its next backup, or a replica takes its next unit
+abbrev pub IsNextOp : LogData → LogOp → StepAnswer → LogData → Type 0
+IsNextOp d o (Opened backup segment) e = OpensFirst d o e × (backup ≡ o.backup) × (segment ≡ o.segment)
+IsNextOp d o (Extended backup segment) e = ExtendsNext d o e × (backup ≡ o.backup) × (segment ≡ o.segment)
+IsNextOp d o (Applied place reply) e = ⊥
+
+-- A push that is accepted: one op, which the fleet took.
+pub record Pushes (old : World) (answer : StepAnswer) (new : World) : Type 0 where
+  pub op : LogOp
+  pub running : old.knows.is_halted ≡ false
+  pub next : IsNextOp (log_of old.knows) op answer (log_of new.knows)
+  -- only the head changed
+  pub rest : new.knows ≡ record old.knows { head = new.knows.head }
+  pub takes : Takes old.fleet op.backup (op_of old.knows.config.master op) new.fleet

@@ -1,0 +1,34 @@
+-- What holds of every master and its fleet, at each stop.
+use Rattle.std.specs.Prelude.{◌≡◌, ℕ, ◌≤◌, List, length, None}
+use Rattle.std.specs.List.{flat_map}
+use Rattle.replica.specs.Picture.{Picture, FleetState}
+use Rattle.versioned_map.specs.History.{commands_of, IsLegal}
+use Rattle.log_model.specs.Data.{Head, LogData, durable_of}
+use Rattle.log_model.specs.Durable.{heads_of, AreNumbered, IsDurable, IsReplicated}
+use Rattle.log_model.specs.Sound.{IsSound}
+use Rattle.clean_model.specs.Covered.{IsCovered}
+use Rattle.master_core.specs.Config.{config_fault}
+use Rattle.master_core.specs.Data.{MasterData}
+use Rattle.master_core.specs.Log.{opening_of, log_of, memory_of, IsIndexed}
+
+-- The durable count is the most of the first records whose units were each taken whole, by takes that answered Ok, by
+-- every replica of the head that they were appended to; and each home of such a segment of the log holds these units.
+pub record CountsDurable (d : LogData) (p : Picture) : Type 0 where
+  -- the heads before the one in force: their units and its own are those of the history, in order
+  pub past : List Head
+  pub numbered : AreNumbered d.opening 0 (commands_of d.history) (flat_map (λ (h : Head). h.units) (heads_of past d))
+  pub counted : IsDurable d past (durable_of d)
+  pub replicated : IsReplicated d past p
+
+pub record IsValid (d : MasterData) (f : FleetState) : Type 0 where
+  pub config : config_fault d.config ≡ None
+  pub history : length d.history ≤ d.config.history
+  -- the replies are the versioned map's
+  pub legal : IsLegal (opening_of d) d.history
+  -- the index finds just the map's objects
+  pub index : IsIndexed d
+  -- whatever backups are left, they hold a prefix that has each durable command, or a named loss hides the log
+  pub sound : IsSound (log_of d) f.picture
+  -- memory and the replicas of the log stand for the map
+  pub covered : IsCovered (log_of d) (memory_of d) f.picture
+  pub durable : CountsDurable (log_of d) f.picture

@@ -1,0 +1,21 @@
+-- A master with its fleet.
+use Rattle.replica.specs.Picture.{FleetState}
+use Rattle.replica.specs.Take.{limited}
+use Rattle.std.specs.Prelude.{ℕ}
+use Rattle.master_core.specs.Data.{MasterData}
+
+-- a master as clauses see it
+pub record MasterValue (F : Type 0) : Type 0 where
+  pub knows : MasterData
+  pub fleet : F
+
+-- what a master knows, and the state of its fleet
+pub record World : Type 0 where
+  pub knows : MasterData
+  pub fleet : FleetState
+
+abbrev pub world : {F : Type 0} → (F → FleetState) → MasterValue F → World
+world state v = record { knows = v.knows; fleet = state v.fleet }
+
+abbrev pub limited_world : World → ℕ → World
+limited_world w n = record w { fleet = limited w.fleet n }
