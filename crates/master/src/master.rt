@@ -81,6 +81,13 @@ impl<F: Fleet> Master<F> {
         let _alloc = self.alloc;
     }
 
+    /// The master's number.
+    pub fn number(&self) -> u64
+        ensures { result ≡ self.now.knows.config.master }
+    {
+        self.core.master()
+    }
+
     /// How many of the first records are durable: each unit of theirs was taken whole, by takes that answered Ok, by every
     /// replica of its segment.
     pub fn durable(&self) -> u64

@@ -1,6 +1,6 @@
 //! Laws about what a recovery gives back.
 
-ghost use Rattle.script.specs.Recovered.{AcknowledgedAreRecovered};
+ghost use Rattle.recovery.specs.Recovered.{AcknowledgedAreRecovered};
 
 /// A recovered prefix holds every acknowledged command.
 pub fn acknowledged_recovered()

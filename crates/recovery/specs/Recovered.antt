@@ -17,24 +17,23 @@ use Rattle.replay.specs.declared.fault.ReplayFault.TheVariants as replay_fault
 use Rattle.replay.specs.declared.rebuilt.Rebuilt.{Rebuilt}
 use Rattle.replay.specs.Rebuilt.{IsRebuilt, IsRefusal}
 use Rattle.versioned_map.specs.History.{commands_of}
-use Rattle.master_core.specs.Log.{opening_state, state_after}
-use Rattle.master_core.specs.Data.{MasterData, durable_of}
+use Rattle.log_model.specs.Data.{LogData, state_after, durable_of}
 use Rattle.versioned_map.specs.Versioned.{IsSafeAfter}
-use Rattle.script.specs.declared.recovery.RecoveryFault.{RecoveryFault}
-use Rattle.script.specs.declared.recovery.RecoveryFault.TheVariants.{Plan, Replay}
+use Rattle.recovery.specs.declared.recovery.RecoveryFault.{RecoveryFault}
+use Rattle.recovery.specs.declared.recovery.RecoveryFault.TheVariants.{Plan, Replay}
 
 -- the inventory shows of this master just what the picture has
 abbrev pub Shows : List Holding → Picture → ℕ → Type 0
 Shows inventory p master = (h : Holding) → h.master ≡ master → IsAmong h inventory ↔ IsHeld p h
 
 -- Exactly the map after this many of the commands, each durable one among them, and a safe version for what follows.
-pub record IsRecovered (d : MasterData) (count : ℕ) (r : Rebuilt) : Type 0 where
+pub record IsRecovered (d : LogData) (count : ℕ) (r : Rebuilt) : Type 0 where
   pub durable : durable_of d ≤ count
   pub within : count ≤ length d.history
   pub exactly : contents_of r.objects ≡ (state_after d count).contents
   -- each key once, by table and then key bytes
   pub order : IsStrictlySortedBy key_cmp (map (λ (o : Object). o.key) r.objects)
-  pub safe : IsSafeAfter (opening_state d) (take count (commands_of d.history)) r.safe
+  pub safe : IsSafeAfter d.opening (take count (commands_of d.history)) r.safe
 
 -- ---- acknowledged
 
@@ -44,7 +43,7 @@ IsAcknowledged answered place = (later : ℕ) × IsAmong later answered × (plac
 
 -- Where durable records alone are answered, each acknowledged one is among those that are recovered.
 abbrev pub AcknowledgedAreRecovered : Type 0
-AcknowledgedAreRecovered = (d : MasterData) (count : ℕ) (r : Rebuilt) (answered : List ℕ) → IsRecovered d count r
+AcknowledgedAreRecovered = (d : LogData) (count : ℕ) (r : Rebuilt) (answered : List ℕ) → IsRecovered d count r
     → ((place : ℕ) → IsAmong place answered → place < durable_of d) → (place : ℕ) → IsAcknowledged answered place → place < count
 
 -- ---- refusals

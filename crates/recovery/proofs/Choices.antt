@@ -12,9 +12,9 @@ use Rattle.recovery_plan.specs.declared.chosen.Plan.{Plan}
 use Rattle.recovery_plan.specs.Good.{IsGood}
 use Rattle.recovery_plan.specs.Planned.{IsChoiceOf, IsPlanOf, AgreeOnDigest}
 use Rattle.recovery_plan.proofs.Plans.{all-map}
-use Rattle.master_core.specs.Data.{MasterData}
-use Rattle.master.specs.Sound.{IsTextOfSegment, IsSurvivingChoice, IsSound}
-use Rattle.script.specs.Recovered.{Shows}
+use Rattle.log_model.specs.Data.{LogData}
+use Rattle.log_model.specs.Sound.{IsTextOfSegment, IsSurvivingChoice, IsSound}
+use Rattle.recovery.specs.Recovered.{Shows}
 
 -- ---- bags
 
@@ -51,7 +51,7 @@ left-kept false r x h = absurd (cc)
 pub left-held : (keep : ℕ → Bool) (p : Picture) (h : Holding) → IsHeld (survivors keep p) h → IsHeld p h
 left-held keep p h held = left-kept (keep h.backup) (p h.backup h.master h.segment) _ held
 
-module _ (hs : List Holding) (m : ℕ) (d : MasterData) (p : Picture) (keep : ℕ → Bool)
+module _ (hs : List Holding) (m : ℕ) (d : LogData) (p : Picture) (keep : ℕ → Bool)
     (is : d.config.master ≡ m) (shows : Shows hs (survivors keep p) m) where
   -- what is chosen in the inventory is chosen among what survives
   pub surviving-choice : (c : Choice) → IsChoiceOf hs m c → IsSurvivingChoice d p keep c

@@ -1,9 +1,9 @@
 use Rattle.std.proofs.Common.{arith, refl, get_or}
 use Rattle.std.specs.Prelude.{Result, Ok, Err, OnErr}
 use Rattle.std.proofs.lemmas.Result.{IfOk-from_err}
-use Rattle.script.proofs.Asked.{all-more, left-shown}
-use Rattle.script.proofs.AskedOnce.{all-asked, once-more}
-use Rattle.script.proofs.asking.inventory_of.Goals as goal
+use Rattle.recovery.proofs.Asked.{all-more, left-shown}
+use Rattle.recovery.proofs.AskedOnce.{all-asked, once-more}
+use Rattle.recovery.proofs.inventory.inventory_of.Goals as goal
 
 on_err : {T E P : Type 0} (r : Result T E) → P → OnErr r P
 on_err (Ok _) _ = tt

@@ -4,7 +4,7 @@ ghost use Rattle.std.specs.Prelude.{◌↔◌, ◌<◌, length, IfOk, OnErr};
 ghost use Rattle.entry.specs.Bag.{IsAmong};
 ghost use Rattle.replica.specs.Picture.{IsHeld, IsOnce, survivors};
 ghost use Rattle.replica.specs.declared.holding.Holding.{Holding};
-ghost use Rattle.script.specs.Kept.{is_kept, AreDifferent};
+ghost use Rattle.recovery.specs.Kept.{is_kept, AreDifferent};
 
 use entry::NoMemory;
 use replica::{Fleet, Inventory};

@@ -9,8 +9,8 @@ use Rattle.entry.specs.Bag.{IsAmong}
 use Rattle.replica.specs.declared.holding.Holding.{Holding}
 use Rattle.replica.specs.Picture.{Picture, IsHeld, IsOnce}
 use Rattle.recovery_plan.proofs.Bests.{among-append}
-use Rattle.script.specs.Kept.{is_kept, AreDifferent}
-use Rattle.script.proofs.Asked.{AreAll, kept-push}
+use Rattle.recovery.specs.Kept.{is_kept, AreDifferent}
+use Rattle.recovery.proofs.Asked.{AreAll, kept-push}
 
 -- just the replicas of the backups that were asked, each once where those differ
 pub record IsAsked (p : Picture) (asked : List ℕ) (hs : List Holding) : Type 0 where

@@ -1,5 +1,5 @@
 use Rattle.std.proofs.Common.{arith}
-use Rattle.script.proofs.laws.acknowledged_recovered.Goals as goal
+use Rattle.recovery.proofs.laws.acknowledged_recovered.Goals as goal
 
 pub returns : goal.returns
 returns c = λ d count r answered recovered durable place acknowledged.

@@ -1,5 +1,5 @@
-use Rattle.script.proofs.Recoveries.{rebuilt-prefix, refused-plan, refused-replay}
-use Rattle.script.proofs.recovery.recover.Goals as goal
+use Rattle.recovery.proofs.Recoveries.{rebuilt-prefix, refused-plan, refused-replay}
+use Rattle.recovery.proofs.recovery.recover.Goals as goal
 
 pub returns-in-Err-clause-refused : goal.returns-in-Err-clause-refused
 returns-in-Err-clause-refused c = refused-plan c.args.inventory.now c.args.master c.in-Err.fault c.in-Err.ensures.fault c.in-Err.ensures.loss

@@ -8,7 +8,7 @@ use Rattle.entry.specs.Bag.{IsAmong}
 use Rattle.replica.specs.declared.holding.Holding.{Holding}
 use Rattle.replica.specs.Picture.{Picture, IsHeld, survivors}
 use Rattle.recovery_plan.proofs.Bests.{among-append, among-left, among-right}
-use Rattle.script.specs.Kept.{is_kept}
+use Rattle.recovery.specs.Kept.{is_kept}
 
 -- just the replicas of the backups that were asked
 pub record AreAll (p : Picture) (asked : List ℕ) (hs : List Holding) : Type 0 where

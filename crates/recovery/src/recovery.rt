@@ -3,10 +3,10 @@
 ghost use Rattle.std.specs.Prelude.{◌≡◌, ℕ, Bool, IfOk, IfErr, Some};
 ghost use Rattle.replica.specs.Picture.{Picture, survivors};
 ghost use Rattle.replica.specs.Survival.{BothSurvive};
-ghost use Rattle.master_core.specs.Data.{MasterData};
-ghost use Rattle.master.specs.Sound.{IsHome, IsSound};
-ghost use Rattle.script.specs.Recovered.{Shows, IsRecovered, IsLossOrMemory, IsWant, IsRebuiltFrom, IsRefusedFrom};
-ghost use Rattle.script.specs.Texts.{recovery_fault_text};
+ghost use Rattle.log_model.specs.Data.{LogData, IsHome};
+ghost use Rattle.log_model.specs.Sound.{IsSound};
+ghost use Rattle.recovery.specs.Recovered.{Shows, IsRecovered, IsLossOrMemory, IsWant, IsRebuiltFrom, IsRefusedFrom};
+ghost use Rattle.recovery.specs.Texts.{recovery_fault_text};
 
 use recovery_plan::{PlanFault, plan};
 use replay::{Rebuilt, ReplayFault, rebuild_plain};
@@ -39,12 +39,12 @@ impl fmt::Display for RecoveryFault {
 pub fn recover(alloc: Global, inventory: &Inventory, master: u64) -> Result<Rebuilt, RecoveryFault>
     // Of whatever sound state of the master the inventory shows what some backups still hold: exactly the map after a
     // prefix of its commands, each durable one among them.
-    ensures ok { IfOk result (λ r. (d : MasterData) (p : Picture) (keep : ℕ → Bool) →
+    ensures ok { IfOk result (λ r. (d : LogData) (p : Picture) (keep : ℕ → Bool) →
         IsSound d p → d.config.master ≡ master → Shows inventory.now (survivors keep p) master → (count : ℕ) × IsRecovered d count r) }
     // Of such a state only a lost head or segment is named, or want of memory, and a loss only where it hides the log.
-    ensures refused { IfErr result (λ e. (d : MasterData) (p : Picture) (keep : ℕ → Bool) →
+    ensures refused { IfErr result (λ e. (d : LogData) (p : Picture) (keep : ℕ → Bool) →
         IsSound d p → d.config.master ≡ master → Shows inventory.now (survivors keep p) master →
-        IsLossOrMemory e × (BothSurvive (IsHome d.config) p d.config.master keep → IsWant e)) }
+        IsLossOrMemory e × (BothSurvive (IsHome d) p d.config.master keep → IsWant e)) }
     // Of any inventory what comes back, or the fault, stands in it.
     ensures rebuilt { IfOk result (IsRebuiltFrom inventory.now master) }
     ensures fault { IfErr result (IsRefusedFrom inventory.now master) }

@@ -17,21 +17,20 @@ use Rattle.recovery_plan.specs.declared.fault.PlanFault.TheVariants as plan_faul
 use Rattle.recovery_plan.specs.Planned.{IsChoiceOf, IsPlanOf, IsFirstBad, IsFault, NamesLoss}
 use Rattle.recovery_plan.proofs.Bests.{among-right}
 use Rattle.versioned_map.specs.History.{commands_of}
-use Rattle.master_core.specs.Log.{opening_state, state_after}
-use Rattle.master_core.specs.Data.{MasterData}
-use Rattle.master.specs.Sound.{IsHome, IsSound}
+use Rattle.log_model.specs.Data.{LogData, IsHome, state_after}
+use Rattle.log_model.specs.Sound.{IsSound}
 use Rattle.versioned_map.specs.Versioned.{IsSafeAfter}
 use Rattle.versioned_map.proofs.Meanings.{one_contents}
-use Rattle.script.specs.Recovered.{Shows, IsRecovered, IsPlanLoss, IsPlanWant, IsLossOrMemory, IsWant, IsReplayWant}
-use Rattle.script.specs.declared.recovery.RecoveryFault.{RecoveryFault}
-use Rattle.script.specs.declared.recovery.RecoveryFault.TheVariants as fault
-use Rattle.script.proofs.Choices.{bag-of-plan, surviving-choice, shown-choice, shown-good, shown-agree}
+use Rattle.recovery.specs.Recovered.{Shows, IsRecovered, IsPlanLoss, IsPlanWant, IsLossOrMemory, IsWant, IsReplayWant}
+use Rattle.recovery.specs.declared.recovery.RecoveryFault.{RecoveryFault}
+use Rattle.recovery.specs.declared.recovery.RecoveryFault.TheVariants as fault
+use Rattle.recovery.proofs.Choices.{bag-of-plan, surviving-choice, shown-choice, shown-good, shown-agree}
 
 -- ---- what is recovered
 
 -- a prefix of the commands, whatever the sound state is that the inventory shows a part of
 abbrev pub IsSomePrefix : List Holding → ℕ → Rebuilt → Type 0
-IsSomePrefix hs m r = (d : MasterData) (p : Picture) (keep : ℕ → Bool) → IsSound d p → d.config.master ≡ m → Shows hs (survivors keep p) m →
+IsSomePrefix hs m r = (d : LogData) (p : Picture) (keep : ℕ → Bool) → IsSound d p → d.config.master ≡ m → Shows hs (survivors keep p) m →
     (count : ℕ) × IsRecovered d count r
 
 pub rebuilt-prefix : (hs : List Holding) (m : ℕ) (c : Choice) (plan : Plan) (r : Rebuilt) →
@@ -50,7 +49,7 @@ rebuilt-prefix hs m c plan r planned rebuilt d p keep sound is shows =
         within = prefix.within;
         exactly = one_contents (among (bag_of c)) (contents_of r.objects) (state_after d found.0).contents meaning prefix.meaning;
         order = rebuilt.order;
-        safe = subst (IsSafeAfter (opening_state d) (take found.0 (commands_of d.history))) (sym safe) prefix.safe;
+        safe = subst (IsSafeAfter (d.opening) (take found.0 (commands_of d.history))) (sym safe) prefix.safe;
       },
     )
 
@@ -58,13 +57,13 @@ rebuilt-prefix hs m c plan r planned rebuilt d p keep sound is shows =
 
 -- whatever the sound state is that the inventory shows a part of, a loss, or want of memory, and this alone where both survive
 abbrev pub IsSomeLoss : List Holding → ℕ → RecoveryFault → Type 0
-IsSomeLoss hs m e = (d : MasterData) (p : Picture) (keep : ℕ → Bool) → IsSound d p → d.config.master ≡ m → Shows hs (survivors keep p) m →
-    IsLossOrMemory e × (BothSurvive (IsHome d.config) p d.config.master keep → IsWant e)
+IsSomeLoss hs m e = (d : LogData) (p : Picture) (keep : ℕ → Bool) → IsSound d p → d.config.master ≡ m → Shows hs (survivors keep p) m →
+    IsLossOrMemory e × (BothSurvive (IsHome d) p d.config.master keep → IsWant e)
 
-module _ (hs : List Holding) (m : ℕ) (d : MasterData) (p : Picture) (keep : ℕ → Bool)
+module _ (hs : List Holding) (m : ℕ) (d : LogData) (p : Picture) (keep : ℕ → Bool)
     (sound : IsSound d p) (is : d.config.master ≡ m) (shows : Shows hs (survivors keep p) m) where
   -- where there is nothing to choose, not both survive
-  not-both : ((c : Choice) → IsChoiceOf hs m c → ⊥) → BothSurvive (IsHome d.config) p d.config.master keep → ⊥
+  not-both : ((c : Choice) → IsChoiceOf hs m c → ⊥) → BothSurvive (IsHome d) p d.config.master keep → ⊥
   not-both none both =
       let some = sound.choice keep both in
       none some.0 (shown-choice hs m d p keep is shows some.0 some.1)
@@ -77,7 +76,7 @@ module _ (hs : List Holding) (m : ℕ) (d : MasterData) (p : Picture) (keep : �
       first.is_bad (shown-good hs m d p keep is shows sound first.bad first.of_master there)
 
   pub plan-loss : (e : PlanFault) → IsFault hs m e → NamesLoss hs m e →
-      IsPlanLoss e × (BothSurvive (IsHome d.config) p d.config.master keep → IsPlanWant e)
+      IsPlanLoss e × (BothSurvive (IsHome d) p d.config.master keep → IsPlanWant e)
   plan-loss plan_fault.NoHead says loss = (tt, λ both. absurd (not-both loss both))
   plan-loss (plan_fault.HeadClosed id) says loss = (tt, λ both. absurd (not-both loss both))
   plan-loss (plan_fault.Missing id) says loss = (tt, λ both. absurd (not-both (loss.1 (shown-agree hs m d p keep is shows sound)) both))

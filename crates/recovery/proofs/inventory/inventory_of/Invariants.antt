@@ -1,6 +1,6 @@
 use Rattle.std.proofs.Common.{take}
-use Rattle.script.proofs.AskedOnce.{IsAsked}
-use Rattle.script.proofs.asking.inventory_of.Given as goal
+use Rattle.recovery.proofs.AskedOnce.{IsAsked}
+use Rattle.recovery.proofs.inventory.inventory_of.Given as goal
 
 abbrev pub invariant-loop-backup : goal.invariant-loop-backup
 invariant-loop-backup g l = IsAsked (g.F.Fleet.state l.fleet).picture (take l.backup-index l.kept) l.list.items

@@ -1,0 +1,5 @@
+pub mod Choices
+pub mod Recoveries
+pub mod Asked
+pub mod AskedOnce
+pub mod Drilling

@@ -1,0 +1,4 @@
+pub mod Kept
+pub mod Recovered
+pub mod Texts
+pub mod Drilled

@@ -1,0 +1,51 @@
+//! A master's steps, its end, and its recovery from what some backups hold.
+
+ghost use Rattle.std.specs.Prelude.{◌≡◌, IfOk, IfErr};
+ghost use Rattle.master.specs.World.{world};
+ghost use Rattle.recovery.specs.Drilled.{IsDrill};
+
+use crate::inventory::inventory_of;
+use crate::recovery::{RecoveryFault, recover};
+use entry::NoMemory;
+use master::{Master, Refusal, Step, StepAnswer};
+use recovery_plan::PlanFault;
+use replay::Rebuilt;
+use replica::Fleet;
+use std::alloc::Global;
+
+/// What the steps answered, what was recovered after them, and the fleet as it was left.
+#[derive(Drop)]
+pub struct Drill<F> {
+    pub answers: Vec<Result<StepAnswer, Refusal>>,
+    pub recovered: Result<Rebuilt, RecoveryFault>,
+    pub fleet: F,
+}
+
+/// Lets a master take any steps, stops it, and recovers it from what these backups hold, and from nothing else. If there is
+/// no memory for the answers, the master comes back as it was.
+pub fn run_drill<F: Fleet>(
+    alloc: Global,
+    master: Master<F>,
+    steps: &[Step],
+    kept: &[u64],
+) -> Result<Drill<F>, (NoMemory, Master<F>)>
+    ensures drill { IfOk result (λ d. IsDrill (world F.state master) steps.now kept.now d.answers.items d.recovered (F.state d.fleet)) }
+    ensures refused { IfErr result (λ e. world F.state e.1 ≡ world F.state master) }
+{
+    let mut master = master;
+    let number = master.number();
+    let answers = match master.run(steps) {
+        Ok(answers) => answers,
+        Err(fault) => return Err((fault, master)),
+    };
+    let fleet = master.crash();
+    let recovered = match inventory_of(alloc, &fleet, kept) {
+        Ok(inventory) => recover(alloc, &inventory, number),
+        Err(NoMemory) => Err(RecoveryFault::Plan(PlanFault::NoMemory)),
+    };
+    Ok(Drill {
+        answers,
+        recovered,
+        fleet,
+    })
+}
