@@ -3,7 +3,7 @@ use Rattle.std.proofs.Common.{◌≡◌, ℕ, zero, suc, ◌+◌, ◌-◌, ◌^�
 use Rattle.std.proofs.lemmas.List.{append-nil, length-append, take-append-le}
 use Rattle.std.proofs.lemmas.List.Elements.{All-nil, All-push}
 use Rattle.std.proofs.lemmas.List.Concat.{flat_map-append}
-use Rattle.std.specs.Prelude.{Option, Some, Result, Ok, Err, slice_get}
+use Rattle.std.specs.Prelude.{Option, None, Some, Result, Ok, Err, slice_get}
 use Rattle.std.specs.Io.KnownBytes.{Appends, Consumes, IsAtEnd, Keeps}
 use Rattle.std.proofs.KnownBytes.{Appends-nil, Appends-trans, Appends-kept, Consumes-nil, Consumes-trans, Keeps-refl}
 use Rattle.std.specs.List.{All}
@@ -12,19 +12,23 @@ use Rattle.lines.specs.Reading.{IsLineText}
 use Rattle.versioned_map.specs.declared.command.Command.{Command}
 use Rattle.versioned_map.specs.declared.command.Record.{Record}
 use Rattle.master_core.specs.declared.config.Config.{Config}
-use Rattle.versioned_map.specs.History.{commands_of}
+use Rattle.versioned_map.specs.History.{commands_of, IsLegal}
 use Rattle.master_core.specs.Data.{MasterData}
+use Rattle.master_core.specs.Log.{opening_of}
 use Rattle.versioned_map.specs.Represents.{empty_state}
-use Rattle.versioned_map.specs.Versioned.{after}
+use Rattle.versioned_map.specs.Versioned.{State, after as map_after}
 use Rattle.script.specs.declared.answer.Answer.{Answer}
 use Rattle.script.specs.declared.answer.Answer.TheVariants as answer
 use Rattle.script.specs.declared.fault.ScriptFault.{ScriptFault}
 use Rattle.script.specs.declared.fault.ScriptFault.TheVariants as fault
 use Rattle.script.specs.declared.session.Session.{Session}
-use Rattle.script.specs.Runs.{IsOfFleet, IsScriptLine, texts_of, answers_of, AreLines, IsTakenLine, IsBadLine, TellOneHistory, EndsWith, Prints, RunsScript}
-use Rattle.script.specs.Served.{Begins, Stands}
+use Rattle.script.specs.Runs.{IsOfFleet, IsScriptLine, texts_of, answers_of, AreLines, IsTakenLine, IsBadLine, TellOneLife, EndsWith, Prints, RunsScript}
+use Rattle.script.specs.declared.node.Node.{Node}
+use Rattle.script.specs.declared.node.Node.TheVariants.{Up, Down, Changing}
+use Rattle.script.specs.Lives.{Life, life_to, Left, IsLeftBy, IsLeftBySpent}
+use Rattle.script.specs.Served.{Begins, IsOf, Stands, life_of}
 use Rattle.script.specs.Texts.{answer_text}
-use Rattle.script.specs.Told.{Told, Position, at_start, IsRecordAt, IsIn, IsImageAfter, Tells, AreTelling}
+use Rattle.script.specs.Told.{Told, Position, at_start, IsRecordAt, IsIn, IsTest, IsImageAt, Tells, AreTelling}
 use Rattle.script.specs.Turns.{RunsText, IsPrinted, PrintsText, TakesTurn, IsNoMore}
 
 -- ---- a longer history tells the same
@@ -40,11 +44,11 @@ take-commands [] ys (suc count) within = absurd (omega arith)
 take-commands (x ∷ xs) ys (suc count) within = ap (λ l. x.command ∷ l) (take-commands xs ys count (omega arith))
 
 -- positions rise
-module _ (config : Config) (history : List Record) where
+module _ (config : Config) (life : Life) where
   as_before : (at next : Position) → next ≡ at → at.made ≤ next.made
   as_before at next is = let same = ap (λ (p : Position). p.made) is in omega arith
 
-  rises : (at : Position) (line : LineValue) (a : Answer) (next : Position) → Tells config history at line a next → at.made ≤ next.made
+  rises : (at : Position) (line : LineValue) (a : Answer) (next : Position) → Tells config life at line a next → at.made ≤ next.made
   rises at line answer.Silent next t = as_before at next t.1
   rises at line (answer.Reply reply) next t = let made = ap (λ (p : Position). p.made) t.1.1 in omega arith
   rises at line (answer.Refused r) next t = elim t.1 [
@@ -52,94 +56,110 @@ module _ (config : Config) (history : List Record) where
     | inl (inr (added, pushed)) ↦ let made = ap (λ (p : Position). p.made) added.2 in omega arith
     | inr u ↦ as_before at next u.2
   ]
-  rises at line (answer.Hex bytes) next t = as_before at next t.3
+  rises at line (answer.Hex bytes) next t = as_before at next t.2
   rises at line (answer.NotInLog segment) next t = as_before at next t.3
   rises at line (answer.Stop takes) next t = as_before at next t.1
-  rises at line answer.Stopped next t = elim t.1 [
+  rises at line answer.Stopped next t = elim t.3 [
     | inl out ↦ let made = ap (λ (p : Position). p.made) out.2 in omega arith
     | inr added ↦ let made = ap (λ (p : Position). p.made) added.2 in omega arith
   ]
-  rises at line answer.Crashed next t = let made = ap (λ (p : Position). p.made) t.2 in omega arith
-  rises at line (answer.Lost backup) next t = as_before at next t.2
-  rises at line (answer.Recovered r) next t = as_before at next t.3
-  rises at line (answer.NotRecovered fault) next t = as_before at next t.3
+  rises at line answer.Crashed next t = let made = ap (λ (p : Position). p.made) t.4 in omega arith
+  rises at line (answer.Lost backup) next t = let made = ap (λ (p : Position). p.made) t.3 in omega arith
+  rises at line (answer.Recovered r) next t = as_before at next t.5
+  rises at line (answer.NotRecovered fault) next t = as_before at next t.4
   rises at line answer.Down next t = as_before at next t.2
   rises at line answer.Up next t = as_before at next t.2
 
-  telling_rises : (from : Position) (told : List Told) (last : Position) → AreTelling config history from told last → from.made ≤ last.made
+  telling_rises : (from : Position) (told : List Told) (last : Position) → AreTelling config life from told last → from.made ≤ last.made
   telling_rises from [] last are = as_before from last are
   telling_rises from (t ∷ ts) last are =
       let here = rises from t.line t.answer are.0 are.1 in
       let rest = telling_rises are.0 ts last are.2 in
       omega arith
 
-module _ (config : Config) (history more : List Record) where
-  record_longer : (place : ℕ) (line : LineValue) (reply : _) → IsRecordAt history place line reply → IsRecordAt (history ++ more) place line reply
+module _ (config : Config) (opening : State) (history more : List Record) where
+  abbrev life : Life
+  life = record { opening = opening; history = history }
+
+  abbrev longer : Life
+  longer = record { opening = opening; history = history ++ more }
+
+  record_longer : (place : ℕ) (line : LineValue) (reply : _) → IsRecordAt life place line reply → IsRecordAt longer place line reply
   record_longer place line reply is = (is.0, is.1, slice_get-longer history more place _ is.2)
 
-  same_front : (count : ℕ) → count ≤ length history → take count (history ++ more) ≡ take count history
-  same_front count within = take-append-le count history more within
+  same_front : (count : ℕ) → count ≤ length history → life_to life count ≡ life_to longer count
+  same_front count within =
+      let same = sym (take-append-le count history more within) in
+      λ i. record { opening = opening; history = same i }
 
-  in_longer : (at : Position) (line : LineValue) (b : Bool) (next : Position) → IsIn history at line b next → IsIn (history ++ more) at line b next
-  in_longer at line b next (reply, there, is) = (reply, record_longer at.made line reply there, is)
+  in_longer : (at : Position) (line : LineValue) (left : Option Left) (next : Position) → IsIn life at line left next → IsIn longer at line left next
+  in_longer at line left next (reply, there, is) = (reply, record_longer at.made line reply there, is)
 
-  tells_longer : (at : Position) (line : LineValue) (a : Answer) (next : Position) → at.made ≤ length history → Tells config history at line a next
-      → Tells config (history ++ more) at line a next
-  tells_longer at line answer.Silent next within t = t
-  tells_longer at line (answer.Reply reply) next within t = (t.0, (record_longer at.made line reply t.1.0, t.1.1))
-  tells_longer at line (answer.Refused r) next within t = (
+  tells_longer : (at : Position) (line : LineValue) (a : Answer) (next : Position) → at.made ≤ length history → next.made ≤ length history
+      → Tells config life at line a next → Tells config longer at line a next
+  tells_longer at line answer.Silent next within after t = t
+  tells_longer at line (answer.Reply reply) next within after t = (t.0, (record_longer at.made line reply t.1.0, t.1.1))
+  tells_longer at line (answer.Refused r) next within after t = (
     t.0,
     elim t.1 [
       | inl (inl (out, inl memory)) ↦ inl (inl (out, inl memory))
-      | inl (inl (out, inr (c, is, test))) ↦ inl (inl (out, inr (c, is, (test.0, test.1, test.2 ∙ sym (same_front at.made within), test.3, test.4))))
-      | inl (inr (added, pushed)) ↦ inl (inr (in_longer at line true next added, pushed))
+      | inl (inl (out, inr (c, is, test))) ↦ inl (inl (out, inr (c, is, subst (λ (l : Life). IsTest config l c r) (same_front at.made within) test)))
+      | inl (inr (added, pushed)) ↦ inl (inr (in_longer at line None next added, pushed))
       | inr u ↦ inr u
     ],
   )
-  tells_longer at line (answer.Hex bytes) next within t =
-      let image = t.2 in
-      (t.0, t.1, subst (λ (rs : List Record). IsImageAfter config rs bytes) (sym (same_front at.made within)) image, t.3)
-  tells_longer at line (answer.NotInLog segment) next within t = t
-  tells_longer at line (answer.Stop takes) next within t = t
-  tells_longer at line answer.Stopped next within t = (t.0, elim t.1 [ inl out ↦ inl out | inr added ↦ inr (in_longer at line _ next added) ])
-  tells_longer at line answer.Crashed next within t = t
-  tells_longer at line (answer.Lost backup) next within t = t
-  tells_longer at line (answer.Recovered r) next within t =
-      let count = t.2.0 in
-      let table = t.2.3 in
+  tells_longer at line (answer.Hex bytes) next within after t =
+      (t.0, (t.1.0, t.1.1, subst (λ (l : Life). IsImageAt config l t.1.0 (Some bytes)) (same_front at.made within) t.1.2), t.2)
+  tells_longer at line (answer.NotInLog segment) next within after t =
+      (t.0, t.1, subst (λ (l : Life). IsImageAt config l segment None) (same_front at.made within) t.2, t.3)
+  tells_longer at line (answer.Stop takes) next within after t = t
+  tells_longer at line answer.Stopped next within after t = (
+    t.0,
+    t.1,
+    subst (λ (l : Life). IsLeftBySpent config l t.1) (same_front next.made after) t.2,
+    elim t.3 [ inl out ↦ inl out | inr added ↦ inr (in_longer at line (Some t.1) next added) ],
+  )
+  tells_longer at line answer.Crashed next within after t =
+      (t.0, t.1, t.2, subst (λ (l : Life). IsLeftBy config l t.2) (same_front at.made within) t.3, t.4)
+  tells_longer at line (answer.Lost backup) next within after t = t
+  tells_longer at line (answer.Recovered r) next within after t =
+      let table = t.3.3 in
       let inside = table.within in
-      let longer = length-append history more in (
+      let count = length-append history more in (
         t.0,
         t.1,
+        t.2,
         (
-          count,
-          t.2.1,
-          t.2.2,
+          t.3.0,
+          t.3.1,
+          t.3.2,
           record {
             within = omega arith;
-            exactly = table.exactly ∙ ap (λ (cs : List Command). (after empty_state cs).contents) (sym (take-commands history more count table.within));
+            exactly = table.exactly
+                ∙ ap (λ (cs : List Command). (map_after opening cs).contents) (sym (take-commands history more t.3.0 table.within));
             order = table.order;
           },
         ),
-        t.3,
+        t.4,
+        t.5,
       )
-  tells_longer at line (answer.NotRecovered fault) next within t = t
-  tells_longer at line answer.Down next within t = t
-  tells_longer at line answer.Up next within t = t
+  tells_longer at line (answer.NotRecovered fault) next within after t = t
+  tells_longer at line answer.Down next within after t = t
+  tells_longer at line answer.Up next within after t = t
 
-  pub telling_longer : (from : Position) (told : List Told) (last : Position) → last.made ≤ length history → AreTelling config history from told last
-      → AreTelling config (history ++ more) from told last
+  pub telling_longer : (from : Position) (told : List Told) (last : Position) → last.made ≤ length history → AreTelling config life from told last
+      → AreTelling config longer from told last
   telling_longer from [] last within are = are
   telling_longer from (t ∷ ts) last within are =
-      let here = rises config history from t.line t.answer are.0 are.1 in
-      let rest = telling_rises config history are.0 ts last are.2 in
-      (are.0, tells_longer from t.line t.answer are.0 (omega arith) are.1, telling_longer are.0 ts last within are.2)
+      let here = rises config life from t.line t.answer are.0 are.1 in
+      let rest = telling_rises config life are.0 ts last are.2 in
+      (are.0, tells_longer from t.line t.answer are.0 (omega arith) (omega arith) are.1, telling_longer are.0 ts last within are.2)
 
 -- one line more
-pub telling_more : (config : Config) (history : List Record) (from : Position) (told : List Told) (mid : Position) (t : Told) (next : Position)
-    → AreTelling config history from told mid → Tells config history mid t.line t.answer next → AreTelling config history from (told ++ t ∷ []) next
-telling_more config history from [] mid t next are tells = (next, subst (λ (p : Position). Tells config history p t.line t.answer next) are tells, refl)
-telling_more config history from (first ∷ rest) mid t next are tells = (are.0, are.1, telling_more config history are.0 rest mid t next are.2 tells)
+pub telling_more : (config : Config) (life : Life) (from : Position) (told : List Told) (mid : Position) (t : Told) (next : Position)
+    → AreTelling config life from told mid → Tells config life mid t.line t.answer next → AreTelling config life from (told ++ t ∷ []) next
+telling_more config life from [] mid t next are tells = (next, subst (λ (p : Position). Tells config life p t.line t.answer next) are tells, refl)
+telling_more config life from (first ∷ rest) mid t next are tells = (are.0, are.1, telling_more config life are.0 rest mid t next are.2 tells)
 
 -- ---- a line that was run
 
@@ -167,6 +187,12 @@ turn_fault old new number had left held holds text taken fault.NoMemory whole co
 
 -- ---- all lines so far
 
+-- whatever a node stands for has a legal history
+legal_of : (node : Node) (left : Option Left) (d : MasterData) → IsOf node left d → IsLegal (opening_of d) d.history
+legal_of (Up m) left d of = of.2.legal
+legal_of (Down fleet) left d of = of.2.valid.legal
+legal_of Changing left d of = absurd of
+
 -- the lines that were run before the one of this number, and what the session stands for
 pub record Running (config : Config) (session : Session) (had left held holds : Option (List ℕ)) (number : ℕ) : Type 0 where
   pub told : List Told
@@ -177,7 +203,7 @@ pub record Running (config : Config) (session : Session) (had left held holds : 
   pub stands : Stands session.node config knows at
   pub count : suc (length told) ≡ number
   pub lines : All (IsScriptLine config.backups) told
-  pub telling : AreTelling config knows.history at_start told at
+  pub telling : AreTelling config (life_of knows) at_start told at
   pub consumed : Consumes had left (texts_of told)
   pub printed : Appends held holds (answers_of told)
 
@@ -204,27 +230,27 @@ answers-more told t = flat_map-append _ told (t ∷ []) ∙ ap (λ l. answers_of
 
 module _ (config : Config) (old : Session) (had mid left held wrote holds : Option (List ℕ)) (number : ℕ) (r : Running config old had mid held wrote number) where
   -- the lines tell of one history
-  tell_so_far : TellOneHistory config r.told
-  tell_so_far = (r.knows.history, r.stands.logged.legal, r.at, r.telling, r.stands.made)
+  tell_so_far : TellOneLife config r.told
+  tell_so_far = (life_of r.knows, refl, legal_of old.node r.at.left r.knows r.stands.node_of, r.at, r.telling, r.stands.made)
 
   module _ (new : Session) (text : List ℕ) (a : Answer) (runs : RunsText old text new a) (whole : IsLineText text) where
     abbrev next_told : Told
     next_told = record { text = text; line = runs.line; answer = a }
 
     abbrev after_line : (e : MasterData) × (next : Position) × Stands new.node config e next
-        × ((more : List Record) × (e.history ≡ r.knows.history ++ more)) × Tells config e.history r.at runs.line a next
+        × ((more : List Record) × (e.history ≡ r.knows.history ++ more)) × Tells config (life_of e) r.at runs.line a next
     after_line = runs.answers.answers config (sym r.master) r.knows r.at r.stands
 
-    telling_on : AreTelling config after_line.0.history at_start (r.told ++ next_told ∷ []) after_line.1
+    telling_on : AreTelling config (life_of after_line.0) at_start (r.told ++ next_told ∷ []) after_line.1
     telling_on =
         let same = sym after_line.3.1 in
         let within : r.at.made ≤ length r.knows.history = let made = r.stands.made in omega arith in
-        let longer = subst (λ (h : List Record). AreTelling config h at_start r.told r.at) same
-        (telling_longer config r.knows.history after_line.3.0 at_start r.told r.at within r.telling) in
-        telling_more config after_line.0.history at_start r.told r.at next_told after_line.1 longer after_line.4
+        let longer = subst (λ (h : List Record). AreTelling config (record { opening = opening_of after_line.0; history = h }) at_start r.told r.at) same
+        (telling_longer config (opening_of r.knows) r.knows.history after_line.3.0 at_start r.told r.at within r.telling) in
+        telling_more config (life_of after_line.0) at_start r.told r.at next_told after_line.1 longer after_line.4
 
-    tell_longer : TellOneHistory config (r.told ++ next_told ∷ [])
-    tell_longer = (after_line.0.history, after_line.2.logged.legal, after_line.1, telling_on, after_line.2.made)
+    tell_longer : TellOneLife config (r.told ++ next_told ∷ [])
+    tell_longer = (life_of after_line.0, refl, legal_of new.node after_line.1.left after_line.0 after_line.2.node_of, after_line.1, telling_on, after_line.2.made)
 
     line_there : All (IsScriptLine config.backups) (r.told ++ next_told ∷ [])
     line_there = All-push (IsScriptLine config.backups) r.told next_told r.lines
@@ -361,7 +387,7 @@ begins_not config had held = record {
   taken = [];
   consumed = Consumes-nil had;
   lines = All-nil (IsScriptLine config.backups);
-  tells = ([], refl, at_start, refl, refl);
+  tells = (record { opening = empty_state; history = [] }, refl, refl, at_start, refl, refl);
   ends = ([], refl, omega arith);
   prints = Appends-nil held;
 }

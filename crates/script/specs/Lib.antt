@@ -1,7 +1,6 @@
 pub mod Configuration
-pub mod Recovered
-pub mod Kept
 pub mod Texts
+pub mod Lives
 pub mod Told
 pub mod Served
 pub mod Runs

@@ -4,13 +4,12 @@ use Rattle.std.specs.List.{All, flat_map}
 use Rattle.std.specs.Io.KnownBytes.{Appends, Consumes, IsAtEnd}
 use Rattle.lines.specs.Grammar.{LineValue, Says, Lose}
 use Rattle.lines.specs.Reading.{IsUnbroken, IsLineText}
-use Rattle.versioned_map.specs.declared.command.Record.{Record}
 use Rattle.master_core.specs.declared.config.Config.{Config}
-use Rattle.versioned_map.specs.History.{commands_of, replies_of}
+use Rattle.versioned_map.specs.History.{IsLegal}
 use Rattle.versioned_map.specs.Represents.{empty_state}
-use Rattle.versioned_map.specs.Versioned.{replies}
 use Rattle.script.specs.declared.fault.ScriptFault.{ScriptFault}
 use Rattle.script.specs.declared.fault.ScriptFault.TheVariants.{BadLine, ReadFailed, WriteFailed, NoMemory}
+use Rattle.script.specs.Lives.{Life}
 use Rattle.script.specs.Texts.{answer_text}
 use Rattle.script.specs.Told.{Told, Position, at_start, AreTelling}
 
@@ -55,10 +54,11 @@ IsBadLine backups number taken left =
 
 -- ---- a run
 
--- the lines tell of one legal history of a master of this configuration, which has no records but theirs
-abbrev pub TellOneHistory : Config → List Told → Type 0
-TellOneHistory config told = (history : List Record) × (replies_of history ≡ replies empty_state (commands_of history))
-    × (last : Position) × AreTelling config history at_start told last × (last.made ≡ length history)
+-- The lines tell of one life of a master of this configuration. It begins with no keys, its replies are the versioned
+-- map's, and it has no records but those of the lines.
+abbrev pub TellOneLife : Config → List Told → Type 0
+TellOneLife config told = (life : Life) × (life.opening ≡ empty_state) × IsLegal life.opening life.history
+    × (last : Position) × AreTelling config life at_start told last × (last.made ≡ length life.history)
 
 -- What was taken of the reader: the lines that were run, and behind them a bad line, which has the next number, or at a
 -- fault a part of a line.
@@ -82,6 +82,6 @@ pub record RunsScript (config : Config) (had left held holds : Option (List ℕ)
   pub taken : List ℕ
   pub consumed : Consumes had left taken
   pub lines : All (IsScriptLine config.backups) told
-  pub tells : TellOneHistory config told
+  pub tells : TellOneLife config told
   pub ends : EndsWith config.backups told taken left result
   pub prints : Prints held holds told result

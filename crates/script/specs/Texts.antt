@@ -5,9 +5,8 @@ use Rattle.std.specs.List.{flat_map}
 use Rattle.std.specs.Fmt.{decimal, digit_glyph}
 use Rattle.std.specs.Io.KnownBytes.{Appends}
 use Rattle.entry.specs.declared.entry.Object.{Object}
-use Rattle.recovery_plan.specs.Texts.{plan_fault_text}
 use Rattle.replay.specs.declared.rebuilt.Rebuilt.{Rebuilt}
-use Rattle.replay.specs.Texts.{replay_fault_text}
+use Rattle.recovery.specs.Texts.{recovery_fault_text}
 use Rattle.versioned_map.specs.declared.command.Reply.{Reply}
 use Rattle.versioned_map.specs.declared.command.Reply.TheVariants as reply
 use Rattle.master_core.specs.Names.{refusal_name}
@@ -15,8 +14,6 @@ use Rattle.script.specs.declared.answer.Answer.{Answer}
 use Rattle.script.specs.declared.answer.Answer.TheVariants as answer
 use Rattle.script.specs.declared.fault.ScriptFault.{ScriptFault}
 use Rattle.script.specs.declared.fault.ScriptFault.TheVariants.{BadLine, ReadFailed, WriteFailed, NoMemory}
-use Rattle.script.specs.declared.recovery.RecoveryFault.{RecoveryFault}
-use Rattle.script.specs.declared.recovery.RecoveryFault.TheVariants.{Plan, Replay}
 
 -- ---- the parts of an answer
 
@@ -41,10 +38,6 @@ object_text o = decimal o.key.table ++ 32 ∷ o.key.bytes ++ 32 ∷ decimal o.ve
 -- a line for each object, in order, and their number
 abbrev pub rebuilt_text : Rebuilt → List ℕ
 rebuilt_text r = flat_map object_text r.objects ++ codes "recovered " ++ decimal (length r.objects) ++ 10 ∷ []
-
-abbrev pub recovery_fault_text : RecoveryFault → List ℕ
-recovery_fault_text (Plan fault) = plan_fault_text fault
-recovery_fault_text (Replay fault) = replay_fault_text fault
 
 -- ---- answers
 

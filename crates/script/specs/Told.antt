@@ -1,31 +1,34 @@
--- What the lines of a script tell of a master's history.
-use Rattle.std.specs.Prelude.{◌≡◌, ◌≢◌, ◌⊎◌, ℕ, suc, ◌≤◌, List, [], ◌∷◌, ◌++◌, map, take, length, Bool, true, false, Option, Some, None, slice_get}
+-- What the lines of a script tell of a master's life.
+use Rattle.std.specs.Prelude.{◌≡◌, ◌⊎◌, ℕ, suc, ◌≤◌, List, [], ◌∷◌, map, take, length, Bool, true, false, Option, Some, None, slice_get}
 use Rattle.std.specs.List.Sorted.{IsStrictlySortedBy}
-use Rattle.entry.specs.declared.entry.Entry.{Entry}
+use Rattle.std.specs.Option.{option_map}
 use Rattle.entry.specs.declared.entry.Object.{Object}
-use Rattle.entry.specs.Meaning.{contents_of}
+use Rattle.entry.specs.Meaning.{IsMeaning, among, contents_of}
 use Rattle.entry.specs.Order.{key_cmp}
 use Rattle.entry.specs.Text.{text_of}
 use Rattle.lines.specs.Grammar.{LineValue, Idle, Put, Get, Hex, Stop, Crash, Lose, Recover}
+use Rattle.replica.specs.Choice.{Choice, IsChoice, bag_of}
+use Rattle.replica.specs.Picture.{FleetState, survivors, IsHeld}
+use Rattle.replica.specs.Survival.{BothSurvive}
 use Rattle.versioned_map.specs.declared.command.Command.{Command}
 use Rattle.versioned_map.specs.declared.command.Command.TheVariants as command
 use Rattle.versioned_map.specs.declared.command.If.TheVariants.{Any}
 use Rattle.versioned_map.specs.declared.command.Record.{Record}
 use Rattle.versioned_map.specs.declared.command.Reply.{Reply}
+use Rattle.versioned_map.specs.History.{commands_of}
+use Rattle.versioned_map.specs.Versioned.{after}
 use Rattle.master_core.specs.declared.config.Config.{Config}
 use Rattle.master_core.specs.declared.step.Refusal.{Refusal}
 use Rattle.master_core.specs.declared.step.Refusal.TheVariants as refusal
 use Rattle.master_core.specs.Causes.{command_refusal}
-use Rattle.log_head.specs.Steps.{first_opening}
-use Rattle.versioned_map.specs.History.{commands_of}
-use Rattle.master_core.specs.Log.{IsLogged}
 use Rattle.master_core.specs.Data.{MasterData}
-use Rattle.versioned_map.specs.Represents.{AreUnitsOf, joined, empty_state}
-use Rattle.versioned_map.specs.Versioned.{after}
+use Rattle.master_core.specs.Log.{image_of}
 use Rattle.replay.specs.declared.rebuilt.Rebuilt.{Rebuilt}
+use Rattle.recovery.specs.declared.recovery.RecoveryFault.{RecoveryFault}
+use Rattle.recovery.specs.Recovered.{IsLossOrMemory, IsWant}
 use Rattle.script.specs.declared.answer.Answer.{Answer}
 use Rattle.script.specs.declared.answer.Answer.TheVariants as answer
-use Rattle.script.specs.Recovered.{IsLossOrMemory}
+use Rattle.script.specs.Lives.{Life, life_to, HasLived, Left, is_left, IsLeftBy, IsLeftBySpent, IsHomeBy}
 
 -- a line that was run: its text without the line feed, what it says, and what it answered
 pub record Told : Type 0 where
@@ -33,18 +36,18 @@ pub record Told : Type 0 where
   pub line : LineValue
   pub answer : Answer
 
--- where a script stands in the history of its master
+-- where a script stands in the life of its master
 pub record Position : Type 0 where
   -- how many records its lines have made
   pub made : ℕ
   -- how many of them, counted from the first, a recovery has to have: those up to the last that was answered
   pub acknowledged : ℕ
-  -- whether there is a master
-  pub is_up : Bool
+  -- what is left of the master, where there is none
+  pub left : Option Left
 
 -- at the start nothing is told, and there is a master
 abbrev pub at_start : Position
-at_start = record { made = 0; acknowledged = 0; is_up = true }
+at_start = record { made = 0; acknowledged = 0; left = None }
 
 -- ---- commands
 
@@ -55,30 +58,30 @@ command_of (Get table key) = Some (command.Get (record { table = table; bytes = 
 command_of _ = None
 
 -- the record at this place is of what the line asks, by seat 0, and has this reply
-abbrev pub IsRecordAt : List Record → ℕ → LineValue → Reply → Type 0
-IsRecordAt history place line reply =
-    (c : Command) × (command_of line ≡ Some c) × (slice_get history place ≡ Some (record { seat = 0; command = c; reply = reply }))
+abbrev pub IsRecordAt : Life → ℕ → LineValue → Reply → Type 0
+IsRecordAt life place line reply = (c : Command) × (command_of line ≡ Some c)
+    × (slice_get life.history place ≡ Some (record { seat = 0; command = c; reply = reply }))
 
 -- the line made the next record, which is acknowledged with all before it
-abbrev pub IsReplied : List Record → Position → LineValue → Reply → Position → Type 0
-IsReplied history at line reply next =
-    IsRecordAt history at.made line reply × (next ≡ record { made = suc at.made; acknowledged = suc at.made; is_up = true })
+abbrev pub IsReplied : Life → Position → LineValue → Reply → Position → Type 0
+IsReplied life at line reply next = IsRecordAt life at.made line reply
+    × (next ≡ record { made = suc at.made; acknowledged = suc at.made; left = None })
 
 -- the line is a command's, and made no record
-abbrev pub IsOut : Position → LineValue → Bool → Position → Type 0
-IsOut at line is_up next =
-    (c : Command) × (command_of line ≡ Some c) × (next ≡ record { made = at.made; acknowledged = at.acknowledged; is_up = is_up })
+abbrev pub IsOut : Position → LineValue → Option Left → Position → Type 0
+IsOut at line left next = (c : Command) × (command_of line ≡ Some c)
+    × (next ≡ record { made = at.made; acknowledged = at.acknowledged; left = left })
 
 -- the line made the next record, and nobody was told
-abbrev pub IsIn : List Record → Position → LineValue → Bool → Position → Type 0
-IsIn history at line is_up next =
-    (reply : Reply) × IsRecordAt history at.made line reply × (next ≡ record { made = suc at.made; acknowledged = at.acknowledged; is_up = is_up })
+abbrev pub IsIn : Life → Position → LineValue → Option Left → Position → Type 0
+IsIn life at line left next = (reply : Reply) × IsRecordAt life at.made line reply
+    × (next ≡ record { made = suc at.made; acknowledged = at.acknowledged; left = left })
 
 -- ---- refusals
 
--- the test by which a master of this configuration, with these records and their log, refuses the command
-abbrev pub IsTest : Config → List Record → Command → Refusal → Type 0
-IsTest config records command r = (d : MasterData) × (d.config ≡ config) × (d.history ≡ records) × IsLogged d × (command_refusal d command ≡ Some r)
+-- the test by which a master that has lived this life refuses the command
+abbrev pub IsTest : Config → Life → Command → Refusal → Type 0
+IsTest config life c r = (d : MasterData) × (f : FleetState) × HasLived config life d f × (command_refusal d c ≡ Some r)
 
 -- what a push may be refused by
 abbrev pub is_of_push : Refusal → Bool
@@ -88,30 +91,43 @@ is_of_push refusal.Nothing = true
 is_of_push refusal.NoMemory = true
 is_of_push _ = false
 
--- A command is refused by a test, or for want of memory, and has made no record; or it made one, and then a push was refused.
-abbrev pub IsRefused : Config → List Record → Position → LineValue → Refusal → Position → Type 0
-IsRefused config history at line r next =
-    (IsOut at line true next × ((r ≡ refusal.NoMemory) ⊎ ((c : Command) × (command_of line ≡ Some c) × IsTest config (take at.made history) c r)))
-    ⊎ (IsIn history at line true next × (is_of_push r ≡ true))
+-- A command is refused by a test, or for want of memory, and has made no record; or it made one, and then a push was
+-- refused.
+abbrev pub IsRefused : Config → Life → Position → LineValue → Refusal → Position → Type 0
+IsRefused config life at line r next =
+    (IsOut at line None next × ((r ≡ refusal.NoMemory)
+    ⊎ ((c : Command) × (command_of line ≡ Some c) × IsTest config (life_to life at.made) c r)))
+    ⊎ (IsIn life at line None next × (is_of_push r ≡ true))
 
 -- ---- images
 
--- the bytes of the head after these records: its opening and the units of their commands
-abbrev pub IsImageAfter : Config → List Record → List ℕ → Type 0
-IsImageAfter config records bytes =
-    (units : List (List Entry)) × AreUnitsOf empty_state (commands_of records) units × (bytes ≡ text_of (first_opening config.master 1 ++ joined units))
+-- the image of this segment that a master which has lived this life shows
+abbrev pub IsImageAt : Config → Life → ℕ → Option (List ℕ) → Type 0
+IsImageAt config life segment image = (d : MasterData) × (f : FleetState) × HasLived config life d f
+    × (option_map text_of (image_of d segment) ≡ image)
 
 -- ---- recovered tables
 
 -- the objects are those of the versioned map after this many records, by table and then key bytes
-pub record IsTableAfter (history : List Record) (count : ℕ) (r : Rebuilt) : Type 0 where
-  pub within : count ≤ length history
-  pub exactly : contents_of r.objects ≡ (after empty_state (take count (commands_of history))).contents
+pub record IsTableAfter (life : Life) (count : ℕ) (r : Rebuilt) : Type 0 where
+  pub within : count ≤ length life.history
+  pub exactly : contents_of r.objects ≡ (after life.opening (take count (commands_of life.history))).contents
   pub order : IsStrictlySortedBy key_cmp (map (λ (o : Object). o.key) r.objects)
 
 -- the table after a prefix of what the lines have made that has all that was acknowledged
-abbrev pub IsRecoveredAt : List Record → Position → Rebuilt → Type 0
-IsRecoveredAt history at r = (count : ℕ) × (at.acknowledged ≤ count) × (count ≤ at.made) × IsTableAfter history count r
+abbrev pub IsRecoveredAt : Life → Position → Rebuilt → Type 0
+IsRecoveredAt life at r =
+    (count : ℕ) × (at.acknowledged ≤ count) × (count ≤ at.made) × IsTableAfter life count r
+
+-- the objects are those of a choice from what the backups still hold
+abbrev pub IsOfLeft : Config → Left → Rebuilt → Type 0
+IsOfLeft config l r = (c : Choice) × IsChoice (IsHeld (survivors (is_left l.lost) l.picture)) config.master c
+    × IsMeaning (among (bag_of c)) (contents_of r.objects)
+
+-- what is refused is lost, or memory ran out; and this alone where both survive among the backups that are left
+abbrev pub IsLossOf : Config → Left → RecoveryFault → Type 0
+IsLossOf config l e = IsLossOrMemory e
+    × (BothSurvive (IsHomeBy config) l.picture config.master (is_left l.lost) → IsWant e)
 
 -- ---- lines
 
@@ -130,26 +146,39 @@ is_for_none Recover = true
 is_for_none _ = false
 
 -- What an answer of a line tells where the script stands at a position, and the position that it leads to.
-abbrev pub Tells : Config → List Record → Position → LineValue → Answer → Position → Type 0
-Tells config history at line answer.Silent next = (line ≡ Idle) × (next ≡ at)
-Tells config history at line (answer.Reply reply) next = (at.is_up ≡ true) × IsReplied history at line reply next
-Tells config history at line (answer.Refused r) next =
-    (at.is_up ≡ true) × (IsRefused config history at line r next ⊎ ((r ≡ refusal.NoMemory) × ((segment : ℕ) × (line ≡ Hex segment)) × (next ≡ at)))
-Tells config history at line (answer.Hex bytes) next =
-    (at.is_up ≡ true) × (line ≡ Hex 1) × IsImageAfter config (take at.made history) bytes × (next ≡ at)
-Tells config history at line (answer.NotInLog segment) next = (at.is_up ≡ true) × (line ≡ Hex segment) × (segment ≢ 1) × (next ≡ at)
-Tells config history at line (answer.Stop takes) next = (line ≡ Stop takes) × (next ≡ at)
-Tells config history at line answer.Stopped next = (at.is_up ≡ true) × (IsOut at line false next ⊎ IsIn history at line false next)
-Tells config history at line answer.Crashed next =
-    (at.is_up ≡ true) × (line ≡ Crash) × (next ≡ record { made = at.made; acknowledged = at.acknowledged; is_up = false })
-Tells config history at line (answer.Lost backup) next = (at.is_up ≡ false) × (line ≡ Lose backup) × (next ≡ at)
-Tells config history at line (answer.Recovered r) next = (at.is_up ≡ false) × (line ≡ Recover) × IsRecoveredAt history at r × (next ≡ at)
-Tells config history at line (answer.NotRecovered fault) next = (at.is_up ≡ false) × (line ≡ Recover) × IsLossOrMemory fault × (next ≡ at)
-Tells config history at line answer.Down next = (at.is_up ≡ false) × (is_for_master line ≡ true) × (next ≡ at)
-Tells config history at line answer.Up next = (at.is_up ≡ true) × (is_for_none line ≡ true) × (next ≡ at)
+abbrev pub Tells : Config → Life → Position → LineValue → Answer → Position → Type 0
+Tells config life at line answer.Silent next = (line ≡ Idle) × (next ≡ at)
+Tells config life at line (answer.Reply reply) next = (at.left ≡ None) × IsReplied life at line reply next
+Tells config life at line (answer.Refused r) next = (at.left ≡ None)
+    × (IsRefused config life at line r next
+    ⊎ ((r ≡ refusal.NoMemory) × ((segment : ℕ) × (line ≡ Hex segment)) × (next ≡ at)))
+Tells config life at line (answer.Hex bytes) next = (at.left ≡ None)
+    × ((segment : ℕ) × (line ≡ Hex segment) × IsImageAt config (life_to life at.made) segment (Some bytes)) × (next ≡ at)
+Tells config life at line (answer.NotInLog segment) next = (at.left ≡ None)
+    × (line ≡ Hex segment) × IsImageAt config (life_to life at.made) segment None × (next ≡ at)
+Tells config life at line (answer.Stop takes) next = (line ≡ Stop takes) × (next ≡ at)
+Tells config life at line answer.Stopped next = (at.left ≡ None)
+    × (l : Left) × IsLeftBySpent config (life_to life next.made) l
+    × (IsOut at line (Some l) next ⊎ IsIn life at line (Some l) next)
+Tells config life at line answer.Crashed next = (at.left ≡ None) × (line ≡ Crash)
+    × (l : Left) × IsLeftBy config (life_to life at.made) l
+    × (next ≡ record { made = at.made; acknowledged = at.acknowledged; left = Some l })
+Tells config life at line (answer.Lost backup) next = (line ≡ Lose backup) × (l : Left) × (at.left ≡ Some l)
+    × (next ≡ record {
+      made = at.made;
+      acknowledged = at.acknowledged;
+      left = Some (record { picture = l.picture; lost = backup ∷ l.lost });
+    })
+Tells config life at line (answer.Recovered r) next = (line ≡ Recover)
+    × (l : Left) × (at.left ≡ Some l) × IsRecoveredAt life at r × IsOfLeft config l r × (next ≡ at)
+Tells config life at line (answer.NotRecovered fault) next = (line ≡ Recover)
+    × (l : Left) × (at.left ≡ Some l) × IsLossOf config l fault × (next ≡ at)
+Tells config life at line answer.Down next =
+    ((l : Left) × (at.left ≡ Some l)) × (is_for_master line ≡ true) × (next ≡ at)
+Tells config life at line answer.Up next = (at.left ≡ None) × (is_for_none line ≡ true) × (next ≡ at)
 
--- the lines, in order, tell of one history
-abbrev pub AreTelling : Config → List Record → Position → List Told → Position → Type 0
-AreTelling config history at [] last = last ≡ at
-AreTelling config history at (t ∷ ts) last =
-    (next : Position) × Tells config history at t.line t.answer next × AreTelling config history next ts last
+-- the lines, in order, tell of one life
+abbrev pub AreTelling : Config → Life → Position → List Told → Position → Type 0
+AreTelling config life at [] last = last ≡ at
+AreTelling config life at (t ∷ ts) last =
+    (next : Position) × Tells config life at t.line t.answer next × AreTelling config life next ts last

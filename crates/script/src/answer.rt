@@ -5,10 +5,9 @@ ghost use Rattle.std.specs.Fmt.{decimal};
 ghost use Rattle.std.specs.Io.KnownBytes.{Appends};
 ghost use Rattle.script.specs.Texts.{answer_text, hex_text, object_text, rebuilt_text, reply_text};
 
-use crate::recovery::RecoveryFault;
 use entry::{Object, Value, Version};
 use master::{Refusal, Reply};
-use replay::Rebuilt;
+use recovery::{Rebuilt, RecoveryFault};
 use replica::Bytes;
 use std::io::{self, Write};
 

@@ -1,18 +1,23 @@
 //! A fleet, and the master over it where there is one.
 
-ghost use Rattle.std.specs.Prelude.{◌≡◌, ◌<◌, [], true, false, Some, IfOk, IfErr};
+ghost use Rattle.std.specs.Prelude.{◌≡◌, ◌<◌, [], true, false, None, Some, IfOk, IfErr};
+ghost use Rattle.std.specs.Option.{option_map};
+ghost use Rattle.backup.specs.State.{lost};
 ghost use Rattle.lines.specs.Grammar.{LineValue};
 ghost use Rattle.master_core.specs.declared.config.Config.{Config};
-ghost use Rattle.master_core.specs.Data.{MasterData, durable_of};
-ghost use Rattle.script.specs.Served.{GoesOn, IsServed, IsUnserved, IsOf, AnswersLine, is_up};
+ghost use Rattle.log_model.specs.Data.{durable_of};
+ghost use Rattle.master_core.specs.Data.{MasterData};
+ghost use Rattle.master_core.specs.Log.{log_of};
+ghost use Rattle.replica.specs.Picture.{FleetState};
+ghost use Rattle.replica.specs.Take.{limited};
+ghost use Rattle.script.specs.Served.{GoesOn, IsServed, IsUnserved, IsSpent, IsOf, AnswersLine, fleet_of, is_up, left_now};
 ghost use Rattle.script.specs.Told.{command_of, is_of_push};
 
 use crate::answer::Answer;
-use crate::recovery::{RecoveryFault, recover};
 use backup::MemoryFleet;
 use entry::NoMemory;
 use master::{Command, Look, Master, Refusal, Reply, Shown, Step, StepAnswer};
-use recovery_plan::PlanFault;
+use recovery::{PlanFault, RecoveryFault, recover};
 use replica::{Bench, Fleet};
 use std::alloc::Global;
 use std::mem::replace;
@@ -41,8 +46,9 @@ pub fn push_all<F: Fleet>(master: &mut Master<F>) -> Refusal
 /// Pushes until the record at this place is durable, or a push is refused.
 fn push_until<F: Fleet>(master: &mut Master<F>, place: u64) -> Result<(), Refusal>
     ensures goes_on { GoesOn master.old.knows master.new.knows [] }
-    ensures durable { IfOk result (λ _. place < durable_of master.new.knows) }
+    ensures durable { IfOk result (λ _. place < durable_of (log_of master.new.knows)) }
     ensures refused { IfErr result (λ r. is_of_push r ≡ true) }
+    ensures spent { IfErr result (λ r. r ≡ Refusal.Spent → IsSpent (F.state master.new.fleet)) }
 {
     for _ in 0..u64::MAX {
         if place < master.durable() {
@@ -59,6 +65,7 @@ fn push_until<F: Fleet>(master: &mut Master<F>, place: u64) -> Result<(), Refusa
 fn serve<F: Fleet>(master: &mut Master<F>, command: Command) -> Result<Reply, Refusal>
     ensures served { IfOk result (λ reply. IsServed master.old.knows master.new.knows command reply) }
     ensures unserved { IfErr result (IsUnserved master.old.knows master.new.knows command) }
+    ensures spent { IfErr result (λ r. r ≡ Refusal.Spent → IsSpent (F.state master.new.fleet)) }
 {
     match master.step(Step::Apply(0, command)) {
         Ok(StepAnswer::Applied(place, reply)) => match push_until(master, place) {
@@ -76,26 +83,33 @@ impl Node {
     /// One command, pushed until it is durable. Where the fleet takes no more ops, the master is dropped, and
     /// the limit lifted.
     pub fn serve(&mut self, command: Command) -> Answer
-        ensures { (config : Config) (line : LineValue) → command_of line ≡ Some command → AnswersLine self.old config line self.new result }
+        ensures {
+            (config : Config) (line : LineValue) → command_of line ≡ Some command → AnswersLine self.old config line self.new result
+        }
     {
         let Node::Up(up) = self else {
             return Answer::Down;
         };
-        match serve(up, command) {
+        let outcome = serve(up, command);
+        up.show_valid();
+        match outcome {
             Ok(reply) => Answer::Reply(reply),
-            Err(Refusal::Spent) => {
-                up.limit(u64::MAX);
-                self.drop_master();
-                Answer::Stopped
-            }
-            Err(refusal) => Answer::Refused(refusal),
+            Err(refusal) => match refusal {
+                Refusal::Spent => {
+                    up.limit(u64::MAX);
+                    self.drop_master();
+                    Answer::Stopped
+                }
+                _ => Answer::Refused(refusal),
+            },
         }
     }
 
-    /// Drops the master of a node that is up.
+    /// Drops the master of a node that is up. The fleet stays as it is.
     fn drop_master(&mut self)
         requires { is_up self.old ≡ true }
-        ensures of { (d : MasterData) → IsOf self.old d → IsOf self.new d }
+        ensures left { (d : MasterData) (f : FleetState) → IsOf self.old None d → fleet_of self.old ≡ Some f → IsOf self.new (Some (left_now f)) d }
+        ensures fleet { fleet_of self.new ≡ fleet_of self.old }
         ensures down { is_up self.new ≡ false }
     {
         let Node::Up(up) = replace(self, Node::Changing) else {
@@ -111,7 +125,7 @@ impl Node {
         let Node::Up(up) = self else {
             return Answer::Down;
         };
-        up.show_sound();
+        up.show_valid();
         match up.look(Look::Image(segment)) {
             Ok(Shown::Image(Some(bytes))) => Answer::Hex(bytes),
             Ok(Shown::Image(None)) => Answer::NotInLog(segment),
@@ -121,7 +135,8 @@ impl Node {
 
     /// Lets the fleet take this many further ops.
     pub fn stop(&mut self, takes: u64) -> Answer
-        ensures { (config : Config) → AnswersLine self.old config (Stop takes) self.new result }
+        ensures told { (config : Config) → AnswersLine self.old config (Stop takes) self.new result }
+        ensures limited { fleet_of self.new ≡ option_map (λ f. limited f takes) (fleet_of self.old) }
     {
         match self {
             Node::Up(up) => up.limit(takes),
@@ -131,9 +146,10 @@ impl Node {
         Answer::Stop(takes)
     }
 
-    /// Drops the master.
+    /// Drops the master. The fleet stays as it is.
     pub fn crash(&mut self) -> Answer
-        ensures { (config : Config) → AnswersLine self.old config Crash self.new result }
+        ensures told { (config : Config) → AnswersLine self.old config Crash self.new result }
+        ensures fleet { fleet_of self.new ≡ fleet_of self.old }
     {
         if let Node::Up(_) = self {
             self.drop_master();
@@ -145,14 +161,13 @@ impl Node {
 
     /// A backup loses all that it holds.
     pub fn lose(&mut self, backup: u64) -> Answer
-        ensures { (config : Config) → AnswersLine self.old config (Lose backup) self.new result }
+        ensures told { (config : Config) → AnswersLine self.old config (Lose backup) self.new result }
+        ensures lost { is_up self.old ≡ false → fleet_of self.new ≡ option_map (λ f. lost f backup) (fleet_of self.old) }
     {
         let Node::Down(fleet) = self else {
             return Answer::Up;
         };
-        if backup < fleet.backups() {
-            fleet.lose(backup);
-        }
+        fleet.lose(backup);
         Answer::Lost(backup)
     }
 
@@ -163,12 +178,12 @@ impl Node {
         let Node::Down(fleet) = self else {
             return Answer::Up;
         };
-        let Ok(inventory) = fleet.inventory(alloc) else {
-            return Answer::NotRecovered(RecoveryFault::Plan(PlanFault::NoMemory));
-        };
-        match recover(alloc, &inventory, master) {
-            Ok(rebuilt) => Answer::Recovered(rebuilt),
-            Err(fault) => Answer::NotRecovered(fault),
+        match fleet.inventory(alloc) {
+            Ok(inventory) => match recover(alloc, &inventory, master) {
+                Ok(rebuilt) => Answer::Recovered(rebuilt),
+                Err(fault) => Answer::NotRecovered(fault),
+            },
+            Err(NoMemory) => Answer::NotRecovered(RecoveryFault::Plan(PlanFault::NoMemory)),
         }
     }
 }

@@ -61,7 +61,9 @@ impl Session {
             Ok(master) => master,
             Err((fault, _)) => return Err(fault),
         };
-        match push_all(&mut master) {
+        let pushed = push_all(&mut master);
+        master.show_valid();
+        match pushed {
             Refusal::NoMemory => Err(NoMemory),
             _ => Ok(Session {
                 alloc,

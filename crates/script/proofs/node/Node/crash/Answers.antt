@@ -1,11 +1,17 @@
-use Rattle.std.proofs.Common.{refl, ap, ◌∙◌}
+use Rattle.std.proofs.Common.{refl, ap, subst}
+use Rattle.std.specs.Prelude.{None}
+use Rattle.backup.specs.State.{state_of}
 use Rattle.lines.specs.Grammar.{Crash}
-use Rattle.script.specs.declared.answer.Answer.TheVariants.{Crashed}
-use Rattle.script.specs.Served.{is_up}
-use Rattle.script.proofs.Serving.{same_told}
+use Rattle.script.specs.declared.node.Node.{Node}
+use Rattle.script.specs.declared.node.Node.TheVariants.{Up}
+use Rattle.script.specs.Served.{IsOf, fleet_of, is_up}
+use Rattle.script.proofs.Serving.{crashed_told}
 use Rattle.script.proofs.node.Node.crash.Goals as goal
 
-pub returns-in-Up : goal.returns-in-Up
-returns-in-Up c = λ config.
-    same_told c.args.self.now c.drop_master.new.self config Crash Crashed c.drop_master.ensures.of
-    (λ history at up made. (up ∙ ap is_up c.in-Up.is, refl, λ i. record { made = at.made; acknowledged = at.acknowledged; is_up = c.drop_master.ensures.down i }))
+pub returns-in-Up-clause-told : goal.returns-in-Up-clause-told
+returns-in-Up-clause-told c = λ config.
+    let f = state_of c.in-Up.field-0.fleet in
+    crashed_told c.args.self.now c.drop_master.new.self config Crash f (ap is_up c.in-Up.is)
+    (λ d of.
+    let was : IsOf (Up c.in-Up.field-0) None d = subst (λ (n : Node). IsOf n None d) c.in-Up.is of in
+    (was.2, c.drop_master.ensures.left d f of (ap fleet_of c.in-Up.is))) refl

@@ -1,31 +1,42 @@
-use Rattle.std.proofs.Common.{◌≡◌, ap, refl, subst}
+use Rattle.std.proofs.Common.{◌≡◌, [], sym, ap, refl, subst, ◌∙◌}
+use Rattle.std.specs.Prelude.{Some, None, Result, Err, IfErr}
+use Rattle.backup.specs.State.{state_of}
+use Rattle.master.specs.Valid.{IsValid}
+use Rattle.master.specs.World.{World}
+use Rattle.master_core.specs.declared.step.Refusal.{Refusal}
+use Rattle.master_core.specs.declared.step.Refusal.TheVariants as refusal
 use Rattle.master_core.specs.Data.{MasterData}
-use Rattle.master.specs.Steps.{World}
+use Rattle.replica.specs.Picture.{Picture}
+use Rattle.versioned_map.specs.declared.command.Reply.{Reply}
 use Rattle.script.specs.declared.node.Node.{Node}
 use Rattle.script.specs.declared.node.Node.TheVariants.{Up}
-use Rattle.script.specs.Served.{IsServed, IsUnserved, IsOf, is_up}
-use Rattle.script.proofs.Serving.{reply_told, stopped_told, refused_told}
+use Rattle.script.specs.Served.{IsOf, IsSpent, IsUnserved, is_up}
+use Rattle.script.proofs.Serving.{is_up_none, stopped_told, refused_told}
 use Rattle.script.proofs.node.Node.serve.Goals as goal
 
-pub returns-in-Ok : goal.returns-in-Ok
-returns-in-Ok c = λ config line is d at s.
-    let e = c.serve.new.master.knows in
-    let same : c.in-Up.up.knows ≡ d = subst (λ (n : Node). IsOf n d) c.in-Up.is s.node_of in
-    let served : IsServed d e c.args.command c.in-Ok.reply = subst (λ (x : MasterData). IsServed x e c.args.command c.in-Ok.reply) same c.in-Ok.ensures.served in
-    reply_told d e c.args.self.now (Up c.serve.new.master) config at refl s line c.args.command is c.in-Ok.reply (ap is_up c.in-Up.is) refl served
-
-pub returns-in-Err-Spent : goal.returns-in-Err-Spent
-returns-in-Err-Spent c = λ config line is d at s.
-    let e = c.serve.new.master.knows in
-    let r = c.in-Err-Spent.field-0 in
-    let same : c.in-Up.up.knows ≡ d = subst (λ (n : Node). IsOf n d) c.in-Up.is s.node_of in
-    let left : IsUnserved d e c.args.command r = subst (λ (x : MasterData). IsUnserved x e c.args.command r) same c.in-Err-Spent.ensures.unserved in
-    stopped_told d e c.args.self.now c.drop_master.new.self config at (c.drop_master.ensures.of e (ap (λ (w : World). w.knows) c.limit.ensures)) s line c.args.command is r (ap is_up c.in-Up.is) c.drop_master.ensures.down left
-
-pub returns-in-Err : goal.returns-in-Err
-returns-in-Err c = λ config line is d at s.
-    let e = c.serve.new.master.knows in
+pub returns-in-Spent : goal.returns-in-Spent
+returns-in-Spent c = λ config line asks d at s.
+    let m = c.serve-outcome.new.master in
+    let e = m.knows in
+    let f = state_of m.fleet in
+    let limited = c.limit.new.self in
+    let was : IsOf (Up c.in-Up.up) at.left d = subst (λ (n : Node). IsOf n at.left d) c.in-Up.is s.node_of in
     let r = c.in-Err.refusal in
-    let same : c.in-Up.up.knows ≡ d = subst (λ (n : Node). IsOf n d) c.in-Up.is s.node_of in
-    let left : IsUnserved d e c.args.command r = subst (λ (x : MasterData). IsUnserved x e c.args.command r) same c.in-Err.ensures.unserved in
-    refused_told d e c.args.self.now (Up c.serve.new.master) config at refl s line c.args.command is r (ap is_up c.in-Up.is) refl left
+    let left : IsUnserved d e c.args.command r = subst (λ (x : MasterData). IsUnserved x e c.args.command r) was.1 c.in-Err.ensures.unserved in
+    let same : limited.knows ≡ e = ap (λ (w : World). w.knows) c.limit.ensures.limited in
+    let picture : (state_of limited.fleet).picture ≡ f.picture = ap (λ (w : World). w.fleet.picture) c.limit.ensures.limited in
+    let valid : IsValid e (state_of limited.fleet) = subst (λ (x : MasterData). IsValid x (state_of limited.fleet)) same c.limit.ensures.valid in
+    let dropped = c.drop_master.ensures.left e (state_of limited.fleet) (refl, same, valid) refl in
+    let of = subst (λ (p : Picture). IsOf c.drop_master.new.self (Some (record { picture = p; lost = [] })) e) picture dropped in
+    stopped_told d e c.args.self.now c.drop_master.new.self config at s (is_up_none c.args.self.now d at.left (ap is_up c.in-Up.is) s.node_of)
+    line c.args.command asks r f c.show_valid.ensures (c.in-Err.ensures.spent c.in-Spent.is) of left
+
+pub returns-in_default : goal.returns-in_default
+returns-in_default c = λ config line asks d at s.
+    let m = c.serve-outcome.new.master in
+    let e = m.knows in
+    let r = c.in-Err.refusal in
+    let was : IsOf (Up c.in-Up.up) at.left d = subst (λ (n : Node). IsOf n at.left d) c.in-Up.is s.node_of in
+    let left : IsUnserved d e c.args.command r = subst (λ (x : MasterData). IsUnserved x e c.args.command r) was.1 c.in-Err.ensures.unserved in
+    refused_told d e c.args.self.now (Up m) config at s (is_up_none c.args.self.now d at.left (ap is_up c.in-Up.is) s.node_of)
+    line c.args.command asks r (state_of c.in-Up.up.fleet) was.2 (refl, refl, c.show_valid.ensures) left

@@ -1,0 +1,51 @@
+-- A master's life, and what a crash leaves of it.
+use Rattle.std.specs.Prelude.{◌≡◌, ℕ, List, [], not, Bool, take, slice_get, Option, Some}
+use Rattle.replica.specs.Picture.{Picture, FleetState}
+use Rattle.versioned_map.specs.declared.command.Record.{Record}
+use Rattle.versioned_map.specs.Versioned.{State}
+use Rattle.master_core.specs.declared.config.Config.{Config}
+use Rattle.master_core.specs.Data.{MasterData}
+use Rattle.master_core.specs.Log.{log_config, opening_of}
+use Rattle.master.specs.Valid.{IsValid}
+use Rattle.recovery.specs.Kept.{is_kept}
+
+-- the state that a master began with, and its records
+pub record Life : Type 0 where
+  pub opening : State
+  pub history : List Record
+
+-- the life up to this many records
+abbrev pub life_to : Life → ℕ → Life
+life_to life count = record { opening = life.opening; history = take count life.history }
+
+-- a master of this configuration, over this fleet, that has lived this life
+pub record HasLived (config : Config) (life : Life) (d : MasterData) (f : FleetState) : Type 0 where
+  pub configured : d.config ≡ config
+  pub opening : opening_of d ≡ life.opening
+  pub history : d.history ≡ life.history
+  pub valid : IsValid d f
+
+-- ---- what is left
+
+-- what the backups held of a master that is gone, and which of them lost all they held since then
+pub record Left : Type 0 where
+  pub picture : Picture
+  pub lost : List ℕ
+
+abbrev pub is_left : List ℕ → ℕ → Bool
+is_left lost b = not (is_kept lost b)
+
+-- a master that had lived this life left this
+abbrev pub IsLeftBy : Config → Life → Left → Type 0
+IsLeftBy config life left =
+    (d : MasterData) × (f : FleetState) × HasLived config life d f × (left ≡ record { picture = f.picture; lost = [] })
+
+-- and its fleet took no more ops
+abbrev pub IsLeftBySpent : Config → Life → Left → Type 0
+IsLeftBySpent config life left =
+    (d : MasterData) × (f : FleetState) × HasLived config life d f × (left ≡ record { picture = f.picture; lost = [] })
+    × (f.takes ≡ f.end)
+
+-- the backups of a segment's replicas
+abbrev pub IsHomeBy : Config → ℕ → ℕ → Type 0
+IsHomeBy config s b = (j : ℕ) × (slice_get ((log_config config).homes s) j ≡ Some b)
