@@ -31,8 +31,8 @@ returns-in-Spent c = λ config line asks d at s.
     stopped_told d e c.args.self.now c.drop_master.new.self config at s (is_up_none c.args.self.now d at.left (ap is_up c.in-Up.is) s.node_of)
     line c.args.command asks r f c.show_valid.ensures (c.in-Err.ensures.spent c.in-Spent.is) of left
 
-pub returns-in_default : goal.returns-in_default
-returns-in_default c = λ config line asks d at s.
+pub returns-in_default-refusal : goal.returns-in_default-refusal
+returns-in_default-refusal c = λ config line asks d at s.
     let m = c.serve-outcome.new.master in
     let e = m.knows in
     let r = c.in-Err.refusal in
