@@ -15,7 +15,8 @@ use Rattle.entry.specs.Tablet.{have_key}
 use Rattle.entry.specs.Text.{text_of, is_data, entries_in, data_in, header_in, header_of, Opening, opening_in, opening_of, IsSegment}
 use Rattle.entry.specs.Meaning.{Versioned, IsOfKey, among}
 use Rattle.entry.proofs.TextLemmas.{entries_in-text}
-use Rattle.segment.proofs.RowLemmas.{text_of-append, each-split}
+use Rattle.entry.proofs.ListLemmas.{all_split}
+use Rattle.segment.proofs.RowLemmas.{text_of-append}
 use Rattle.master.specs.declared.command.Command.{Command}
 use Rattle.master.specs.declared.command.Command.TheVariants.{Get, Put, Delete}
 use Rattle.master.specs.Command.{command_key}
@@ -121,7 +122,7 @@ module _ (master : ℕ) (units : List (List Entry)) (count : ℕ) where
     pub front_segment : IsSegment (front master units count)
     front_segment = record {
       each = (let all = subst (λ (es : List Entry). AllByRecursion IsEntry es) (sym front_split) segment.each in
-          (each-split (front master units count) (joined (drop count units)) all).0);
+          (all_split IsEntry (front master units count) (joined (drop count units)) all).0);
       order = (units_data st (take count commands) (take count units) (units_front st commands units count are)).0;
     }
 
