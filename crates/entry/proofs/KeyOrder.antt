@@ -31,16 +31,16 @@ key_cmp_equal a b h = (key_eq_decides a b).0 (key_eq_ties a b ∙ ap is_eq h)
 
 -- a key between a key and itself
 module _ (a b c : Key) (up : is_gt (key_cmp a b) ≡ false) (on : is_gt (key_cmp b c) ≡ false) (same : a ≡ c) where
-  between-by : (o : Ordering) → key_cmp a b ≡ o → a ≡ b
-  between-by Less h =
+  between_by : (o : Ordering) → key_cmp a b ≡ o → a ≡ b
+  between_by Less h =
       let back : is_gt (key_cmp b a) ≡ false = subst (λ (k : Key). is_gt (key_cmp b k) ≡ false) (sym same) on in
       let greater : key_cmp b a ≡ Greater = key_cmp_total.antisymm b a ∙ ap ordering_reverse h in
       let yes : is_gt (key_cmp b a) ≡ true = ap is_gt greater in absurd (cc)
-  between-by Equal h = key_cmp_equal a b h
-  between-by Greater h = let yes : is_gt (key_cmp a b) ≡ true = ap is_gt h in absurd (cc)
+  between_by Equal h = key_cmp_equal a b h
+  between_by Greater h = let yes : is_gt (key_cmp a b) ≡ true = ap is_gt h in absurd (cc)
 
   pub key_cmp_between : a ≡ b
-  key_cmp_between = between-by (key_cmp a b) refl
+  key_cmp_between = between_by (key_cmp a b) refl
 
 pub key_cmp_less : (a b : Key) → is_gt (key_cmp a b) ≡ false → (a ≡ b → ⊥) → key_cmp a b ≡ Less
 key_cmp_less a b up other = by_answer (key_cmp a b) refl

@@ -16,7 +16,8 @@ key_eq a b = (a.table == b.table) && pointwise nat_eq a.bytes b.bytes
 -- ---- laws of the order
 
 pub key_cmp_total : IsTotalOrder key_cmp
-key_cmp_total = then_total (on_total (λ (k : Key). k.table) nat_cmp_total) (on_total (λ (k : Key). k.bytes) nat_list_cmp_total)
+key_cmp_total =
+    then_total (on_total (λ (k : Key). k.table) nat_cmp_total) (on_total (λ (k : Key). k.bytes) nat_list_cmp_total)
 
 -- two keys are the same exactly where neither stands before the other
 pub key_eq_ties : (a b : Key) → key_eq a b ≡ eq_by_cmp key_cmp a b

@@ -65,8 +65,8 @@ impl<'a> PartialOrd for KeyRef<'a> {
 
     ghost partial_cmp = { as_partial_cmp (on shown_key key_cmp) };
 
-    ghost laws = { partial_order_from_agreeing_total (on shown_key key_cmp) (on_total shown_key key_cmp_total) (λ x y. refl)
-        (λ x y. key_eq_ties (shown_key x) (shown_key y)) };
+    ghost laws = { partial_order_from_agreeing_total (on shown_key key_cmp) (on_total shown_key key_cmp_total)
+        (λ x y. refl) (λ x y. key_eq_ties (shown_key x) (shown_key y)) };
 
     fn partial_cmp(&self, other: &KeyRef<'a>) -> Option<Ordering> {
         Some(self.cmp(other))

@@ -180,8 +180,8 @@ abbrev claim_of_object : Object → Claimed
 claim_of_object o = record { key = o.key; version = o.version; dead = false; value = o.value }
 
 -- where no neighbours clash, the entries are clean
-pub unclashed-clean : (es : List Entry) (cs : List Claimed) → AreClaims es cs → has_clash cs ≡ false → IsClean (among es)
-unclashed-clean es cs are none o p m n key version =
+pub unclashed_clean : (es : List Entry) (cs : List Claimed) → AreClaims es cs → has_clash cs ≡ false → IsClean (among es)
+unclashed_clean es cs are none o p m n key version =
     unclashed cs (claim_of_object o) (claim_of_object p) are.up none
     (are.all (claim_of_object o) (claims_of-has es (entry.Object o) (claim_of_object o) m refl))
     (are.all (claim_of_object p) (claims_of-has es (entry.Object p) (claim_of_object p) n refl))
