@@ -1,14 +1,15 @@
 -- Which replicas a backup shows.
-use Rattle.std.proofs.Common.{◌≡◌, ℕ, zero, suc, ◌+◌, ◌<◌, ◌≤◌, ltb, arith, List, length, drop, get_or, append_assoc, [], ◌∷◌, ◌++◌, map, Bool, true, false, cond, Some, refl, sym, ◌∙◌, ap, subst, inl, inr, ◌⊎◌, ◌↔◌}
+use Rattle.std.proofs.Common.{◌≡◌, ℕ, zero, suc, ◌+◌, ◌<◌, ◌≤◌, ltb, arith, List, length, drop, get_or, append_assoc, [], ◌∷◌, ◌++◌, map, Bool, true, false, cond, Some, refl, sym, ◌∙◌, ap, subst, inl, inr, ◌↔◌}
 use Rattle.std.specs.Map.{lookup}
 use Rattle.std.specs.List.{All, AllByRecursion, slice_get}
 use Rattle.std.specs.BTreeMap.{is_at}
-use Rattle.std.proofs.lemmas.List.Elements.{All-head, All-tail}
+use Rattle.std.proofs.lemmas.List.Elements.{All-contains, All-map}
 use Rattle.std.proofs.lemmas.Map.Views.{All-found, tells_apart}
 use Rattle.std.proofs.lemmas.Option.{same_Some}
 use Rattle.std.proofs.lemmas.List.{at_drop_more, get_or_default}
 use Rattle.std.proofs.lemmas.Bool.{ltb-true, ltb-false}
 use Rattle.entry.specs.Bag.{IsAmong}
+use Rattle.entry.proofs.BagLemmas.{among_place, among_left, among_right, among_either}
 use Rattle.replica.specs.Picture.{Replica, IsHeld}
 use Rattle.replica.specs.declared.holding.Holding.{Holding}
 use Rattle.backup.specs.declared.memory.MemoryBackup.{MemoryBackup}
@@ -18,9 +19,7 @@ use Rattle.backup.proofs.Places.{place_total, place_exact}
 
 -- what holds of each element's image holds of each member of the images
 pub image_has : {A B : Type 0} (f : A → B) (Q : B → Type 0) (xs : List A) → All (λ x. Q (f x)) xs → (y : B) → IsAmong y (map f xs) → Q y
-image_has f Q [] all y among = absurd among
-image_has f Q (x ∷ xs) all y (inl e) = subst Q e (All-head (λ x. Q (f x)) x xs all)
-image_has f Q (x ∷ xs) all y (inr among) = image_has f Q xs (All-tail (λ x. Q (f x)) x xs all) y among
+image_has f Q xs all y among = All-contains Q (map f xs) y (All-map Q f xs all) (among_place y (map f xs) among)
 
 found_at : (b : ℕ) (x : (ℕ × ℕ) × Replica) (xs : List ((ℕ × ℕ) × Replica)) (p : ℕ × ℕ) (r : Replica) (t : Bool) → is_at (place_cmp p) x.0 ≡ t
     → cond t (Some x.1) (lookup (is_at (place_cmp p)) xs) ≡ Some r
@@ -57,20 +56,6 @@ AreInOrder backups = AllByRecursion IsInOrder backups
 abbrev pub inventory_of : ℕ → List MemoryBackup → List Holding
 inventory_of b [] = []
 inventory_of b (x ∷ xs) = holdings_of b x ++ inventory_of (suc b) xs
-
-pub among_left : (h : Holding) (xs ys : List Holding) → IsAmong h xs → IsAmong h (xs ++ ys)
-among_left h [] ys among = absurd among
-among_left h (x ∷ xs) ys (inl e) = inl e
-among_left h (x ∷ xs) ys (inr among) = inr (among_left h xs ys among)
-
-pub among_right : (h : Holding) (xs ys : List Holding) → IsAmong h ys → IsAmong h (xs ++ ys)
-among_right h [] ys among = among
-among_right h (x ∷ xs) ys among = inr (among_right h xs ys among)
-
-pub among_either : (h : Holding) (xs ys : List Holding) → IsAmong h (xs ++ ys) → IsAmong h xs ⊎ IsAmong h ys
-among_either h [] ys among = inr among
-among_either h (x ∷ xs) ys (inl e) = inl (inl e)
-among_either h (x ∷ xs) ys (inr among) = elim (among_either h xs ys among) [ inl before ↦ inl (inr before) | inr after ↦ inr after ]
 
 -- a replica on the i-th of these backups
 pub record IsOn (backups : List MemoryBackup) (b : ℕ) (h : Holding) : Type 0 where

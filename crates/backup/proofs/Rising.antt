@@ -1,5 +1,5 @@
 -- The order of what backups show.
-use Rattle.std.proofs.Common.{◌≡◌, ℕ, suc, ◌<◌, ◌≤◌, List, [], ◌∷◌, ◌++◌, map, refl, inl, inr, subst, arith}
+use Rattle.std.proofs.Common.{◌≡◌, ℕ, suc, ◌<◌, ◌≤◌, List, [], ◌∷◌, ◌++◌, map, refl, arith}
 use Rattle.std.specs.List.{AllByRecursion}
 use Rattle.std.specs.List.Sorted.{IsStrictlySortedBy}
 use Rattle.std.specs.Map.{keys_of}
@@ -7,21 +7,13 @@ use Rattle.std.specs.declared.cmp.Ordering.TheVariants.{Less, Equal}
 use Rattle.std.specs.Cmp.{nat_cmp_total}
 use Rattle.std.proofs.lemmas.Bool.{lt-ltb}
 use Rattle.std.proofs.lemmas.Cmp.{tied_itself}
-use Rattle.entry.specs.Bag.{IsAmong}
+use Rattle.entry.proofs.ListLemmas.{all_append, all_weaker, all_among}
 use Rattle.replica.specs.Picture.{Replica, IsOnce}
 use Rattle.replica.specs.declared.holding.Holding.{Holding}
 use Rattle.backup.specs.declared.memory.MemoryBackup.{MemoryBackup}
 use Rattle.backup.specs.Shelf.{place_cmp, holding_of, holdings_of}
 use Rattle.backup.specs.Inventory.{holding_cmp, IsRising}
 use Rattle.backup.proofs.Held.{AreInOrder, inventory_of}
-
-all_weaker : (P Q : Holding → Type 0) (xs : List Holding) → ((x : Holding) → P x → Q x) → AllByRecursion P xs → AllByRecursion Q xs
-all_weaker P Q [] f all = tt
-all_weaker P Q (x ∷ xs) f all = (f x all.0, all_weaker P Q xs f all.1)
-
-all_append : (P : Holding → Type 0) (xs ys : List Holding) → AllByRecursion P xs → AllByRecursion P ys → AllByRecursion P (xs ++ ys)
-all_append P [] ys front back = back
-all_append P (x ∷ xs) ys front back = (front.0, all_append P xs ys front.1 back)
 
 all_backups : (b : ℕ) (es : List ((ℕ × ℕ) × Replica)) → AllByRecursion (λ h. h.backup ≡ b) (map (holding_of b) es)
 all_backups b [] = tt
@@ -50,12 +42,12 @@ rising_append : (b : ℕ) (xs ys : List Holding) → AllByRecursion (λ h. h.bac
 unfolding IsStrictlySortedBy
 rising_append b [] ys here later front back = back
 rising_append b (x ∷ xs) ys here later front back =
-    (all_append (λ y. holding_cmp x y ≡ Less) xs ys front.0 (all_weaker (λ h. suc b ≤ h.backup) (λ y. holding_cmp x y ≡ Less) ys (λ y h. later_backup x y (omega (arith, here.0, h))) later), rising_append b xs ys here.1 later front.1 back)
+    (all_append (λ y. holding_cmp x y ≡ Less) xs ys front.0 (all_weaker (λ h. suc b ≤ h.backup) (λ y. holding_cmp x y ≡ Less) (λ y h. later_backup x y (omega (arith, here.0, h))) ys later), rising_append b xs ys here.1 later front.1 back)
 
 all_from : (b : ℕ) (backups : List MemoryBackup) → AllByRecursion (λ h. b ≤ h.backup) (inventory_of b backups)
 all_from b [] = tt
 all_from b (x ∷ xs) =
-    all_append (λ h. b ≤ h.backup) (holdings_of b x) (inventory_of (suc b) xs) (all_weaker (λ h. h.backup ≡ b) (λ h. b ≤ h.backup) (holdings_of b x) (λ h e. omega (arith, e)) (all_backups b x.replicas.entries)) (all_weaker (λ h. suc b ≤ h.backup) (λ h. b ≤ h.backup) (inventory_of (suc b) xs) (λ h l. omega (arith, l)) (all_from (suc b) xs))
+    all_append (λ h. b ≤ h.backup) (holdings_of b x) (inventory_of (suc b) xs) (all_weaker (λ h. h.backup ≡ b) (λ h. b ≤ h.backup) (λ h e. omega (arith, e)) (holdings_of b x) (all_backups b x.replicas.entries)) (all_weaker (λ h. suc b ≤ h.backup) (λ h. b ≤ h.backup) (λ h l. omega (arith, l)) (inventory_of (suc b) xs) (all_from (suc b) xs))
 
 -- the backups one after another
 pub rising_inventory : (b : ℕ) (backups : List MemoryBackup) → AreInOrder backups → IsRising (inventory_of b backups)
@@ -69,13 +61,8 @@ not_above_itself h above =
     let e : holding_cmp h h ≡ Equal = rw (tied_itself nat_cmp_total h.backup, tied_itself nat_cmp_total h.master, tied_itself nat_cmp_total h.segment) refl in
     (cc)
 
-not_among_above : (h : Holding) (hs : List Holding) → AllByRecursion (λ g. holding_cmp h g ≡ Less) hs → IsAmong h hs → ⊥
-not_among_above h [] all among = among
-not_among_above h (x ∷ xs) all (inl e) = not_above_itself h (subst (λ g. holding_cmp h g ≡ Less) e all.0)
-not_among_above h (x ∷ xs) all (inr among) = not_among_above h xs all.1 among
-
 -- a list that rises has nothing twice
 pub IsOnce-from_rising : (hs : List Holding) → IsRising hs → IsOnce hs
 unfolding IsStrictlySortedBy
 IsOnce-from_rising [] rising = tt
-IsOnce-from_rising (h ∷ hs) rising = (not_among_above h hs rising.0, IsOnce-from_rising hs rising.1)
+IsOnce-from_rising (h ∷ hs) rising = (λ among. not_above_itself h (all_among (λ g. holding_cmp h g ≡ Less) hs h rising.0 among), IsOnce-from_rising hs rising.1)

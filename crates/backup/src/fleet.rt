@@ -49,8 +49,8 @@ impl MemoryFleet {
         self.backups.len() as u64
     }
 
-    /// Makes a backup lose all that it holds. An empty one has its number from then on. A number that is no backup's changes
-    /// nothing.
+    /// Makes a backup lose all that it holds. An empty one has its number from then on. A number that is no backup's
+    /// changes nothing.
     pub fn lose(&mut self, backup: u64)
         ensures lost { state_of self.new ≡ lost (state_of self.old) backup }
         ensures none { (state_of self.old).backups ≤ backup → state_of self.new ≡ state_of self.old }

@@ -13,8 +13,8 @@ use Rattle.entry.specs.Tablet.{has_key, is_before, is_tablet, are_in_order, are_
 abbrev IsBefore : Tablet → Tablet → Type 0
 IsBefore t u = (t.table < u.table) ⊎ ((t.table ≡ u.table) × (t.last < u.first))
 
-is_before-tells : (t u : Tablet) → is_before t u ≡ true → IsBefore t u
-is_before-tells t u e =
+is_before_tells : (t u : Tablet) → is_before t u ≡ true → IsBefore t u
+is_before_tells t u e =
     elim (or_cases (nat_lt t.table u.table) ((t.table == u.table) && nat_lt t.last u.first) e) [
       | inl less ↦ inl (ltb-true t.table u.table less)
       | inr same ↦ let parts = and_parts (t.table == u.table) (nat_lt t.last u.first) same in inr (eqb-true t.table u.table parts.0, ltb-true t.last u.first parts.1)
@@ -57,10 +57,10 @@ next_before t u us order = and_parts (is_before t u) (are_in_order (u ∷ us)) (
 -- the first ends before each of the others begins
 first_before : (t : Tablet) (ts : List Tablet) (j : ℕ) (u : Tablet) → are_in_order (t ∷ ts) ≡ true → slice_get ts j ≡ Some u → IsBefore t u
 first_before t [] j u order at = absurd (cc)
-first_before t (v ∷ vs) zero u order at = subst (λ (w : Tablet). IsBefore t w) (same_Some v u at) (is_before-tells t v (next_before t v vs order).0)
+first_before t (v ∷ vs) zero u order at = subst (λ (w : Tablet). IsBefore t w) (same_Some v u at) (is_before_tells t v (next_before t v vs order).0)
 first_before t (v ∷ vs) (suc j) u order at =
     let next = next_before t v vs order in
-    later t v u (is_before-tells t v next.0) (first_whole v vs next.1) (first_before v vs j u next.1 at)
+    later t v u (is_before_tells t v next.0) (first_whole v vs next.1) (first_before v vs j u next.1 at)
 
 others_in_order : (t : Tablet) (ts : List Tablet) → are_in_order (t ∷ ts) ≡ true → are_in_order ts ≡ true
 others_in_order t [] order = refl

@@ -1,8 +1,9 @@
 -- What stands at the front of bytes that pass the tests.
 use Rattle.std.proofs.Common.{◌≡◌, ℕ, zero, suc, ◌+◌, ◌^◌, ◌<◌, ◌≤◌, Bool, true, false, List, [], ◌∷◌, ◌++◌, length, take, drop, Option, Some, None, refl, sym, ap, ◌∙◌, arith}
 use Rattle.std.specs.Prelude.{slice_index, ◌&&◌, nat_le, nat_lt, not, if◌then◌else◌, Result, Ok, Err, IfOk, IfErr, IsOkAnd}
-use Rattle.std.proofs.lemmas.Bool.{leb-true, ltb-false}
+use Rattle.std.proofs.lemmas.Bool.{leb-true, ltb-false, and_parts}
 use Rattle.std.proofs.lemmas.List.{length-take, take-append-drop}
+use Rattle.std.proofs.lemmas.Option.{none-some}
 use Rattle.entry.specs.declared.entry.Entry.{Entry}
 use Rattle.entry.specs.declared.kind.Kind.{Kind}
 use Rattle.entry.specs.declared.kind.Kind.TheVariants as kind
@@ -45,14 +46,9 @@ Passes-from_none k bytes e =
       order = tests.3;
     }
 
-both : (a b : Bool) → (a && b) ≡ true → (a ≡ true) × (b ≡ true)
-both true true e = (refl, refl)
-both true false e = absurd (cc)
-both false b e = absurd (cc)
-
 within_limits : (least greatest n : ℕ) → is_within least greatest n ≡ true → (least ≤ n) × (n ≤ greatest)
 within_limits least greatest n e =
-    let tests = both (nat_le least n) (nat_le n greatest) e in
+    let tests = and_parts (nat_le least n) (nat_le n greatest) e in
     (leb-true least n tests.0, leb-true n greatest tests.1)
 
 version_from : (n : ℕ) → is_within 1 (2 ^ 62) n ≡ true → IsVersion n
@@ -81,8 +77,8 @@ begins_of kind.Object bytes fits first e =
     let n = number_at 8 9 bytes in
     let k = number_at 2 17 bytes in
     let v = number_at 4 19 bytes in
-    let outer = both (is_within 1 (2 ^ 62) n && is_within 1 1024 k) (nat_le v 2097152) tests.fields in
-    let inner = both (is_within 1 (2 ^ 62) n) (is_within 1 1024 k) outer.0 in
+    let outer = and_parts (is_within 1 (2 ^ 62) n && is_within 1 1024 k) (nat_le v 2097152) tests.fields in
+    let inner = and_parts (is_within 1 (2 ^ 62) n) (is_within 1 1024 k) outer.0 in
     let limits = within_limits 1 1024 k inner.1 in
     object_begins bytes (number_at 8 1 bytes) n k v (take k (drop 23 bytes)) (take v (drop (23 + k) bytes)) fits tests.whole first refl refl refl refl refl refl
     (version_from n inner.0) limits.0 limits.1 (leb-true v 2097152 outer.1)
@@ -90,7 +86,7 @@ begins_of kind.Tombstone bytes fits first e =
     let tests = Passes-from_none kind.Tombstone bytes e in
     let n = number_at 8 9 bytes in
     let k = number_at 2 25 bytes in
-    let inner = both (is_within 1 (2 ^ 62) n) (is_within 1 1024 k) tests.fields in
+    let inner = and_parts (is_within 1 (2 ^ 62) n) (is_within 1 1024 k) tests.fields in
     let limits = within_limits 1 1024 k inner.1 in
     tombstone_begins bytes (number_at 8 1 bytes) n (number_at 8 17 bytes) k (take k (drop 27 bytes)) fits tests.whole first refl refl refl refl refl
     (version_from n inner.0) limits.0 limits.1
@@ -104,9 +100,6 @@ pub first_fault-kind : (k : Kind) (bytes : List ℕ) → 0 < length bytes → ki
 first_fault-kind k [] lt first = absurd (omega arith)
 first_fault-kind k (b ∷ bs) lt first = rw first refl
 
-contradiction : {f : EntryFault} → some f ≡ None → ⊥
-contradiction e = cc
-
 -- what is spelled at the front is read
 pub complete : (bytes : List ℕ) (r : Result (EntryRef × ℕ) EntryFault) → IfOk r (λ read. Begins bytes (shown read.0) read.1) → IfErr r (λ fault. first_fault bytes ≡ Some fault)
     → (e : Entry) (rest : List ℕ) → IsEntry e → bytes ≡ spelling e ++ rest → IsOkAnd r (λ read. (shown read.0 ≡ e) × (read.1 ≡ length (spelling e)))
@@ -116,7 +109,7 @@ complete bytes (Ok x) found fault e rest fits is =
     let whole = found.within in
     let len : x.1 ≡ length (spelling (shown x.0)) = omega (arith, length-take x.1 bytes, ap length found.text) in
     (same.0, len ∙ ap (λ (z : Entry). length (spelling z)) same.0)
-complete bytes (Err f) found fault e rest fits is = absurd (contradiction (sym fault ∙ ap first_fault is ∙ passes e rest fits))
+complete bytes (Err f) found fault e rest fits is = absurd (none-some f (sym (passes e rest fits) ∙ sym (ap first_fault is) ∙ fault))
 
 -- what a reader of the first byte's kind answers stands at the front
 pub found_of : (k : Kind) (bytes : List ℕ) (r : Result (EntryRef × ℕ) EntryFault) → IsBytes bytes → slice_index bytes 0 ≡ kind_byte k → Reads k bytes r

@@ -1,10 +1,10 @@
 -- The ids of a digest, one after the other.
-use Rattle.std.proofs.Common.{◌≡◌, ℕ, zero, suc, ◌+◌, ◌*◌, ◌-◌, ◌^◌, ◌<◌, ◌≤◌, Bool, true, false, List, [], ◌∷◌, ◌++◌, length, refl, ap, append_assoc, add-zero, arith}
+use Rattle.std.proofs.Common.{◌≡◌, ℕ, zero, suc, ◌+◌, ◌*◌, ◌-◌, ◌^◌, ◌<◌, ◌≤◌, true, List, [], ◌∷◌, ◌++◌, length, refl, ap, append_assoc, add-zero, arith}
 use Rattle.std.specs.Prelude.{slice_index, slice_get, Some, ◌&&◌, nat_lt}
 use Rattle.std.specs.List.{flat_map}
 use Rattle.std.specs.List.Sorted.{IsStrictlyIncreasing}
 use Rattle.std.proofs.lemmas.List.{append-nil}
-use Rattle.std.proofs.lemmas.Bool.{ltb-true}
+use Rattle.std.proofs.lemmas.Bool.{ltb-true, and_parts}
 use Rattle.entry.specs.Key.{IsBytes}
 use Rattle.entry.specs.Format.{number_bytes, number_at, ids_at, rises}
 use Rattle.entry.proofs.Numbers.{number_at-lt, width-8, Fronts, Fronts-number}
@@ -35,18 +35,13 @@ ids_at-lt zero at bytes fits i = omega arith
 ids_at-lt (suc count) at bytes fits zero = number_at-lt 8 at bytes fits
 ids_at-lt (suc count) at bytes fits (suc i) = ids_at-lt count (at + 8) bytes fits i
 
-and_true : (a b : Bool) → (a && b) ≡ true → (a ≡ true) × (b ≡ true)
-and_true true true e = (refl, refl)
-and_true true false e = absurd (cc)
-and_true false b e = absurd (cc)
-
 pub increasing-from_rises : (ids : List ℕ) → rises ids ≡ true → IsStrictlyIncreasing ids
 increasing-from_rises [] e k lt = absurd (omega arith)
 increasing-from_rises (x ∷ []) e k lt = absurd (omega arith)
-increasing-from_rises (x ∷ y ∷ ys) e zero lt = ltb-true x y (and_true (nat_lt x y) (rises (y ∷ ys)) e).0
+increasing-from_rises (x ∷ y ∷ ys) e zero lt = ltb-true x y (and_parts (nat_lt x y) (rises (y ∷ ys)) e).0
 increasing-from_rises (x ∷ y ∷ ys) e (suc k) lt =
     let next : suc k + 1 ≡ suc (k + 1) = omega arith in
-    rw next (increasing-from_rises (y ∷ ys) (and_true (nat_lt x y) (rises (y ∷ ys)) e).1 k (omega arith))
+    rw next (increasing-from_rises (y ∷ ys) (and_parts (nat_lt x y) (rises (y ∷ ys)) e).1 k (omega arith))
 
 -- the bytes of the ids that stand there
 pub Fronts-ids : (count at : ℕ) (bytes text : List ℕ) → IsBytes bytes → Fronts bytes at text → at + 8 * count ≤ length bytes

@@ -8,3 +8,5 @@ pub mod FrontLemmas
 pub mod TextLemmas
 pub mod KeyOrder
 pub mod Disjoint
+pub mod BagLemmas
+pub mod ListLemmas

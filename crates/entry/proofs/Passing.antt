@@ -1,5 +1,5 @@
 -- What is spelled passes the tests of a reader.
-use Rattle.std.proofs.Common.{◌≡◌, ℕ, suc, ◌+◌, ◌^◌, ◌<◌, ◌≤◌, true, List, [], ◌∷◌, ◌++◌, length, Option, Some, None, refl, sym, append_assoc, arith}
+use Rattle.std.proofs.Common.{◌≡◌, ℕ, suc, ◌+◌, ◌^◌, ◌<◌, ◌≤◌, true, List, [], ◌∷◌, ◌++◌, length, None, refl, sym, append_assoc, arith}
 use Rattle.std.specs.Prelude.{slice_index, nat_lt}
 use Rattle.std.specs.List.{flat_map}
 use Rattle.std.specs.List.Sorted.{IsStrictlyIncreasing}
@@ -11,15 +11,11 @@ use Rattle.entry.specs.declared.entry.Tombstone.{Tombstone}
 use Rattle.entry.specs.declared.entry.Entry.{Entry}
 use Rattle.entry.specs.declared.entry.Entry.TheVariants as entry
 use Rattle.entry.specs.declared.kind.Kind.TheVariants as kind
-use Rattle.entry.specs.declared.fault.EntryFault.{EntryFault}
 use Rattle.entry.specs.Limits.{IsSafeVersion, AreIds}
 use Rattle.entry.specs.Format.{number_bytes, number_at, role_byte, spelling, IsHeader, IsObject, IsTombstone, IsEntry, whole_len, are_fields, has_order, ids_at, rises, fault_in, first_fault}
 use Rattle.entry.proofs.Numbers.{length-number_bytes, number_at-front, number_at-past}
 use Rattle.entry.proofs.SpellingLemmas.{length-header, length-digest, length-safe, length-object, length-tombstone}
 use Rattle.entry.proofs.ReadingLemmas.{no_fault, within, role_fits, object_fields, tombstone_fields}
-
-abbrev some : EntryFault → Option EntryFault
-some f = Some f
 
 -- a number that stands behind a front
 pub field : (k at n : ℕ) (front rest bytes : List ℕ) → bytes ≡ front ++ (number_bytes k n ++ rest) → length front ≡ at → n < 256 ^ k → number_at k at bytes ≡ n

@@ -15,9 +15,10 @@ key_eq a b = (a.table == b.table) && pointwise nat_eq a.bytes b.bytes
 
 -- ---- laws of the order
 
-pub key_cmp-total : IsTotalOrder key_cmp
-key_cmp-total = then_total (on_total (λ (k : Key). k.table) nat_cmp_total) (on_total (λ (k : Key). k.bytes) nat_list_cmp_total)
+pub key_cmp_total : IsTotalOrder key_cmp
+key_cmp_total =
+    then_total (on_total (λ (k : Key). k.table) nat_cmp_total) (on_total (λ (k : Key). k.bytes) nat_list_cmp_total)
 
 -- two keys are the same exactly where neither stands before the other
-pub key_eq-ties : (a b : Key) → key_eq a b ≡ eq_by_cmp key_cmp a b
-key_eq-ties a b = both_tied _ _ _ _ (unsigned_ties a.table b.table) (texts_ties a.bytes b.bytes)
+pub key_eq_ties : (a b : Key) → key_eq a b ≡ eq_by_cmp key_cmp a b
+key_eq_ties a b = both_tied _ _ _ _ (unsigned_ties a.table b.table) (texts_ties a.bytes b.bytes)

@@ -5,7 +5,7 @@ ghost use Rattle.std.specs.Cmp.Lexicographic.{pointwise, nat_list_eq_equiv};
 ghost use Rattle.std.specs.Ordering.{as_partial_cmp};
 ghost use Rattle.std.specs.Prelude.{refl, nat_eq, ◌≡◌, ◌<◌, ◌≤◌, ◌↔◌, length, IfOk, IsErrOf};
 ghost use Rattle.entry.specs.Key.{IsKeyBytes, place_of};
-ghost use Rattle.entry.specs.Order.{key_cmp, key_cmp-total, key_eq-ties};
+ghost use Rattle.entry.specs.Order.{key_cmp, key_cmp_total, key_eq_ties};
 
 use crate::fault::{KeyFault, NoMemory};
 use std::alloc::Global;
@@ -110,7 +110,7 @@ impl Eq for KeyBytes {
 impl PartialOrd for Key {
     ghost partial_cmp = { as_partial_cmp key_cmp };
 
-    ghost laws = { partial_order_from_agreeing_total key_cmp key_cmp-total (λ x y. refl) key_eq-ties };
+    ghost laws = { partial_order_from_agreeing_total key_cmp key_cmp_total (λ x y. refl) key_eq_ties };
 
     fn partial_cmp(&self, other: &Key) -> Option<Ordering> {
         Some(self.cmp(other))
@@ -120,11 +120,11 @@ impl PartialOrd for Key {
 impl Ord for Key {
     ghost cmp = { key_cmp };
 
-    ghost total = { key_cmp-total };
+    ghost total = { key_cmp_total };
 
     ghost matches_partial_cmp = { λ x y. refl };
 
-    ghost matches_eq = { key_eq-ties };
+    ghost matches_eq = { key_eq_ties };
 
     fn cmp(&self, other: &Key) -> Ordering {
         self.view().cmp(&other.view())

@@ -4,8 +4,8 @@ ghost use Rattle.std.specs.Prelude.{◌≡◌, List};
 ghost use Rattle.entry.specs.View.{shown_key};
 
 use crate::key::place_at;
+use crate::row::Row;
 use crate::view::KeyRef;
-use std::marker::Model;
 
 /// The places of a table from `first` to `last`, both included.
 #[derive(Clone, Copy)]
@@ -44,45 +44,27 @@ impl Tablet {
     }
 }
 
-/// The tablets of a master, or of a will. A contract sees them as a list.
-#[derive(Drop)]
-pub struct Tablets {
-    tablets: Vec<Tablet>,
-}
+/// The tablets of a master, or of a will.
+pub type Tablets = Row<Tablet>;
 
-impl Model for Tablets {
-    ghost use Rattle.std.specs.Prelude.{List};
-    ghost use Rattle.entry.specs.declared.tablet.Tablet.{Tablet};
-
-    ghost Value = { List Tablet };
-
-    ghost view = { λ t. t.tablets.items };
-}
-
-impl Tablets {
+impl Row<Tablet> {
     ghost use Rattle.std.specs.Prelude.{◌≡◌};
     ghost use Rattle.entry.specs.View.{shown_key};
     ghost use Rattle.entry.specs.Tablet.{have_key, are_tablets};
-
-    /// The tablets of this list. It takes no memory.
-    pub fn new(tablets: Vec<Tablet>) -> Tablets
-        ensures { result ≡ tablets.items }
-    {
-        Tablets { tablets }
-    }
 
     /// Whether the key's place is in one of the tablets.
     pub fn have(&self, key: &KeyRef) -> bool
         ensures { result ≡ have_key self.now (shown_key key.now) }
     {
-        self.tablets.iter().any(|tablet| tablet.has(key))
+        self.as_slice().iter().any(|tablet| tablet.has(key))
     }
 
     /// Whether there are some, each begins no later than it ends, and they are sorted and disjoint.
     pub fn are_valid(&self) -> bool
         ensures { result ≡ are_tablets self.now }
     {
-        !self.tablets.is_empty() && are_in_order(self.tablets.as_slice())
+        let tablets = self.as_slice();
+        !tablets.is_empty() && are_in_order(tablets)
     }
 }
 

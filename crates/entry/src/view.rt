@@ -60,13 +60,13 @@ impl<'a> PartialOrd for KeyRef<'a> {
     ghost use Rattle.std.specs.Prelude.{refl};
     ghost use Rattle.std.specs.Cmp.{partial_order_from_agreeing_total, on_total};
     ghost use Rattle.std.specs.Ordering.{on, as_partial_cmp};
-    ghost use Rattle.entry.specs.Order.{key_cmp, key_cmp-total, key_eq-ties};
+    ghost use Rattle.entry.specs.Order.{key_cmp, key_cmp_total, key_eq_ties};
     ghost use Rattle.entry.specs.View.{shown_key};
 
     ghost partial_cmp = { as_partial_cmp (on shown_key key_cmp) };
 
-    ghost laws = { partial_order_from_agreeing_total (on shown_key key_cmp) (on_total shown_key key_cmp-total) (λ x y. refl)
-        (λ x y. key_eq-ties (shown_key x) (shown_key y)) };
+    ghost laws = { partial_order_from_agreeing_total (on shown_key key_cmp) (on_total shown_key key_cmp_total)
+        (λ x y. refl) (λ x y. key_eq_ties (shown_key x) (shown_key y)) };
 
     fn partial_cmp(&self, other: &KeyRef<'a>) -> Option<Ordering> {
         Some(self.cmp(other))
@@ -77,16 +77,16 @@ impl<'a> Ord for KeyRef<'a> {
     ghost use Rattle.std.specs.Prelude.{refl};
     ghost use Rattle.std.specs.Cmp.{on_total};
     ghost use Rattle.std.specs.Ordering.{on};
-    ghost use Rattle.entry.specs.Order.{key_cmp, key_cmp-total, key_eq-ties};
+    ghost use Rattle.entry.specs.Order.{key_cmp, key_cmp_total, key_eq_ties};
     ghost use Rattle.entry.specs.View.{shown_key};
 
     ghost cmp = { on shown_key key_cmp };
 
-    ghost total = { on_total shown_key key_cmp-total };
+    ghost total = { on_total shown_key key_cmp_total };
 
     ghost matches_partial_cmp = { λ x y. refl };
 
-    ghost matches_eq = { λ x y. key_eq-ties (shown_key x) (shown_key y) };
+    ghost matches_eq = { λ x y. key_eq_ties (shown_key x) (shown_key y) };
 
     fn cmp(&self, other: &KeyRef<'a>) -> Ordering {
         (self.table, self.bytes).cmp(&(other.table, other.bytes))

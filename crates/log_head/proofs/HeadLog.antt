@@ -8,7 +8,8 @@ use Rattle.entry.specs.declared.entry.Entry.{Entry}
 use Rattle.entry.specs.Format.{IsEntry}
 use Rattle.entry.specs.Text.{text_of, entries_in, opening_of, IsSegment}
 use Rattle.entry.proofs.TextLemmas.{entries_in-text}
-use Rattle.segment.proofs.RowLemmas.{text_of-append, each-split}
+use Rattle.entry.proofs.ListLemmas.{all_split}
+use Rattle.segment.proofs.RowLemmas.{text_of-append}
 use Rattle.log_model.specs.Data.{Start, LogUnit, Head, ids_of, start_entries, entries_of, front_entries, head_entries}
 use Rattle.log_model.specs.Steps.{units_between}
 use Rattle.log_head.specs.declared.head.UnitEnd.{UnitEnd}
@@ -47,7 +48,7 @@ units_are [] [] before from at each ends = refl
 units_are [] (e ∷ es) before from at each ends = absurd ends
 units_are (u ∷ us) [] before from at each ends = absurd ends
 units_are (u ∷ us) (e ∷ es) before from at each ends =
-    let split = each-split u.entries (entries_of us) each in
+    let split = all_split IsEntry u.entries (entries_of us) each in
     let own = text_of u.entries in
     let rest = text_of (entries_of us) in
     let parts : text_of (entries_of (u ∷ us)) ≡ text_of u.entries ++ text_of (entries_of us) = text_of-append u.entries (entries_of us) in
@@ -81,7 +82,7 @@ module _ (master : ℕ) (h : HeadValue) (l : Head) (is : IsImageOf master h l) w
   pub head_is : IsSegment h.image → head_of h ≡ l
   head_is segment =
       let each = subst (λ (es : List Entry). AllByRecursion IsEntry es) image_is segment.each in
-      let split = each-split (start_entries master l.start) (entries_of l.units) each in
+      let split = all_split IsEntry (start_entries master l.start) (entries_of l.units) each in
       let start : start_in h.id (opening_of h.image) ≡ l.start =
       (λ i. start_in (sym is.id i) (opening_of (image_is i))) ∙ ap (λ (ids : List ℕ). record { id = l.start.id; others = ids; safe = l.start.safe }) (but_last_is l.start.others l.start.id) in
       let units : units_from (text_of h.image) h.opening h.units ≡ l.units =

@@ -8,7 +8,9 @@ use Rattle.entry.specs.declared.entry.Entry.{Entry}
 use Rattle.entry.specs.Text.{text_of, is_data, are_data, is_whole, ends_with, entries_in, data_in, header_of, opening_in, opening_of, IsSegment}
 use Rattle.entry.specs.Meaning.{among}
 use Rattle.entry.proofs.TextLemmas.{entries_in-text}
-use Rattle.segment.proofs.RowLemmas.{text_of-append, each-split}
+use Rattle.entry.specs.Format.{IsEntry}
+use Rattle.entry.proofs.ListLemmas.{all_split}
+use Rattle.segment.proofs.RowLemmas.{text_of-append}
 use Rattle.log_model.specs.Sound.{IsTextOfSegment}
 use Rattle.log_model.specs.Data.{LogConfig, Start, LogUnit, Head, ids_of, start_entries, entries_of, front_entries, head_entries}
 use Rattle.log_model.specs.Log.{IsSegmentOf}
@@ -83,7 +85,7 @@ shorter c n xs ys is =
     let limit = is.limit in
     record {
       segment = record {
-        each = (each-split (start_entries c.master n ++ xs) ys is.segment.each).0;
+        each = (all_split IsEntry (start_entries c.master n ++ xs) ys is.segment.each).0;
         order = rw (last, first) refl;
       };
       limit = omega arith;

@@ -15,7 +15,8 @@ use Rattle.entry.specs.Order.{key_eq}
 use Rattle.entry.specs.Text.{text_of}
 use Rattle.entry.proofs.TextLemmas.{front_of-spelling}
 use Rattle.segment.specs.Bytes.{standing_at}
-use Rattle.segment.proofs.RowLemmas.{text_of-append, each-split}
+use Rattle.entry.proofs.ListLemmas.{all_split}
+use Rattle.segment.proofs.RowLemmas.{text_of-append}
 use Rattle.versioned_map.specs.declared.command.Command.{Command}
 use Rattle.versioned_map.specs.declared.command.Command.TheVariants.{Get, Put, Delete}
 use Rattle.versioned_map.specs.Command.{command_key}
@@ -36,7 +37,7 @@ drop_front (x ∷ xs) ys = drop_front xs ys
 -- an entry that stands at an offset is read there
 pub stands_at : (image : List Entry) (at : ℕ) (e : Entry) → AllByRecursion IsEntry image → Stands image at e → standing_at at (text_of image) ≡ Some e
 stands_at image at e each s =
-    let split = each-split s.before (e ∷ s.after) (subst (λ (es : List Entry). AllByRecursion IsEntry es) s.split each) in
+    let split = all_split IsEntry s.before (e ∷ s.after) (subst (λ (es : List Entry). AllByRecursion IsEntry es) s.split each) in
     let parts : text_of image ≡ text_of s.before ++ text_of (e ∷ s.after) = ap text_of s.split ∙ text_of-append s.before (e ∷ s.after) in
     let behind : drop at (text_of image) ≡ spelling e ++ text_of s.after =
     (λ i. drop (s.offset i) (parts i)) ∙ drop_front (text_of s.before) (text_of (e ∷ s.after)) in

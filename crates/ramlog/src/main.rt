@@ -3,7 +3,7 @@
 #![tactic(auto)]
 
 ghost use Rattle.std.specs.Prelude.{◌≡◌, None};
-ghost use Rattle.master.specs.Config.{config_fault};
+ghost use Rattle.master_core.specs.Config.{config_fault};
 ghost use Rattle.script.specs.Configuration.{config_of};
 
 use clap::Error;

@@ -7,7 +7,7 @@ use Rattle.std.proofs.lemmas.Grind.{take_at_read}
 use Rattle.entry.specs.Bag.{IsAmong}
 use Rattle.replica.specs.declared.holding.Holding.{Holding}
 use Rattle.replica.specs.Picture.{Picture, IsHeld, survivors}
-use Rattle.recovery_plan.proofs.Bests.{among-append, among-left, among-right}
+use Rattle.entry.proofs.BagLemmas.{among_either, among_left, among_right}
 use Rattle.recovery.specs.Kept.{is_kept}
 
 -- just the replicas of the backups that were asked
@@ -61,12 +61,12 @@ all-more p kept i k hs more both lt is joined shown old =
     let seam : take (i + 1) kept ≡ take i kept ++ k ∷ [] = (take_at_read kept i 0 lt).1 ∙ ap (λ x. take i kept ++ x ∷ []) (sym is) in
     rw (seam, joined) (record {
       only = λ h m. (let push = kept-push (take i kept) k h.backup in
-          elim (among-append h hs more m) as (λ _. (is_kept (take i kept ++ k ∷ []) h.backup ≡ true) × IsHeld p h) [
+          elim (among_either h hs more m) as (λ _. (is_kept (take i kept ++ k ∷ []) h.backup ≡ true) × IsHeld p h) [
             | inl l ↦ (let o = old.only h l in (push ∙ or_left _ _ o.0, o.1))
             | inr r ↦ (let o = (shown h).0 r in (push ∙ or_right (is_kept (take i kept) h.backup) _ (same_test k h.backup (sym o.0)), o.1))
           ]);
       all = λ h asked held. elim (or_cases (is_kept (take i kept) h.backup) (k == h.backup) (sym (kept-push (take i kept) k h.backup) ∙ asked)) [
-        | inl l ↦ among-left h hs more (old.all h l held)
-        | inr r ↦ among-right h hs more ((shown h).1 (sym (test_same k h.backup r), held))
+        | inl l ↦ among_left h hs more (old.all h l held)
+        | inr r ↦ among_right h hs more ((shown h).1 (sym (test_same k h.backup r), held))
       ];
     })

@@ -8,7 +8,7 @@ use Rattle.std.proofs.lemmas.List.{take_all}
 use Rattle.entry.specs.Bag.{IsAmong}
 use Rattle.replica.specs.declared.holding.Holding.{Holding}
 use Rattle.replica.specs.Picture.{Picture, IsHeld, IsOnce}
-use Rattle.recovery_plan.proofs.Bests.{among-append}
+use Rattle.entry.proofs.BagLemmas.{among_either}
 use Rattle.recovery.specs.Kept.{is_kept, AreDifferent}
 use Rattle.recovery.proofs.Asked.{AreAll, kept-push}
 
@@ -41,7 +41,7 @@ different-push (j ∷ ks) k d =
 once-append : (xs ys : List Holding) → IsOnce xs → IsOnce ys → ((h : Holding) → IsAmong h xs → IsAmong h ys → ⊥) → IsOnce (xs ++ ys)
 once-append [] ys once others apart = others
 once-append (x ∷ xs) ys once others apart = (
-  λ m. elim (among-append x xs ys m) [ inl l ↦ once.0 l | inr r ↦ apart x (inl refl) r ],
+  λ m. elim (among_either x xs ys m) [ inl l ↦ once.0 l | inr r ↦ apart x (inl refl) r ],
   once-append xs ys once.1 others (λ h l r. apart h (inr l) r),
 )
 

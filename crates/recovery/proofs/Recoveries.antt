@@ -15,7 +15,7 @@ use Rattle.recovery_plan.specs.declared.chosen.Plan.{Plan}
 use Rattle.recovery_plan.specs.declared.fault.PlanFault.{PlanFault}
 use Rattle.recovery_plan.specs.declared.fault.PlanFault.TheVariants as plan_fault
 use Rattle.recovery_plan.specs.Planned.{IsChoiceOf, IsPlanOf, IsFirstBad, IsFault, NamesLoss}
-use Rattle.recovery_plan.proofs.Bests.{among-right}
+use Rattle.entry.proofs.BagLemmas.{among_right}
 use Rattle.versioned_map.specs.History.{commands_of}
 use Rattle.log_model.specs.Data.{LogData, IsHome, state_after}
 use Rattle.log_model.specs.Sound.{IsSound}
@@ -72,7 +72,7 @@ module _ (hs : List Holding) (m : ℕ) (d : LogData) (p : Picture) (keep : ℕ �
   none-bad : (backup id : ℕ) → IsFirstBad hs m backup id → ⊥
   none-bad backup id first =
       let there : IsAmong first.bad hs =
-      subst (IsAmong first.bad) (sym first.place) (among-right first.bad first.before (first.bad ∷ first.after) (inl refl)) in
+      subst (IsAmong first.bad) (sym first.place) (among_right first.bad first.before (first.bad ∷ first.after) (inl refl)) in
       first.is_bad (shown-good hs m d p keep is shows sound first.bad first.of_master there)
 
   pub plan-loss : (e : PlanFault) → IsFault hs m e → NamesLoss hs m e →

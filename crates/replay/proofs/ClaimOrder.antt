@@ -8,13 +8,13 @@ use Rattle.std.specs.declared.cmp.Ordering.{Ordering}
 use Rattle.std.specs.declared.cmp.Ordering.TheVariants.{Less, Equal, Greater}
 use Rattle.std.proofs.lemmas.Cmp.{nat_cmp_total, nat_list_cmp_total, on_total, then_total, upto, ranked}
 use Rattle.entry.specs.Bag.{IsAmong}
-use Rattle.entry.specs.Order.{key_cmp, key_cmp-total}
+use Rattle.entry.specs.Order.{key_cmp, key_cmp_total}
 use Rattle.replay.specs.Claims.{Claimed, claim_cmp}
-use Rattle.entry.proofs.KeyOrder.{key_cmp-same}
+use Rattle.entry.proofs.KeyOrder.{key_cmp_same}
 
 claim_cmp-total : IsTotalOrder claim_cmp
 claim_cmp-total =
-    then_total (on_total (λ (c : Claimed). c.key) key_cmp-total)
+    then_total (on_total (λ (c : Claimed). c.key) key_cmp_total)
     (then_total (on_total (λ (c : Claimed). c.version) nat_cmp_total)
     (then_total (on_total (λ (c : Claimed). c.dead) bool_cmp_total) (on_total (λ (c : Claimed). c.value) nat_list_cmp_total)))
 
@@ -54,7 +54,7 @@ ranks v w a b Greater t at h = absurd (cc)
 -- of one key the later ranks no lower
 pub ranks-up : (c d : Claimed) → Precedes c d → c.key ≡ d.key → rank c ≤ rank d
 ranks-up c d h same =
-    let rest = then-on (key_cmp c.key d.key) _ (key_cmp-same c.key d.key same) h in
+    let rest = then-on (key_cmp c.key d.key) _ (key_cmp_same c.key d.key same) h in
     ranks c.version d.version c.dead d.dead (nat_cmp c.version d.version) (slice_cmp nat_cmp c.value d.value)
     (ranked c.version d.version (nat_cmp c.version d.version) refl) rest
 

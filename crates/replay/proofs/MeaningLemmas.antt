@@ -1,10 +1,9 @@
 -- What the last claims mean.
-use Rattle.std.proofs.Common.{◌≡◌, ℕ, zero, suc, ◌+◌, ◌*◌, ◌<◌, ◌≤◌, Bool, true, false, cond, List, [], ◌∷◌, ◌++◌, max, length, map, Some, refl, sym, ap, subst, ◌∙◌, inl, inr, arith}
-use Rattle.std.specs.Prelude.{filter, slice_index_or, Contains}
-use Rattle.std.specs.List.{AllByRecursion}
+use Rattle.std.proofs.Common.{◌≡◌, ℕ, ◌+◌, ◌*◌, ◌≤◌, Bool, true, false, cond, List, [], ◌∷◌, ◌++◌, max, map, Some, refl, sym, ap, subst, ◌∙◌, inl, inr, arith}
+use Rattle.std.specs.Prelude.{filter}
 use Rattle.std.specs.List.Sorted.{IsSortedBy, IsStrictlySortedBy, IsPermutation}
 use Rattle.std.specs.declared.cmp.Ordering.TheVariants.{Less, Equal}
-use Rattle.std.proofs.lemmas.List.Sorted.{IsPermutation-sym, IsPermutation-map, Contains-permutation}
+use Rattle.std.proofs.lemmas.List.Sorted.{IsPermutation-sym, IsPermutation-map}
 use Rattle.entry.specs.declared.key.Key.{Key}
 use Rattle.entry.specs.declared.entry.Object.{Object}
 use Rattle.entry.specs.declared.entry.Entry.{Entry}
@@ -18,24 +17,11 @@ use Rattle.replay.specs.declared.fault.ReplayFault.{ReplayFault}
 use Rattle.replay.specs.declared.fault.ReplayFault.TheVariants as fault
 use Rattle.replay.specs.Rebuilt.{IsRefusal}
 use Rattle.replay.specs.Claims.{Claimed, IsRefusedFor, claim_of, claims_of, object_of, objects_in, tops, has_clash, bound_of_claims}
-use Rattle.entry.proofs.KeyOrder.{key_eq-decides, key_cmp-same}
+use Rattle.entry.proofs.BagLemmas.{among_permutation, among_image}
+use Rattle.entry.proofs.ListLemmas.{all_among}
+use Rattle.entry.proofs.KeyOrder.{key_eq_decides, key_cmp_same}
 use Rattle.replay.proofs.ClaimOrder.{Rises, Rises-from_sorted, before_by, rank}
 use Rattle.replay.proofs.ScanLemmas.{tops-among, tops-highest, tops-some, tops-sorted, keys_of, objects_in-among, objects_in-has, unclashed, clash-found, is_clash-tells}
-
--- ---- membership
-
-contains-from_among : {X : Type 0} (x : X) (xs : List X) → IsAmong x xs → Contains xs x
-contains-from_among x [] m = absurd m
-contains-from_among x (y ∷ ys) (inl e) = (0, omega arith, e)
-contains-from_among x (y ∷ ys) (inr l) = let k = contains-from_among x ys l in (suc k.0, (let lt = k.1 in omega arith), k.2)
-
-among-from_contains : {X : Type 0} (x : X) (xs : List X) (k : ℕ) → k < length xs → slice_index_or xs k x ≡ x → IsAmong x xs
-among-from_contains x [] k lt at = absurd (omega arith)
-among-from_contains x (y ∷ ys) zero lt at = inl at
-among-from_contains x (y ∷ ys) (suc k) lt at = inr (among-from_contains x ys k (omega arith) at)
-
-pub among-permutation : {X : Type 0} (x : X) (xs ys : List X) → IsPermutation xs ys → IsAmong x xs → IsAmong x ys
-among-permutation x xs ys p m = let c = Contains-permutation xs ys x p (contains-from_among x xs m) in among-from_contains x ys c.0 c.1 c.2
 
 -- ---- entries and their claims
 
@@ -115,27 +101,22 @@ contents_of-among (o ∷ os) k x h = by_test (contents_of-among os k x) (key_eq 
   where
     by_test : (contents_of os k ≡ Some x → HasObject os k x) → (b : Bool) → key_eq k o.key ≡ b →
         cond b (Some (versioned o)) (contents_of os k) ≡ Some x → HasObject (o ∷ os) k x
-    by_test before true e h = (o, inl refl, sym ((key_eq-decides k o.key).0 e), (let same : versioned o ≡ x = cc in same))
+    by_test before true e h = (o, inl refl, sym ((key_eq_decides k o.key).0 e), (let same : versioned o ≡ x = cc in same))
     by_test before false e h = let p = before h in (p.0, inr p.1, p.2, p.3)
-
-key-above : (P : Key → Type 0) (os : List Object) (o : Object) → AllByRecursion P (keys_of os) → IsAmong o os → P o.key
-key-above P [] o all m = absurd m
-key-above P (p ∷ ps) o all (inl e) = subst (λ (z : Object). P z.key) e all.0
-key-above P (p ∷ ps) o all (inr l) = key-above P ps o all.1 l
 
 contents_of-has : (os : List Object) (o : Object) → IsStrictlySortedBy key_cmp (keys_of os) → IsAmong o os → contents_of os o.key ≡ Some (versioned o)
 unfolding IsStrictlySortedBy
 contents_of-has [] o sorted m = absurd m
 contents_of-has (p ∷ ps) o sorted (inl e) =
-    let at : key_eq o.key p.key ≡ true = (key_eq-decides o.key p.key).1 (ap (λ (z : Object). z.key) (sym e)) in
+    let at : key_eq o.key p.key ≡ true = (key_eq_decides o.key p.key).1 (ap (λ (z : Object). z.key) (sym e)) in
     rw at (ap (λ (z : Object). Some (versioned z)) e)
 contents_of-has (p ∷ ps) o sorted (inr l) = by_test (key_eq o.key p.key) refl (contents_of-has ps o sorted.1 l)
   where
     by_test : (b : Bool) → key_eq o.key p.key ≡ b → contents_of ps o.key ≡ Some (versioned o) →
         cond b (Some (versioned p)) (contents_of ps o.key) ≡ Some (versioned o)
     by_test true e h =
-        let less : key_cmp p.key o.key ≡ Less = key-above (λ k. key_cmp p.key k ≡ Less) ps o sorted.0 l in
-        let equal : key_cmp p.key o.key ≡ Equal = key_cmp-same p.key o.key (sym ((key_eq-decides o.key p.key).0 e)) in absurd (cc)
+        let less : key_cmp p.key o.key ≡ Less = all_among (λ k. key_cmp p.key k ≡ Less) (keys_of ps) o.key sorted.0 (among_image (λ (z : Object). z.key) ps o l) in
+        let equal : key_cmp p.key o.key ≡ Equal = key_cmp_same p.key o.key (sym ((key_eq_decides o.key p.key).0 e)) in absurd (cc)
     by_test false e h = h
 
 -- ---- the meaning
@@ -199,8 +180,8 @@ abbrev claim_of_object : Object → Claimed
 claim_of_object o = record { key = o.key; version = o.version; dead = false; value = o.value }
 
 -- where no neighbours clash, the entries are clean
-pub unclashed-clean : (es : List Entry) (cs : List Claimed) → AreClaims es cs → has_clash cs ≡ false → IsClean (among es)
-unclashed-clean es cs are none o p m n key version =
+pub unclashed_clean : (es : List Entry) (cs : List Claimed) → AreClaims es cs → has_clash cs ≡ false → IsClean (among es)
+unclashed_clean es cs are none o p m n key version =
     unclashed cs (claim_of_object o) (claim_of_object p) are.up none
     (are.all (claim_of_object o) (claims_of-has es (entry.Object o) (claim_of_object o) m refl))
     (are.all (claim_of_object p) (claims_of-has es (entry.Object p) (claim_of_object p) n refl))
@@ -240,8 +221,8 @@ AreClaims-from_sort view es before after is permutation sorted =
     let moved = IsPermutation-map view before after permutation in
     record {
       up = Rises-from_sorted view after sorted;
-      only = λ c m. subst (λ cs. IsAmong c cs) is (among-permutation c (map view after) (map view before) (IsPermutation-sym (map view before) (map view after) moved) m);
-      all = λ c m. among-permutation c (map view before) (map view after) moved (subst (λ cs. IsAmong c cs) (sym is) m);
+      only = λ c m. subst (λ cs. IsAmong c cs) is (among_permutation c (map view after) (map view before) (IsPermutation-sym (map view before) (map view after) moved) m);
+      all = λ c m. among_permutation c (map view before) (map view after) moved (subst (λ cs. IsAmong c cs) (sym is) m);
     }
 
 -- ---- refusals

@@ -1,10 +1,10 @@
 -- What a scan over sorted claims finds.
 use Rattle.std.proofs.Common.{◌≡◌, ℕ, ◌+◌, ◌*◌, ◌≤◌, Bool, true, false, cond, List, [], ◌∷◌, map, refl, sym, ap, subst, ◌∙◌, inl, inr, arith}
-use Rattle.std.specs.Prelude.{not, ◌&&◌, ◌||◌, ◌==◌, nat_eq}
+use Rattle.std.specs.Prelude.{not, ◌||◌, ◌==◌, nat_eq}
 use Rattle.std.specs.Cmp.Lexicographic.{pointwise}
-use Rattle.std.specs.List.{AllByRecursion}
 use Rattle.std.specs.List.Sorted.{IsStrictlySortedBy}
 use Rattle.std.specs.declared.cmp.Ordering.TheVariants.{Less}
+use Rattle.std.proofs.lemmas.Bool.{and_parts, or_parts, not-true, not-false}
 use Rattle.std.proofs.lemmas.Bool.Decides.{Decides-eqb}
 use Rattle.std.proofs.lemmas.Slice.Eq.{bytes_eq-Decides}
 use Rattle.entry.specs.declared.key.Key.{Key}
@@ -12,7 +12,9 @@ use Rattle.entry.specs.declared.entry.Object.{Object}
 use Rattle.entry.specs.Bag.{IsAmong}
 use Rattle.entry.specs.Order.{key_cmp, key_eq}
 use Rattle.replay.specs.Claims.{Claimed, is_clash, is_last, next_clashes, has_clash, tops, object_of, objects_in}
-use Rattle.entry.proofs.KeyOrder.{key_eq-decides, key_cmp-between, key_cmp-less}
+use Rattle.entry.proofs.BagLemmas.{among_images}
+use Rattle.entry.proofs.ListLemmas.{all_from_among}
+use Rattle.entry.proofs.KeyOrder.{key_eq_decides, key_cmp_between, key_cmp_less}
 use Rattle.replay.proofs.ClaimOrder.{Precedes, Rises, rank, keys-up, ranks-up}
 
 -- ---- the last of each key
@@ -33,9 +35,9 @@ apart x (y ∷ ys) d up last m same =
     let first : Precedes x y = up.0 y (inl refl) in
     let key : x.key ≡ y.key = elim m as (λ _. x.key ≡ y.key) [
       | inl e ↦ same ∙ ap (λ (c : Claimed). c.key) (sym e)
-      | inr later ↦ key_cmp-between x.key y.key d.key (keys-up x y first) (keys-up y d (up.1.0 d later)) same
+      | inr later ↦ key_cmp_between x.key y.key d.key (keys-up x y first) (keys-up y d (up.1.0 d later)) same
     ] in
-    let yes : key_eq x.key y.key ≡ true = (key_eq-decides x.key y.key).1 key in
+    let yes : key_eq x.key y.key ≡ true = (key_eq_decides x.key y.key).1 key in
     let no : is_last x (y ∷ ys) ≡ false = ap not yes in
     absurd (cc)
 
@@ -61,13 +63,9 @@ tops-highest (x ∷ xs) c d up m n same = by_last (λ later at. tops-highest xs 
 abbrev pub HasTop : List Claimed → Key → Type 0
 HasTop cs k = (c : Claimed) × IsAmong c cs × (c.key ≡ k)
 
-not-false : (b : Bool) → not b ≡ false → b ≡ true
-not-false true h = refl
-not-false false h = absurd (cc)
-
 followed : (x : Claimed) (xs : List Claimed) → is_last x xs ≡ false → (y : Claimed) × IsAmong y xs × (y.key ≡ x.key)
 followed x [] last = absurd (cc)
-followed x (y ∷ ys) last = (y, inl refl, sym ((key_eq-decides x.key y.key).0 (not-false (key_eq x.key y.key) last)))
+followed x (y ∷ ys) last = (y, inl refl, sym ((key_eq_decides x.key y.key).0 (not-false (key_eq x.key y.key) last)))
 
 -- each key has a last claim
 pub tops-some : (cs : List Claimed) (d : Claimed) → IsAmong d cs → HasTop (tops cs) d.key
@@ -114,32 +112,23 @@ objects_in-has (x ∷ xs) c (inr l) alive = kept x.dead (objects_in-has xs c l a
     kept true h = h
     kept false h = inr h
 
-all-from_among : {X : Type 0} (P : X → Type 0) (xs : List X) → ((x : X) → IsAmong x xs → P x) → AllByRecursion P xs
-all-from_among P [] h = tt
-all-from_among P (x ∷ xs) h = (h x (inl refl), all-from_among P xs (λ y m. h y (inr m)))
-
 abbrev pub keys_of : List Object → List Key
 keys_of os = map (λ (o : Object). o.key) os
-
-keys_of-among : (k : Key) (os : List Object) → IsAmong k (keys_of os) → (o : Object) × IsAmong o os × (o.key ≡ k)
-keys_of-among k [] m = absurd m
-keys_of-among k (o ∷ os) (inl e) = (o, inl refl, e)
-keys_of-among k (o ∷ os) (inr l) = let p = keys_of-among k os l in (p.0, inr p.1, p.2)
 
 module _ (x : Claimed) (xs : List Claimed) (up : Rises (x ∷ xs)) (rest : IsStrictlySortedBy key_cmp (keys_of (objects_in (tops xs)))) where
   above : is_last x xs ≡ true → (k : Key) → IsAmong k (keys_of (objects_in (tops xs))) → key_cmp x.key k ≡ Less
   above last k m =
-      let o = keys_of-among k (objects_in (tops xs)) m in
+      let o = among_images (λ (o : Object). o.key) (objects_in (tops xs)) k m in
       let c = objects_in-among (tops xs) o.0 o.1 in
       let among : IsAmong c.0 xs = tops-among xs c.0 c.1 in
       let key : c.0.key ≡ k = ap (λ (z : Object). z.key) c.3 ∙ o.2 in
-      subst (λ (j : Key). key_cmp x.key j ≡ Less) key (key_cmp-less x.key c.0.key (keys-up x c.0 (up.0 c.0 among)) (apart x xs c.0 up last among))
+      subst (λ (j : Key). key_cmp x.key j ≡ Less) key (key_cmp_less x.key c.0.key (keys-up x c.0 (up.0 c.0 among)) (apart x xs c.0 up last among))
 
   sorted-dead : (b : Bool) → is_last x xs ≡ true →
       IsStrictlySortedBy key_cmp (keys_of (cond b (objects_in (tops xs)) (object_of x ∷ objects_in (tops xs))))
   unfolding IsStrictlySortedBy
   sorted-dead true last = rest
-  sorted-dead false last = (all-from_among (λ k. key_cmp x.key k ≡ Less) (keys_of (objects_in (tops xs))) (above last), rest)
+  sorted-dead false last = (all_from_among (λ k. key_cmp x.key k ≡ Less) (keys_of (objects_in (tops xs))) (above last), rest)
 
   sorted-last : (b : Bool) → is_last x xs ≡ b → IsStrictlySortedBy key_cmp (keys_of (objects_in (cond b (x ∷ tops xs) (tops xs))))
   sorted-last true last = sorted-dead x.dead last
@@ -159,27 +148,15 @@ pub record Rival (c d : Claimed) : Type 0 where
   pub first : c.dead ≡ false
   pub second : d.dead ≡ false
 
-and-both : (a b : Bool) → (a && b) ≡ true → (a ≡ true) × (b ≡ true)
-and-both true b h = (refl, h)
-and-both false b h = absurd (cc)
-
-not-true : (b : Bool) → not b ≡ true → b ≡ false
-not-true true h = absurd (cc)
-not-true false h = refl
-
-or-neither : (a b : Bool) → (a || b) ≡ false → (a ≡ false) × (b ≡ false)
-or-neither true b h = absurd (cc)
-or-neither false b h = (refl, h)
-
 -- what a clash is
 pub is_clash-tells : (c d : Claimed) → is_clash c d ≡ true → Rival c d × (c.value ≡ d.value → ⊥)
 is_clash-tells c d h =
-    let four = and-both _ _ h in
-    let three = and-both _ _ four.0 in
-    let two = and-both _ _ three.0 in
-    let one = and-both _ _ two.0 in (
+    let four = and_parts _ _ h in
+    let three = and_parts _ _ four.0 in
+    let two = and_parts _ _ three.0 in
+    let one = and_parts _ _ two.0 in (
       record {
-        key = (key_eq-decides c.key d.key).0 one.0;
+        key = (key_eq_decides c.key d.key).0 one.0;
         version = (Decides-eqb c.version d.version).0 one.1;
         first = not-true c.dead two.1;
         second = not-true d.dead three.1;
@@ -195,7 +172,7 @@ rival-value c d r h = by_test (pointwise nat_eq c.value d.value) refl
     by_test : (b : Bool) → pointwise nat_eq c.value d.value ≡ b → c.value ≡ d.value
     by_test true e = (bytes_eq-Decides c.value d.value).0 e
     by_test false e =
-        let key : key_eq c.key d.key ≡ true = (key_eq-decides c.key d.key).1 r.key in
+        let key : key_eq c.key d.key ≡ true = (key_eq_decides c.key d.key).1 r.key in
         let version : (c.version == d.version) ≡ true = (Decides-eqb c.version d.version).1 r.version in
         let clash : is_clash c d ≡ true = rw (key, version, r.first, r.second, e) refl in
         absurd (cc)
@@ -205,7 +182,7 @@ module _ (x : Claimed) (xs : List Claimed) (up : Rises (x ∷ xs)) (none : next_
   -- the neighbour of a rival's predecessor is a rival of both
   rival-first : (y d : Claimed) → Precedes x y → Precedes y d → Rival x d → Rival x y
   rival-first y d first on r =
-      let key : x.key ≡ y.key = key_cmp-between x.key y.key d.key (keys-up x y first) (keys-up y d on) r.key in
+      let key : x.key ≡ y.key = key_cmp_between x.key y.key d.key (keys-up x y first) (keys-up y d on) r.key in
       let low : rank x ≤ rank y = ranks-up x y first key in
       let high : rank y ≤ rank d = ranks-up y d on (sym key ∙ r.key) in
       let v = r.version in
@@ -229,7 +206,7 @@ rivals-agree x (y ∷ ys) d up first rest (inl e) r =
 rivals-agree x (y ∷ ys) d up first rest (inr l) r =
     let one : Rival x y = rival-first x (y ∷ ys) up first y d (up.0 y (inl refl)) (up.1.0 d l) r in
     let other : Rival y d = record { key = sym one.key ∙ r.key; version = sym one.version ∙ r.version; first = one.second; second = r.second } in
-    let both = or-neither (next_clashes y ys) (has_clash ys) rest in
+    let both = or_parts (next_clashes y ys) (has_clash ys) rest in
     rival-value x y one first ∙ rivals-agree y ys d up.1 both.0 both.1 l other
 
 rival-back : (c d : Claimed) → Rival c d → Rival d c
@@ -239,12 +216,12 @@ pub unclashed : (cs : List Claimed) (c d : Claimed) → Rises cs → has_clash c
 unclashed [] c d up none m n r = absurd m
 unclashed (x ∷ xs) c d up none (inl e) (inl f) r = ap (λ (z : Claimed). z.value) (sym e ∙ f)
 unclashed (x ∷ xs) c d up none (inl e) (inr l) r =
-    let both = or-neither (next_clashes x xs) (has_clash xs) none in
+    let both = or_parts (next_clashes x xs) (has_clash xs) none in
     sym (ap (λ (z : Claimed). z.value) e) ∙ rivals-agree x xs d up both.0 both.1 l (subst (λ z. Rival z d) (sym e) r)
 unclashed (x ∷ xs) c d up none (inr l) (inl f) r =
-    let both = or-neither (next_clashes x xs) (has_clash xs) none in
+    let both = or_parts (next_clashes x xs) (has_clash xs) none in
     sym (rivals-agree x xs c up both.0 both.1 l (subst (λ z. Rival z c) (sym f) (rival-back c d r))) ∙ ap (λ (z : Claimed). z.value) f
-unclashed (x ∷ xs) c d up none (inr l) (inr m) r = unclashed xs c d up.1 (or-neither (next_clashes x xs) (has_clash xs) none).1 l m r
+unclashed (x ∷ xs) c d up none (inr l) (inr m) r = unclashed xs c d up.1 (or_parts (next_clashes x xs) (has_clash xs) none).1 l m r
 
 -- two claims of the list clash
 abbrev pub HasRivals : List Claimed → Type 0

@@ -8,8 +8,8 @@ use std::alloc::{AllocError, AllocFailed};
 use std::error::Error;
 use std::fmt;
 
-/// Why a replay is refused. The numbers are fixed; those that are missing belong to replays in parts, which don't exist yet:
-/// 1 Double(segment), 2 Stranger, 3 MissingGroup(segment), 6 Stray(key).
+/// Why a replay is refused. The numbers are fixed; those that are missing belong to replays in parts, which don't exist
+/// yet: 1 Double(segment), 2 Stranger, 3 MissingGroup(segment), 6 Stray(key).
 #[derive(Clone, Copy, Debug, PartialEq, Eq)]
 pub enum ReplayFault {
     /// 4: memory ran out.

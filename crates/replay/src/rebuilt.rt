@@ -1,6 +1,6 @@
 //! The objects of a log, and a safe version for what follows it.
 
-ghost use Rattle.std.specs.Prelude.{◌≡◌, IfOk, IfErr, OnOk};
+ghost use Rattle.std.specs.Prelude.{IfOk, IfErr, OnOk};
 ghost use Rattle.entry.specs.Meaning.{IsClean, among};
 ghost use Rattle.replay.specs.Bags.{bag_of};
 ghost use Rattle.replay.specs.Rebuilt.{IsRebuilt, IsRefusal};
@@ -8,40 +8,12 @@ ghost use Rattle.replay.specs.Rebuilt.{IsRebuilt, IsRefusal};
 use crate::fault::ReplayFault;
 use crate::gathering::claims_in;
 use crate::winners::{safe_above, winners};
-use entry::{Object, SafeVersion};
+use entry::{Object, Row, SafeVersion};
 use recovery_plan::Plan;
 use std::alloc::Global;
-use std::marker::Model;
 
-/// Objects, in an order that whoever makes the list says. A contract sees them as a list.
-#[derive(Drop)]
-pub struct Objects {
-    objects: Vec<Object>,
-}
-
-impl Model for Objects {
-    ghost use Rattle.std.specs.Prelude.{List};
-    ghost use Rattle.entry.specs.declared.entry.Object.{Object};
-
-    ghost Value = { List Object };
-
-    ghost view = { λ o. o.objects.items };
-}
-
-impl Objects {
-    /// The objects of this list. It takes no memory.
-    pub fn new(objects: Vec<Object>) -> Objects
-        ensures { result ≡ objects.items }
-    {
-        Objects { objects }
-    }
-
-    pub fn as_slice(&self) -> &[Object]
-        ensures { result.now ≡ self.now }
-    {
-        self.objects.as_slice()
-    }
-}
+/// Objects, in an order that whoever makes the list says.
+pub type Objects = Row<Object>;
 
 /// What a log stands for.
 #[derive(Drop)]

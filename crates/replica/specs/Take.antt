@@ -45,7 +45,8 @@ Takes old b op new = (old.takes < old.end) × (taken old b op ≡ Some new)
 abbrev pub Refuses : FleetState → ℕ → OpValue → TakeFault → FleetState → Type 0
 Refuses old b op take_fault.NoMemory new = new ≡ old
 Refuses old b op take_fault.Wrong new = (taken old b op ≡ None) × (new ≡ old)
-Refuses old b op take_fault.Fault new = (new ≡ faulted old) ⊎ ((mid : FleetState) × Takes old b op mid × (new ≡ faulted mid))
+Refuses old b op take_fault.Fault new =
+    (new ≡ faulted old) ⊎ ((mid : FleetState) × Takes old b op mid × (new ≡ faulted mid))
 Refuses old b op take_fault.Spent new = (old.takes ≡ old.end) × (new ≡ old)
 
 -- what a take does, by its answer

@@ -1,9 +1,9 @@
 //! What backups show.
 
-ghost use Rattle.std.specs.Prelude.{◌≡◌};
+use entry::Row;
 
-use crate::bytes::Bytes;
-use std::marker::Model;
+/// Bytes in memory of their own.
+pub type Bytes = Row<u8>;
 
 /// A replica that a backup shows.
 #[derive(Drop)]
@@ -15,32 +15,5 @@ pub struct Holding {
     pub is_open: bool,
 }
 
-/// The replicas that some backups show. A contract sees them as a list.
-#[derive(Drop)]
-pub struct Inventory {
-    holdings: Vec<Holding>,
-}
-
-impl Model for Inventory {
-    ghost use Rattle.std.specs.Prelude.{List};
-    ghost use Rattle.replica.specs.declared.holding.Holding.{Holding};
-
-    ghost Value = { List Holding };
-
-    ghost view = { λ i. i.holdings.items };
-}
-
-impl Inventory {
-    /// The inventory of this list. It takes no memory.
-    pub fn new(holdings: Vec<Holding>) -> Inventory
-        ensures { result ≡ holdings.items }
-    {
-        Inventory { holdings }
-    }
-
-    pub fn as_slice(&self) -> &[Holding]
-        ensures { result.now ≡ self.now }
-    {
-        self.holdings.as_slice()
-    }
-}
+/// The replicas that some backups show.
+pub type Inventory = Row<Holding>;

@@ -4,12 +4,10 @@
 //! counted; what a backup shows is what it took.
 #![tactic(auto)]
 
-mod bytes;
 mod fleet;
 mod holding;
 mod op;
 
-pub use bytes::Bytes;
 pub use fleet::{Bench, Fleet};
-pub use holding::{Holding, Inventory};
+pub use holding::{Bytes, Holding, Inventory};
 pub use op::{Act, Op, TakeFault};

@@ -6,6 +6,7 @@ use Rattle.entry.specs.declared.entry.Entry.{Entry}
 use Rattle.entry.specs.declared.fault.EntryFault.{EntryFault}
 use Rattle.entry.specs.Format.{spelling, IsEntry, Begins, first_fault}
 use Rattle.entry.specs.Text.{text_of, is_whole, IsTextOf}
+use Rattle.entry.proofs.ListLemmas.{all_split}
 use Rattle.entry.proofs.TextLemmas.{spelling-some}
 use Rattle.entry.proofs.Passing.{passes}
 use Rattle.segment.specs.declared.expected.Expected.{Expected}
@@ -14,7 +15,7 @@ use Rattle.segment.specs.declared.fault.SegmentFault.TheVariants.{BadEntry, BadO
 use Rattle.segment.specs.Order.{completes}
 use Rattle.segment.specs.Faults.{StandBefore, IsMisplaced, EndsEarly, IsBadOrder, IsBadEntry, IsFault}
 use Rattle.segment.specs.Walk.{IsWalked}
-use Rattle.segment.proofs.RowLemmas.{IsFront, IsFront-from_text, each-split}
+use Rattle.segment.proofs.RowLemmas.{IsFront, IsFront-from_text}
 use Rattle.segment.proofs.OrderLemmas.{not_beginning, is_whole-expects}
 
 -- ---- what the reader met
@@ -42,7 +43,7 @@ front_of_text bytes at before es stand is =
 no_bad_entry : (bytes : List ℕ) (at : ℕ) (es : List Entry) → IsTextOf bytes es → IsBadEntry bytes at → ⊥
 no_bad_entry bytes at es is (before, stand, (more, (f, fault))) =
     let front = front_of_text bytes at before es stand is in
-    let each = each-split before front.rest (rw front.entries at is.segment.each) in
+    let each = all_split IsEntry before front.rest (rw front.entries at is.segment.each) in
     go front.rest each.1 front.text
   where
     go : (rest : List Entry) → AllByRecursion IsEntry rest → drop at bytes ≡ text_of rest → ⊥
@@ -54,7 +55,7 @@ no_bad_entry bytes at es is (before, stand, (more, (f, fault))) =
 no_misplaced : (bytes : List ℕ) (at : ℕ) (before es : List Entry) → IsTextOf bytes es → StandBefore bytes at before → IsMisplaced bytes at before → ⊥
 no_misplaced bytes at before es is stand (e, n, begins, not) =
     let front = front_of_text bytes at before es stand is in
-    let each = each-split before front.rest (rw front.entries at is.segment.each) in
+    let each = all_split IsEntry before front.rest (rw front.entries at is.segment.each) in
     let parts : text_of (e ∷ []) ++ drop n (drop at bytes) ≡ text_of front.rest =
     rw (append-nil (spelling e), ← begins.text) (take-append-drop n (drop at bytes) ∙ front.text) in
     let next = IsFront-from_text (e ∷ []) front.rest (drop n (drop at bytes)) (begins.entry, tt) each.1 parts in

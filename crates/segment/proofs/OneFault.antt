@@ -7,13 +7,14 @@ use Rattle.entry.specs.declared.entry.Entry.{Entry}
 use Rattle.entry.specs.declared.fault.EntryFault.{EntryFault}
 use Rattle.entry.specs.Format.{spelling, IsEntry, Begins, first_fault}
 use Rattle.entry.specs.Text.{text_of, is_whole, IsBeginning}
+use Rattle.entry.proofs.ListLemmas.{all_split}
 use Rattle.entry.proofs.TextLemmas.{spelling-some}
 use Rattle.entry.proofs.PrefixFree.{prefix_free}
 use Rattle.entry.proofs.Passing.{passes}
 use Rattle.segment.specs.declared.fault.SegmentFault.{SegmentFault}
 use Rattle.segment.specs.declared.fault.SegmentFault.TheVariants.{BadEntry, BadOrder, TooLong, NoMemory}
 use Rattle.segment.specs.Faults.{StandBefore, IsMisplaced, EndsEarly, IsUnreadable, IsBadOrder, IsBadEntry, IsFault}
-use Rattle.segment.proofs.RowLemmas.{each-split}
+use Rattle.segment.proofs.RowLemmas.{cons_same}
 use Rattle.segment.proofs.FaultLemmas.{IsFault-text}
 
 -- two rows that stand in the same bytes: the second goes on where the first ends
@@ -22,11 +23,8 @@ record GoesOn (xs ys : List Entry) (x y : List ℕ) : Type 0 where
   entries : ys ≡ xs ++ more
   text : x ≡ text_of more ++ y
 
-cons-same : (a b : Entry) (x y : List Entry) → a ≡ b → x ≡ y → a ∷ x ≡ b ∷ y
-cons-same a b x y p q = rw (p, q) refl
-
 GoesOn-cons : (a b : Entry) (xs ys : List Entry) (x y : List ℕ) → b ≡ a → GoesOn xs ys x y → GoesOn (a ∷ xs) (b ∷ ys) x y
-GoesOn-cons a b xs ys x y is on = record { more = on.more; entries = cons-same b a ys (xs ++ on.more) is on.entries; text = on.text }
+GoesOn-cons a b xs ys x y is on = record { more = on.more; entries = cons_same b a ys (xs ++ on.more) is on.entries; text = on.text }
 
 compared : (xs ys : List Entry) (x y : List ℕ) → AllByRecursion IsEntry xs → AllByRecursion IsEntry ys → text_of xs ++ x ≡ text_of ys ++ y → GoesOn xs ys x y ⊎ GoesOn ys xs y x
 compared [] ys x y p q is = inl (record { more = ys; entries = refl; text = is })
@@ -74,7 +72,7 @@ no_more bytes a b xs ys at_a at_b stops on = go on.more on.entries on.text where
       let b_within = at_b.within in
       omega (arith, length-drop a bytes, length-drop b bytes, ap (λ (l : List ℕ). length l) text)
   go (e ∷ more) entries text =
-      let each = each-split xs (e ∷ more) (rw entries at at_b.each) in
+      let each = all_split IsEntry xs (e ∷ more) (rw entries at at_b.each) in
       let whole : is_whole ((xs ++ e ∷ more) ++ at_b.order.0) ≡ true = rw entries at at_b.order.1 in
       let same : (xs ++ e ∷ more) ++ at_b.order.0 ≡ (xs ++ e ∷ []) ++ (more ++ at_b.order.0) = simp append_assoc in
       absurd (stops e (text_of more ++ drop b bytes) each.1.0 (simp append_assoc at text) (more ++ at_b.order.0, rw (sym same) whole))

@@ -3,7 +3,7 @@ use Rattle.std.proofs.Common.{◌≡◌, ℕ, zero, suc, ◌-◌, ◌<◌, ◌�
 use Rattle.std.specs.Prelude.{is_none, if◌then◌else◌}
 use Rattle.std.specs.Option.{option_map_or}
 use Rattle.std.specs.List.{AllByRecursion}
-use Rattle.std.proofs.lemmas.List.{length-append, length-drop, take_all, drop_at}
+use Rattle.std.proofs.lemmas.List.{length-append, length-drop, take_rest, drop_at}
 use Rattle.std.proofs.lemmas.Grind.{flat_map-append}
 use Rattle.entry.specs.declared.entry.Entry.{Entry}
 use Rattle.entry.specs.declared.kind.Kind.{Kind}
@@ -13,6 +13,7 @@ use Rattle.entry.specs.Format.{spelling, IsEntry, kind_of, fault_in, fault_of_ki
 use Rattle.entry.specs.Text.{text_of, entries_within, entries_in, IsTextOf}
 use Rattle.entry.proofs.FrontLemmas.{Passes-from_none}
 use Rattle.entry.proofs.PrefixFree.{prefix_free}
+use Rattle.entry.proofs.ListLemmas.{all_split}
 use Rattle.entry.proofs.TextLemmas.{spelling-some, length-text_of}
 use Rattle.segment.specs.Bytes.{IsSegmentBytes, standing_at}
 
@@ -80,13 +81,9 @@ entries_in-front (b ∷ bs) e n is =
     let some : 0 < n = len.0 in
     rw is (ap (λ (es : List Entry). e ∷ es) (within-enough (length bs) (length (drop n (b ∷ bs))) (drop n (b ∷ bs)) (omega (arith, length-drop n (b ∷ bs))) (omega arith)))
 
--- what a slice from a place on holds
-pub rest_from : (at : ℕ) (bytes : List ℕ) → take (length bytes - at) (drop at bytes) ≡ drop at bytes
-rest_from at bytes = take_all (length bytes - at) (drop at bytes) (omega (arith, length-drop at bytes))
-
 -- the same, where the rest is a slice
 pub entries_in-rest : (bytes : List ℕ) (e : Entry) (n : ℕ) → front_of bytes ≡ Some (e, n) → entries_in bytes ≡ e ∷ entries_in (take (length bytes - n) (drop n bytes))
-entries_in-rest bytes e n is = rw rest_from (entries_in-front bytes e n is)
+entries_in-rest bytes e n is = rw take_rest (entries_in-front bytes e n is)
 
 -- the entry that begins at an offset
 pub record IsThere (bytes : List ℕ) (at : ℕ) (e : Entry) (after : List Entry) : Type 0 where
@@ -104,14 +101,6 @@ entries_in-none (b ∷ bs) is = rw is refl
 pub text_of-append : (xs ys : List Entry) → text_of (xs ++ ys) ≡ text_of xs ++ text_of ys
 text_of-append xs ys = flat_map-append spelling xs ys
 
-pub each-append : (xs ys : List Entry) → AllByRecursion IsEntry xs → AllByRecursion IsEntry ys → AllByRecursion IsEntry (xs ++ ys)
-each-append [] ys p q = q
-each-append (x ∷ xs) ys p q = (p.0, each-append xs ys p.1 q)
-
-pub each-split : (xs ys : List Entry) → AllByRecursion IsEntry (xs ++ ys) → AllByRecursion IsEntry xs × AllByRecursion IsEntry ys
-each-split [] ys p = (tt, p)
-each-split (x ∷ xs) ys p = let rest = each-split xs ys p.1 in ((p.0, rest.0), rest.1)
-
 -- a row whose text begins another row's text begins that row
 pub record IsFront (before es : List Entry) (bytes : List ℕ) : Type 0 where
   pub rest : List Entry
@@ -121,8 +110,8 @@ pub record IsFront (before es : List Entry) (bytes : List ℕ) : Type 0 where
 not_spelled : (e : Entry) (xs : List ℕ) → spelling e ++ xs ≡ [] → ⊥
 not_spelled e xs is = absurd (omega (arith, spelling-some e, length-append (spelling e) xs, ap length is))
 
-cons-same : (e x : Entry) (es xs : List Entry) → x ≡ e → es ≡ xs → e ∷ es ≡ x ∷ xs
-cons-same e x es xs p q = rw (p, q) refl
+pub cons_same : (a b : Entry) (x y : List Entry) → a ≡ b → x ≡ y → a ∷ x ≡ b ∷ y
+cons_same a b x y p q = rw (p, q) refl
 
 pub IsFront-from_text : (before es : List Entry) (bytes : List ℕ) → AllByRecursion IsEntry before → AllByRecursion IsEntry es → text_of before ++ bytes ≡ text_of es → IsFront before es bytes
 IsFront-from_text [] es bytes p q is = record { rest = es; entries = refl; text = is }
@@ -131,17 +120,17 @@ IsFront-from_text (x ∷ xs) (e ∷ es) bytes p q is =
     let parts : spelling x ++ (text_of xs ++ bytes) ≡ spelling e ++ text_of es = simp append_assoc at is in
     let first = prefix_free x e (text_of xs ++ bytes) (text_of es) p.0 q.0 parts in
     let others = IsFront-from_text xs es bytes p.1 q.1 first.1 in
-    record { rest = others.rest; entries = cons-same e x es (xs ++ others.rest) first.0 others.entries; text = others.text }
+    record { rest = others.rest; entries = cons_same e x es (xs ++ others.rest) (sym first.0) others.entries; text = others.text }
 
 pub IsThere-from_split : (bytes : List ℕ) (at : ℕ) (before after : List Entry) (e : Entry) → IsTextOf bytes (entries_in bytes) → entries_in bytes ≡ before ++ e ∷ after → at ≡ length (text_of before) → IsThere bytes at e after
 IsThere-from_split bytes at before after e is split place =
     let parts : bytes ≡ text_of before ++ (spelling e ++ text_of after) = is.text ∙ ap text_of split ∙ text_of-append before (e ∷ after) in
-    let each = each-split before (e ∷ after) (rw split at is.segment.each) in
+    let each = all_split IsEntry before (e ∷ after) (rw split at is.segment.each) in
     let behind : drop at (text_of before ++ (spelling e ++ text_of after)) ≡ spelling e ++ text_of after = drop_at (text_of before) (spelling e ++ text_of after) at (sym place) in
     record {
       within = omega (arith, ap length parts, length-append (text_of before) (spelling e ++ text_of after));
       entry = each.1.0;
-      text = rest_from at bytes ∙ ap (λ (l : List ℕ). drop at l) parts ∙ behind;
+      text = take_rest bytes at ∙ ap (λ (l : List ℕ). drop at l) parts ∙ behind;
     }
 
 -- a segment has no more entries than bytes
@@ -155,10 +144,10 @@ length-entries_in bytes is =
 pub standing_at-front : (bytes : List ℕ) (at : ℕ) (e : Entry) (n : ℕ) → IsSegmentBytes bytes → front_of (take (length bytes - at) (drop at bytes)) ≡ Some (e, n)
     → Some e ≡ standing_at at (text_of (entries_in bytes))
 standing_at-front bytes at e n is front =
-    let there : front_of (drop at bytes) ≡ Some (e, n) = rw rest_from at front in
+    let there : front_of (drop at bytes) ≡ Some (e, n) = rw take_rest at front in
     rw (← is.text.text, there) refl
 
 pub standing_at-fault : (bytes : List ℕ) (at : ℕ) (f : EntryFault) → IsSegmentBytes bytes → first_fault (take (length bytes - at) (drop at bytes)) ≡ Some f → None ≡ standing_at at (text_of (entries_in bytes))
 standing_at-fault bytes at f is fault =
-    let none : front_of (drop at bytes) ≡ None = front_of-fault (drop at bytes) f (rw rest_from at fault) in
+    let none : front_of (drop at bytes) ≡ None = front_of-fault (drop at bytes) f (rw take_rest at fault) in
     rw (← is.text.text, none) refl

@@ -1,8 +1,9 @@
 -- Units, and what they leave behind a segment's entries.
-use Rattle.std.proofs.Common.{◌≡◌, ℕ, zero, suc, ◌+◌, ◌*◌, ◌<◌, ◌≤◌, Bool, true, false, List, [], ◌∷◌, ◌++◌, length, take, drop, map, get_or, refl, sym, ap, ◌∙◌, append_assoc, arith}
-use Rattle.std.specs.Prelude.{◌&&◌, Result, Ok, Err, OnOk, OnErr}
+use Rattle.std.proofs.Common.{◌≡◌, ℕ, zero, suc, ◌+◌, ◌*◌, ◌<◌, ◌≤◌, true, List, [], ◌∷◌, ◌++◌, length, take, drop, map, get_or, refl, sym, ap, ◌∙◌, append_assoc, arith}
+use Rattle.std.specs.Prelude.{Result, Ok, Err, OnErr}
 use Rattle.std.specs.Result.{IsOk}
 use Rattle.std.specs.List.{flat_map, AllByRecursion}
+use Rattle.std.proofs.lemmas.Bool.{and_parts}
 use Rattle.std.proofs.lemmas.List.{length-append, append-nil, map-append, at_drop_more, take_more}
 use Rattle.std.proofs.lemmas.List.Folds.{length-flat_map-take, flat_map-map}
 use Rattle.entry.specs.declared.entry.Role.TheVariants.{Head}
@@ -13,21 +14,17 @@ use Rattle.entry.specs.declared.view.EntryRef.{EntryRef}
 use Rattle.entry.specs.Format.{spelling, IsEntry}
 use Rattle.entry.specs.Text.{text_of, is_data, are_data, ends_with, IsTextOf, entries_in}
 use Rattle.entry.specs.View.{shown}
+use Rattle.entry.proofs.ListLemmas.{all_append}
 use Rattle.entry.proofs.SpellingLemmas.{length-header, length-digest, length-safe}
 use Rattle.segment.specs.Bytes.{IsSegmentBytes}
-use Rattle.segment.proofs.RowLemmas.{text_of-append, each-append}
+use Rattle.segment.proofs.RowLemmas.{text_of-append}
 use Rattle.segment.proofs.OrderLemmas.{is_whole-append}
-
-both : (a b : Bool) → (a && b) ≡ true → (a ≡ true) × (b ≡ true)
-both true true e = (refl, refl)
-both true false e = absurd (cc)
-both false b e = absurd (cc)
 
 -- each of a unit is an object or a tombstone
 pub is_data-at : (es : List EntryRef) (i : ℕ) (x : EntryRef) → i < length es → x ≡ get_or es i x → are_data (map shown es) ≡ true → is_data (shown x) ≡ true
 is_data-at [] i x lt is d = absurd (omega arith)
-is_data-at (e ∷ es) zero x lt is d = rw is (both (is_data (shown e)) (are_data (map shown es)) d).0
-is_data-at (e ∷ es) (suc i) x lt is d = is_data-at es i x (omega arith) is (both (is_data (shown e)) (are_data (map shown es)) d).1
+is_data-at (e ∷ es) zero x lt is d = rw is (and_parts (is_data (shown e)) (are_data (map shown es)) d).0
+is_data-at (e ∷ es) (suc i) x lt is d = is_data-at es i x (omega arith) is (and_parts (is_data (shown e)) (are_data (map shown es)) d).1
 
 -- the text up to an entry, and that entry's, are no longer than the whole
 pub text-at : (es : List EntryRef) (i : ℕ) (x : EntryRef) → i < length es → x ≡ get_or es i x
@@ -72,10 +69,6 @@ module _ (es : List EntryRef) (i : ℕ) (x : EntryRef) (lt : i < length es) (is 
 pub longer_by : (old new part : List ℕ) (len more : ℕ) → new ≡ old ++ part → len ≡ length old → more ≡ length new → more ≡ len + length part
 longer_by old new part len more one before after = omega (arith, ap length one, length-append old part, before, after)
 
-pub ok_holds : {T E : Type 0} (r : Result T E) (P : Type 0) (v : T) → r ≡ Ok v → OnOk r P → P
-ok_holds (Ok w) P v is p = p
-ok_holds (Err e) P v is p = absurd (cc)
-
 pub ok_unless : {T E : Type 0} (r : Result T E) (P : Type 0) → OnErr r P → (P → ⊥) → IsOk r
 ok_unless (Ok v) P full not = refl
 ok_unless (Err e) P full not = absurd (not full)
@@ -84,7 +77,7 @@ ok_unless (Err e) P full not = absurd (not full)
 pub IsTextOf-append : (bytes new : List ℕ) (unit : List Entry) → IsSegmentBytes bytes → AllByRecursion IsEntry unit → are_data unit ≡ true → new ≡ bytes ++ text_of unit → IsTextOf new (entries_in bytes ++ unit)
 IsTextOf-append bytes new unit is each d longer = record {
   segment = record {
-    each = each-append (entries_in bytes) unit is.text.segment.each each;
+    each = all_append IsEntry (entries_in bytes) unit is.text.segment.each each;
     order = is_whole-append (entries_in bytes) unit d is.text.segment.order;
   };
   text = longer ∙ ap (λ (l : List ℕ). l ++ text_of unit) is.text.text ∙ sym (text_of-append (entries_in bytes) unit);

@@ -3,15 +3,16 @@ use Rattle.std.proofs.Common.{◌≡◌, ℕ, ◌+◌, ◌≤◌, true, List, []
 use Rattle.std.proofs.lemmas.List.{length-drop, append-nil, take_all}
 use Rattle.std.proofs.Math.Seq.{take-add}
 use Rattle.entry.specs.declared.entry.Entry.{Entry}
-use Rattle.entry.specs.Format.{spelling, Begins}
+use Rattle.entry.specs.Format.{spelling, IsEntry, Begins}
 use Rattle.entry.specs.Text.{text_of, is_whole, IsTextOf, entries_in}
+use Rattle.entry.proofs.ListLemmas.{all_append}
 use Rattle.entry.proofs.TextLemmas.{entries_in-text}
 use Rattle.segment.specs.declared.expected.Expected.{Expected}
 use Rattle.segment.specs.declared.expected.Expected.TheVariants as expected
 use Rattle.segment.specs.Bytes.{IsSegmentBytes}
 use Rattle.segment.specs.Order.{completes, Expects}
 use Rattle.segment.specs.Walk.{IsWalked}
-use Rattle.segment.proofs.RowLemmas.{text_of-append, each-append}
+use Rattle.segment.proofs.RowLemmas.{text_of-append}
 use Rattle.segment.proofs.OrderLemmas.{IsBeginning-from_expects, Expects-start, Expects-step, is_whole-expects}
 
 pub IsWalked-start : (bytes : List ℕ) → IsWalked bytes 0 expected.Header
@@ -26,7 +27,7 @@ IsWalked-step bytes at x y e n (before, stand, expects) begins allowed =
     let n_within = begins.within in
     let last : text_of (e ∷ []) ≡ spelling e = append-nil (spelling e) in
     let text : take (at + n) bytes ≡ text_of next = rw (take-add, stand.text, begins.text, text_of-append, last) refl in
-    (next, record { within = omega (arith, length-drop at bytes); text = text; each = each-append before (e ∷ []) stand.each (begins.entry, tt); order = IsBeginning-from_expects next y next_expects }, next_expects)
+    (next, record { within = omega (arith, length-drop at bytes); text = text; each = all_append IsEntry before (e ∷ []) stand.each (begins.entry, tt); order = IsBeginning-from_expects next y next_expects }, next_expects)
 
 -- the text of entries that are a segment's
 pub IsTextOf-entries_in : (bytes : List ℕ) (es : List Entry) → IsTextOf bytes es → entries_in bytes ≡ es

@@ -1,11 +1,11 @@
 //! A master's whole life on a small fleet, and its recovery from what is left.
 
 use crate::asks::{Ask, steps_of};
-use crate::runs::default_config;
+use crate::runs::new_master;
 use backup::MemoryFleet;
 use entry::Object;
 use master::{If, Step};
-use script::{Drill, run_drill};
+use recovery::{Drill, run_drill};
 use std::alloc::{AllocError, Global};
 use std::fmt::Write;
 use std::str;
@@ -32,7 +32,7 @@ fn write_keys(text: &mut String, objects: &[Object]) -> Result<(), AllocError> {
 }
 
 /// Writes the keys that a drill recovers, or the fault.
-fn write_recovered(text: &mut String, drill: &Drill) -> Result<(), AllocError> {
+fn write_recovered(text: &mut String, drill: &Drill<MemoryFleet>) -> Result<(), AllocError> {
     match &drill.recovered {
         Ok(rebuilt) => write_keys(text, rebuilt.objects.as_slice()),
         Err(fault) => write!(text, "{fault}"),
@@ -40,11 +40,12 @@ fn write_recovered(text: &mut String, drill: &Drill) -> Result<(), AllocError> {
 }
 
 /// A drill that keeps these backups.
-fn drill(alloc: Global, steps: &[Step], kept: &[u64]) -> Result<Drill, Fail> {
-    let config = default_config(alloc)?;
-    config.check()?;
-    let fleet = MemoryFleet::new(alloc, config.backups)?;
-    Ok(run_drill(alloc, config, fleet, steps, kept)?)
+fn drill(alloc: Global, steps: &[Step], kept: &[u64]) -> Result<Drill<MemoryFleet>, Fail> {
+    let master = new_master(alloc)?;
+    match run_drill(alloc, master, steps, kept) {
+        Ok(drill) => Ok(drill),
+        Err(_) => Err("no memory")?,
+    }
 }
 
 /// Whether a drill that keeps these backups recovers this.

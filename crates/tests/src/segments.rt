@@ -72,8 +72,7 @@ fn is_appended(
 {
     match EntryRef::read(OBJECT) {
         Ok((EntryRef::Object(object), _)) => {
-            segment.append(&[EntryRef::Object(object)], limit) == want
-                && segment.bytes() == bytes
+            segment.append(&[EntryRef::Object(object)], limit) == want && segment.bytes() == bytes
         }
         _ => false,
     }

@@ -10,7 +10,7 @@ use Rattle.replay.specs.Rebuilt.{IsRefusal}
 use Rattle.replay.specs.Bags.{bag_of}
 use Rattle.replay.specs.Claims.{Claimed, claimed, claims_of, objects_in, tops, bound_of_claims}
 use Rattle.replay.proofs.ScanLemmas.{keys_of, tops-sorted}
-use Rattle.replay.proofs.MeaningLemmas.{AreClaims, AreClaims-from_sort, tops-mean, unclashed-clean, refused-for, bound_of-bag}
+use Rattle.replay.proofs.MeaningLemmas.{AreClaims, AreClaims-from_sort, tops-mean, unclashed_clean, refused-for, bound_of-bag}
 use Rattle.replay.proofs.rebuilt.rebuild_plain.Goals.{After-as_slice-3}
 use Rattle.replay.proofs.rebuilt.rebuild_plain.Goals as goal
 
@@ -48,4 +48,4 @@ returns-clause-ok c =
     }
 
 pub returns-clause-clean : goal.returns-clause-clean
-returns-clause-clean c = unclashed-clean (bag_of c.args.plan.now.segments) _ (sorted (goal.at.returns-clause-clean c).After-as_slice-3) c.in_ok-winners.ensures.clean
+returns-clause-clean c = unclashed_clean (bag_of c.args.plan.now.segments) _ (sorted (goal.at.returns-clause-clean c).After-as_slice-3) c.in_ok-winners.ensures.clean

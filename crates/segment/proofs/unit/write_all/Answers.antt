@@ -1,7 +1,8 @@
 use Rattle.std.proofs.Common.{vec_len, arith}
+use Rattle.std.proofs.lemmas.Result.{IfOk-at_ok}
 use Rattle.entry.specs.Format.{spelling}
 use Rattle.entry.specs.View.{shown}
-use Rattle.segment.proofs.UnitLemmas.{is_data-at, written_more, room_for, room_left, longer_by, ok_holds, ok_unless}
+use Rattle.segment.proofs.UnitLemmas.{is_data-at, written_more, room_for, room_left, longer_by, ok_unless}
 use Rattle.segment.proofs.unit.write_all.Goals as goal
 
 pub write-requires : goal.write-requires
@@ -19,7 +20,7 @@ loop-entry-preserved c =
     let entry = c.entry-item.result in
     let old = c.loop-entry.out in
     let new = c.write.new.out in
-    let written = ok_holds c.write.result _ c.unwrap.result c.unwrap.ensures c.write.ensures.ok in
+    let written = IfOk-at_ok (λ _. _) c.unwrap.ensures c.write.ensures.ok in
     let longer = longer_by old.items new.items (spelling (shown entry)) (vec_len old) (vec_len new) written old.ok.0 new.ok.0 in
     record {
       items = written_more unit i entry c.loop-entry-test.true c.entry-item.is c.args.out.now.items old.items new.items written c.loop-entry.invariant.items;

@@ -1,0 +1,34 @@
+//! Rows of values.
+
+use std::marker::Model;
+
+/// Values in a row. A contract sees them as a list.
+#[derive(Drop)]
+pub struct Row<T> {
+    values: Vec<T>,
+}
+
+impl<T> Model for Row<T> {
+    ghost use Rattle.std.specs.Prelude.{List};
+
+    ghost Value = { List T };
+
+    ghost view = { λ r. r.values.items };
+}
+
+impl<T> Row<T> {
+    ghost use Rattle.std.specs.Prelude.{◌≡◌};
+
+    /// The row of these values. It takes no memory.
+    pub fn new(values: Vec<T>) -> Row<T>
+        ensures { result ≡ values.items }
+    {
+        Row { values }
+    }
+
+    pub fn as_slice(&self) -> &[T]
+        ensures { result.now ≡ self.now }
+    {
+        self.values.as_slice()
+    }
+}

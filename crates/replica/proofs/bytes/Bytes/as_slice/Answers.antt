@@ -1,5 +1,0 @@
-use Rattle.std.proofs.Common.{◌∙◌}
-use Rattle.replica.proofs.bytes.Bytes.as_slice.Goals as goal
-
-pub returns : goal.returns
-returns c = c.as_slice.ensures.value ∙ c.self.view_is

@@ -1,5 +1,0 @@
-use Rattle.std.proofs.Common.{refl}
-use Rattle.replica.proofs.holding.Inventory.new.Goals as goal
-
-pub returns : goal.returns
-returns c = refl
