@@ -1,7 +1,7 @@
 -- What is taken of a reader, line by line: each line ends at its line feed, which the last may lack.
-use Rattle.std.specs.Prelude.{◌≡◌, ◌≢◌, ◌<◌, ◌≤◌, ℕ, List, [], ◌∷◌, ◌++◌, length, Option, Some, None}
+use Rattle.std.specs.Prelude.{◌≡◌, ◌≢◌, ◌<◌, ◌≤◌, ◌+◌, ℕ, Bool, true, false, List, [], ◌∷◌, ◌++◌, length, take, Option, Some, None, Result, Ok, Err}
 use Rattle.std.specs.List.{All}
-use Rattle.std.specs.Io.KnownBytes.{Consumes, IsAtEnd}
+use Rattle.std.specs.Io.KnownBytes.{Consumes, IsAtEnd, Keeps}
 use Rattle.lines.specs.declared.reading.Taken.{Taken}
 use Rattle.lines.specs.declared.reading.Taken.TheVariants.{Ended, Last, TooLong, Nothing}
 use Rattle.lines.specs.declared.reading.ReadFault.{ReadFault}
@@ -29,7 +29,25 @@ TakesLine old new line Last = Consumes old new line × IsAtEnd new × (0 < lengt
 TakesLine old new line TooLong = Consumes old new line × IsUnbroken line × (length line ≡ 4097)
 TakesLine old new line Nothing = Consumes old new [] × IsAtEnd new × (line ≡ [])
 
--- What was taken where no line was: the bytes that stand in `line`, and where memory ran out one byte more.
+-- What was taken where no line was: where the reader failed the bytes that stand in `line`, and where memory ran out nothing.
 abbrev pub StopsIn : Option (List ℕ) → Option (List ℕ) → List ℕ → ReadFault → Type 0
 StopsIn old new line Failed = Consumes old new line × IsLineText line
-StopsIn old new line NoMemory = IsLineText line × (byte : ℕ) × Consumes old new (line ++ byte ∷ [])
+StopsIn old new line NoMemory = Consumes old new [] × (line ≡ [])
+
+-- ---- what a reader shows
+
+-- the first `len` bytes that are shown have no line feed, and where they are ended one stands behind them; all that is within `most` bytes
+abbrev pub IsFrontOfLine : List ℕ → ℕ → ℕ → Bool → Type 0
+IsFrontOfLine shown most len true =
+    IsUnbroken (take len shown) × (take (len + 1) shown ≡ take len shown ++ 10 ∷ []) × (len < length shown) × (len < most)
+IsFrontOfLine shown most len false = IsUnbroken (take len shown) × (len ≤ length shown) × (len ≤ most)
+
+-- What was taken of what a reader shows: a last part of a line with the line feed behind it, or a part that ends no line. It
+-- stands behind what was there. A fault takes nothing.
+abbrev pub TakesShown : Option (List ℕ) → Option (List ℕ) → List ℕ → List ℕ → Result Bool ReadFault → Type 0
+TakesShown old new before after (Ok true) =
+    (part : List ℕ) × Consumes old new (part ++ 10 ∷ []) × (after ≡ before ++ part) × IsUnbroken part × (length after ≤ 4096)
+TakesShown old new before after (Ok false) =
+    (part : List ℕ) × Consumes old new part × (after ≡ before ++ part) × IsUnbroken part × (length after ≤ 4097)
+TakesShown old new before after (Err Failed) = Keeps old new × (after ≡ before) × (length after ≤ 4096)
+TakesShown old new before after (Err NoMemory) = ⊥
