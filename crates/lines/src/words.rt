@@ -1,13 +1,13 @@
 //! The words of a text, read one after another.
 
-ghost use Rattle.std.specs.Prelude.{◌≡◌, ◌≢◌, ◌∷◌, ◌^◌, ◌<◌, ◌↔◌, ℕ, List, [], IfSome, IsNone, IsSome, IsTrue, MatchOption};
+ghost use Rattle.std.specs.Prelude.{◌≡◌, ◌≢◌, ◌∷◌, ◌^◌, ◌<◌, ◌≤◌, ◌↔◌, ℕ, List, [], IfSome, IsNone, IsSome, IsTrue, MatchOption};
 ghost use Rattle.std.specs.List.{slice_split};
 ghost use Rattle.std.specs.Fmt.{decimal};
+ghost use Rattle.std.specs.Str.Parse.{AllDigits, digits_value};
 ghost use Rattle.lines.specs.Grammar.{IsKey, IsWord};
 ghost use Rattle.lines.specs.Words.{is_space, words_left};
 
 use std::marker::Model;
-use std::str;
 
 /// The most bytes of a key.
 const MAX_KEY_LEN: usize = 1024;
@@ -59,13 +59,22 @@ impl<'a> Words<'a> {
         (is_word(key) && key.len() <= MAX_KEY_LEN).then_some(key)
     }
 
-    /// The next word as a value.
-    pub(crate) fn value(&mut self) -> Option<&'a [u8]>
-        ensures sound { IfSome result (λ value. (self.old ≡ value.now ∷ self.new) × IsWord value.now) }
-        ensures complete { IsNone result → (value : List ℕ) (rest : List (List ℕ)) → IsWord value → self.old ≢ value ∷ rest }
+    /// The only word that is left, as a key.
+    pub(crate) fn last_key(self) -> Option<&'a [u8]>
+        ensures sound { IfSome result (λ key. (self.entry ≡ key.now ∷ []) × IsKey key.now) }
+        ensures complete { IsNone result → (key : List ℕ) → IsKey key → self.entry ≢ key ∷ [] }
     {
-        let value = self.next_word()?;
-        is_word(value).then_some(value)
+        let key = self.last()?;
+        (key.len() <= MAX_KEY_LEN).then_some(key)
+    }
+
+    /// The only word that is left.
+    pub(crate) fn last(self) -> Option<&'a [u8]>
+        ensures sound { IfSome result (λ word. (self.entry ≡ word.now ∷ []) × IsWord word.now) }
+        ensures complete { IsNone result → (word : List ℕ) → IsWord word → self.entry ≢ word ∷ [] }
+    {
+        let rest = self.rest?;
+        is_word(rest).then_some(rest)
     }
 
     /// `Some` where no word is left.
@@ -101,12 +110,29 @@ fn parse_number(word: &[u8]) -> Option<u64>
     ensures sound { IfSome result (λ n. word.now ≡ decimal n) }
     ensures complete { IsNone result → (n : ℕ) → n < 2 ^ 64 → word.now ≢ decimal n }
 {
-    let Ok(text) = str::from_utf8(word) else {
+    if word.is_empty() {
         return None;
-    };
-    let Ok(number) = text.parse::<u64>() else {
-        return None;
-    };
-    let mut buffer = itoa::Buffer::new();
-    (buffer.format(number).as_bytes() == word).then_some(number)
+    }
+    if word[0] != b'0' {
+        return digits_value(word);
+    }
+    if word.len() == 1 { Some(0) } else { None }
+}
+
+/// The number that decimal digits write.
+fn digits_value(digits: &[u8]) -> Option<u64>
+    ensures sound { IfSome result (λ n. AllDigits 10 digits.now × (digits_value 10 digits.now ≡ n)) }
+    ensures fits { IfSome result (λ n. n < 2 ^ 64) }
+    ensures complete { IsNone result → AllDigits 10 digits.now → 2 ^ 64 ≤ digits_value 10 digits.now }
+{
+    let mut number = 0u64;
+    for byte in digits {
+        if !byte.is_ascii_digit() {
+            return None;
+        }
+        number = number
+            .checked_mul(10)?
+            .checked_add(u64::from(*byte - b'0'))?;
+    }
+    Some(number)
 }

@@ -47,11 +47,11 @@ pub fn write_answer<W: Write>(writer: &mut W, answer: &Answer) -> io::Result<()>
         Answer::Reply(reply) => write_reply(writer, reply),
         Answer::Refused(refusal) => writeln!(writer, "refused {refusal}"),
         Answer::Hex(bytes) => write_hex(writer, bytes.as_slice()),
-        Answer::NotInLog(segment) => writeln!(writer, "refused NotInLog {segment}"),
-        Answer::Stop(takes) => writeln!(writer, "stop {takes}"),
+        Answer::NotInLog(segment) => write_numbered(writer, b"refused NotInLog ", *segment),
+        Answer::Stop(takes) => write_numbered(writer, b"stop ", *takes),
         Answer::Stopped => writer.write_all(b"stopped\n"),
         Answer::Crashed => writer.write_all(b"crashed\n"),
-        Answer::Lost(backup) => writeln!(writer, "lost {backup}"),
+        Answer::Lost(backup) => write_numbered(writer, b"lost ", *backup),
         Answer::Recovered(rebuilt) => write_rebuilt(writer, rebuilt),
         Answer::NotRecovered(fault) => writeln!(writer, "refused {fault}"),
         Answer::Down => writer.write_all(b"refused Down\n"),
@@ -65,24 +65,42 @@ fn write_reply<W: Write>(writer: &mut W, reply: &Reply) -> io::Result<()>
     match reply {
         Reply::Found(version, value) => write_versioned(writer, *version, value),
         Reply::None => writer.write_all(b"none\n"),
-        Reply::Ok(version) => {
-            let version = version.get();
-            writeln!(writer, "ok {version}")
-        }
+        Reply::Ok(version) => write_numbered(writer, b"ok ", version.get()),
         Reply::Mismatch(None) => writer.write_all(b"mismatch none\n"),
-        Reply::Mismatch(Some(version)) => {
-            let version = version.get();
-            writeln!(writer, "mismatch {version}")
-        }
+        Reply::Mismatch(Some(version)) => write_numbered(writer, b"mismatch ", version.get()),
     }
+}
+
+/// A number in decimal digits.
+fn write_number<W: Write>(writer: &mut W, number: u64) -> io::Result<()>
+    ensures { OnOk result (Appends (W.contents writer.old) (W.contents writer.new) (decimal number)) }
+{
+    let mut digits = itoa::Buffer::new();
+    writer.write_all(digits.format(number).as_bytes())
+}
+
+/// A number in decimal digits, and a space.
+fn write_spaced<W: Write>(writer: &mut W, number: u64) -> io::Result<()>
+    ensures { OnOk result (Appends (W.contents writer.old) (W.contents writer.new) (decimal number ++ 32 ∷ [])) }
+{
+    write_number(writer, number)?;
+    writer.write_all(b" ")
+}
+
+/// A line of these words and a number.
+fn write_numbered<W: Write>(writer: &mut W, words: &[u8], number: u64) -> io::Result<()>
+    ensures { OnOk result (Appends (W.contents writer.old) (W.contents writer.new) (words.now ++ decimal number ++ 10 ∷ [])) }
+{
+    writer.write_all(words)?;
+    write_number(writer, number)?;
+    writer.write_all(b"\n")
 }
 
 /// The end of a line that shows a value at its version.
 fn write_versioned<W: Write>(writer: &mut W, version: Version, value: &Value) -> io::Result<()>
     ensures { OnOk result (Appends (W.contents writer.old) (W.contents writer.new) (decimal version ++ 32 ∷ value.now ++ 10 ∷ [])) }
 {
-    let version = version.get();
-    write!(writer, "{version} ")?;
+    write_spaced(writer, version.get())?;
     writer.write_all(value.as_slice())?;
     writer.write_all(b"\n")
 }
@@ -100,8 +118,7 @@ fn write_hex<W: Write>(writer: &mut W, bytes: &[u8]) -> io::Result<()>
 fn write_object<W: Write>(writer: &mut W, object: &Object) -> io::Result<()>
     ensures { OnOk result (Appends (W.contents writer.old) (W.contents writer.new) (object_text object.now)) }
 {
-    let table = object.key.table;
-    write!(writer, "{table} ")?;
+    write_spaced(writer, object.key.table)?;
     writer.write_all(object.key.bytes.as_slice())?;
     writer.write_all(b" ")?;
     write_versioned(writer, object.version, &object.value)
@@ -115,6 +132,5 @@ fn write_rebuilt<W: Write>(writer: &mut W, rebuilt: &Rebuilt) -> io::Result<()>
     for object in objects {
         write_object(writer, object)?;
     }
-    let count = objects.len();
-    writeln!(writer, "recovered {count}")
+    write_numbered(writer, b"recovered ", objects.len() as u64)
 }

@@ -1,4 +1,4 @@
-use Rattle.std.proofs.Common.{◌≡◌, ◌≤◌, ◌≢◌, ◌++◌, ◌∷◌, [], length, arith, refl, rules}
+use Rattle.std.proofs.Common.{◌≡◌, arith, refl, rules}
 use Rattle.std.specs.Prelude.{Err}
 use Rattle.lines.specs.declared.reading.ReadFault.TheVariants.{Failed}
 use Rattle.lines.proofs.Taking.{ended, ended_with, failed, failed_to_show, last, longer, more, stops}

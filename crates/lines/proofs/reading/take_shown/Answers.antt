@@ -1,4 +1,4 @@
-use Rattle.std.proofs.Common.{◌≡◌, ◌+◌, ◌≤◌, ap, length, subst, arith, rules}
+use Rattle.std.proofs.Common.{◌+◌, ap, subst, arith, rules}
 use Rattle.std.specs.Io.BufRead.{FillKeeps}
 use Rattle.lines.proofs.Taking.{taken_of_shown}
 use Rattle.lines.proofs.reading.take_shown.Goals as goal
