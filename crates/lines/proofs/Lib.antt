@@ -3,3 +3,4 @@ pub mod Numbers
 pub mod OneLine
 pub mod Spelling
 pub mod Taking
+pub mod Visible

@@ -1,9 +1,11 @@
 -- What is taken of a reader, line by line: each line ends at its line feed, which the last may lack.
-use Rattle.std.specs.Prelude.{◌≡◌, ◌≢◌, ◌<◌, ◌≤◌, ◌+◌, ℕ, Bool, true, false, List, [], ◌∷◌, ◌++◌, length, take, Option, Some, None, Result, Ok, Err}
+use Rattle.std.specs.Prelude.{◌≡◌, ◌≢◌, ◌<◌, ◌≤◌, ◌+◌, ℕ, Bool, true, false, List, [], ◌∷◌, ◌++◌, length, take, min, Option, Some, None, Result, Ok, Err}
 use Rattle.std.specs.List.{All}
 use Rattle.std.specs.Io.KnownBytes.{Consumes, IsAtEnd, Keeps}
 use Rattle.lines.specs.declared.reading.Taken.{Taken}
 use Rattle.lines.specs.declared.reading.Taken.TheVariants.{Ended, Last, TooLong, Nothing}
+use Rattle.lines.specs.declared.reading.Shown.{Shown}
+use Rattle.lines.specs.declared.reading.Shown.TheVariants as shown
 use Rattle.lines.specs.declared.reading.ReadFault.{ReadFault}
 use Rattle.lines.specs.declared.reading.ReadFault.TheVariants.{Failed, NoMemory}
 
@@ -36,18 +38,19 @@ StopsIn old new line NoMemory = Consumes old new [] × (line ≡ [])
 
 -- ---- what a reader shows
 
--- the first `len` bytes that are shown have no line feed, and where they are ended one stands behind them; all that is within `most` bytes
+-- where the line ends that is shown: behind `len` bytes at a line feed, or not within `most` bytes
 abbrev pub IsFrontOfLine : List ℕ → ℕ → ℕ → Bool → Type 0
 IsFrontOfLine shown most len true =
     IsUnbroken (take len shown) × (take (len + 1) shown ≡ take len shown ++ 10 ∷ []) × (len < length shown) × (len < most)
-IsFrontOfLine shown most len false = IsUnbroken (take len shown) × (len ≤ length shown) × (len ≤ most)
+IsFrontOfLine shown most len false = IsUnbroken (take len shown) × (len ≡ min (length shown) most)
 
--- What was taken of what a reader shows: a last part of a line with the line feed behind it, or a part that ends no line. It
--- stands behind what was there. A fault takes nothing.
-abbrev pub TakesShown : Option (List ℕ) → Option (List ℕ) → List ℕ → List ℕ → Result Bool ReadFault → Type 0
-TakesShown old new before after (Ok true) =
+-- What was taken of what a reader shows: the last part of a line with the line feed behind it, or a part of one byte or more,
+-- or nothing. The part stands behind what was there. A fault takes nothing.
+abbrev pub TakesShown : Option (List ℕ) → Option (List ℕ) → List ℕ → List ℕ → Result Shown ReadFault → Type 0
+TakesShown old new before after (Ok shown.Ended) =
     (part : List ℕ) × Consumes old new (part ++ 10 ∷ []) × (after ≡ before ++ part) × IsUnbroken part × (length after ≤ 4096)
-TakesShown old new before after (Ok false) =
-    (part : List ℕ) × Consumes old new part × (after ≡ before ++ part) × IsUnbroken part × (length after ≤ 4097)
-TakesShown old new before after (Err Failed) = Keeps old new × (after ≡ before) × (length after ≤ 4096)
+TakesShown old new before after (Ok shown.Part) =
+    (part : List ℕ) × Consumes old new part × (after ≡ before ++ part) × IsUnbroken part × (length after ≤ 4097) × (0 < length part)
+TakesShown old new before after (Ok shown.Nothing) = Keeps old new × (after ≡ before)
+TakesShown old new before after (Err Failed) = Keeps old new × (after ≡ before)
 TakesShown old new before after (Err NoMemory) = ⊥

@@ -45,15 +45,16 @@ pub fn next_line<R: BufRead>(reader: &mut R, line: &mut Vec<u8>) -> Result<Taken
         return Err(ReadFault::NoMemory);
     }
     'parts: while line.len() <= MAX_LINE_LEN {
-        // A read tells for certain where the input ends. What the reader shows behind its byte is taken at once.
-        match next_byte(reader)? {
-            Some(b'\n') => return Ok(Taken::Ended),
-            Some(byte) => line.push_reserved(byte),
-            None if line.is_empty() => return Ok(Taken::Nothing),
-            None => return Ok(Taken::Last),
-        }
-        if take_shown(reader, line)? {
-            return Ok(Taken::Ended);
+        match take_shown(reader, line)? {
+            Shown::Ended => return Ok(Taken::Ended),
+            Shown::Part => {}
+            // A read tells for certain where the input ends.
+            Shown::Nothing => match next_byte(reader)? {
+                Some(b'\n') => return Ok(Taken::Ended),
+                Some(byte) => line.push_reserved(byte),
+                None if line.is_empty() => return Ok(Taken::Nothing),
+                None => return Ok(Taken::Last),
+            },
         }
     }
     Ok(Taken::TooLong)
@@ -77,28 +78,39 @@ fn next_byte<R: Read>(reader: &mut R) -> Result<Option<u8>, ReadFault>
     Err(ReadFault::Failed)
 }
 
-/// Takes what the reader shows of a line, and answers whether its line feed ended it. Of a line that is too long by now
-/// nothing more is taken.
-///
-/// An interrupted read shows nothing, and so does the end of the input.
-fn take_shown<R: BufRead>(reader: &mut R, line: &mut Vec<u8>) -> Result<bool, ReadFault>
-    requires short { vec_len line.old ≤ 4097 }
+/// What `take_shown` took.
+#[derive(Clone, Copy)]
+enum Shown {
+    /// The last bytes of the line, and its line feed.
+    Ended,
+    /// A byte of the line or more.
+    Part,
+    /// Nothing: the reader was interrupted, or shows no byte.
+    Nothing,
+}
+
+/// Takes what the reader shows of a line.
+fn take_shown<R: BufRead>(reader: &mut R, line: &mut Vec<u8>) -> Result<Shown, ReadFault>
+    requires short { vec_len line.old ≤ 4096 }
     requires room { 4097 ≤ vec_capacity line.old }
     ensures taken { TakesShown (R.remaining reader.old) (R.remaining reader.new) line.old.items line.new.items result }
     ensures capacity { vec_capacity line.old ≤ vec_capacity line.new }
 {
-    if line.len() > MAX_LINE_LEN {
-        return Ok(false);
-    }
     let shown = match reader.fill_buf() {
+        Ok([]) => return Ok(Shown::Nothing),
         Ok(shown) => shown,
-        Err(error) if error.kind() == ErrorKind::Interrupted => return Ok(false),
+        Err(error) if error.kind() == ErrorKind::Interrupted => return Ok(Shown::Nothing),
         Err(_) => return Err(ReadFault::Failed),
     };
     let (len, is_ended) = front_of_line(shown, MAX_LINE_LEN + 1 - line.len());
     append(line, &shown[..len]);
-    reader.consume(len + usize::from(is_ended));
-    Ok(is_ended)
+    if is_ended {
+        reader.consume(len + 1);
+        Ok(Shown::Ended)
+    } else {
+        reader.consume(len);
+        Ok(Shown::Part)
+    }
 }
 
 /// How many of the first `most` bytes stand before a line feed, and whether one stands behind them.

@@ -1,11 +1,11 @@
 //! The words of a text, read one after another.
 
 ghost use Rattle.std.specs.Prelude.{◌≡◌, ◌≢◌, ◌∷◌, ◌^◌, ◌<◌, ◌≤◌, ◌↔◌, ℕ, List, [], IfSome, IsNone, IsSome, IsTrue, MatchOption};
-ghost use Rattle.std.specs.List.{slice_split};
+ghost use Rattle.std.specs.List.{All, slice_split};
 ghost use Rattle.std.specs.Fmt.{decimal};
 ghost use Rattle.std.specs.Str.Parse.{AllDigits, digits_value};
 ghost use Rattle.lines.specs.Grammar.{IsKey, IsWord};
-ghost use Rattle.lines.specs.Words.{is_space, words_left};
+ghost use Rattle.lines.specs.Words.{IsVisible, IsVisibleFront, is_space, words_left};
 
 use std::marker::Model;
 
@@ -102,7 +102,42 @@ fn split_word(text: &[u8]) -> (&[u8], Option<&[u8]>)
 fn is_word(bytes: &[u8]) -> bool
     ensures { IsTrue result ↔ IsWord bytes.now }
 {
-    !bytes.is_empty() && bytes.iter().all(|byte| (0x21..=0x7e).contains(byte))
+    !bytes.is_empty() && visible_len(bytes) == bytes.len()
+}
+
+/// How many bytes at the front are visible.
+#[inline(never)]
+fn visible_len(bytes: &[u8]) -> usize
+    ensures { IsVisibleFront bytes.now result }
+{
+    let mut len = 0;
+    // Eight are looked at together, as long as all of them are visible.
+    while bytes.len() - len >= 8 && are_visible(&bytes[len..len + 8]) {
+        len += 8;
+    }
+    while len < bytes.len() && is_visible(bytes[len]) {
+        len += 1;
+    }
+    len
+}
+
+/// Whether all of a few bytes are visible. Each is looked at.
+#[inline(always)]
+fn are_visible(bytes: &[u8]) -> bool
+    ensures { IsTrue result ↔ All IsVisible bytes.now }
+{
+    let mut all = true;
+    for byte in bytes {
+        all &= is_visible(*byte);
+    }
+    all
+}
+
+#[inline(always)]
+fn is_visible(byte: u8) -> bool
+    ensures { IsTrue result ↔ IsVisible byte }
+{
+    (0x21..=0x7e).contains(&byte)
 }
 
 /// The number that the word writes in decimal digits without leading zeros.

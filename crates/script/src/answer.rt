@@ -39,6 +39,7 @@ pub enum Answer {
 }
 
 /// Writes the lines of an answer, each with its line feed.
+#[inline(always)]
 pub fn write_answer<W: Write>(writer: &mut W, answer: &Answer) -> io::Result<()>
     ensures { OnOk result (Appends (W.contents writer.old) (W.contents writer.new) (answer_text answer.now)) }
 {
@@ -59,6 +60,7 @@ pub fn write_answer<W: Write>(writer: &mut W, answer: &Answer) -> io::Result<()>
     }
 }
 
+#[inline(always)]
 fn write_reply<W: Write>(writer: &mut W, reply: &Reply) -> io::Result<()>
     ensures { OnOk result (Appends (W.contents writer.old) (W.contents writer.new) (reply_text reply.now)) }
 {
@@ -72,6 +74,7 @@ fn write_reply<W: Write>(writer: &mut W, reply: &Reply) -> io::Result<()>
 }
 
 /// A number in decimal digits.
+#[inline(always)]
 fn write_number<W: Write>(writer: &mut W, number: u64) -> io::Result<()>
     ensures { OnOk result (Appends (W.contents writer.old) (W.contents writer.new) (decimal number)) }
 {
@@ -80,6 +83,7 @@ fn write_number<W: Write>(writer: &mut W, number: u64) -> io::Result<()>
 }
 
 /// A number in decimal digits, and a space.
+#[inline(always)]
 fn write_spaced<W: Write>(writer: &mut W, number: u64) -> io::Result<()>
     ensures { OnOk result (Appends (W.contents writer.old) (W.contents writer.new) (decimal number ++ 32 ∷ [])) }
 {
@@ -88,6 +92,7 @@ fn write_spaced<W: Write>(writer: &mut W, number: u64) -> io::Result<()>
 }
 
 /// A line of these words and a number.
+#[inline(always)]
 fn write_numbered<W: Write>(writer: &mut W, words: &[u8], number: u64) -> io::Result<()>
     ensures { OnOk result (Appends (W.contents writer.old) (W.contents writer.new) (words.now ++ decimal number ++ 10 ∷ [])) }
 {
@@ -97,6 +102,7 @@ fn write_numbered<W: Write>(writer: &mut W, words: &[u8], number: u64) -> io::Re
 }
 
 /// The end of a line that shows a value at its version.
+#[inline(always)]
 fn write_versioned<W: Write>(writer: &mut W, version: Version, value: &Value) -> io::Result<()>
     ensures { OnOk result (Appends (W.contents writer.old) (W.contents writer.new) (decimal version ++ 32 ∷ value.now ++ 10 ∷ [])) }
 {
