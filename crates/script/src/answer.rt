@@ -1,12 +1,13 @@
 //! What a line answers, and its text.
 
-ghost use Rattle.std.specs.Prelude.{◌++◌, ◌∷◌, [], OnOk};
+ghost use Rattle.std.specs.Prelude.{◌≤◌, ◌++◌, ◌∷◌, [], length, OnOk};
 ghost use Rattle.std.specs.Fmt.{decimal};
 ghost use Rattle.std.specs.Io.KnownBytes.{Appends};
 ghost use Rattle.script.specs.Texts.{answer_text, hex_text, object_text, rebuilt_text, reply_text};
 
 use crate::recovery::RecoveryFault;
 use entry::{Object, Value, Version};
+use itoa::write_digits;
 use master::{Refusal, Reply};
 use replay::Rebuilt;
 use replica::Bytes;
@@ -48,11 +49,11 @@ pub fn write_answer<W: Write>(writer: &mut W, answer: &Answer) -> io::Result<()>
         Answer::Reply(reply) => write_reply(writer, reply),
         Answer::Refused(refusal) => writeln!(writer, "refused {refusal}"),
         Answer::Hex(bytes) => write_hex(writer, bytes.as_slice()),
-        Answer::NotInLog(segment) => write_numbered(writer, b"refused NotInLog ", *segment),
-        Answer::Stop(takes) => write_numbered(writer, b"stop ", *takes),
+        Answer::NotInLog(segment) => write_number(writer, b"refused NotInLog ", *segment, b'\n'),
+        Answer::Stop(takes) => write_number(writer, b"stop ", *takes, b'\n'),
         Answer::Stopped => writer.write_all(b"stopped\n"),
         Answer::Crashed => writer.write_all(b"crashed\n"),
-        Answer::Lost(backup) => write_numbered(writer, b"lost ", *backup),
+        Answer::Lost(backup) => write_number(writer, b"lost ", *backup, b'\n'),
         Answer::Recovered(rebuilt) => write_rebuilt(writer, rebuilt),
         Answer::NotRecovered(fault) => writeln!(writer, "refused {fault}"),
         Answer::Down => writer.write_all(b"refused Down\n"),
@@ -67,38 +68,23 @@ fn write_reply<W: Write>(writer: &mut W, reply: &Reply) -> io::Result<()>
     match reply {
         Reply::Found(version, value) => write_versioned(writer, *version, value),
         Reply::None => writer.write_all(b"none\n"),
-        Reply::Ok(version) => write_numbered(writer, b"ok ", version.get()),
+        Reply::Ok(version) => write_number(writer, b"ok ", version.get(), b'\n'),
         Reply::Mismatch(None) => writer.write_all(b"mismatch none\n"),
-        Reply::Mismatch(Some(version)) => write_numbered(writer, b"mismatch ", version.get()),
+        Reply::Mismatch(Some(version)) => write_number(writer, b"mismatch ", version.get(), b'\n'),
     }
 }
 
-/// A number in decimal digits.
+/// Writes words, a number in decimal digits, and one byte more, all at once.
 #[inline(always)]
-fn write_number<W: Write>(writer: &mut W, number: u64) -> io::Result<()>
-    ensures { OnOk result (Appends (W.contents writer.old) (W.contents writer.new) (decimal number)) }
+fn write_number<W: Write>(writer: &mut W, words: &[u8], number: u64, last: u8) -> io::Result<()>
+    requires { length words.now ≤ 20 }
+    ensures { OnOk result (Appends (W.contents writer.old) (W.contents writer.new) (words.now ++ decimal number ++ last ∷ [])) }
 {
-    let mut digits = itoa::Buffer::new();
-    writer.write_all(digits.format(number).as_bytes())
-}
-
-/// A number in decimal digits, and a space.
-#[inline(always)]
-fn write_spaced<W: Write>(writer: &mut W, number: u64) -> io::Result<()>
-    ensures { OnOk result (Appends (W.contents writer.old) (W.contents writer.new) (decimal number ++ 32 ∷ [])) }
-{
-    write_number(writer, number)?;
-    writer.write_all(b" ")
-}
-
-/// A line of these words and a number.
-#[inline(always)]
-fn write_numbered<W: Write>(writer: &mut W, words: &[u8], number: u64) -> io::Result<()>
-    ensures { OnOk result (Appends (W.contents writer.old) (W.contents writer.new) (words.now ++ decimal number ++ 10 ∷ [])) }
-{
-    writer.write_all(words)?;
-    write_number(writer, number)?;
-    writer.write_all(b"\n")
+    let mut line = [last; 48];
+    let digits = write_digits(number, &mut line, 47);
+    let start = digits - words.len();
+    line[start..digits].copy_from_slice(words);
+    writer.write_all(&line[start..])
 }
 
 /// The end of a line that shows a value at its version.
@@ -106,7 +92,7 @@ fn write_numbered<W: Write>(writer: &mut W, words: &[u8], number: u64) -> io::Re
 fn write_versioned<W: Write>(writer: &mut W, version: Version, value: &Value) -> io::Result<()>
     ensures { OnOk result (Appends (W.contents writer.old) (W.contents writer.new) (decimal version ++ 32 ∷ value.now ++ 10 ∷ [])) }
 {
-    write_spaced(writer, version.get())?;
+    write_number(writer, b"", version.get(), b' ')?;
     writer.write_all(value.as_slice())?;
     writer.write_all(b"\n")
 }
@@ -124,7 +110,7 @@ fn write_hex<W: Write>(writer: &mut W, bytes: &[u8]) -> io::Result<()>
 fn write_object<W: Write>(writer: &mut W, object: &Object) -> io::Result<()>
     ensures { OnOk result (Appends (W.contents writer.old) (W.contents writer.new) (object_text object.now)) }
 {
-    write_spaced(writer, object.key.table)?;
+    write_number(writer, b"", object.key.table, b' ')?;
     writer.write_all(object.key.bytes.as_slice())?;
     writer.write_all(b" ")?;
     write_versioned(writer, object.version, &object.value)
@@ -138,5 +124,5 @@ fn write_rebuilt<W: Write>(writer: &mut W, rebuilt: &Rebuilt) -> io::Result<()>
     for object in objects {
         write_object(writer, object)?;
     }
-    write_numbered(writer, b"recovered ", objects.len() as u64)
+    write_number(writer, b"recovered ", objects.len() as u64, b'\n')
 }
