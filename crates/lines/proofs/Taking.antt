@@ -40,11 +40,11 @@ module _ (a b c : Option (List ℕ)) (room : Option ℕ) (bytes before after : L
   pub shown_to_the_end : IsFrontOfLine bytes most len true → DropsConsumable b c room (len + 1) → TakesShown a c before after (Ok shown.Ended)
   shown_to_the_end is drops =
       let all = subst (Consumes a c) is.1 (taken_at (len + 1) (omega (arith, is.2)) drops) in
-      (take len bytes, all, grown, is.0, omega (arith, grown_by (omega (arith, is.2)), is.3))
+      (take len bytes, all, (grown, is.0), omega (arith, grown_by (omega (arith, is.2)), is.3))
 
   pub shown_in_part : 0 < length bytes → 0 < most → IsFrontOfLine bytes most len false → DropsConsumable b c room len
       → TakesShown a c before after (Ok shown.Part)
   shown_in_part some room_left is drops =
       let below : len ≤ length bytes = omega (arith, is.1) in
       let long = length-take-le len bytes below in
-      (take len bytes, taken_at len below drops, grown, is.0, omega (arith, grown_by below, is.1), omega (arith, long, is.1))
+      (take len bytes, taken_at len below drops, (grown, is.0), omega (arith, grown_by below, is.1), omega (arith, long, is.1))

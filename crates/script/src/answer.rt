@@ -78,7 +78,8 @@ fn write_reply<W: Write>(writer: &mut W, reply: &Reply) -> io::Result<()>
 #[inline(always)]
 fn write_number<W: Write>(writer: &mut W, words: &[u8], number: u64, last: u8) -> io::Result<()>
     requires { length words.now ≤ 20 }
-    ensures { OnOk result (Appends (W.contents writer.old) (W.contents writer.new) (words.now ++ decimal number ++ last ∷ [])) }
+    ensures { OnOk result (Appends (W.contents writer.old) (W.contents writer.new)
+        (words.now ++ decimal number ++ last ∷ [])) }
 {
     let mut line = [last; 48];
     let digits = write_digits(number, &mut line, 47);
