@@ -106,6 +106,7 @@ fn is_word(bytes: &[u8]) -> bool
 }
 
 /// How many bytes at the front are visible.
+// Not inlined, so that its loops carry nothing of the caller's.
 #[inline(never)]
 fn visible_len(bytes: &[u8]) -> usize
     ensures { IsVisibleFront bytes.now result }

@@ -39,6 +39,8 @@ pub enum Answer {
     Up,
 }
 
+// An `io::Result` is large. So what hands one on is inlined, up to where its error is dropped.
+
 /// Writes the lines of an answer, each with its line feed.
 #[inline(always)]
 pub fn write_answer<W: Write>(writer: &mut W, answer: &Answer) -> io::Result<()>
