@@ -1,4 +1,6 @@
 pub mod Cutting
+pub mod Numbers
 pub mod OneLine
 pub mod Spelling
 pub mod Taking
+pub mod Visible

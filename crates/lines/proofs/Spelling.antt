@@ -2,15 +2,12 @@
 use Rattle.std.proofs.Common.{◌≡◌, ◌∙◌, ◌+◌, ◌%◌, ◌<◌, ◌≤◌, ◌^◌, ◌++◌, ◌∷◌, [], Option, Some, None, ap, sym, refl, subst, ℕ, suc, List, length-append, false, codes, arith, rules}
 use Rattle.std.specs.Prelude.{IfSome, IsNone}
 use Rattle.std.specs.List.{All, slice_split, join_with_byte}
-use Rattle.std.specs.Str.{IsUtf8}
 use Rattle.std.specs.Fmt.{decimal}
 use Rattle.std.proofs.lemmas.Bool.Decides.{nat_tests}
 use Rattle.std.proofs.lemmas.List.Elements.{All-push, All-nil, All-cons}
 use Rattle.std.proofs.lemmas.List.Splits.{slice_split_at, slice_split_none, join_with_byte-slice_split}
 use Rattle.std.proofs.lemmas.Fmt.{decimal_by_steps}
-use Rattle.std.proofs.lemmas.Str.{IsUtf8-from_ascii}
-use Rattle.std.proofs.lemmas.Str.Ascii.{IsAscii-from_all}
-use Rattle.lines.specs.Grammar.{IsIdle, IsKey, IsWord, LineValue, Says, Idle, Put, Get, Hex, Stop, Crash, Lose, Recover, shown}
+use Rattle.lines.specs.Grammar.{IsIdle, IsKey, IsWord, LineValue, Says, Idle, Put, Get, Hex, Stop, Lose, shown}
 use Rattle.lines.specs.Words.{AreNumber, AreWordsOf, Reads, is_space}
 use Rattle.lines.specs.declared.line.Line.{Line}
 
@@ -30,38 +27,6 @@ more_digits n digits large word = record {
 
 pub decimal_is_word : (n : ℕ) → n < 2 ^ 64 → IsWord (decimal n)
 decimal_is_word = decimal_by_steps (λ n digits. IsWord digits) one_digit more_digits
-
-IsUtf8-word : (word : List ℕ) → IsWord word → IsUtf8 word
-IsUtf8-word word is = IsUtf8-from_ascii word (IsAscii-from_all word (λ k d below. let b = is.visible k d below in omega arith))
-
--- a line's name is text
-pub IsUtf8-name : (name : List ℕ) (rest : List (List ℕ)) (line : LineValue) → AreWordsOf (name ∷ rest) line → IsUtf8 name
-IsUtf8-name name rest Idle are = absurd are
-IsUtf8-name name rest line are =
-    let each : All IsWord (name ∷ rest) = subst (λ w. All IsWord w) (sym are.spelled) are.each in
-    IsUtf8-word name (each 0 [] (omega arith))
-
-abbrev first : List (List ℕ) → List ℕ
-first [] = []
-first (word ∷ words) = word
-
--- a line has one of seven names
-pub one_of_seven : (name : List ℕ) (rest : List (List ℕ)) (line : LineValue) → AreWordsOf (name ∷ rest) line
-    → (name ≡ codes "put" → ⊥) → (name ≡ codes "get" → ⊥) → (name ≡ codes "hex" → ⊥) → (name ≡ codes "stop" → ⊥)
-    → (name ≡ codes "crash" → ⊥) → (name ≡ codes "lose" → ⊥) → (name ≡ codes "recover" → ⊥) → ⊥
-one_of_seven name rest Idle are put get hex stop crash lose recover = are
-one_of_seven name rest (Put table key value) are put get hex stop crash lose recover = put (ap first are.spelled)
-one_of_seven name rest (Get table key) are put get hex stop crash lose recover = get (ap first are.spelled)
-one_of_seven name rest (Hex segment) are put get hex stop crash lose recover = hex (ap first are.spelled)
-one_of_seven name rest (Stop takes) are put get hex stop crash lose recover = stop (ap first are.spelled)
-one_of_seven name rest Crash are put get hex stop crash lose recover = crash (ap first are.spelled)
-one_of_seven name rest (Lose backup) are put get hex stop crash lose recover = lose (ap first are.spelled)
-one_of_seven name rest Recover are put get hex stop crash lose recover = recover (ap first are.spelled)
-
--- the name and what is left, as the words that they were cut from
-pub named : (words : List (List ℕ)) (name : List ℕ) (rest : List (List ℕ)) (text : List ℕ) (result : Option Line) → words ≡ name ∷ rest
-    → name ≡ text → Reads (text ∷ rest) result → Reads words result
-named words name rest text result cut is reads = subst (λ ws. Reads ws result) (sym (cut ∙ ap (λ w. w ∷ rest) is)) reads
 
 with_number : (name : List ℕ) → IsWord name → (n : ℕ) → n < 2 ^ 64 → All IsWord (name ∷ decimal n ∷ [])
 with_number name is n small =
@@ -132,6 +97,13 @@ get words table key behind cut small key_is = record {
 
 no_space : (word : List ℕ) → IsWord word → All (λ b. is_space b ≡ false) word
 no_space word is = λ k d below. let b = is.visible k d below in grind (arith, nat_tests)
+
+-- one word is what it is cut into, and no other text is cut into it
+pub one_word : (text : List ℕ) → IsWord text → slice_split is_space text ≡ text ∷ []
+one_word text word = slice_split_none is_space text (no_space text word)
+
+pub one_word_only : (text word : List ℕ) → slice_split is_space text ≡ word ∷ [] → text ≡ word
+one_word_only text word cut = sym (join_with_byte-slice_split 32 text) ∙ ap (join_with_byte 32) cut
 
 pub split_joined : (word : List ℕ) (words : List (List ℕ)) → All IsWord (word ∷ words)
     → slice_split is_space (join_with_byte 32 (word ∷ words)) ≡ word ∷ words

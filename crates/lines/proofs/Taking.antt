@@ -1,70 +1,50 @@
--- What next_line has taken of its reader, byte by byte.
-use Rattle.std.proofs.Common.{◌≡◌, ◌∙◌, ◌≤◌, ◌<◌, ◌≢◌, ◌++◌, ◌∷◌, [], ap, sym, subst, ℕ, List, Option, Some, None, length, append_assoc, length-append, arith, rules}
+-- What next_line has taken of its reader, part by part.
+use Rattle.std.proofs.Common.{◌≡◌, ◌∙◌, ◌≤◌, ◌<◌, ◌+◌, ◌++◌, [], sym, subst, ap, ℕ, true, false, List, Option, None, length, take, length-append, append-nil, length-take-le, arith}
+use Rattle.std.specs.Prelude.{IfSome, Ok}
+use Rattle.std.specs.Io.{StartsWith}
+use Rattle.std.specs.Io.BufRead.{DropsConsumable}
 use Rattle.std.specs.Io.KnownBytes.{Consumes, Keeps}
-use Rattle.std.proofs.lemmas.List.{append-nil}
-use Rattle.std.proofs.lemmas.List.Elements.{All-push}
-use Rattle.lines.specs.Reading.{IsUnbroken, StopsIn, TakesByte, TakesLine}
-use Rattle.std.specs.Prelude.{IfErr, Result, Err}
-use Rattle.lines.specs.declared.reading.ReadFault.{ReadFault}
-use Rattle.lines.specs.declared.reading.ReadFault.TheVariants.{Failed, NoMemory}
-use Rattle.lines.specs.declared.reading.Taken.{Taken}
-use Rattle.lines.specs.declared.reading.Taken.TheVariants.{Ended, Last}
+use Rattle.std.proofs.KnownBytes.{Consumes-kept, Consumes-trans}
+use Rattle.std.proofs.BufReadLemmas.{Consumes_shown}
+use Rattle.lines.specs.Reading.{IsFrontOfLine, IsUnbroken, TakesByte, TakesLine, TakesShown}
+use Rattle.lines.specs.declared.reading.Shown.{Shown}
+use Rattle.lines.specs.declared.reading.Shown.TheVariants as shown
+use Rattle.lines.specs.declared.reading.Taken.TheVariants.{Last}
 
-joins : (old middle new : Option (List ℕ)) (first last : List ℕ) → Consumes old middle first → Consumes middle new last
-    → Consumes old new (first ++ last)
-joins None middle new first last a b = search rules
-joins (Some x) None new first last a b = absurd a
-joins (Some x) (Some y) None first last a b = absurd b
-joins (Some x) (Some y) (Some z) first last a b = a ∙ ap (λ w. first ++ w) b ∙ sym (append_assoc first last z)
-
-joins_none : (old middle new : Option (List ℕ)) (line : List ℕ) → Consumes old middle line → Consumes middle new [] → Consumes old new line
-joins_none old middle new line a b = subst (Consumes old new) (append-nil line) (joins old middle new line [] a b)
-
--- the line at the reader's end
-pub last : (old middle new : Option (List ℕ)) (line : List ℕ) (byte : Option ℕ) → Consumes old middle line → byte ≡ None
-    → TakesByte middle new byte → 0 < length line → IsUnbroken line → length line ≤ 4096 → TakesLine old new line Last
-last old middle new line byte taken is next some unbroken short =
-    let end : TakesByte middle new None = subst (TakesByte middle new) is next in
-    (joins_none old middle new line taken end.0, end.1, some, record { unbroken = unbroken; short = short })
-
--- the line with one more byte
-pub longer : (old middle new : Option (List ℕ)) (line after : List ℕ) (byte : Option ℕ) (b : ℕ) → Consumes old middle line
-    → byte ≡ Some b → TakesByte middle new byte → after ≡ line ++ b ∷ [] → Consumes old new after
-longer old middle new line after byte b taken is next grown =
-    subst (Consumes old new) (sym grown) (joins old middle new line (b ∷ []) taken (subst (TakesByte middle new) is next))
-
-pub unbroken_longer : (line after : List ℕ) (b : ℕ) → IsUnbroken line → b ≢ 10 → after ≡ line ++ b ∷ [] → IsUnbroken after
-unbroken_longer line after b unbroken other grown = subst IsUnbroken (sym grown) (All-push (λ x. x ≢ 10) line b unbroken other)
-
-pub short_longer : (line after : List ℕ) (b : ℕ) → length line ≤ 4096 → after ≡ line ++ b ∷ [] → length after ≤ 4097
-short_longer line after b short grown = rw grown (omega (arith, length-append line (b ∷ [])))
-
--- a line with its line feed
-pub ended : (old middle new : Option (List ℕ)) (line : List ℕ) (byte : Option ℕ) (b : ℕ) → Consumes old middle line → byte ≡ Some b → b ≡ 10
-    → TakesByte middle new byte → IsUnbroken line → length line ≤ 4096 → TakesLine old new line Ended
-ended old middle new line byte b taken is feed next unbroken short =
-    let one : TakesByte middle new (Some b) = subst (TakesByte middle new) is next in (
-      subst (λ x. Consumes old new (line ++ x ∷ [])) feed (joins old middle new line (b ∷ []) taken one),
-      record { unbroken = unbroken; short = short },
+-- the line at the reader's end, which showed nothing more and gave no byte
+pub last : (old middle kept new : Option (List ℕ)) (line after : List ℕ) (took : Shown) (byte : Option ℕ) → Consumes old middle line
+    → IsUnbroken line → took ≡ shown.Nothing → TakesShown middle kept line after (Ok took) → byte ≡ None → TakesByte kept new byte
+    → 0 < length after → length after ≤ 4096 → TakesLine old new after Last
+last old middle kept new line after took byte taken unbroken is there none next some short =
+    let same = subst (λ s. TakesShown middle kept line after (Ok s)) is there in
+    let end : TakesByte kept new None = subst (TakesByte kept new) none next in
+    let before = Consumes-kept old middle kept line taken same.0 in
+    let all = subst (Consumes old new) (append-nil line) (Consumes-trans old kept new line [] before end.0) in (
+      subst (Consumes old new) (sym same.1) all,
+      end.1,
+      some,
+      record { unbroken = subst IsUnbroken (sym same.1) unbroken; short = short },
     )
 
--- a fault of the reader
-pub failed : (old middle new : Option (List ℕ)) (line : List ℕ) → Consumes old middle line → Keeps middle new → IsUnbroken line
-    → length line ≤ 4096 → StopsIn old new line Failed
-failed old middle new line taken keeps unbroken short = (kept old middle new line taken keeps, record { unbroken = unbroken; short = short })
-  where
-    kept : (old middle new : Option (List ℕ)) (line : List ℕ) → Consumes old middle line → Keeps middle new → Consumes old new line
-    kept None middle new line a b = search rules
-    kept (Some x) None new line a b = absurd a
-    kept (Some x) (Some y) None line a b = absurd b
-    kept (Some x) (Some y) (Some z) line a b = a ∙ ap (λ w. line ++ w) (sym b)
+-- what was shown of the line was taken
+module _ (a b c : Option (List ℕ)) (room : Option ℕ) (bytes before after : List ℕ) (most len : ℕ)
+    (front : IfSome a (λ xs. StartsWith xs bytes)) (end : IfSome a (λ xs. length bytes ≡ 0 → xs ≡ [])) (kept : Keeps a b)
+    (fits : IfSome a (λ _. IfSome room (λ k. length bytes ≤ k))) (grown : after ≡ before ++ take len bytes) (within : length before + most ≤ 4097) where
+  taken_at : (n : ℕ) → n ≤ length bytes → DropsConsumable b c room n → Consumes a c (take n bytes)
+  taken_at n below drops = (Consumes_shown a b c room bytes n below front end kept fits drops).0
 
--- a byte that the line had no memory for
-pub unkept : (old middle new : Option (List ℕ)) (line : List ℕ) (byte : Option ℕ) (b : ℕ) → Consumes old middle line → byte ≡ Some b
-    → TakesByte middle new byte → IsUnbroken line → length line ≤ 4096 → StopsIn old new line NoMemory
-unkept old middle new line byte b taken is next unbroken short =
-    (record { unbroken = unbroken; short = short }, b, joins old middle new line (b ∷ []) taken (subst (TakesByte middle new) is next))
+  grown_by : len ≤ length bytes → length after ≡ length before + len
+  grown_by below =
+      ap length grown ∙ length-append before (take len bytes) ∙ ap (λ n. length before + n) (length-take-le len bytes below)
 
-pub stops : (result : Result Taken ReadFault) (fault : ReadFault) (Stops : ReadFault → Type 0) → result ≡ Err fault → Stops fault
-    → IfErr result Stops
-stops result fault Stops is so = subst (λ r. IfErr r Stops) (sym is) so
+  pub shown_to_the_end : IsFrontOfLine bytes most len true → DropsConsumable b c room (len + 1) → TakesShown a c before after (Ok shown.Ended)
+  shown_to_the_end is drops =
+      let all = subst (Consumes a c) is.1 (taken_at (len + 1) (omega (arith, is.2)) drops) in
+      (take len bytes, all, (grown, is.0), omega (arith, grown_by (omega (arith, is.2)), is.3))
+
+  pub shown_in_part : 0 < length bytes → 0 < most → IsFrontOfLine bytes most len false → DropsConsumable b c room len
+      → TakesShown a c before after (Ok shown.Part)
+  shown_in_part some room_left is drops =
+      let below : len ≤ length bytes = omega (arith, is.1) in
+      let long = length-take-le len bytes below in
+      (take len bytes, taken_at len below drops, (grown, is.0), omega (arith, grown_by below, is.1), omega (arith, long, is.1))

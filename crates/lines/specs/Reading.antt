@@ -1,9 +1,12 @@
 -- What is taken of a reader, line by line: each line ends at its line feed, which the last may lack.
-use Rattle.std.specs.Prelude.{◌≡◌, ◌≢◌, ◌<◌, ◌≤◌, ℕ, List, [], ◌∷◌, ◌++◌, length, Option, Some, None}
+use Rattle.std.specs.Prelude.{◌≡◌, ◌≢◌, ◌<◌, ◌≤◌, ◌+◌, ℕ, Bool, true, false, List, [], ◌∷◌, ◌++◌, length, take, min}
+use Rattle.std.specs.Prelude.{Option, Some, None, Result, Ok, Err}
 use Rattle.std.specs.List.{All}
-use Rattle.std.specs.Io.KnownBytes.{Consumes, IsAtEnd}
+use Rattle.std.specs.Io.KnownBytes.{Consumes, IsAtEnd, Keeps}
 use Rattle.lines.specs.declared.reading.Taken.{Taken}
 use Rattle.lines.specs.declared.reading.Taken.TheVariants.{Ended, Last, TooLong, Nothing}
+use Rattle.lines.specs.declared.reading.Shown.{Shown}
+use Rattle.lines.specs.declared.reading.Shown.TheVariants as shown
 use Rattle.lines.specs.declared.reading.ReadFault.{ReadFault}
 use Rattle.lines.specs.declared.reading.ReadFault.TheVariants.{Failed, NoMemory}
 
@@ -29,7 +32,31 @@ TakesLine old new line Last = Consumes old new line × IsAtEnd new × (0 < lengt
 TakesLine old new line TooLong = Consumes old new line × IsUnbroken line × (length line ≡ 4097)
 TakesLine old new line Nothing = Consumes old new [] × IsAtEnd new × (line ≡ [])
 
--- What was taken where no line was: the bytes that stand in `line`, and where memory ran out one byte more.
+-- What was taken where no line was: where the reader failed the bytes that stand in `line`, and where memory ran out
+-- nothing.
 abbrev pub StopsIn : Option (List ℕ) → Option (List ℕ) → List ℕ → ReadFault → Type 0
 StopsIn old new line Failed = Consumes old new line × IsLineText line
-StopsIn old new line NoMemory = IsLineText line × (byte : ℕ) × Consumes old new (line ++ byte ∷ [])
+StopsIn old new line NoMemory = Consumes old new [] × (line ≡ [])
+
+-- ---- what a reader shows
+
+-- where the line ends that is shown: behind `len` bytes at a line feed, or not within `most` bytes
+abbrev pub IsFrontOfLine : List ℕ → ℕ → ℕ → Bool → Type 0
+IsFrontOfLine bytes most len true =
+    IsUnbroken (take len bytes) × (take (len + 1) bytes ≡ take len bytes ++ 10 ∷ []) × (len < length bytes) × (len < most)
+IsFrontOfLine bytes most len false = IsUnbroken (take len bytes) × (len ≡ min (length bytes) most)
+
+-- a part of a line stands behind what was there
+abbrev pub GrowsBy : List ℕ → List ℕ → List ℕ → Type 0
+GrowsBy before after part = (after ≡ before ++ part) × IsUnbroken part
+
+-- What was taken of what a reader shows: the last part of a line with the line feed behind it, or a part of one byte or
+-- more, or nothing. A fault takes nothing.
+abbrev pub TakesShown : Option (List ℕ) → Option (List ℕ) → List ℕ → List ℕ → Result Shown ReadFault → Type 0
+TakesShown old new before after (Ok shown.Ended) =
+    (part : List ℕ) × Consumes old new (part ++ 10 ∷ []) × GrowsBy before after part × (length after ≤ 4096)
+TakesShown old new before after (Ok shown.Part) =
+    (part : List ℕ) × Consumes old new part × GrowsBy before after part × (length after ≤ 4097) × (0 < length part)
+TakesShown old new before after (Ok shown.Nothing) = Keeps old new × (after ≡ before)
+TakesShown old new before after (Err Failed) = Keeps old new × (after ≡ before)
+TakesShown old new before after (Err NoMemory) = ⊥

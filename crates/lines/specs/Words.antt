@@ -1,5 +1,5 @@
 -- How the parser takes a text apart: it is cut at each space, and what follows a line's name has one of a few shapes.
-use Rattle.std.specs.Prelude.{◌≡◌, ◌==◌, ◌<◌, ◌^◌, ℕ, Bool, List, [], ◌∷◌, Option, Some, None}
+use Rattle.std.specs.Prelude.{◌≡◌, ◌==◌, ◌<◌, ◌≤◌, ◌^◌, ℕ, Bool, List, [], ◌∷◌, length, take, slice_index, Option, Some, None}
 use Rattle.std.specs.Borrow.{Bor}
 use Rattle.std.specs.List.{All, slice_split}
 use Rattle.std.specs.Fmt.{decimal}
@@ -8,6 +8,16 @@ use Rattle.lines.specs.declared.line.Line.{Line}
 
 abbrev pub is_space : ℕ → Bool
 is_space b = b == 32
+
+-- the byte is one that a word may have
+abbrev pub IsVisible : ℕ → Type 0
+IsVisible b = (33 ≤ b) × (b ≤ 126)
+
+-- so many bytes at the front are visible, and the next one isn't
+pub record IsVisibleFront (bytes : List ℕ) (len : ℕ) : Type 0 where
+  pub within : len ≤ length bytes
+  pub visible : All IsVisible (take len bytes)
+  pub ends : len < length bytes → IsVisible (slice_index bytes len) → ⊥
 
 -- the words of what is left of a text, if any is
 abbrev pub words_left : Option (Bor (List ℕ)) → List (List ℕ)

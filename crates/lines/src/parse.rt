@@ -1,12 +1,11 @@
 //! Parsing lines.
 
-ghost use Rattle.std.specs.Prelude.{◌∷◌, ◌↔◌, ℕ, IfSome, IsNone, IsTrue, codes};
+ghost use Rattle.std.specs.Prelude.{◌≡◌, ◌∷◌, ◌↔◌, ℕ, IfSome, IsNone, IsTrue, codes};
 ghost use Rattle.lines.specs.Grammar.{IsIdle, LineValue, Says, shown};
 ghost use Rattle.lines.specs.Words.{AreNumber, Reads};
 
 use crate::line::Line;
 use crate::words::Words;
-use std::str;
 
 /// Parses a line, given without its line feed. `None` is a bad line.
 ///
@@ -33,19 +32,24 @@ fn is_idle(text: &[u8]) -> bool
 fn parse_words(mut words: Words<'_>) -> Option<Line<'_>>
     ensures { Reads words.entry result }
 {
-    let Ok(name) = str::from_utf8(words.next_word()?) else {
-        return None;
-    };
-    match name {
-        "put" => put(words),
-        "get" => get(words),
-        "hex" => hex(words),
-        "stop" => stop(words),
-        "crash" => words.end().and(Some(Line::Crash)),
-        "lose" => lose(words),
-        "recover" => words.end().and(Some(Line::Recover)),
+    match words.next_word()? {
+        name if is(name, "put") => put(words),
+        name if is(name, "get") => get(words),
+        name if is(name, "hex") => hex(words),
+        name if is(name, "stop") => stop(words),
+        name if is(name, "crash") => words.end().and(Some(Line::Crash)),
+        name if is(name, "lose") => lose(words),
+        name if is(name, "recover") => words.end().and(Some(Line::Recover)),
         _ => None,
     }
+}
+
+/// Whether the word is this text.
+#[inline(always)]
+fn is(word: &[u8], text: &str) -> bool
+    ensures { IsTrue result ↔ (word.now ≡ text.now) }
+{
+    word == text.as_bytes()
 }
 
 /// The words behind `put`: a table, a key and a value.
@@ -54,8 +58,7 @@ fn put(mut words: Words<'_>) -> Option<Line<'_>>
 {
     let table = words.number()?;
     let key = words.key()?;
-    let value = words.value()?;
-    words.end()?;
+    let value = words.last()?;
     Some(Line::Put { table, key, value })
 }
 
@@ -64,8 +67,7 @@ fn get(mut words: Words<'_>) -> Option<Line<'_>>
     ensures { Reads (codes "get" ∷ words.entry) result }
 {
     let table = words.number()?;
-    let key = words.key()?;
-    words.end()?;
+    let key = words.last_key()?;
     Some(Line::Get { table, key })
 }
 

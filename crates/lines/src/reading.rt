@@ -1,10 +1,11 @@
 //! Reading lines one at a time, each of a bounded length.
 
-ghost use Rattle.std.specs.Prelude.{◌≡◌, IfErr, IfOk, OnErr};
+ghost use Rattle.std.specs.Prelude.{◌≡◌, ◌+◌, ◌≤◌, ◌++◌, length, IfErr, IfOk, OnErr, vec_capacity, vec_len};
 ghost use Rattle.std.specs.Io.KnownBytes.{Keeps};
-ghost use Rattle.lines.specs.Reading.{StopsIn, TakesByte, TakesLine};
+ghost use Rattle.lines.specs.Reading.{IsFrontOfLine, StopsIn, TakesByte, TakesLine, TakesShown};
 
-use std::io::{ErrorKind, Read};
+use memchr::memchr;
+use std::io::{BufRead, ErrorKind, Read};
 use thiserror::Error;
 
 /// Why no line was taken.
@@ -34,18 +35,26 @@ const MAX_LINE_LEN: usize = 4096;
 
 /// Reads the next line over what `line` held, without its line feed.
 ///
-/// It asks the reader for one byte at a time, so hand it a buffered one. A read that was interrupted is tried again.
-pub fn next_line<R: Read>(reader: &mut R, line: &mut Vec<u8>) -> Result<Taken, ReadFault>
+/// Memory for the longest line is asked for before anything is read. A read that was interrupted is tried again.
+pub fn next_line<R: BufRead>(reader: &mut R, line: &mut Vec<u8>) -> Result<Taken, ReadFault>
     ensures taken { IfOk result (TakesLine (R.remaining reader.old) (R.remaining reader.new) line.new.items) }
     ensures fault { IfErr result (StopsIn (R.remaining reader.old) (R.remaining reader.new) line.new.items) }
 {
     line.clear();
-    'bytes: while line.len() <= MAX_LINE_LEN {
-        match next_byte(reader)? {
-            Some(b'\n') => return Ok(Taken::Ended),
-            Some(byte) => line.push(byte).map_err(|_| ReadFault::NoMemory)?,
-            None if line.is_empty() => return Ok(Taken::Nothing),
-            None => return Ok(Taken::Last),
+    if line.reserve(MAX_LINE_LEN + 1).is_err() {
+        return Err(ReadFault::NoMemory);
+    }
+    'parts: while line.len() <= MAX_LINE_LEN {
+        match take_shown(reader, line)? {
+            Shown::Ended => return Ok(Taken::Ended),
+            Shown::Part => {}
+            // A read tells for certain where the input ends.
+            Shown::Nothing => match next_byte(reader)? {
+                Some(b'\n') => return Ok(Taken::Ended),
+                Some(byte) => line.push_reserved(byte),
+                None if line.is_empty() => return Ok(Taken::Nothing),
+                None => return Ok(Taken::Last),
+            },
         }
     }
     Ok(Taken::TooLong)
@@ -67,4 +76,61 @@ fn next_byte<R: Read>(reader: &mut R) -> Result<Option<u8>, ReadFault>
         }
     }
     Err(ReadFault::Failed)
+}
+
+/// What `take_shown` took.
+#[derive(Clone, Copy)]
+enum Shown {
+    /// The last bytes of the line, and its line feed.
+    Ended,
+    /// A byte of the line or more.
+    Part,
+    /// Nothing: the reader was interrupted, or shows no byte.
+    Nothing,
+}
+
+/// Takes what the reader shows of a line.
+fn take_shown<R: BufRead>(reader: &mut R, line: &mut Vec<u8>) -> Result<Shown, ReadFault>
+    requires short { vec_len line.old ≤ 4096 }
+    requires room { 4097 ≤ vec_capacity line.old }
+    ensures taken { TakesShown (R.remaining reader.old) (R.remaining reader.new) line.old.items line.new.items result }
+    ensures capacity { vec_capacity line.old ≤ vec_capacity line.new }
+{
+    let shown = match reader.fill_buf() {
+        Ok([]) => return Ok(Shown::Nothing),
+        Ok(shown) => shown,
+        Err(error) if error.kind() == ErrorKind::Interrupted => return Ok(Shown::Nothing),
+        Err(_) => return Err(ReadFault::Failed),
+    };
+    let (len, is_ended) = front_of_line(shown, MAX_LINE_LEN + 1 - line.len());
+    append(line, &shown[..len]);
+    if is_ended {
+        reader.consume(len + 1);
+        Ok(Shown::Ended)
+    } else {
+        reader.consume(len);
+        Ok(Shown::Part)
+    }
+}
+
+/// How many of the first `most` bytes stand before a line feed, and whether one stands behind them.
+fn front_of_line(shown: &[u8], most: usize) -> (usize, bool)
+    ensures { IsFrontOfLine shown.now most result.0 result.1 }
+{
+    let most = shown.len().min(most);
+    match memchr(b'\n', &shown[..most]) {
+        Some(at) => (at, true),
+        None => (most, false),
+    }
+}
+
+/// Appends bytes for which there is room.
+fn append(line: &mut Vec<u8>, bytes: &[u8])
+    requires { vec_len line.old + length bytes.now ≤ vec_capacity line.old }
+    ensures items { line.new.items ≡ line.old.items ++ bytes.now }
+    ensures capacity { vec_capacity line.old ≤ vec_capacity line.new }
+{
+    let Ok(()) = line.extend_from_slice(bytes) else {
+        unreachable!()
+    };
 }

@@ -1,13 +1,13 @@
 //! The words of a text, read one after another.
 
-ghost use Rattle.std.specs.Prelude.{◌≡◌, ◌≢◌, ◌∷◌, ◌^◌, ◌<◌, ◌↔◌, ℕ, List, [], IfSome, IsNone, IsSome, IsTrue, MatchOption};
-ghost use Rattle.std.specs.List.{slice_split};
+ghost use Rattle.std.specs.Prelude.{◌≡◌, ◌≢◌, ◌∷◌, ◌^◌, ◌<◌, ◌≤◌, ◌↔◌, ℕ, List, [], IfSome, IsNone, IsSome, IsTrue, MatchOption};
+ghost use Rattle.std.specs.List.{All, slice_split};
 ghost use Rattle.std.specs.Fmt.{decimal};
+ghost use Rattle.std.specs.Str.Parse.{AllDigits, digits_value};
 ghost use Rattle.lines.specs.Grammar.{IsKey, IsWord};
-ghost use Rattle.lines.specs.Words.{is_space, words_left};
+ghost use Rattle.lines.specs.Words.{IsVisible, IsVisibleFront, is_space, words_left};
 
 use std::marker::Model;
-use std::str;
 
 /// The most bytes of a key.
 const MAX_KEY_LEN: usize = 1024;
@@ -59,13 +59,22 @@ impl<'a> Words<'a> {
         (is_word(key) && key.len() <= MAX_KEY_LEN).then_some(key)
     }
 
-    /// The next word as a value.
-    pub(crate) fn value(&mut self) -> Option<&'a [u8]>
-        ensures sound { IfSome result (λ value. (self.old ≡ value.now ∷ self.new) × IsWord value.now) }
-        ensures complete { IsNone result → (value : List ℕ) (rest : List (List ℕ)) → IsWord value → self.old ≢ value ∷ rest }
+    /// The only word that is left, as a key.
+    pub(crate) fn last_key(self) -> Option<&'a [u8]>
+        ensures sound { IfSome result (λ key. (self.entry ≡ key.now ∷ []) × IsKey key.now) }
+        ensures complete { IsNone result → (key : List ℕ) → IsKey key → self.entry ≢ key ∷ [] }
     {
-        let value = self.next_word()?;
-        is_word(value).then_some(value)
+        let key = self.last()?;
+        (key.len() <= MAX_KEY_LEN).then_some(key)
+    }
+
+    /// The only word that is left.
+    pub(crate) fn last(self) -> Option<&'a [u8]>
+        ensures sound { IfSome result (λ word. (self.entry ≡ word.now ∷ []) × IsWord word.now) }
+        ensures complete { IsNone result → (word : List ℕ) → IsWord word → self.entry ≢ word ∷ [] }
+    {
+        let rest = self.rest?;
+        is_word(rest).then_some(rest)
     }
 
     /// `Some` where no word is left.
@@ -93,7 +102,43 @@ fn split_word(text: &[u8]) -> (&[u8], Option<&[u8]>)
 fn is_word(bytes: &[u8]) -> bool
     ensures { IsTrue result ↔ IsWord bytes.now }
 {
-    !bytes.is_empty() && bytes.iter().all(|byte| (0x21..=0x7e).contains(byte))
+    !bytes.is_empty() && visible_len(bytes) == bytes.len()
+}
+
+/// How many bytes at the front are visible.
+// Not inlined, so that its loops carry nothing of the caller's.
+#[inline(never)]
+fn visible_len(bytes: &[u8]) -> usize
+    ensures { IsVisibleFront bytes.now result }
+{
+    let mut len = 0;
+    // Eight are looked at together, as long as all of them are visible.
+    while bytes.len() - len >= 8 && are_visible(&bytes[len..len + 8]) {
+        len += 8;
+    }
+    while len < bytes.len() && is_visible(bytes[len]) {
+        len += 1;
+    }
+    len
+}
+
+/// Whether all of a few bytes are visible. Each is looked at.
+#[inline(always)]
+fn are_visible(bytes: &[u8]) -> bool
+    ensures { IsTrue result ↔ All IsVisible bytes.now }
+{
+    let mut all = true;
+    for byte in bytes {
+        all &= is_visible(*byte);
+    }
+    all
+}
+
+#[inline(always)]
+fn is_visible(byte: u8) -> bool
+    ensures { IsTrue result ↔ IsVisible byte }
+{
+    (0x21..=0x7e).contains(&byte)
 }
 
 /// The number that the word writes in decimal digits without leading zeros.
@@ -101,12 +146,29 @@ fn parse_number(word: &[u8]) -> Option<u64>
     ensures sound { IfSome result (λ n. word.now ≡ decimal n) }
     ensures complete { IsNone result → (n : ℕ) → n < 2 ^ 64 → word.now ≢ decimal n }
 {
-    let Ok(text) = str::from_utf8(word) else {
+    if word.is_empty() {
         return None;
-    };
-    let Ok(number) = text.parse::<u64>() else {
-        return None;
-    };
-    let mut buffer = itoa::Buffer::new();
-    (buffer.format(number).as_bytes() == word).then_some(number)
+    }
+    if word[0] != b'0' {
+        return digits_value(word);
+    }
+    if word.len() == 1 { Some(0) } else { None }
+}
+
+/// The number that decimal digits write.
+fn digits_value(digits: &[u8]) -> Option<u64>
+    ensures sound { IfSome result (λ n. AllDigits 10 digits.now × (digits_value 10 digits.now ≡ n)) }
+    ensures fits { IfSome result (λ n. n < 2 ^ 64) }
+    ensures complete { IsNone result → AllDigits 10 digits.now → 2 ^ 64 ≤ digits_value 10 digits.now }
+{
+    let mut number = 0u64;
+    for byte in digits {
+        if !byte.is_ascii_digit() {
+            return None;
+        }
+        number = number
+            .checked_mul(10)?
+            .checked_add(u64::from(*byte - b'0'))?;
+    }
+    Some(number)
 }

@@ -6,12 +6,15 @@ ghost use Rattle.std.specs.Prelude.{◌≡◌, None};
 ghost use Rattle.master_core.specs.Config.{config_fault};
 ghost use Rattle.script.specs.Configuration.{config_of};
 
+mod until_end;
+
 use clap::Error;
 use clap::error::ErrorKind;
 use script::{Options, ScriptFault, configuration, options, report, run_script};
 use std::env;
 use std::io::{self, BufReader, BufWriter, IsTerminal, LineWriter};
 use std::process::ExitCode;
+use until_end::UntilEnd;
 
 /// The exit status of a bad command line or configuration.
 const MISUSE: u8 = 2;
@@ -76,7 +79,7 @@ fn refuse(rt: &HostRuntime, error: &Error) -> ExitCode {
 fn run(rt: &HostRuntime, options: Options) -> Result<(), ScriptFault>
     requires { config_fault (config_of options 1) ≡ None }
 {
-    let Ok(mut reader) = BufReader::new(rt.alloc(), rt.reader()) else {
+    let Ok(mut reader) = BufReader::new(rt.alloc(), UntilEnd::new(rt.reader())) else {
         return Err(ScriptFault::NoMemory);
     };
     if rt.stdout().is_terminal() {

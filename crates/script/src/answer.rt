@@ -1,11 +1,12 @@
 //! What a line answers, and its text.
 
-ghost use Rattle.std.specs.Prelude.{◌++◌, ◌∷◌, [], OnOk};
+ghost use Rattle.std.specs.Prelude.{◌≤◌, ◌++◌, ◌∷◌, [], length, OnOk};
 ghost use Rattle.std.specs.Fmt.{decimal};
 ghost use Rattle.std.specs.Io.KnownBytes.{Appends};
 ghost use Rattle.script.specs.Texts.{answer_text, hex_text, object_text, rebuilt_text, reply_text};
 
 use entry::{Object, Value, Version};
+use itoa::write_digits;
 use master::{Refusal, Reply};
 use recovery::{Rebuilt, RecoveryFault};
 use replica::Bytes;
@@ -37,7 +38,10 @@ pub enum Answer {
     Up,
 }
 
+// An `io::Result` is large. So what hands one on is inlined, up to where its error is dropped.
+
 /// Writes the lines of an answer, each with its line feed.
+#[inline(always)]
 pub fn write_answer<W: Write>(writer: &mut W, answer: &Answer) -> io::Result<()>
     ensures { OnOk result (Appends (W.contents writer.old) (W.contents writer.new) (answer_text answer.now)) }
 {
@@ -46,11 +50,11 @@ pub fn write_answer<W: Write>(writer: &mut W, answer: &Answer) -> io::Result<()>
         Answer::Reply(reply) => write_reply(writer, reply),
         Answer::Refused(refusal) => writeln!(writer, "refused {refusal}"),
         Answer::Hex(bytes) => write_hex(writer, bytes.as_slice()),
-        Answer::NotInLog(segment) => writeln!(writer, "refused NotInLog {segment}"),
-        Answer::Stop(takes) => writeln!(writer, "stop {takes}"),
+        Answer::NotInLog(segment) => write_number(writer, b"refused NotInLog ", *segment, b'\n'),
+        Answer::Stop(takes) => write_number(writer, b"stop ", *takes, b'\n'),
         Answer::Stopped => writer.write_all(b"stopped\n"),
         Answer::Crashed => writer.write_all(b"crashed\n"),
-        Answer::Lost(backup) => writeln!(writer, "lost {backup}"),
+        Answer::Lost(backup) => write_number(writer, b"lost ", *backup, b'\n'),
         Answer::Recovered(rebuilt) => write_rebuilt(writer, rebuilt),
         Answer::NotRecovered(fault) => writeln!(writer, "refused {fault}"),
         Answer::Down => writer.write_all(b"refused Down\n"),
@@ -58,30 +62,39 @@ pub fn write_answer<W: Write>(writer: &mut W, answer: &Answer) -> io::Result<()>
     }
 }
 
+#[inline(always)]
 fn write_reply<W: Write>(writer: &mut W, reply: &Reply) -> io::Result<()>
     ensures { OnOk result (Appends (W.contents writer.old) (W.contents writer.new) (reply_text reply.now)) }
 {
     match reply {
         Reply::Found(version, value) => write_versioned(writer, *version, value),
         Reply::None => writer.write_all(b"none\n"),
-        Reply::Ok(version) => {
-            let version = version.get();
-            writeln!(writer, "ok {version}")
-        }
+        Reply::Ok(version) => write_number(writer, b"ok ", version.get(), b'\n'),
         Reply::Mismatch(None) => writer.write_all(b"mismatch none\n"),
-        Reply::Mismatch(Some(version)) => {
-            let version = version.get();
-            writeln!(writer, "mismatch {version}")
-        }
+        Reply::Mismatch(Some(version)) => write_number(writer, b"mismatch ", version.get(), b'\n'),
     }
 }
 
+/// Writes words, a number in decimal digits, and one byte more, all at once.
+#[inline(always)]
+fn write_number<W: Write>(writer: &mut W, words: &[u8], number: u64, last: u8) -> io::Result<()>
+    requires { length words.now ≤ 20 }
+    ensures { OnOk result (Appends (W.contents writer.old) (W.contents writer.new)
+        (words.now ++ decimal number ++ last ∷ [])) }
+{
+    let mut line = [last; 48];
+    let digits = write_digits(number, &mut line, 47);
+    let start = digits - words.len();
+    line[start..digits].copy_from_slice(words);
+    writer.write_all(&line[start..])
+}
+
 /// The end of a line that shows a value at its version.
+#[inline(always)]
 fn write_versioned<W: Write>(writer: &mut W, version: Version, value: &Value) -> io::Result<()>
     ensures { OnOk result (Appends (W.contents writer.old) (W.contents writer.new) (decimal version ++ 32 ∷ value.now ++ 10 ∷ [])) }
 {
-    let version = version.get();
-    write!(writer, "{version} ")?;
+    write_number(writer, b"", version.get(), b' ')?;
     writer.write_all(value.as_slice())?;
     writer.write_all(b"\n")
 }
@@ -99,8 +112,7 @@ fn write_hex<W: Write>(writer: &mut W, bytes: &[u8]) -> io::Result<()>
 fn write_object<W: Write>(writer: &mut W, object: &Object) -> io::Result<()>
     ensures { OnOk result (Appends (W.contents writer.old) (W.contents writer.new) (object_text object.now)) }
 {
-    let table = object.key.table;
-    write!(writer, "{table} ")?;
+    write_number(writer, b"", object.key.table, b' ')?;
     writer.write_all(object.key.bytes.as_slice())?;
     writer.write_all(b" ")?;
     write_versioned(writer, object.version, &object.value)
@@ -114,6 +126,5 @@ fn write_rebuilt<W: Write>(writer: &mut W, rebuilt: &Rebuilt) -> io::Result<()>
     for object in objects {
         write_object(writer, object)?;
     }
-    let count = objects.len();
-    writeln!(writer, "recovered {count}")
+    write_number(writer, b"recovered ", objects.len() as u64, b'\n')
 }

@@ -15,10 +15,10 @@ use crate::session::{LineFault, Session};
 use command_line::Options;
 use lines::{ReadFault, Taken, next_line, one_line, parse_line};
 use std::alloc::Global;
-use std::io::{Read, Write};
+use std::io::{BufRead, Write};
 
 /// Runs the lines of the reader in turn, and hands the output of each to the writer, up to the first bad line.
-pub fn run_script<R: Read, W: Write>(
+pub fn run_script<R: BufRead, W: Write>(
     alloc: Global,
     reader: &mut R,
     writer: &mut W,
@@ -35,7 +35,7 @@ pub fn run_script<R: Read, W: Write>(
 }
 
 /// Runs all lines on a session at its start, and flushes the writer.
-fn run_and_flush<R: Read, W: Write>(
+fn run_and_flush<R: BufRead, W: Write>(
     alloc: Global,
     reader: &mut R,
     writer: &mut W,
@@ -52,7 +52,7 @@ fn run_and_flush<R: Read, W: Write>(
 }
 
 /// Runs all lines on a session at its start.
-fn run_lines<R: Read, W: Write>(
+fn run_lines<R: BufRead, W: Write>(
     alloc: Global,
     reader: &mut R,
     writer: &mut W,
@@ -72,7 +72,7 @@ fn run_lines<R: Read, W: Write>(
 }
 
 /// Takes the next line, and runs it as the one of this number. Answers whether more may come.
-fn run_next<R: Read, W: Write>(
+fn run_next<R: BufRead, W: Write>(
     reader: &mut R,
     writer: &mut W,
     text: &mut Vec<u8>,
@@ -132,7 +132,7 @@ fn print<W: Write>(writer: &mut W, answer: &Answer) -> Result<(), ScriptFault>
 }
 
 /// Behind as many lines as a number can count there has to be none.
-fn no_more<R: Read>(reader: &mut R, text: &mut Vec<u8>) -> Result<(), ScriptFault>
+fn no_more<R: BufRead>(reader: &mut R, text: &mut Vec<u8>) -> Result<(), ScriptFault>
     ensures { IsNoMore (R.remaining reader.old) (R.remaining reader.new) result }
 {
     match next_line(reader, text) {

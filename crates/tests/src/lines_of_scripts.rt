@@ -2,7 +2,7 @@
 
 use lines::*;
 use std::alloc::Global;
-use std::io::{self, ErrorKind, Read};
+use std::io::{self, BufRead, BufReader, ErrorKind, Read};
 
 /// Lines, and what each says.
 const GOOD: &[(&str, &str)] = &[
@@ -93,7 +93,7 @@ fn bad_lines_are_none(rt: HostRuntime) {
 type Row<'a> = (Result<Taken, ReadFault>, &'a str);
 
 /// Whether a reader is read so, call by call.
-fn is_read<R: Read>(alloc: Global, reader: &mut R, rows: &[Row<'_>]) -> bool {
+fn is_read<R: BufRead>(alloc: Global, reader: &mut R, rows: &[Row<'_>]) -> bool {
     let mut line = Vec::new(alloc);
     for (taken, text) in rows {
         if next_line(reader, &mut line) != *taken || line.as_slice() != text.as_bytes() {
@@ -151,11 +151,19 @@ const FAULTS: &[Row<'static>] = &[
     (Err(ReadFault::Failed), ""),
 ];
 
-#[test]
-fn faults_are_told(rt: HostRuntime) {
-    let mut reader = Failing {
+/// Whether faults are told of a reader that fails.
+fn tells_faults(alloc: Global) -> bool {
+    let failing = Failing {
         bytes: b"crash\nrec",
         interrupts: false,
     };
-    assert!(rt; is_read(rt.alloc(), &mut reader, FAULTS));
+    match BufReader::new(alloc, failing) {
+        Ok(mut reader) => is_read(alloc, &mut reader, FAULTS),
+        Err(_) => false,
+    }
+}
+
+#[test]
+fn faults_are_told(rt: HostRuntime) {
+    assert!(rt; tells_faults(rt.alloc()));
 }

@@ -1,10 +1,7 @@
-use Rattle.std.proofs.Common.{◌≡◌, ◌∙◌, ap, [], ◌∷◌, arith, rules}
+use Rattle.std.proofs.Common.{arith}
 use Rattle.lines.proofs.Spelling.{get}
 use Rattle.lines.proofs.parse.get.Goals as goal
 
 pub returns : goal.returns
 returns c =
-    let over : c.key.new.self ≡ [] = search rules in
-    let key = c.in_ok-key.ensures.sound in
-    get c.args.words c.in_ok-table.table c.in_ok-key.key.now _ c.in_ok-table.ensures.sound (omega arith)
-    (key.0 ∙ ap (λ ws. c.in_ok-key.key.now ∷ ws) over, key.1)
+    get c.args.words c.in_ok-table.table c.in_ok-key.key.now _ c.in_ok-table.ensures.sound (omega arith) c.in_ok-key.ensures.sound

@@ -1,24 +1,25 @@
-use Rattle.std.proofs.Common.{◌≡◌, ◌∙◌, sym, subst, ap, true, rules}
-use Rattle.std.specs.Str.{IsUtf8}
-use Rattle.std.specs.Fmt.{decimal}
-use Rattle.std.proofs.lemmas.Slice.Eq.{bytes_eq-Decides}
-use Rattle.std.proofs.lemmas.Str.{IsUtf8-from_ascii}
-use Rattle.std.proofs.lemmas.Fmt.{IsAscii-decimal, parse-decimal}
+use Rattle.std.proofs.Common.{◌≡◌, ap, length, arith, rules}
+use Rattle.std.proofs.lemmas.Fmt.{decimal_nonempty}
+use Rattle.lines.proofs.Numbers.{only_zero, too_large_to_write, written, zero_alone}
 use Rattle.lines.proofs.words.parse_number.Goals as goal
 
-pub returns-in_default-clause-complete : goal.returns-in_default-clause-complete
-returns-in_default-clause-complete c = λ _ n fits e.
-    c.in_default.ensures.cases.0 (subst IsUtf8 (sym e) (IsUtf8-from_ascii (decimal n) (IsAscii-decimal n fits)))
+pub returns-then-is_empty-clause-complete : goal.returns-then-is_empty-clause-complete
+returns-then-is_empty-clause-complete c = λ _ n small is.
+    let none : length c.args.word.now ≡ 0 = search (rules, arith) in
+    omega (arith, none, ap length is, decimal_nonempty n small)
 
-pub returns-in_default-parse-clause-complete : goal.returns-in_default-parse-clause-complete
-returns-in_default-parse-clause-complete c = λ _ n fits e.
-    let parsed = parse-decimal 64 n c.in-Ok.text.now c.parse.result fits fits (c.in-Ok.ensures.cases.0 ∙ e) c.parse.ensures.value.0 in
-    absurd (cc)
+pub returns-then-word-ne48-clause-sound : goal.returns-then-word-ne48-clause-sound
+returns-then-word-ne48-clause-sound c =
+    written c.args.word.now c.digits_value.result c.digits_value.ensures.sound c.digits_value.ensures.fits (search (rules, arith)) (search rules)
 
-pub returns-clause-complete : goal.returns-clause-complete
-returns-clause-complete c = λ none n fits e.
-    let parsed = parse-decimal 64 n c.in-Ok.text.now c.parse.result fits fits (c.in-Ok.ensures.cases.0 ∙ e) c.parse.ensures.value.0 in
-    let same : c.in-Ok-parse.number ≡ n = cc in
-    let text = c.as_bytes.ensures.value ∙ (c.format.ensures.text ∙ (ap decimal same ∙ sym e)) in
-    let yes : c.eq.result ≡ true = c.eq.ensures ∙ (bytes_eq-Decides c.as_bytes.result.now c.args.word.now).1 text in
-    search rules
+pub returns-then-word-ne48-clause-complete : goal.returns-then-word-ne48-clause-complete
+returns-then-word-ne48-clause-complete c = λ none n small is.
+    too_large_to_write c.args.word.now n small (c.digits_value.ensures.complete none) is
+
+pub returns-then-word-eq1-clause-sound : goal.returns-then-word-eq1-clause-sound
+returns-then-word-eq1-clause-sound c = zero_alone c.args.word.now (search rules) (search rules)
+
+pub returns-else-word-eq1-clause-complete : goal.returns-else-word-eq1-clause-complete
+returns-else-word-eq1-clause-complete c = λ _ n small is.
+    let one = only_zero n c.args.word.now small is (search rules) in
+    search (rules, arith)

@@ -9,5 +9,5 @@ returns g c =
     on_ok_weaker c.write_versioned.result
     (λ rest.
     let key = subst (Appends _ _) c.as_slice.ensures.bytes c.in_ok-write_all.ensures.bytes in
-    object_printed c.args.object.now _ _ _ _ _ c.in_ok-write.ensures.bytes key c.in_ok-write_all-2.ensures.bytes rest)
+    object_printed c.args.object.now _ _ _ _ _ c.in_ok-write_number.ensures key c.in_ok-write_all-2.ensures.bytes rest)
     c.write_versioned.ensures

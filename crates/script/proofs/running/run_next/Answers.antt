@@ -1,5 +1,4 @@
-use Rattle.std.proofs.Common.{inl, inr, List, ℕ, [], ◌∷◌, ◌++◌, arith, refl, sym, subst}
-use Rattle.std.proofs.lemmas.List.{length-append}
+use Rattle.std.proofs.Common.{inl, inr, List, ℕ, [], arith, refl, sym, subst}
 use Rattle.std.proofs.KnownBytes.{Keeps-refl}
 use Rattle.lines.specs.declared.reading.ReadFault.TheVariants.{Failed, NoMemory}
 use Rattle.lines.specs.declared.reading.Taken.TheVariants.{Ended, Last, Nothing, TooLong}
@@ -75,6 +74,4 @@ returns-in-Err-NoMemory g c =
     let left = g.R.Read.remaining c.next_line.new.reader in
     let text = c.next_line.new.line.items in
     let there : StopsIn had left text NoMemory = subst (StopsIn had left text) c.in-Err-NoMemory.field-0-is c.in-Err-NoMemory.ensures.fault in
-    let short = there.0.short in
-    let longer = length-append text (there.1 ∷ []) in
-    (text ++ there.1 ∷ [], there.2, omega arith, Keeps-refl _)
+    ([], there.0, omega arith, Keeps-refl _)

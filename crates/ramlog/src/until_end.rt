@@ -1,0 +1,31 @@
+//! A reader that isn't asked again once it has ended.
+
+use std::io::{self, Read};
+
+/// A reader that isn't asked again once it gave no byte. So at a terminal one end of the input is enough, however often
+/// the end is looked at.
+#[derive(Drop)]
+pub struct UntilEnd<R> {
+    reader: R,
+    has_ended: bool,
+}
+
+impl<R> UntilEnd<R> {
+    pub fn new(reader: R) -> UntilEnd<R> {
+        UntilEnd {
+            reader,
+            has_ended: false,
+        }
+    }
+}
+
+impl<R: Read> Read for UntilEnd<R> {
+    fn read(&mut self, buffer: &mut [u8]) -> io::Result<usize> {
+        if self.has_ended {
+            return Ok(0);
+        }
+        let count = self.reader.read(buffer)?;
+        self.has_ended = count == 0 && !buffer.is_empty();
+        Ok(count)
+    }
+}
