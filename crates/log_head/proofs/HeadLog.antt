@@ -1,20 +1,18 @@
 -- The head of the log that an image holds, through each step of a head.
-use Rattle.std.proofs.Common.{◌≡◌, ℕ, zero, suc, ◌+◌, ◌-◌, ◌≤◌, ◌<◌, List, [], ◌∷◌, ◌++◌, length, take, drop, refl, sym, ap, subst, ◌∙◌, append_assoc, add-one, arith}
-use Rattle.std.specs.Prelude.{Option, Some, None, slice_get, slice_set, unwrap_or}
+use Rattle.std.proofs.Common.{◌≡◌, ℕ, zero, suc, ◌+◌, ◌-◌, ◌≤◌, List, [], ◌∷◌, ◌++◌, length, take, drop, refl, sym, ap, subst, ◌∙◌, append_assoc, arith}
 use Rattle.std.specs.List.{AllByRecursion}
 use Rattle.std.proofs.lemmas.List.{append-nil, length-append, take_at, take_all}
-use Rattle.std.proofs.lemmas.Grind.{flat_map-append}
 use Rattle.entry.specs.declared.entry.Entry.{Entry}
 use Rattle.entry.specs.Format.{IsEntry}
 use Rattle.entry.specs.Text.{text_of, entries_in, opening_of, IsSegment}
 use Rattle.entry.proofs.TextLemmas.{entries_in-text}
 use Rattle.entry.proofs.ListLemmas.{all_split}
 use Rattle.segment.proofs.RowLemmas.{text_of-append}
-use Rattle.log_model.specs.Data.{Start, LogUnit, Head, ids_of, start_entries, entries_of, front_entries, head_entries}
+use Rattle.log_model.specs.Data.{Start, LogUnit, Head, start_entries, entries_of, head_entries}
 use Rattle.log_model.specs.Steps.{units_between}
 use Rattle.log_head.specs.declared.head.UnitEnd.{UnitEnd}
 use Rattle.log_head.specs.Head.{HeadValue, end_of}
-use Rattle.log_head.specs.Steps.{fresh_head, with_unit, with_replica, with_taken}
+use Rattle.log_head.specs.Steps.{fresh_head, with_unit}
 use Rattle.log_head.specs.Log.{but_last, start_in, entries_between, units_from, head_of, AreEnds, IsImageOf}
 use Rattle.log_head.proofs.Heads.{text_more}
 

@@ -1,5 +1,5 @@
 -- A command that is applied keeps the backups mirrored.
-use Rattle.std.proofs.Common.{◌≡◌, ℕ, suc, ◌≤◌, inl, inr, true, List, [], ◌∷◌, ◌++◌, length, take, Some, refl, sym, ap, subst, ◌∙◌, arith, append_assoc}
+use Rattle.std.proofs.Common.{◌≡◌, ℕ, suc, ◌≤◌, inl, inr, true, List, [], ◌∷◌, ◌++◌, length, take, Some, sym, ap, subst, ◌∙◌, arith, append_assoc}
 use Rattle.std.proofs.lemmas.List.{append-nil, length-append, take_all}
 use Rattle.entry.specs.declared.key.Key.{Key}
 use Rattle.entry.specs.declared.entry.Entry.{Entry}
@@ -20,7 +20,6 @@ use Rattle.log_model.specs.Steps.{with_unit, unit_now, applied, MayAppend, MayAp
 use Rattle.log_model.proofs.Appending.{texts_then, quiet, same_base, same_texts, logged, mirrored}
 use Rattle.log_model.proofs.Counts.{before-le}
 use Rattle.log_model.proofs.Fronts.{unit_front, unit_entries, unit_rise, unit_counts, state_front, state_next, present}
-use Rattle.log_model.proofs.Reading.{among_left}
 use Rattle.log_model.proofs.Standing.{after_all}
 use Rattle.log_model.proofs.Texts.{base_each}
 

@@ -4,17 +4,16 @@ use Rattle.std.specs.Prelude.{Option, None, ◌==◌}
 use Rattle.std.proofs.lemmas.List.{append-nil, take_all}
 use Rattle.std.proofs.lemmas.Bool.Decides.{nat_tests}
 use Rattle.std.proofs.lemmas.Grind.{flat_map-append}
-use Rattle.entry.specs.declared.key.Key.{Key}
 use Rattle.entry.specs.declared.entry.Entry.{Entry}
 use Rattle.entry.specs.Bag.{IsAmong}
 use Rattle.entry.specs.Meaning.{Versioned}
-use Rattle.replica.specs.Picture.{Picture, FleetState}
+use Rattle.replica.specs.Picture.{FleetState}
 use Rattle.versioned_map.specs.declared.command.Command.{Command}
 use Rattle.versioned_map.specs.declared.command.Record.{Record}
 use Rattle.versioned_map.specs.Command.{command_key}
 use Rattle.log_model.specs.Data.{LogUnit, Head, LogData, start_entries, entries_of, head_entries}
 use Rattle.log_model.specs.Kept.{IsPast}
-use Rattle.log_model.specs.Steps.{with_unit, unit_now, applied, MayApply}
+use Rattle.log_model.specs.Steps.{with_unit, unit_now, MayApply}
 use Rattle.log_model.proofs.Pasts.{past_applied}
 use Rattle.log_head.specs.Log.{head_of}
 use Rattle.clean_model.specs.Held.{IsHeld}

@@ -1,5 +1,5 @@
 -- After a fault memory and backups cover the map, and hold each durable unit, whether the op was taken or not.
-use Rattle.std.proofs.Common.{◌≡◌, ℕ, inl, inr, List, [], ◌∷◌, ◌++◌, length, Some, refl, sym, ap, subst, ◌∙◌, arith}
+use Rattle.std.proofs.Common.{◌≡◌, ℕ, inl, inr, List, [], ◌∷◌, ◌++◌, Some, refl, sym, subst, ◌∙◌, arith}
 use Rattle.std.specs.Prelude.{◌<◌, slice_get, slice_set}
 use Rattle.std.proofs.lemmas.Option.{same_Some}
 use Rattle.entry.specs.declared.entry.Entry.{Entry}
@@ -60,7 +60,7 @@ module _ (d : LogData) (ks : List ℕ) (m : Memory) (p q : Picture) (o : LogOp) 
         segment = λ h i. absurd i;
         held = λ h b i other home. absurd i;
       } in
-      λ h place b u among. in_head h place b u (elim among [ | inl same ↦ same | inr none ↦ absurd none ])
-          (λ is lt inside home.
-              let more = durable-next d p kept o e next in
-              durable_replicated e q [] after then_past e.head place b u (inl refl) is (omega arith) inside home)
+      λ h place b u among. in_head h place b u (elim among [ inl same ↦ same | inr none ↦ absurd none ])
+      (λ is lt inside home.
+      let more = durable-next d p kept o e next in
+      durable_replicated e q [] after then_past e.head place b u (inl refl) is (omega arith) inside home)

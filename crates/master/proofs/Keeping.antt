@@ -27,7 +27,7 @@ use Rattle.master_core.specs.Steps.{Applies, record_now}
 use Rattle.master.specs.Invariant.{IsKept}
 use Rattle.master.specs.Keeps.{Keeps}
 use Rattle.master.specs.Pushes.{IsNextOp, Pushes}
-use Rattle.master.specs.Steps.{Accepts, FailsTake, Steps}
+use Rattle.master.specs.Steps.{FailsTake, Steps}
 use Rattle.master.specs.World.{World}
 
 -- ---- many steps

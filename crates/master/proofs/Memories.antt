@@ -10,7 +10,7 @@ use Rattle.entry.specs.Meaning.{Contents, IsMeaning, IsClean, object_at, among}
 use Rattle.replica.specs.Picture.{Picture}
 use Rattle.log_model.specs.Data.{LogData, ids_of, new_of, state_of}
 use Rattle.clean_model.specs.Memory.{Memory, Pass, no_pass, new_ids, log_ids}
-use Rattle.clean_model.specs.Covered.{IsInImage, IsInReplica, IsInLog, images_bag, whole_bag, MayName, HasGrave, IsCovered}
+use Rattle.clean_model.specs.Covered.{IsInImage, IsInLog, images_bag, whole_bag, MayName, HasGrave, IsCovered}
 
 -- ---- bags with the same entries
 

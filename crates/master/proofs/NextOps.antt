@@ -1,10 +1,10 @@
 -- The ops that a master hands out are those that come next.
-use Rattle.std.proofs.Common.{◌≡◌, ℕ, ◌+◌, ◌<◌, ◌≤◌, inl, inr, List, [], ◌∷◌, ◌++◌, length, take, drop, ◌-◌, Some, refl, sym, ap, subst, ◌∙◌, arith}
-use Rattle.std.specs.Prelude.{slice_get, slice_set, unwrap_or}
+use Rattle.std.proofs.Common.{◌≡◌, ℕ, ◌+◌, ◌<◌, inl, inr, length, take, drop, ◌-◌, Some, refl, sym, ap, subst, ◌∙◌, arith}
+use Rattle.std.specs.Prelude.{slice_get, unwrap_or}
 use Rattle.std.proofs.lemmas.Option.{same_Some, slice_get_within}
 use Rattle.entry.specs.Text.{text_of}
-use Rattle.replica.specs.Op.{ActValue, Open, Extend}
-use Rattle.log_head.specs.Head.{HeadValue, end_of, IsLagging}
+use Rattle.replica.specs.Op.{Open, Extend}
+use Rattle.log_head.specs.Head.{end_of, IsLagging}
 use Rattle.log_head.specs.Log.{head_of}
 use Rattle.log_head.proofs.HeadLog.{end_is, front_is, part_is, count_is}
 use Rattle.log_model.specs.Data.{IsHomeAt, entries_of, head_entries}
@@ -13,10 +13,10 @@ use Rattle.log_model.specs.Steps.{OpensFirst, IsNext, units_between}
 use Rattle.master_core.specs.declared.step.StepAnswer.TheVariants.{Opened, Extended}
 use Rattle.master_core.specs.Data.{MasterData}
 use Rattle.master_core.specs.Invariant.{IsCore}
-use Rattle.master_core.specs.Log.{home, homes_from, log_of}
+use Rattle.master_core.specs.Log.{home, log_of}
 use Rattle.master_core.specs.Steps.{opened_data, extended_data}
 use Rattle.master.specs.Pushes.{reach, ExtendsNext, IsNextOp}
-use Rattle.master.proofs.Placing.{home_of, home_within}
+use Rattle.master.proofs.Placing.{home_of}
 
 module _ (d : MasterData) (core : IsCore d) where
   home_at : (j : ℕ) → j < d.head.replicas → IsHomeAt (log_of d) (head_of d.head).start.id j (home d.config d.head.id j)

@@ -1,14 +1,14 @@
 -- The op that comes next, taken or not, keeps what holds of a master.
-use Rattle.std.proofs.Common.{◌≡◌, ℕ, ◌+◌, ◌<◌, ◌≤◌, ◌⊎◌, inl, inr, Bool, true, false, List, [], length, Some, refl, sym, ap, subst, ◌∙◌, arith}
+use Rattle.std.proofs.Common.{◌≡◌, ℕ, ◌+◌, ◌<◌, ◌≤◌, ◌⊎◌, inl, inr, true, false, List, [], Some, refl, sym, ap, subst, ◌∙◌, arith}
 use Rattle.std.specs.Prelude.{Option, None, nat_lt}
 use Rattle.std.specs.Option.{option_map}
 use Rattle.std.proofs.lemmas.Bool.Decides.{nat_tests}
 use Rattle.std.proofs.lemmas.Option.{same_Some}
 use Rattle.replica.specs.Picture.{Replica, Picture, FleetState, with_replica}
-use Rattle.replica.specs.Take.{Refuses, Takes, taken as fleet_taken, with_effect, effect}
+use Rattle.replica.specs.Take.{Refuses, taken as fleet_taken, with_effect, effect}
 use Rattle.replica.specs.declared.op.TakeFault.{TakeFault}
 use Rattle.replica.specs.declared.op.TakeFault.TheVariants as take_fault
-use Rattle.log_model.specs.Data.{Head, LogData}
+use Rattle.log_model.specs.Data.{LogData}
 use Rattle.log_model.specs.Kept.{IsPast}
 use Rattle.log_model.specs.Ops.{LogOp, op_of, taken}
 use Rattle.log_model.specs.Steps.{IsNext}
@@ -25,7 +25,6 @@ use Rattle.master_core.proofs.Beginning.{halted_core}
 use Rattle.master.specs.Invariant.{IsKept}
 use Rattle.master.specs.Pushes.{IsNextOp}
 use Rattle.master.specs.Steps.{Declines}
-use Rattle.master.specs.World.{World}
 
 -- ---- the fleet and the picture
 

@@ -1,5 +1,5 @@
 -- A new master is kept.
-use Rattle.std.proofs.Common.{◌≡◌, ℕ, ◌≤◌, inl, List, [], Some, refl, sym, ap, subst}
+use Rattle.std.proofs.Common.{◌≡◌, ℕ, ◌≤◌, inl, [], refl, sym, ap, subst}
 use Rattle.std.specs.Prelude.{None}
 use Rattle.replica.specs.Picture.{FleetState}
 use Rattle.log_head.proofs.HeadLog.{head_is, image_fresh}

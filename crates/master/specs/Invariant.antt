@@ -1,6 +1,5 @@
 -- What a master keeps: the laws of a log hold of what it knows, its memory, and the backups before a fault.
-use Rattle.std.specs.Prelude.{◌≡◌, ◌⊎◌, ℕ, ◌≤◌, [], false, Some}
-use Rattle.entry.specs.declared.entry.Entry.{Entry}
+use Rattle.std.specs.Prelude.{◌≡◌, ◌⊎◌, ◌≤◌, [], false, Some}
 use Rattle.replica.specs.Picture.{Picture, FleetState}
 use Rattle.log_head.specs.Log.{head_of}
 use Rattle.log_model.specs.Data.{LogData}

@@ -1,5 +1,5 @@
 -- The op that a push hands to a backup.
-use Rattle.std.specs.Prelude.{◌≡◌, ℕ, ◌+◌, ◌<◌, length, false, Some, slice_get, unwrap_or}
+use Rattle.std.specs.Prelude.{◌≡◌, ℕ, ◌+◌, length, false, Some, slice_get, unwrap_or}
 use Rattle.log_head.specs.Head.{IsLagging}
 use Rattle.log_model.specs.Data.{LogData}
 use Rattle.log_model.specs.Ops.{LogOp, op_of}
@@ -7,7 +7,6 @@ use Rattle.log_model.specs.Steps.{OpensFirst, Extends}
 use Rattle.replica.specs.Take.{Takes}
 use Rattle.master_core.specs.declared.step.StepAnswer.{StepAnswer}
 use Rattle.master_core.specs.declared.step.StepAnswer.TheVariants.{Applied, Opened, Extended}
-use Rattle.master_core.specs.Data.{MasterData}
 use Rattle.master_core.specs.Log.{log_of}
 use Rattle.master.specs.World.{World}
 

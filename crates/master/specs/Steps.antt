@@ -3,7 +3,6 @@ use Rattle.std.specs.Prelude.{◌≡◌, ◌⊎◌, List, [], ◌∷◌, Result,
 use Rattle.log_model.specs.Ops.{LogOp, op_of}
 use Rattle.replica.specs.Take.{Refuses}
 use Rattle.replica.specs.declared.op.TakeFault.TheVariants as take_fault
-use Rattle.versioned_map.specs.declared.command.Command.{Command}
 use Rattle.master_core.specs.declared.step.Refusal.{Refusal}
 use Rattle.master_core.specs.declared.step.Refusal.TheVariants as refusal
 use Rattle.master_core.specs.declared.step.Step.{Step}
@@ -17,7 +16,6 @@ use Rattle.master.specs.Keeps.{Keeps}
 use Rattle.master.specs.Pushes.{IsNextOp, Pushes}
 use Rattle.master.specs.Valid.{IsValid}
 use Rattle.master.specs.World.{World}
-use Rattle.std.specs.Prelude.{ℕ}
 
 -- ---- accepted
 

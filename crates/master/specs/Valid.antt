@@ -1,5 +1,5 @@
 -- What holds of every master and its fleet, at each stop.
-use Rattle.std.specs.Prelude.{◌≡◌, ℕ, ◌≤◌, List, length, None}
+use Rattle.std.specs.Prelude.{◌≡◌, ◌≤◌, List, length, None}
 use Rattle.std.specs.List.{flat_map}
 use Rattle.replica.specs.Picture.{Picture, FleetState}
 use Rattle.versioned_map.specs.History.{commands_of, IsLegal}

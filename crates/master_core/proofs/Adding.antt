@@ -12,14 +12,14 @@ use Rattle.versioned_map.specs.declared.command.Command.{Command}
 use Rattle.versioned_map.specs.declared.command.Record.{Record}
 use Rattle.versioned_map.specs.declared.command.Reply.{Reply}
 use Rattle.versioned_map.specs.Command.{command_key}
-use Rattle.versioned_map.specs.History.{commands_of, replies_of, IsLegal}
+use Rattle.versioned_map.specs.History.{commands_of, IsLegal}
 use Rattle.versioned_map.specs.Units.{safe_given}
 use Rattle.versioned_map.specs.Versioned.{State, with_contents, replies, after, after_command}
 use Rattle.versioned_map.proofs.Units.{states_pushed}
 use Rattle.log_head.specs.Head.{HeadValue, IsHead}
 use Rattle.log_head.specs.Log.{head_of, IsImageOf}
 use Rattle.log_head.proofs.HeadLog.{head_is, image_with_unit}
-use Rattle.log_model.specs.Data.{Head, Ready, LogData, head_entries}
+use Rattle.log_model.specs.Data.{Head, Ready}
 use Rattle.log_model.specs.Steps.{with_unit, applied, Fits, MayApply}
 use Rattle.master_core.specs.declared.change.Change.{Change}
 use Rattle.master_core.specs.declared.step.StepAnswer.TheVariants.{Applied}

@@ -1,7 +1,7 @@
 -- A new core, and a core of which replicas took something or failed.
-use Rattle.std.proofs.Common.{◌≡◌, ℕ, ◌≤◌, List, [], ◌++◌, ◌∷◌, length, refl, sym, subst, arith}
+use Rattle.std.proofs.Common.{◌≡◌, ℕ, List, [], refl, sym, subst, arith}
 use Rattle.std.specs.Prelude.{None}
-use Rattle.log_head.specs.Head.{HeadValue, IsHead}
+use Rattle.log_head.specs.Head.{IsHead}
 use Rattle.log_head.specs.Log.{head_of, IsImageOf}
 use Rattle.log_head.specs.Steps.{fresh_head}
 use Rattle.log_head.proofs.HeadLog.{head_is, image_fresh, image_with_counts}
@@ -10,7 +10,7 @@ use Rattle.log_model.specs.Steps.{first_start}
 use Rattle.master_core.specs.declared.config.Config.{Config}
 use Rattle.master_core.specs.Config.{config_fault}
 use Rattle.master_core.specs.Data.{MasterData, fresh_data}
-use Rattle.master_core.specs.Invariant.{IsIndex, IsCore}
+use Rattle.master_core.specs.Invariant.{IsCore}
 use Rattle.master_core.specs.Steps.{halted}
 
 pub fresh_core : (c : Config) → config_fault c ≡ None → IsHead (fresh_head c.master c.replicas first_start) → IsCore (fresh_data c)

@@ -1,10 +1,10 @@
 -- The durable count, from the units that a head keeps.
-use Rattle.std.proofs.Common.{◌≡◌, ℕ, zero, suc, Bool, List, [], ◌∷◌, length, refl, sym, ap, ◌∙◌}
+use Rattle.std.proofs.Common.{◌≡◌, ℕ, zero, suc, List, [], ◌∷◌, length, refl, ap, ◌∙◌}
 use Rattle.std.specs.Prelude.{Option, Some, None, slice_get, nat_lt, if◌then◌else◌}
 use Rattle.std.specs.Option.{option_map, option_map_or}
 use Rattle.log_head.specs.declared.head.UnitEnd.{UnitEnd}
-use Rattle.log_head.specs.Head.{HeadValue, everywhere}
-use Rattle.log_head.specs.Log.{units_from, head_of}
+use Rattle.log_head.specs.Head.{everywhere}
+use Rattle.log_head.specs.Log.{units_from}
 use Rattle.log_model.specs.Data.{fewest, records_before, durable_of, everywhere as log_everywhere}
 use Rattle.master_core.specs.Data.{MasterData}
 use Rattle.master_core.specs.Invariant.{IsCore}

@@ -1,5 +1,5 @@
 -- What the index of a core finds.
-use Rattle.std.proofs.Common.{◌≡◌, ◌⊎◌, ℕ, inl, inr, Bool, true, false, cond, List, [], ◌∷◌, ◌++◌, length, drop, refl, sym, ap, subst, ◌∙◌}
+use Rattle.std.proofs.Common.{◌≡◌, ◌⊎◌, ℕ, inl, inr, Bool, true, false, List, [], ◌∷◌, ◌++◌, length, drop, refl, sym, ap, subst, ◌∙◌}
 use Rattle.std.specs.Prelude.{Option, Some, None, ◌==◌, if◌then◌else◌}
 use Rattle.std.specs.List.{AllByRecursion}
 use Rattle.std.specs.Option.{option_map, option_map_or}
@@ -10,7 +10,7 @@ use Rattle.entry.specs.declared.entry.Object.{Object}
 use Rattle.entry.specs.declared.entry.Entry.{Entry}
 use Rattle.entry.specs.declared.entry.Entry.TheVariants as entry
 use Rattle.entry.specs.Format.{IsEntry, spelling, front_of}
-use Rattle.entry.specs.Meaning.{Versioned, Contents, object_at, versioned, contents_of}
+use Rattle.entry.specs.Meaning.{Versioned, object_at, versioned, contents_of}
 use Rattle.entry.specs.Order.{key_eq}
 use Rattle.entry.specs.Text.{text_of}
 use Rattle.entry.proofs.TextLemmas.{front_of-spelling}
@@ -22,7 +22,6 @@ use Rattle.versioned_map.specs.declared.command.Command.TheVariants.{Get, Put, D
 use Rattle.versioned_map.specs.Command.{command_key}
 use Rattle.versioned_map.specs.Represents.{unit_of}
 use Rattle.versioned_map.specs.Units.{unit_given}
-use Rattle.versioned_map.specs.Versioned.{State, is_met}
 use Rattle.versioned_map.proofs.Keys.{key_eq-tells}
 use Rattle.master_core.specs.Causes.{dead_segment, unit_now}
 use Rattle.master_core.specs.Data.{MasterData}
@@ -107,15 +106,15 @@ pub head_or_none : (d : MasterData) (command : Command) → IsCore d
     → (dead_segment d command ≡ d.head.id) ⊎ ((state_now d).contents (command_key command) ≡ None)
 head_or_none d command core = go (first_at d.head.image (command_key command) d.places) refl ((state_now d).contents (command_key command)) refl
     (indexed d core (command_key command)) where
-  go : (f : Option ℕ) → first_at d.head.image (command_key command) d.places ≡ f → (x : Option Versioned) → (state_now d).contents (command_key command) ≡ x
-      → Finds (images_of d) (command_key command) (find d (command_key command)) ((state_now d).contents (command_key command))
-      → (dead_segment d command ≡ d.head.id) ⊎ ((state_now d).contents (command_key command) ≡ None)
-  go (Some at) found x has is = inl (ap (λ (f : Option ℕ). option_map_or (λ (p : Place). p.segment) (option_map (λ (n : ℕ). record { segment = d.head.id; at = n }) f) 0) found)
-  go None found None has is = inr has
-  go None found (Some x) has is =
-      absurd (subst (λ (y : Option Versioned). Finds (images_of d) (command_key command) None y) has
-      (subst (λ (f : Option ℕ). Finds (images_of d) (command_key command) (option_map (λ (n : ℕ). record { segment = d.head.id; at = n }) f) ((state_now d).contents (command_key command)))
-      found is))
+      go : (f : Option ℕ) → first_at d.head.image (command_key command) d.places ≡ f → (x : Option Versioned) → (state_now d).contents (command_key command) ≡ x
+          → Finds (images_of d) (command_key command) (find d (command_key command)) ((state_now d).contents (command_key command))
+          → (dead_segment d command ≡ d.head.id) ⊎ ((state_now d).contents (command_key command) ≡ None)
+      go (Some at) found x has is = inl (ap (λ (f : Option ℕ). option_map_or (λ (p : Place). p.segment) (option_map (λ (n : ℕ). record { segment = d.head.id; at = n }) f) 0) found)
+      go None found None has is = inr has
+      go None found (Some x) has is =
+          absurd (subst (λ (y : Option Versioned). Finds (images_of d) (command_key command) None y) has
+          (subst (λ (f : Option ℕ). Finds (images_of d) (command_key command) (option_map (λ (n : ℕ). record { segment = d.head.id; at = n }) f) ((state_now d).contents (command_key command)))
+          found is))
 
 -- the unit of an absent key's command names no segment
 absent_unit : (safe a b : ℕ) (command : Command) → unit_given safe a None command ≡ unit_given safe b None command

@@ -1,5 +1,5 @@
 -- Changes: what they append to the head, and which one a command makes.
-use Rattle.std.specs.Prelude.{◌≡◌, ℕ, ◌+◌, ◌*◌, ◌/◌, ◌^◌, ◌&&◌, max, List, [], ◌∷◌, length, Bool, true, false, nat_lt, Option}
+use Rattle.std.specs.Prelude.{◌≡◌, ℕ, ◌+◌, ◌*◌, ◌/◌, max, List, [], ◌∷◌, length, Bool, true, false, nat_lt, Option}
 use Rattle.std.specs.Borrow.{Bor}
 use Rattle.std.specs.Option.{option_map, option_copied}
 use Rattle.entry.specs.declared.entry.Entry.{Entry}
@@ -12,7 +12,7 @@ use Rattle.versioned_map.specs.declared.command.Command.{Command}
 use Rattle.versioned_map.specs.declared.command.Command.TheVariants.{Get, Put, Delete}
 use Rattle.log_head.specs.Head.{HeadValue}
 use Rattle.log_head.specs.Steps.{with_unit}
-use Rattle.versioned_map.specs.Versioned.{is_met, put_version, is_spent}
+use Rattle.versioned_map.specs.Versioned.{is_spent}
 use Rattle.versioned_map.specs.Units.{object_entry, tombstone_entry, unit_given, safe_given}
 
 -- what a command appends whose change this is, where the dead object lies in this segment

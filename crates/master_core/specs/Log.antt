@@ -11,7 +11,7 @@ use Rattle.segment.specs.Bytes.{standing_at}
 use Rattle.versioned_map.specs.Represents.{empty_state}
 use Rattle.versioned_map.specs.Versioned.{State}
 use Rattle.log_model.specs.Data.{LogConfig, Ready, LogData, state_of}
-use Rattle.clean_model.specs.Memory.{Place as EntryPlace, Memory, no_pass}
+use Rattle.clean_model.specs.Memory.{Memory, no_pass}
 use Rattle.log_head.specs.Log.{head_of}
 use Rattle.master_core.specs.declared.config.Config.{Config}
 use Rattle.master_core.specs.Data.{MasterData}

@@ -7,9 +7,9 @@ ghost use Rattle.versioned_map.specs.Versioned.{reply_given};
 ghost use Rattle.versioned_map.specs.Versioned.{is_spent};
 ghost use Rattle.master_core.specs.Change.{version_in, versioned_in, is_nothing, safe_of_change, IsChangeOf, is_too_big};
 
-use versioned_map::{Command, If, Reply};
 use entry::{ObjectRef, SafeVersion, Value, Version};
 use std::alloc::{AllocError, Global};
+use versioned_map::{Command, If, Reply};
 
 /// What a command does to the map, and so what it appends.
 #[derive(Clone, Copy)]

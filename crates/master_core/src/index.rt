@@ -31,7 +31,11 @@ fn object_of<'a>(image: &'a Segment, at: usize, key: &KeyRef) -> Option<ObjectRe
 }
 
 /// Which of the places has the key's object, and the object.
-pub fn find<'a>(places: &[usize], image: &'a Segment, key: &KeyRef) -> Option<(usize, ObjectRef<'a>)>
+pub fn find<'a>(
+    places: &[usize],
+    image: &'a Segment,
+    key: &KeyRef,
+) -> Option<(usize, ObjectRef<'a>)>
     ensures within { IfSome result (λ found. found.0 < length places.now) }
     ensures found { (os : List ObjectValue) → AreAt image.entry.now places.now os → FindsSlot os (shown_key key.now) result }
 {

@@ -192,7 +192,11 @@ impl Core {
         ensures slot { IsSlotOf self.entry.now command.now (option_map (λ found. found.0) result) }
         ensures object { option_map (λ found. versioned (shown_object found.1)) result ≡ (state_now self.entry.now).contents (command_key command.now) }
     {
-        find(self.places.as_slice(), self.head.image(), &command.key().view())
+        find(
+            self.places.as_slice(),
+            self.head.image(),
+            &command.key().view(),
+        )
     }
 
     /// What a command does, and which of the places has its key: all tests, in order.
@@ -230,7 +234,10 @@ impl Core {
                 let (slot, reply) = match &found {
                     None => (None, change.reply(self.alloc, command, None)?),
                     Some((slot, object)) => {
-                        (Some(*slot), change.reply(self.alloc, command, Some(object))?)
+                        (
+                            Some(*slot),
+                            change.reply(self.alloc, command, Some(object))?,
+                        )
                     }
                 };
                 let answer = reply.copy()?;

@@ -1,10 +1,9 @@
 -- A line that was run, told of a master's life.
-use Rattle.std.proofs.Common.{◌≡◌, ℕ, suc, ◌<◌, ◌≤◌, Bool, true, false, cond, List, [], ◌∷◌, ◌++◌, length, take, refl, sym, ap, subst, inl, inr, ◌∙◌, arith}
+use Rattle.std.proofs.Common.{◌≡◌, ℕ, suc, ◌≤◌, Bool, true, false, cond, List, [], ◌∷◌, ◌++◌, length, take, refl, sym, ap, subst, inl, inr, ◌∙◌, arith}
 use Rattle.std.proofs.lemmas.List.{append-nil, length-append}
 use Rattle.std.proofs.Math.Seq.{take-length}
 use lib.Seq.{take-append_seam}
-use Rattle.std.specs.Prelude.{Option, Some, None, Result, Ok, Err, slice_get, not, is_none, nat_le, ◌==◌, ◌&&◌, ◌||◌, ◌↔◌, if◌then◌else◌, unwrap_or}
-use Rattle.std.specs.Option.{option_map}
+use Rattle.std.specs.Prelude.{Option, Some, None, Result, Ok, Err, slice_get, not, is_none, ◌==◌, ◌||◌, ◌↔◌, if◌then◌else◌, unwrap_or}
 use Rattle.backup.specs.State.{state_of, lost}
 use Rattle.backup.specs.declared.fleet.MemoryFleet.{MemoryFleet}
 use Rattle.lines.specs.Grammar.{LineValue, Put, Get, Crash, Lose, Recover}
@@ -27,10 +26,10 @@ use Rattle.master_core.specs.declared.step.Refusal.{Refusal}
 use Rattle.master_core.specs.declared.step.Refusal.TheVariants as refusal
 use Rattle.master_core.specs.declared.step.Step.TheVariants.{Apply, Push}
 use Rattle.master_core.specs.declared.step.StepAnswer.{StepAnswer}
-use Rattle.master_core.specs.declared.step.StepAnswer.TheVariants.{Applied, Opened, Extended}
+use Rattle.master_core.specs.declared.step.StepAnswer.TheVariants.{Applied}
 use Rattle.master_core.specs.Causes.{is_pushed, command_refusal, early_refusal, late_refusal}
 use Rattle.master_core.specs.Data.{MasterData}
-use Rattle.master_core.specs.Log.{image_of, log_of}
+use Rattle.master_core.specs.Log.{log_of}
 use Rattle.master.specs.Keeps.{Keeps}
 use Rattle.master.specs.Steps.{Steps, Declines, FailsTake}
 use Rattle.master.specs.Valid.{IsValid}
@@ -45,9 +44,9 @@ use Rattle.script.specs.declared.answer.Answer.{Answer}
 use Rattle.script.specs.declared.answer.Answer.TheVariants as answer
 use Rattle.script.specs.declared.node.Node.{Node}
 use Rattle.script.specs.declared.node.Node.TheVariants.{Up, Down, Changing}
-use Rattle.script.specs.Lives.{Life, life_to, HasLived, Left, is_left, IsLeftBySpent, IsLeftBy, IsHomeBy}
+use Rattle.script.specs.Lives.{life_to, HasLived, Left, is_left, IsHomeBy}
 use Rattle.script.specs.Served.{GoesOn, IsServed, IsUnserved, IsSpent, IsLeftOf, IsOf, Stands, AnswersLine, is_up, left_now, life_of, record_of}
-use Rattle.script.specs.Told.{Position, command_of, is_for_master, is_for_none, is_of_push, IsOut, IsIn, IsRecoveredAt, Tells}
+use Rattle.script.specs.Told.{Position, command_of, is_for_master, is_for_none, is_of_push, IsRecoveredAt, Tells}
 
 -- ---- a master goes on
 

@@ -1,5 +1,5 @@
 -- A master's life, and what a crash leaves of it.
-use Rattle.std.specs.Prelude.{◌≡◌, ℕ, List, [], not, Bool, take, slice_get, Option, Some}
+use Rattle.std.specs.Prelude.{◌≡◌, ℕ, List, [], not, Bool, take, slice_get, Some}
 use Rattle.replica.specs.Picture.{Picture, FleetState}
 use Rattle.versioned_map.specs.declared.command.Record.{Record}
 use Rattle.versioned_map.specs.Versioned.{State}

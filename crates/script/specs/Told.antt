@@ -13,7 +13,6 @@ use Rattle.replica.specs.Survival.{BothSurvive}
 use Rattle.versioned_map.specs.declared.command.Command.{Command}
 use Rattle.versioned_map.specs.declared.command.Command.TheVariants as command
 use Rattle.versioned_map.specs.declared.command.If.TheVariants.{Any}
-use Rattle.versioned_map.specs.declared.command.Record.{Record}
 use Rattle.versioned_map.specs.declared.command.Reply.{Reply}
 use Rattle.versioned_map.specs.History.{commands_of}
 use Rattle.versioned_map.specs.Versioned.{after}

@@ -13,8 +13,8 @@ pub use backup::{MemoryBackup, MemoryFleet};
 pub use command_line::{Options, options};
 pub use fault::{ScriptFault, report};
 pub use recovery::{
-    Drill, Plan, PlanFault, Rebuilt, RecoveryFault, ReplayFault, acknowledged_recovered, inventory_of, plan, rebuild_plain,
-    recover, run_drill,
+    Drill, Plan, PlanFault, Rebuilt, RecoveryFault, ReplayFault, acknowledged_recovered,
+    inventory_of, plan, rebuild_plain, recover, run_drill,
 };
 pub use running::run_script;
 pub use setup::configuration;

@@ -83,9 +83,7 @@ impl Node {
     /// One command, pushed until it is durable. Where the fleet takes no more ops, the master is dropped, and
     /// the limit lifted.
     pub fn serve(&mut self, command: Command) -> Answer
-        ensures {
-            (config : Config) (line : LineValue) → command_of line ≡ Some command → AnswersLine self.old config line self.new result
-        }
+        ensures { (config : Config) (line : LineValue) → command_of line ≡ Some command → AnswersLine self.old config line self.new result }
     {
         let Node::Up(up) = self else {
             return Answer::Down;

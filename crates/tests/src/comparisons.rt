@@ -5,10 +5,10 @@ use crate::runs::{new_master, rebuilt};
 use backup::MemoryFleet;
 use entry::{Entry, EntryRef, Object};
 use master::{If, Look, Master, Shown, Step, StepAnswer};
-use versioned_map::{VersionedMap, meaning};
 use segment::SegmentRef;
 use std::alloc::Global;
 use std::test::Fail;
+use versioned_map::{VersionedMap, meaning};
 
 /// Each command meets what those before it left.
 const ASKS: &[Ask] = &[

@@ -1,5 +1,5 @@
 use Rattle.entry.specs.View.{shown_key, shown_object}
-use Rattle.master_core.proofs.Places.{walk_begins, walk_on, walk_finds, walk_ends}
+use Rattle.master_core.proofs.Places.{walk_on, walk_finds, walk_ends}
 use Rattle.master_core.proofs.index.find.Goals as goal
 
 pub returns-in-Some-clause-found : goal.returns-in-Some-clause-found

@@ -1,4 +1,4 @@
-use Rattle.std.proofs.Common.{◌≡◌, true, false, sym, ap, ◌∙◌}
+use Rattle.std.proofs.Common.{◌≡◌, false, sym, ap, ◌∙◌}
 use Rattle.entry.specs.declared.entry.Object.{Object}
 use Rattle.entry.specs.Order.{key_eq}
 use Rattle.entry.specs.View.{shown_key}

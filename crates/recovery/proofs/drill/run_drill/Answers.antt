@@ -1,7 +1,6 @@
-use Rattle.std.proofs.Common.{◌≡◌, ℕ, ap, subst, sym, ◌∙◌}
+use Rattle.std.proofs.Common.{◌≡◌, ℕ, ap, subst, sym}
 use Rattle.std.specs.Prelude.{Result, IfOk, IfErr}
 use Rattle.replay.specs.declared.rebuilt.Rebuilt.{Rebuilt}
-use Rattle.replica.specs.Picture.{FleetState}
 use Rattle.master.specs.World.{world}
 use Rattle.recovery.specs.declared.recovery.RecoveryFault.{RecoveryFault}
 use Rattle.recovery.specs.declared.recovery.RecoveryFault.TheVariants as fault
@@ -23,13 +22,13 @@ returns-clause-drill g c =
     let same : left ≡ stop.fleet = ap state c.crash-fleet.ensures.fleet in
     elim c.match-inventory_of.branch as (λ _. IsDrill start c.args.steps.now kept answers c.match-inventory_of.recovered left) [
       | in-Ok-inventory_of w ↦ (
-        let r = w.recover-recovered in
-        subst (λ (x : Result Rebuilt RecoveryFault). IsDrill start c.args.steps.now kept answers x left) (sym w.recovered-is)
-        (drilled start stop c.args.steps.now kept answers c.in-Ok.ensures.ran left same c.crash-fleet.ensures.valid
-        w.in-Ok-inventory_of.inventory w.in-Ok-inventory_of.ensures.shown r.result
-        (subst (λ (n : ℕ). IfOk r.result (IsSomePrefix w.in-Ok-inventory_of.inventory n)) c.number-number.ensures r.ensures.ok)
-        (subst (λ (n : ℕ). IfErr r.result (IsSomeLoss w.in-Ok-inventory_of.inventory n)) c.number-number.ensures r.ensures.refused)))
+          let r = w.recover-recovered in
+          subst (λ (x : Result Rebuilt RecoveryFault). IsDrill start c.args.steps.now kept answers x left) (sym w.recovered-is)
+          (drilled start stop c.args.steps.now kept answers c.in-Ok.ensures.ran left same c.crash-fleet.ensures.valid
+          w.in-Ok-inventory_of.inventory w.in-Ok-inventory_of.ensures.shown r.result
+          (subst (λ (n : ℕ). IfOk r.result (IsSomePrefix w.in-Ok-inventory_of.inventory n)) c.number-number.ensures r.ensures.ok)
+          (subst (λ (n : ℕ). IfErr r.result (IsSomeLoss w.in-Ok-inventory_of.inventory n)) c.number-number.ensures r.ensures.refused)))
       | in-Err-inventory_of w ↦ subst (λ (x : Result Rebuilt RecoveryFault). IsDrill start c.args.steps.now kept answers x left) (sym w.recovered-is)
-        (drilled_without start stop c.args.steps.now kept answers c.in-Ok.ensures.ran left same c.crash-fleet.ensures.valid
-        (fault.Plan plan_fault.NoMemory) tt tt)
+          (drilled_without start stop c.args.steps.now kept answers c.in-Ok.ensures.ran left same c.crash-fleet.ensures.valid
+          (fault.Plan plan_fault.NoMemory) tt tt)
     ]

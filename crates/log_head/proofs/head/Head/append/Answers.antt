@@ -1,10 +1,10 @@
-use Rattle.std.proofs.Common.{◌≡◌, ◌+◌, ◌≤◌, List, [], ◌∷◌, ◌++◌, ◌∙◌, length, map, refl, sym, ap, subst, arith}
+use Rattle.std.proofs.Common.{◌≡◌, ◌+◌, ◌≤◌, List, [], ◌∷◌, ◌++◌, ◌∙◌, length, map, refl, ap, arith}
 use Rattle.std.proofs.lemmas.List.{length-append}
 use Rattle.entry.specs.declared.entry.Entry.{Entry}
-use Rattle.entry.specs.Text.{text_of, IsSegment}
+use Rattle.entry.specs.Text.{text_of}
 use Rattle.entry.specs.View.{shown}
 use Rattle.log_head.specs.declared.head.UnitEnd.{UnitEnd}
-use Rattle.log_head.specs.Head.{HeadValue, EndAt, IsHead}
+use Rattle.log_head.specs.Head.{EndAt, IsHead}
 use Rattle.log_head.proofs.Heads.{EndAt_push, all_more, text_more}
 use Rattle.log_head.proofs.head.Head.append.Goals as goal
 

@@ -1,25 +1,22 @@
-use Rattle.std.proofs.Common.{◌≡◌, ℕ, ◌-◌, ◌+◌, ◌<◌, List, [], ◌∷◌, ◌++◌, length, take, drop, false, Some, refl, sym, ap, subst, ◌∙◌}
+use Rattle.std.proofs.Common.{◌≡◌, ℕ, ◌-◌, ◌+◌, length, take, drop, false, Some, refl, sym, ap, subst, ◌∙◌}
 use Rattle.std.specs.Prelude.{slice_get, slice_set, unwrap_or}
 use Rattle.entry.specs.Text.{text_of}
-use Rattle.replica.specs.Op.{OpValue, Open, Extend}
+use Rattle.replica.specs.Op.{OpValue, Extend}
 use Rattle.replica.specs.Picture.{FleetState}
 use Rattle.replica.specs.Take.{Refuses, Takes, taken}
 use Rattle.replica.specs.declared.op.TakeFault.{TakeFault}
 use Rattle.log_head.specs.Head.{HeadValue, end_of, IsLagging}
 use Rattle.log_model.specs.Ops.{op_of}
-use Rattle.master_core.specs.declared.step.Step.TheVariants.{Push}
 use Rattle.master_core.specs.declared.step.StepAnswer.{StepAnswer}
-use Rattle.master_core.specs.declared.step.StepAnswer.TheVariants.{Opened, Extended}
+use Rattle.master_core.specs.declared.step.StepAnswer.TheVariants.{Extended}
 use Rattle.master_core.specs.Data.{MasterData}
 use Rattle.master_core.specs.Invariant.{IsCore}
-use Rattle.master_core.specs.Log.{home, log_of}
-use Rattle.master_core.specs.Steps.{opened_data, extended_data, failed_data, refusal_of}
-use Rattle.master_core.proofs.Refusals.{push_waits, push_lags}
+use Rattle.master_core.specs.Log.{home}
+use Rattle.master_core.specs.Steps.{extended_data}
+use Rattle.master_core.proofs.Refusals.{push_lags}
 use Rattle.master.specs.Invariant.{IsKept}
 use Rattle.master.specs.Pushes.{Pushes}
-use Rattle.master.specs.Steps.{Declines}
-use Rattle.master.specs.World.{World, world}
-use Rattle.master.proofs.NextOps.{open_op, opens_next, opens_told, extend_op, extends_next, extends_told, opened}
+use Rattle.master.proofs.NextOps.{extend_op, extends_next, extends_told}
 use Rattle.master.proofs.Placing.{home_within}
 use Rattle.master.proofs.Pushed.{taken_kept, failed_kept, failed_declines, not_wrong}
 use Rattle.master.proofs.master.Master.extend.Goals as goal

@@ -1,4 +1,4 @@
-use Rattle.std.proofs.Common.{◌≡◌, [], refl, rules, subst}
+use Rattle.std.proofs.Common.{◌≡◌, [], rules, subst}
 use Rattle.log_head.specs.Head.{HeadValue, IsHead}
 use Rattle.log_head.specs.Steps.{fresh_head}
 use Rattle.log_model.specs.Steps.{first_start}

@@ -1,1 +1,0 @@
-use Rattle.script.proofs.node.Node.drop_master.Goals as goal

@@ -1,4 +1,3 @@
-use Rattle.std.proofs.Common.{refl}
 use Rattle.lines.specs.Grammar.{Recover}
 use Rattle.recovery.specs.declared.recovery.RecoveryFault.TheVariants as fault
 use Rattle.recovery_plan.specs.declared.fault.PlanFault.TheVariants as plan_fault

@@ -1,16 +1,13 @@
-use Rattle.std.proofs.Common.{◌≡◌, [], sym, ap, refl, subst, ◌∙◌}
-use Rattle.std.specs.Prelude.{Some, None, Result, Err, IfErr}
+use Rattle.std.proofs.Common.{◌≡◌, [], ap, refl, subst}
+use Rattle.std.specs.Prelude.{Some}
 use Rattle.backup.specs.State.{state_of}
 use Rattle.master.specs.Valid.{IsValid}
 use Rattle.master.specs.World.{World}
-use Rattle.master_core.specs.declared.step.Refusal.{Refusal}
-use Rattle.master_core.specs.declared.step.Refusal.TheVariants as refusal
 use Rattle.master_core.specs.Data.{MasterData}
 use Rattle.replica.specs.Picture.{Picture}
-use Rattle.versioned_map.specs.declared.command.Reply.{Reply}
 use Rattle.script.specs.declared.node.Node.{Node}
 use Rattle.script.specs.declared.node.Node.TheVariants.{Up}
-use Rattle.script.specs.Served.{IsOf, IsSpent, IsUnserved, is_up}
+use Rattle.script.specs.Served.{IsOf, IsUnserved, is_up}
 use Rattle.script.proofs.Serving.{is_up_none, stopped_told, refused_told}
 use Rattle.script.proofs.node.Node.serve.Goals as goal
 
