@@ -10,12 +10,13 @@ use Rattle.log_model.specs.Data.{Start, Phase, Ready, LogData, new_of, state_of}
 use Rattle.log_model.specs.Log.{Texts, base_of}
 use Rattle.clean_model.specs.Intact.{IsCommit, IsReady, IsIntact}
 use Rattle.clean_model.specs.Laws.{CommitStands}
-use Rattle.clean_model.specs.Memory.{Place, Memory, LogSet, ImagesHave, LogHas, no_pass, new_ids, log_ids, log_of, counting}
+use Rattle.clean_model.specs.Memory.{Place, Memory, LogSet, ImagesHave, LogHas, no_pass, new_ids, log_ids, log_of}
+use Rattle.clean_model.specs.Memory.{counting}
 use Rattle.clean_model.specs.Tracked.{IsTracked, IsPassing}
 use Rattle.clean_model.proofs.Bases.{key_data, base_in, base_out}
 use Rattle.clean_model.proofs.Lists.{among_tells}
 use Rattle.clean_model.proofs.LogSetIds.{ids_out, in_digest, in_survivors}
-use Rattle.clean_model.proofs.Passes.{committed}
+use Rattle.clean_model.proofs.CommittedPass.{committed}
 use Rattle.clean_model.proofs.Premises.{IsLess}
 use Rattle.clean_model.proofs.TrackedBags.{between_clean, between_means}
 

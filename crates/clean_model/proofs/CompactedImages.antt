@@ -9,15 +9,17 @@ use Rattle.entry.specs.declared.entry.Entry.{Entry}
 use Rattle.entry.specs.declared.entry.Entry.TheVariants.{Object, Tombstone}
 use Rattle.entry.specs.Bag.{IsAmong}
 use Rattle.entry.specs.Meaning.{Versioned, Contents, object_at}
-use Rattle.clean_model.specs.Memory.{Place, Index, Images, LogSet, Pass, IsAt, SegmentHas, ImagesHave, with_image, replaced}
+use Rattle.clean_model.specs.Memory.{Place, Index, Images, LogSet, Pass, IsAt, SegmentHas, ImagesHave, with_image}
+use Rattle.clean_model.specs.Memory.{replaced}
 use Rattle.clean_model.specs.Tracked.{IsCopied, IsBuried, IsFound, IsTracked, IsPassing}
-use Rattle.clean_model.proofs.Lists.{with_out, with_here, with_there, at_here, at_there, at_from}
+use Rattle.clean_model.proofs.Lists.{member_differs, with_out, with_here, with_there, at_here, at_there, at_from}
 use Rattle.clean_model.proofs.Premises.{IsCompacted}
 use Rattle.clean_model.proofs.TrackedBags.{found_at}
 
 module _ (log : LogSet) (pass : Pass) (index moved : Index) (contents : Contents) (s : ℕ) (es : List Entry)
-    (is : IsTracked log pass index contents) (does : IsCompacted log.ids log.image index moved s es) (counts : IsAmong s log.ids)
-    (survive : (z : ℕ) → IsAmong z pass.survivors → IsAmong z log.ids) (not_survivor : IsAmong s pass.survivors → ⊥) where
+    (is : IsTracked log pass index contents) (does : IsCompacted log.ids log.image index moved s es)
+    (survive : (z : ℕ) → IsAmong z pass.survivors → IsAmong z log.ids)
+    (no_survivor : IsAmong s pass.survivors → ⊥) where
   abbrev then_images : Images
   then_images = with_image log.image s es
 
@@ -37,28 +39,33 @@ module _ (log : LogSet) (pass : Pass) (index moved : Index) (contents : Contents
   still_copied z y o c = record {
     victim = c.victim;
     survivor = c.survivor;
-    copy = with_there log.image s es y (Object o) (λ same. not_survivor (subst (λ (w : ℕ). IsAmong w pass.survivors) same c.survivor)) c.copy;
+    copy = with_there log.image s es y (Object o) (member_differs pass.survivors y s c.survivor no_survivor) c.copy;
   }
 
-  grave_stays : (t : TombstoneValue) → IsAmong t.segment log.ids → ImagesHave log.ids log.image (Tombstone t) → ImagesHave log.ids then_images (Tombstone t)
+  grave_stays : (t : TombstoneValue) → IsAmong t.segment log.ids → ImagesHave log.ids log.image (Tombstone t)
+      → ImagesHave log.ids then_images (Tombstone t)
   grave_stays t named m = (
     m.0,
     record {
       counts = m.1.counts;
       among = elim (cases_eq m.0 s) [
-        | inl same ↦ with_here log.image s es m.0 (Tombstone t) same (does.tombstones t (subst (λ (y : ℕ). IsAmong (Tombstone t) (log.image y)) same m.1.among) named)
+        | inl same ↦ (
+            let was = subst (λ (y : ℕ). IsAmong (Tombstone t) (log.image y)) same m.1.among in
+            with_here log.image s es m.0 (Tombstone t) same (does.tombstones t was named))
         | inr other ↦ with_there log.image s es m.0 (Tombstone t) other m.1.among
       ];
     },
   )
 
-  named : (z : ℕ) (o : ObjectValue) → IsAmong z log.ids → (b : IsBuried log.ids log.image pass z o) → IsAmong b.grave.segment log.ids
+  named : (z : ℕ) (o : ObjectValue) → IsAmong z log.ids → (b : IsBuried log.ids log.image pass z o)
+      → IsAmong b.grave.segment log.ids
   named z o here b = elim b.names [
     | inl same ↦ subst (λ (y : ℕ). IsAmong y log.ids) (sym same) here
     | inr c ↦ survive b.grave.segment c.survivor
   ]
 
-  still_buried : (z : ℕ) (o : ObjectValue) → IsAmong z log.ids → IsBuried log.ids log.image pass z o → IsBuried log.ids then_images pass z o
+  still_buried : (z : ℕ) (o : ObjectValue) → IsAmong z log.ids → IsBuried log.ids log.image pass z o
+      → IsBuried log.ids then_images pass z o
   still_buried z o here b = record {
     grave = b.grave;
     of_key = b.of_key;
@@ -67,21 +74,25 @@ module _ (log : LogSet) (pass : Pass) (index moved : Index) (contents : Contents
     names = elim b.names [ inl same ↦ inl same | inr c ↦ inr (still_copied z b.grave.segment o c) ];
   }
 
-  -- where the key's object is now: in the segment in which it was
+  -- Where the key's object is now: in the segment in which it was.
   pub record Moved (k : Key) (x : Versioned) (p : Place) : Type 0 where
     pub place : Place
     pub segment : place.segment ≡ p.segment
     pub indexed : moved k ≡ Some place
     pub stands : IsAt (with_image log.image s es place.segment) place.position (object_at k x)
 
-  moved_to : (k : Key) (x : Versioned) (p : Place) → index k ≡ Some p → IsAt (log.image p.segment) p.position (object_at k x) → Moved k x p
+  moved_to : (k : Key) (x : Versioned) (p : Place) → index k ≡ Some p
+      → IsAt (log.image p.segment) p.position (object_at k x) → Moved k x p
   moved_to k x p i at = elim (cases_eq p.segment s) [
-    | inl same ↦ (let j = does.objects k x p i same (subst (λ (y : ℕ). IsAt (log.image y) p.position (object_at k x)) same at) in record {
-      place = record { segment = s; position = j.0 };
-      segment = sym same;
-      indexed = j.1;
-      stands = at_here log.image s es s j.0 (object_at k x) refl j.2;
-    })
+    | inl same ↦ (
+        let was = subst (λ (y : ℕ). IsAt (log.image y) p.position (object_at k x)) same at in
+        let j = does.objects k x p i same was in
+        record {
+          place = record { segment = s; position = j.0 };
+          segment = sym same;
+          indexed = j.1;
+          stands = at_here log.image s es s j.0 (object_at k x) refl j.2;
+        })
     | inr other ↦ record {
       place = p;
       segment = refl;
@@ -98,8 +109,9 @@ module _ (log : LogSet) (pass : Pass) (index moved : Index) (contents : Contents
     stands = m.stands;
   }
 
-  lies_still : (k : Key) (x : Versioned) (p : Place) → contents k ≡ Some x → moved k ≡ Some p → (z : ℕ) (o : ObjectValue) → SegmentHas (replaced log s es) z (Object o) → Object o ≡ object_at k x →
-      (p.segment ≡ z) ⊎ IsCopied then_images pass z p.segment o
+  lies_still : (k : Key) (x : Versioned) (p : Place) → contents k ≡ Some x → moved k ≡ Some p → (z : ℕ)
+      (o : ObjectValue) → SegmentHas (replaced log s es) z (Object o) → Object o ≡ object_at k x
+      → (p.segment ≡ z) ⊎ IsCopied then_images pass z p.segment o
   lies_still k x p h to z o m same =
       let f = is.found k x h in
       let n = moved_to k x f.place f.indexed f.stands in
@@ -108,7 +120,8 @@ module _ (log : LogSet) (pass : Pass) (index moved : Index) (contents : Contents
       let segment : p.segment ≡ f.place.segment = ap (λ (q : Place). q.segment) (sym one) ∙ n.segment in
       elim (is.lies k x f.place h f.indexed z o (fewer z (Object o) m) same) [
         | inl e ↦ inl (segment ∙ e)
-        | inr c ↦ inr (subst (λ (y : ℕ). IsCopied then_images pass z y o) (sym segment) (still_copied z f.place.segment o c))
+        | inr c ↦ inr (subst (λ (y : ℕ). IsCopied then_images pass z y o) (sym segment)
+            (still_copied z f.place.segment o c))
       ]
 
   pub compacted_tracked : IsTracked (replaced log s es) pass moved contents
@@ -121,9 +134,11 @@ module _ (log : LogSet) (pass : Pass) (index moved : Index) (contents : Contents
     buried = λ z o m dead. let n = fewer z (Object o) m in still_buried z o n.counts (is.buried z o n dead);
   }
 
-  -- A pass goes on over the compaction of a segment that it doesn't have.
-  module _ (rest : List Place) (open_pass : IsPassing log.ids log.image pass index rest) (no_victim : IsAmong s pass.victims → ⊥) where
-    live_still : (k : Key) (p : Place) → moved k ≡ Some p → (c : Option Place) → index k ≡ c → IsAmong p.segment pass.victims → IsAmong p rest
+  -- a pass goes on over the compaction of a segment that it doesn't have
+  module _ (rest : List Place) (open_pass : IsPassing log.ids log.image pass index rest)
+      (no_victim : IsAmong s pass.victims → ⊥) where
+    live_still : (k : Key) (p : Place) → moved k ≡ Some p → (c : Option Place) → index k ≡ c
+        → IsAmong p.segment pass.victims → IsAmong p rest
     live_still k p to None e victim = let gone = does.nowhere k e in absurd (cc)
     live_still k p to (Some q) e victim =
         let f = found_at log pass index contents is k q e in
@@ -133,7 +148,7 @@ module _ (log : LogSet) (pass : Pass) (index moved : Index) (contents : Contents
               let i = n.indexed in
               let one : n.place ≡ p = cc in
               let segment : p.segment ≡ s = ap (λ (q : Place). q.segment) (sym one) ∙ n.segment ∙ same in
-              absurd (no_victim (subst (λ (y : ℕ). IsAmong y pass.victims) segment victim)))
+              absurd (member_differs pass.victims p.segment s victim no_victim segment))
           | inr other ↦ (
               let i = does.elsewhere k q e other in
               let one : q ≡ p = cc in
@@ -146,16 +161,25 @@ module _ (log : LogSet) (pass : Pass) (index moved : Index) (contents : Contents
       survivors_count = open_pass.survivors_count;
       disjoint = open_pass.disjoint;
       copies = λ z e q c m key.
-          let old = open_pass.copies z e q c (elim (with_out log.image s es z e m) as (λ _. IsAmong e (log.image z)) [
-            | inl w ↦ absurd (not_survivor (subst (λ (y : ℕ). IsAmong y pass.survivors) w.0 c))
+          let was = elim (with_out log.image s es z e m) as (λ _. IsAmong e (log.image z)) [
+            | inl w ↦ absurd (member_differs pass.survivors z s c no_survivor w.0)
             | inr w ↦ w.1
-          ]) key in
-          (old.0, old.1, with_there log.image s es old.0 e (λ same. no_victim (subst (λ (y : ℕ). IsAmong y pass.victims) same old.1)) old.2);
+          ] in
+          let old = open_pass.copies z e q c was key in (
+            old.0,
+            old.1,
+            with_there log.image s es old.0 e (member_differs pass.victims old.0 s old.1 no_victim) old.2,
+          );
       live = λ k p to. live_still k p to (index k) refl;
-      carried = λ p t victim at named.
-          let other : p.segment ≡ s → ⊥ = λ same. no_victim (subst (λ (y : ℕ). IsAmong y pass.victims) same victim) in
-          elim (open_pass.carried p t victim (at_from log.image s es p.segment p.position (Tombstone t) other at) named) [
+      carried = λ p t victim at now_named.
+          let other = member_differs pass.victims p.segment s victim no_victim in
+          let was = at_from log.image s es p.segment p.position (Tombstone t) other at in
+          elim (open_pass.carried p t victim was now_named) [
             | inl m ↦ inl m
-            | inr c ↦ inr (c.0, c.1, with_there log.image s es c.0 (Tombstone t) (λ same. not_survivor (subst (λ (w : ℕ). IsAmong w pass.survivors) same c.1)) c.2)
+            | inr c ↦ inr (
+              c.0,
+              c.1,
+              with_there log.image s es c.0 (Tombstone t) (member_differs pass.survivors c.0 s c.1 no_survivor) c.2,
+            )
           ];
     }

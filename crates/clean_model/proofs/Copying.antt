@@ -18,11 +18,11 @@ use Rattle.clean_model.specs.Compaction.{has, is_place}
 use Rattle.clean_model.specs.Intact.{survivor_entries, AreSealed, IsRollOf, IsIntact}
 use Rattle.clean_model.specs.Laws.{CopyKeeps}
 use Rattle.clean_model.specs.Memory.{Place, Index, Memory, Images, LogSet, IsAt, log_ids, log_of, grown, copied}
-use Rattle.clean_model.specs.Steps.{with_place, end_of, is_copied, with_copy}
+use Rattle.clean_model.specs.Steps.{with_place, next_place, is_copied, with_copy}
 use Rattle.clean_model.specs.Tracked.{IsTracked, IsPassing, IsAround}
 use Rattle.clean_model.proofs.KeptEntries.{has_is}
 use Rattle.clean_model.proofs.Lists.{among_at, at_one, grown_out, image_here, image_there}
-use Rattle.clean_model.proofs.Passes.{live_copied, live_passing, grave_copied, grave_passing, dropped_passing}
+use Rattle.clean_model.proofs.CopiedEntries.{live_copied, live_passing, grave_copied, grave_passing, dropped_passing}
 use Rattle.clean_model.proofs.Premises.{IsSet}
 use Rattle.clean_model.proofs.TrackedBags.{found_at, one_object}
 
@@ -152,15 +152,15 @@ module _ (d : LogData) (m : Memory) (p : Picture) (i : IsIntact d m p) (first : 
       let f = found_at log m.pass m.index contents i.tracked o.key first named in
       let it : object_at o.key f.has ≡ Object o =
       at_one (m.images first.segment) first.position (object_at o.key f.has) (Object o) f.stands at in
-      let index = with_place m.index o.key (Some (end_of m.images s)) in
-      let to = place_set m.index o.key (Some (end_of m.images s)) in
+      let index = with_place m.index o.key (Some (next_place m.images s)) in
+      let to = place_set m.index o.key (Some (next_place m.images s)) in
       record {
         log = i.log;
         tracked = subst (λ (e : Entry). IsTracked (copied log s e) m.pass index contents) it
-            (live_copied log m.pass m.index contents first rest s i.tracked passing_first victim survivor o.key f.has
+            (live_copied log m.pass m.index contents first rest i.tracked passing_first victim s survivor o.key f.has
             f.present named index to);
         passing = subst (λ (e : Entry). IsPassing (log_ids d m) (grown m.images s e) m.pass index rest) it
-            (live_passing log m.pass m.index contents first rest s i.tracked passing_first victim survivor o.key f.has
+            (live_passing log m.pass m.index contents first rest i.tracked passing_first victim s survivor o.key f.has
             f.present named index to);
         around = around_copied (Object o) (among_at _ _ _ at);
         chosen = i.chosen;
@@ -173,9 +173,9 @@ module _ (d : LogData) (m : Memory) (p : Picture) (i : IsIntact d m p) (first : 
       → IsIntact d (with_copy m rest s (Tombstone t)) p
   carried t at = record {
     log = i.log;
-    tracked = grave_copied log m.pass m.index (state_of d).contents first rest s i.tracked passing_first victim
+    tracked = grave_copied log m.pass m.index (state_of d).contents first rest i.tracked passing_first victim s
         survivor t at;
-    passing = grave_passing log m.pass m.index (state_of d).contents first rest s i.tracked passing_first victim
+    passing = grave_passing log m.pass m.index (state_of d).contents first rest i.tracked passing_first victim s
         survivor t at;
     around = around_copied (Tombstone t) (among_at _ _ _ at);
     chosen = i.chosen;
@@ -191,7 +191,7 @@ module _ (d : LogData) (m : Memory) (p : Picture) (i : IsIntact d m p) (first : 
   dropped e at unnamed gone = record {
     log = i.log;
     tracked = i.tracked;
-    passing = dropped_passing log m.pass m.index (state_of d).contents first rest 0 i.tracked passing_first victim e at
+    passing = dropped_passing log m.pass m.index (state_of d).contents first rest i.tracked passing_first victim e at
         unnamed gone;
     around = i.around;
     chosen = i.chosen;

@@ -26,7 +26,8 @@ use Rattle.clean_model.proofs.Lists.{among_at, image_here, image_there}
 use Rattle.clean_model.proofs.LogSetChanges.{IsMore, more_tracked, more_passing, more_around}
 use Rattle.clean_model.proofs.LogSetIds.{ids_out, in_digest, in_survivors}
 
-module _ (d : LogData) (m : Memory) (p : Picture) (i : IsIntact d m p) (n : Start) (commits : Bool) (roll : IsRoll d p n)
+module _ (d : LogData) (m : Memory) (p : Picture) (i : IsIntact d m p) (n : Start) (commits : Bool)
+    (roll : IsRoll d p n)
     (stands : Represents n.safe (base_of i.log.texts n.others) (state_of d))
     (which : IsRollOf d (rolled d m n commits) n) where
   abbrev e : LogData

@@ -1,5 +1,6 @@
 -- A replica of a survivor that is sealed fits its backup, and leaves all intact.
-use Rattle.std.proofs.Common.{◌≡◌, ℕ, suc, ◌<◌, ◌≤◌, ◌⊎◌, inl, inr, true, false, List, [], ◌∷◌, ◌++◌, refl, sym, ap, subst}
+use Rattle.std.proofs.Common.{◌≡◌, ℕ, suc, ◌<◌, ◌≤◌, ◌⊎◌, inl, inr, true, false, List, [], ◌∷◌, ◌++◌, refl, sym, ap}
+use Rattle.std.proofs.Common.{subst}
 use Rattle.std.proofs.Common.{◌∙◌, arith}
 use Rattle.std.specs.Prelude.{Some, None, IsSomeAnd, slice_get}
 use Rattle.std.proofs.lemmas.Bool.{cases_Bool, cases_eq, ne_eqb}
@@ -97,7 +98,8 @@ module _ (d : LogData) (m : Memory) (p : Picture) (s b : ℕ) (i : IsIntact d m 
   whole = record {
     segment = may.segment;
     limit = may.limit;
-    header = subst (λ (l : List Entry). IsSomeAnd (header_of l) (λ (h : HeaderValue). (h.master ≡ master) × (h.segment ≡ s)))
+    header = subst
+        (λ (l : List Entry). IsSomeAnd (header_of l) (λ (h : HeaderValue). (h.master ≡ master) × (h.segment ≡ s)))
         (sym (i.sealing.begins s may.survivor).1) (refl, refl);
     keys = survivor_keys;
   }

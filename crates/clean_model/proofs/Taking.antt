@@ -24,7 +24,7 @@ use Rattle.clean_model.proofs.CommitBase.{passing_done, ready_text}
 use Rattle.clean_model.proofs.LogSetChanges.{IsMore, more_tracked, more_passing, more_around}
 use Rattle.clean_model.proofs.LogSetIds.{ids_out, in_digest, in_survivors, head_in, new_in}
 use Rattle.clean_model.proofs.NoPass.{none_passing, none_chosen, none_sealed}
-use Rattle.clean_model.proofs.Passes.{committed}
+use Rattle.clean_model.proofs.CommittedPass.{committed}
 use Rattle.clean_model.proofs.Premises.{IsLess}
 
 -- where the log holds the same texts, and survivors' replicas are as they were

@@ -41,7 +41,8 @@ object_key o p same = ap (λ (z : ObjectValue). z.key) (one_object o p same)
 
 -- ---- bags
 
-module _ (log : LogSet) (pass : Pass) (index : Index) (contents : Contents) (is : IsTracked log pass index contents) where
+module _ (log : LogSet) (pass : Pass) (index : Index) (contents : Contents)
+    (is : IsTracked log pass index contents) where
   pub stands_in : (k : Key) (x : Versioned) → contents k ≡ Some x → ImagesHave log.ids log.image (object_at k x)
   stands_in k x h =
       let f = is.found k x h in (f.place.segment, record { counts = f.counts; among = among_at _ _ _ f.stands })

@@ -14,7 +14,8 @@ use Rattle.clean_model.specs.Covered.{IsCovered}
 use Rattle.clean_model.specs.Intact.{IsCommit, IsReady, IsIntact}
 use Rattle.clean_model.specs.Memory.{Place, Memory}
 use Rattle.clean_model.specs.Steps.{first_memory, compacted, MayCompact, pass_begun, MayBeginClean, copy_done, MayCopy}
-use Rattle.clean_model.specs.Steps.{recorded, IsNamed, rolled, commit_start, MayCommit, after_take, seal_op, sealed_more}
+use Rattle.clean_model.specs.Steps.{recorded, IsNamed, rolled, commit_start, MayCommit, after_take, seal_op}
+use Rattle.clean_model.specs.Steps.{sealed_more}
 use Rattle.clean_model.specs.Steps.{MaySeal, free_op, MayFree, IsFault}
 
 -- ---- what is intact

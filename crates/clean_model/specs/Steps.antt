@@ -72,15 +72,15 @@ abbrev pub with_place : Index → Key → Option Place → Index
 with_place index k x = λ q. if key_eq q k then x else index q
 
 -- the place of the next entry of a segment
-abbrev pub end_of : Images → ℕ → Place
-end_of image s = record { segment = s; position = length (image s) }
+abbrev pub next_place : Images → ℕ → Place
+next_place image s = record { segment = s; position = length (image s) }
 
 -- the index once the entry at the cursor is copied to a survivor: it moves with an object
 abbrev pub index_moved : Memory → ℕ → Entry → Index
 index_moved m s (entry.Header h) = m.index
 index_moved m s (entry.Digest ids) = m.index
 index_moved m s (entry.Safe version) = m.index
-index_moved m s (entry.Object o) = with_place m.index o.key (Some (end_of m.images s))
+index_moved m s (entry.Object o) = with_place m.index o.key (Some (next_place m.images s))
 index_moved m s (entry.Tombstone t) = m.index
 
 -- an opening isn't copied, though compaction keeps it
@@ -114,7 +114,7 @@ abbrev pub index_after : Images → Index → ℕ → Entry → Index
 index_after images index s (entry.Header h) = index
 index_after images index s (entry.Digest ids) = index
 index_after images index s (entry.Safe version) = index
-index_after images index s (entry.Object o) = with_place index o.key (Some (end_of images s))
+index_after images index s (entry.Object o) = with_place index o.key (Some (next_place images s))
 index_after images index s (entry.Tombstone t) = with_place index t.key None
 
 -- images once entries are appended one after the other

@@ -1,5 +1,6 @@
 -- A unit that is appended leaves the backups as they are, whatever it stands for.
-use Rattle.std.proofs.Common.{◌≡◌, ℕ, ◌<◌, inl, inr, true, List, [], ◌++◌, length, take, Some, refl, sym, ap, subst, ◌∙◌}
+use Rattle.std.proofs.Common.{◌≡◌, ℕ, ◌<◌, inl, inr, true, List, [], ◌++◌, length, take, Some, refl, sym, ap, subst}
+use Rattle.std.proofs.Common.{◌∙◌}
 use Rattle.std.proofs.Common.{arith, append_assoc}
 use Rattle.std.specs.Prelude.{None, slice_get, not, nat_lt}
 use Rattle.std.proofs.lemmas.List.{append-nil}
@@ -15,7 +16,7 @@ use Rattle.log_model.specs.Kept.{IsLogHeld}
 use Rattle.log_model.specs.Laws.{AppendedIsHeld}
 use Rattle.log_model.specs.Log.{Texts, IsSegmentOf, IsHeadLog, IsWhole, IsNewLog, IsLogged}
 use Rattle.log_model.specs.Mirror.{head_replica, IsReplica, IsMirrored}
-use Rattle.log_model.specs.Steps.{with_unit, appended, MayAppend, texts_appended}
+use Rattle.log_model.specs.Steps.{with_unit, with_appended, MayAppend, texts_appended}
 use Rattle.log_model.proofs.Fronts.{unit_front, unit_longer, unit_entries}
 use Rattle.log_model.proofs.Replicas.{still_older, older_no_head}
 use Rattle.log_model.proofs.Segments.{units_all}
@@ -52,7 +53,7 @@ module _ (d : LogData) (texts : Texts) (p : Picture) (history : List Record) (un
   more = with_unit us number unit
 
   abbrev e : LogData
-  e = appended d history unit
+  e = with_appended d history unit
 
   abbrev old_entries : List Entry
   old_entries = head_entries master d.head (length us)
@@ -123,7 +124,7 @@ module _ (d : LogData) (texts : Texts) (p : Picture) (history : List Record) (un
   -- while a roll is under way there is no unit more
   whole : 0 < opened_of d.config.replicas d.phase → IsWhole d.config.replicas e.head
   whole some = elim may.fits as (λ _. IsWhole d.config.replicas e.head) [
-    | inl none ↦ subst (λ (u : List Entry). IsWhole d.config.replicas (appended d history u).head) (sym none)
+    | inl none ↦ subst (λ (u : List Entry). IsWhole d.config.replicas (with_appended d history u).head) (sym none)
         (log.whole some)
     | inr fits ↦ (let none = ap (opened_of d.config.replicas) fits.ready in absurd (omega arith))
   ]

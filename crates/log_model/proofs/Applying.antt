@@ -20,7 +20,8 @@ use Rattle.log_model.specs.Log.{Texts, Rise, base_of, IsStanding}
 use Rattle.log_model.specs.Steps.{with_unit, unit_now, applied, MayAppend, MayApply, texts_applied}
 use Rattle.log_model.proofs.Appending.{quiet, appended_is_held}
 use Rattle.log_model.proofs.Counts.{before_le}
-use Rattle.log_model.proofs.Fronts.{unit_front, unit_entries, unit_rise, unit_counts, after_all, state_front, state_next}
+use Rattle.log_model.proofs.Fronts.{unit_front, unit_entries, unit_rise, unit_counts, after_all, state_front}
+use Rattle.log_model.proofs.Fronts.{state_next}
 use Rattle.log_model.proofs.Fronts.{present}
 use Rattle.log_model.proofs.Lists.{below_at}
 use Rattle.log_model.proofs.PastHeads.{applied_is_past}

@@ -15,7 +15,8 @@ use Rattle.versioned_map.specs.Represents.{Represents}
 use Rattle.versioned_map.specs.Versioned.{State, after, after_command}
 use Rattle.versioned_map.proofs.Tops.{among_left, among_right, among_either}
 use Rattle.versioned_map.proofs.Units.{states_pushed}
-use Rattle.log_model.specs.Data.{LogUnit, Head, LogData, entries_of, front_entries, records_before, state_of, state_after}
+use Rattle.log_model.specs.Data.{LogUnit, Head, LogData, entries_of, front_entries, records_before, state_of}
+use Rattle.log_model.specs.Data.{state_after}
 use Rattle.log_model.specs.Log.{Texts, Rise, base_of, IsStanding}
 use Rattle.log_model.specs.Steps.{with_unit}
 use Rattle.log_model.proofs.Counts.{rise_more, rise_push, before_within, before_end, before_push}

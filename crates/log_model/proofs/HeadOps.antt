@@ -1,5 +1,6 @@
 -- An op that a replica of the head in force takes: the first head's next replica is opened, or one takes more units.
-use Rattle.std.proofs.Common.{◌≡◌, ℕ, ◌<◌, ◌≤◌, inl, inr, Bool, true, false, cond, List, [], ◌∷◌, ◌++◌, length, take, Some}
+use Rattle.std.proofs.Common.{◌≡◌, ℕ, ◌<◌, ◌≤◌, inl, inr, Bool, true, false, cond, List, [], ◌∷◌, ◌++◌, length, take}
+use Rattle.std.proofs.Common.{Some}
 use Rattle.std.proofs.Common.{refl, sym, ap, subst, ◌∙◌, arith, append_assoc}
 use Rattle.std.specs.Prelude.{None, slice_get, slice_set, nat_lt, ◌==◌}
 use Rattle.std.proofs.lemmas.Bool.{cases_lt, cases_eq}
@@ -96,10 +97,12 @@ module _ (d : LogData) (texts : Texts) (p : Picture) (held : IsLogHeld d texts p
     }
 
     opened_then : (d.head.start.others ≡ [] → ⊥) → length ks ≡ d.config.replicas
-    opened_then older = let all = log.opened older in elim (cases_lt (length ks) d.config.replicas) as (λ _. length ks ≡ d.config.replicas) [
-      | inl lt ↦ (let less = first lt in absurd (omega arith))
-      | inr le ↦ omega arith
-    ]
+    opened_then older =
+        let all = log.opened older in
+        elim (cases_lt (length ks) d.config.replicas) as (λ _. length ks ≡ d.config.replicas) [
+          | inl lt ↦ (let less = first lt in absurd (omega arith))
+          | inr le ↦ omega arith
+        ]
 
     -- a home of another number is another backup
     elsewhere_home : (i c : ℕ) → IsHomeAt d id i c → i ≡ j → b ≡ c
@@ -228,7 +231,10 @@ module _ (d : LogData) (texts : Texts) (p : Picture) (held : IsLogHeld d texts p
     more = entries_of (units_between d.head.units is.from is.to)
 
     lacks_some : IsWhole d.config.replicas d.head → ⊥
-    lacks_some whole = let all = whole.all is.j is.from is.has in let lags = is.lags in let most = is.within in omega arith
+    lacks_some whole =
+        let all = whole.all is.j is.from is.has in
+        let lags = is.lags in
+        let most = is.within in omega arith
 
     units_up_to : take is.to d.head.units ≡ take is.from d.head.units ++ units_between d.head.units is.from is.to
     units_up_to =

@@ -24,7 +24,8 @@ module _ (recorded : ℕ) (bag : List Entry) (st : State) (o : Object) (r : Repr
   above : (f : Entry) → among bag f → IsOfKey o.key f → rank_of f < rank_of e
   above f m at = absurd (none f m at)
 
-  below_more : (q : Key) (f : Entry) → with_contents st.contents o.key x q ≡ None → among (bag ++ e ∷ []) f → IsOfKey q f → version_of f < st.safe
+  below_more : (q : Key) (f : Entry) → with_contents st.contents o.key x q ≡ None → among (bag ++ e ∷ []) f
+      → IsOfKey q f → version_of f < st.safe
   below_more q f gone m at = elim (key_eq-tells q o.key) as (λ _. version_of f < st.safe) [
     | inl t ↦ (let never : x ≡ None = sym (at_key st.contents o.key x q t.1) ∙ gone in absurd (cc))
     | inr t ↦ elim (among_push f bag e m) as (λ _. version_of f < st.safe) [

@@ -51,8 +51,10 @@ module _ (d : LogData) (texts : Texts) (standing : IsStanding d texts) where
 
 pub next_is_standing : NextIsStanding
 next_is_standing d e texts o standing next = elim (next_goes_on d e o next) as (λ _. IsStanding e texts) [
-  | inl on ↦ subst (λ (x : LogData). IsStanding x texts) (sym on.gives) (steady d texts standing on.counts on.phase on.new)
-  | inr end ↦ subst (λ (x : LogData). IsStanding x texts) (sym end.gives) (ended d texts standing end.n end.new)
+  | inl on ↦ subst (λ (x : LogData). IsStanding x texts) (sym on.gives)
+      (steady d texts standing on.counts on.phase on.new)
+  | inr end ↦ subst (λ (x : LogData). IsStanding x texts) (sym end.gives)
+      (ended d texts standing end.n end.new)
 ]
 
 -- the heads before, whichever

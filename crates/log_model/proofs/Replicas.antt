@@ -103,7 +103,8 @@ module _ (d : LogData) (texts : Texts) (p : Picture) (held : IsLogHeld d texts p
       let opened = whole.opened in
       let there = home_held (omega arith) b home in
       there.2
-      ∙ ap (λ (k : ℕ). Some (head_replica master d.head (closed_of d.phase) home.0 k)) (whole.all home.0 there.0 there.1)
+      ∙ ap (λ (k : ℕ). Some (head_replica master d.head (closed_of d.phase) home.0 k))
+      (whole.all home.0 there.0 there.1)
 
   -- ---- a replica of the head that a roll is opening
 

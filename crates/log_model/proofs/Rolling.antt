@@ -12,7 +12,8 @@ use Rattle.replica.specs.Picture.{Replica, Picture}
 use Rattle.versioned_map.specs.Represents.{Represents}
 use Rattle.versioned_map.specs.Versioned.{State}
 use Rattle.versioned_map.proofs.Tops.{among_push}
-use Rattle.log_model.specs.Data.{Start, LogData, IsHome, ids_of, start_entries, entries_of, front_entries, new_of, closed_of}
+use Rattle.log_model.specs.Data.{Start, LogData, IsHome, ids_of, start_entries, entries_of, front_entries, new_of}
+use Rattle.log_model.specs.Data.{closed_of}
 use Rattle.log_model.specs.Data.{records_before, state_of, state_after}
 use Rattle.log_model.specs.Kept.{IsLogHeld}
 use Rattle.log_model.specs.Laws.{RollingIsHeld, RollingIsStanding, RollingIsKept, OrdinaryIsRoll}
@@ -26,7 +27,8 @@ use Rattle.log_model.proofs.Replicas.{still_older, head_segment}
 use Rattle.log_model.proofs.Segments.{start_segment, front_data, units_all}
 use Rattle.log_model.proofs.Texts.{text_there, text_other, base_other}
 
-module _ (d : LogData) (texts : Texts) (p : Picture) (n : Start) (held : IsLogHeld d texts p) (roll : IsRoll d p n) where
+module _ (d : LogData) (texts : Texts) (p : Picture) (n : Start) (held : IsLogHeld d texts p)
+    (roll : IsRoll d p n) where
   abbrev log : IsLogged d texts
   log = held.logged
 
@@ -49,7 +51,8 @@ module _ (d : LogData) (texts : Texts) (p : Picture) (n : Start) (held : IsLogHe
   same_before s lt =
       let next = roll.next in text_other texts n.id (start_entries master n) s (λ is. omega arith)
 
-  same_base : (m : Start) → ((s : ℕ) → IsAmong s m.others → s < n.id) → base_of texts_now m.others ≡ base_of texts m.others
+  same_base : (m : Start) → ((s : ℕ) → IsAmong s m.others → s < n.id)
+      → base_of texts_now m.others ≡ base_of texts m.others
   same_base m below =
       base_other texts n.id (start_entries master n) m.others (λ k. let lt = below n.id k in omega arith)
 

@@ -106,7 +106,8 @@ sealed_is_held d texts p o es held seals =
         placed = held.placed;
         logged = free_logged d texts o.segment es seals.free held.logged;
         mirrored = spared d texts (texts_sealed texts o es) p o.backup o.segment (Some replica) held.mirrored seals.free
-            (text_other texts o.segment es) (sealed_own d texts p o es held seals) (λ lt c t r is. absurd (omega arith));
+            (text_other texts o.segment es) (sealed_own d texts p o es held seals)
+            (λ lt c t r is. absurd (omega arith));
       },
     )
 

@@ -20,7 +20,8 @@ use Rattle.log_model.specs.Mirror.{head_replica, new_replica, IsHeadReplica, IsN
 use Rattle.log_model.specs.Sound.{IsSurvivingChoice}
 use Rattle.log_model.proofs.Choices.{held_by, shown_in}
 use Rattle.log_model.proofs.Lists.{below_at, some_given, some_is}
-use Rattle.log_model.proofs.Replicas.{opening_for, one_new, stage, head_bears, home_held, whole_held, new_bears, bearing}
+use Rattle.log_model.proofs.Replicas.{opening_for, one_new, stage, head_bears, home_held, whole_held, new_bears}
+use Rattle.log_model.proofs.Replicas.{bearing}
 
 -- ---- homes that are left
 

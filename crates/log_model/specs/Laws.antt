@@ -16,7 +16,7 @@ use Rattle.log_model.specs.Log.{Texts, base_of, IsSegmentOf, IsStanding}
 use Rattle.log_model.specs.Ops.{LogOp, taken}
 use Rattle.log_model.specs.Sound.{IsSound}
 use Rattle.log_model.specs.Spares.{Seals, texts_sealed, Frees}
-use Rattle.log_model.specs.Steps.{fresh, MayBegin, appended, applied, MayAppend, MayApply, texts_appended}
+use Rattle.log_model.specs.Steps.{fresh, MayBegin, with_appended, applied, MayAppend, MayApply, texts_appended}
 use Rattle.log_model.specs.Steps.{texts_applied, next_start, rolling, texts_rolling, MayRoll, IsRoll, id_taken}
 use Rattle.log_model.specs.Steps.{texts_taken, extend_act, Extends, IsNext, GoesOn, EndsRoll}
 
@@ -59,7 +59,7 @@ AdoptedIsKept = (d : LogData) (p : Picture) (st : State) → IsLoaded d p st →
 -- What is appended leaves the backups as they are, of a master that is still loading too.
 abbrev pub AppendedIsHeld : Type 0
 AppendedIsHeld = (d : LogData) (texts : Texts) (p : Picture) (history : List Record) (unit : List Entry)
-    → IsLogHeld d texts p → MayAppend d unit → IsLogHeld (appended d history unit) (texts_appended d texts unit) p
+    → IsLogHeld d texts p → MayAppend d unit → IsLogHeld (with_appended d history unit) (texts_appended d texts unit) p
 
 -- A record that is applied has its unit in the head.
 abbrev pub AppliedIsStanding : Type 0

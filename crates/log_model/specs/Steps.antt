@@ -53,15 +53,15 @@ abbrev pub unit_now : LogData → ℕ → Record → List Entry
 unit_now d segment r = unit_of (state_of d) segment r.command
 
 -- this history, and one more unit where it is something
-abbrev pub appended : LogData → List Record → List Entry → LogData
-appended d history unit = record d {
+abbrev pub with_appended : LogData → List Record → List Entry → LogData
+with_appended d history unit = record d {
   history = history;
   head = record d.head { units = with_unit d.head.units (length d.history) unit };
 }
 
 -- the record is applied, and its unit appended
 abbrev pub applied : LogData → ℕ → Record → LogData
-applied d segment r = appended d (d.history ++ r ∷ []) (unit_now d segment r)
+applied d segment r = with_appended d (d.history ++ r ∷ []) (unit_now d segment r)
 
 -- What is appended fits the head, and nothing is appended while a roll is under way.
 pub record Fits (d : LogData) (unit : List Entry) : Type 0 where
