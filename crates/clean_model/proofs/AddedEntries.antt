@@ -16,7 +16,7 @@ use Rattle.clean_model.specs.Tracked.{IsCopied, IsBuried, IsFound, IsTracked}
 use Rattle.clean_model.proofs.Lists.{grown_in, grown_out, at_grown, at_grown_last}
 use Rattle.clean_model.proofs.Premises.{IsSet, IsAdded}
 use Rattle.clean_model.proofs.TrackedBags.{in_segment, of_same, of_other, stands_in, key_tells, object_is, one_object}
-use Rattle.clean_model.proofs.TrackedBags.{object_key}
+use Rattle.clean_model.proofs.TrackedBags.{object_key, buried_again}
 
 pub added_copied : (log : LogSet) (s : ℕ) (e : Entry) → IsAdded log (copied log s e) s e
 added_copied log s e = record {
@@ -40,19 +40,14 @@ module _ (log new : LogSet) (s : ℕ) (e : Entry) (added : IsAdded log new s e) 
 
   pub buried_grows : (z : ℕ) (o : ObjectValue) → IsBuried log.ids log.image pass z o
       → IsBuried new.ids new.image pass z o
-  buried_grows z o b = record {
-    grave = b.grave;
-    of_key = b.of_key;
-    of_version = b.of_version;
-    stands = (
-      b.stands.0,
-      record {
-        counts = added.counted b.stands.0 b.stands.1.counts;
-        among = added.image b.stands.0 (Tombstone b.grave) b.stands.1.among;
-      },
-    );
-    names = elim b.names [ inl same ↦ inl same | inr c ↦ inr (copied_grows z b.grave.segment o c) ];
-  }
+  buried_grows z o b = buried_again log.ids new.ids log.image new.image pass pass z o b (
+    b.stands.0,
+    record {
+      counts = added.counted b.stands.0 b.stands.1.counts;
+      among = added.image b.stands.0 (Tombstone b.grave) b.stands.1.among;
+    },
+  )
+      (elim b.names [ inl same ↦ inl same | inr c ↦ inr (copied_grows z b.grave.segment o c) ])
 
   pub found_grows : (index moved : Index) (k : Key) (x : Versioned) → moved k ≡ index k
       → IsFound log.ids log.image index k x → IsFound new.ids new.image moved k x

@@ -1,10 +1,8 @@
 -- A command that is applied leaves all intact, while a pass is open too.
-use Rattle.std.proofs.Common.{◌≡◌, ℕ, ◌⊎◌, inl, inr, List, ◌++◌, sym, ap, subst, ◌∙◌, arith}
-use Rattle.std.specs.Prelude.{Some, false}
+use Rattle.std.proofs.Common.{refl, ◌≡◌, ℕ, ◌⊎◌, inl, inr, List, ◌++◌, sym, ap, subst, ◌∙◌, arith}
 use Rattle.std.proofs.lemmas.Bool.{cases_eq}
 use Rattle.entry.specs.declared.entry.Entry.{Entry}
 use Rattle.entry.specs.Bag.{IsAmong}
-use Rattle.entry.specs.Text.{text_of, opening_of}
 use Rattle.replica.specs.Picture.{Picture}
 use Rattle.versioned_map.specs.declared.command.Record.{Record}
 use Rattle.versioned_map.specs.Versioned.{State, after_command}
@@ -16,7 +14,7 @@ use Rattle.log_model.specs.Steps.{unit_now, applied, MayApply}
 use Rattle.log_model.proofs.Applying.{state_applied, applied_is_kept}
 use Rattle.log_model.proofs.Lists.{below_at}
 use Rattle.log_model.proofs.Texts.{text_there, text_other}
-use Rattle.clean_model.specs.Intact.{AreSealed, IsIntact}
+use Rattle.clean_model.specs.Intact.{IsIntact}
 use Rattle.clean_model.specs.Laws.{ApplyKeeps}
 use Rattle.clean_model.specs.Memory.{Memory, LogSet, log_ids, log_of}
 use Rattle.clean_model.specs.Steps.{recorded, IsNamed}
@@ -24,6 +22,7 @@ use Rattle.clean_model.specs.Tracked.{IsTracked, IsAround}
 use Rattle.clean_model.proofs.AppendedUnits.{IsStage, command_then, images_there, images_last, images_out}
 use Rattle.clean_model.proofs.LogSetChanges.{told_in, texts_changed}
 use Rattle.clean_model.proofs.LogSetIds.{in_digest, head_in}
+use Rattle.clean_model.proofs.SealedSurvivors.{still_sealed}
 
 module _ (d : LogData) (m : Memory) (p : Picture) (segment : ℕ) (r : Record) (i : IsIntact d m p)
     (may : MayApply d segment r) (named : IsNamed m segment r) where
@@ -133,20 +132,6 @@ module _ (d : LogData) (m : Memory) (p : Picture) (segment : ℕ) (r : Record) (
   text_same : (s : ℕ) → IsAmong s m.pass.survivors → log.texts s ≡ old_texts s
   text_same s survivor = text_other_now s (not_head s survivor)
 
-  sealing : AreSealed d.config n log.texts p
-  sealing = record {
-    few = i.sealing.few;
-    begins = λ s survivor. let is = i.sealing.begins s survivor in (is.0, image_same s survivor ∙ is.1);
-    bare = λ s survivor. ap opening_of (text_same s survivor) ∙ i.sealing.bare s survivor;
-    text = λ s survivor some.
-        let is = i.sealing.text s survivor some in
-        (is.0, text_same s survivor ∙ is.1 ∙ sym (image_same s survivor));
-    held = λ s j b survivor home lt.
-        i.sealing.held s j b survivor home lt
-        ∙ ap (λ (es : List Entry). Some (record { bytes = text_of es; is_open = false })) (sym (text_same s survivor));
-    only = i.sealing.only;
-  }
-
 pub apply_keeps : ApplyKeeps
 apply_keeps d m p segment r i may named = record {
   log = log d m p segment r i may named;
@@ -154,7 +139,9 @@ apply_keeps d m p segment r i may named = record {
   passing = (stage d m p segment r i may named).passing;
   around = around d m p segment r i may named;
   chosen = i.chosen;
-  sealing = sealing d m p segment r i may named;
+  sealing = still_sealed d.config m i.log.texts (log d m p segment r i may named).texts p p
+      (recorded d m segment r).images (recorded d m segment r).index m.commits i.sealing
+      (image_same d m p segment r i may named) (text_same d m p segment r i may named) (λ b s survivor. refl);
   rolling = i.rolling;
   waiting = i.waiting;
 }

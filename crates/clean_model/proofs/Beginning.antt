@@ -1,5 +1,5 @@
 -- A pass that begins leaves all intact: it takes an id for its survivor.
-use Rattle.std.proofs.Common.{◌≡◌, ℕ, suc, ◌⊎◌, inl, inr, true, false, List, [], sym, ap, subst, ◌∙◌, arith}
+use Rattle.std.proofs.Common.{refl, ◌≡◌, ℕ, suc, ◌⊎◌, inl, inr, true, false, List, [], sym, ap, subst, ◌∙◌, arith}
 use Rattle.entry.specs.declared.key.Key.{Key}
 use Rattle.entry.specs.declared.entry.Entry.{Entry}
 use Rattle.entry.specs.declared.entry.Entry.TheVariants.{Tombstone}
@@ -12,16 +12,17 @@ use Rattle.log_model.specs.Kept.{IsKept}
 use Rattle.log_model.specs.Mirror.{IsReplica}
 use Rattle.log_model.specs.Steps.{id_taken}
 use Rattle.log_model.proofs.NewIds.{id_taken_kept}
-use Rattle.log_model.proofs.Texts.{text_there, text_other}
+use Rattle.log_model.proofs.Texts.{text_there}
 use Rattle.clean_model.specs.Intact.{survivor_entries, IsPassOf, AreSealed, IsIntact}
 use Rattle.clean_model.specs.Laws.{BeginKeeps}
 use Rattle.clean_model.specs.Memory.{Place, Memory, LogSet, Pass, no_pass, IsAt, log_ids, log_of}
 use Rattle.clean_model.specs.Steps.{pass_begun, MayBeginClean}
 use Rattle.clean_model.specs.Tracked.{IsTracked, IsPassing, IsAround}
 use Rattle.clean_model.proofs.KeptEntries.{places_all}
-use Rattle.clean_model.proofs.Lists.{image_here, image_there}
-use Rattle.clean_model.proofs.LogSetChanges.{IsMore, more_tracked, more_around, begun_tracked}
+use Rattle.clean_model.proofs.Lists.{image_there}
+use Rattle.clean_model.proofs.LogSetChanges.{IsMore, more_tracked, begun_tracked}
 use Rattle.clean_model.proofs.LogSetIds.{ids_out, in_digest, in_new, in_survivors, in_others, new_in}
+use Rattle.clean_model.proofs.NewSegments.{new_image, new_more, new_around}
 use Rattle.clean_model.proofs.TrackedBags.{found_at}
 
 -- a survivor's header has no keys
@@ -68,26 +69,12 @@ module _ (d : LogData) (m : Memory) (p : Picture) (victims : List ℕ) (i : IsIn
   ]
 
   image_is : (s : ℕ) → s ≡ d.next → memory.images s ≡ opening
-  image_is s same = ap memory.images same ∙ image_here m.images d.next opening
-
-  text_is : (s : ℕ) → s ≡ d.next → then_log.texts s ≡ opening
-  text_is s same = ap then_log.texts same ∙ text_there i.log.texts d.next opening
+  image_is = new_image log (log_ids e memory) d.next opening older still_id either_id
+      (no_survivor_keys d.config.master d.next)
 
   more : IsMore log new
-  more = record {
-    counted = still_id;
-    image = λ s c. image_there m.images d.next opening s (older s c);
-    text = λ s c. text_other i.log.texts d.next opening s (older s c);
-    blank = λ s c. elim (either_id s c) [
-      | inl l ↦ inl l
-      | inr same ↦ inr (λ f k at l. elim l as (λ _. ⊥) [
-        | inl a ↦ no_survivor_keys d.config.master d.next f k
-            (subst (λ (es : List Entry). IsAmong f es) (image_is s same) a) at
-        | inr a ↦ no_survivor_keys d.config.master d.next f k
-            (subst (λ (es : List Entry). IsAmong f es) (text_is s same) a) at
-      ])
-    ];
-  }
+  more = new_more log (log_ids e memory) d.next opening older still_id either_id
+      (no_survivor_keys d.config.master d.next)
 
   -- nothing is held of an id that no segment had
   nothing : (b s : ℕ) (r : Replica) → d.next ≡ s → IsReplica d i.log.texts b s r → ⊥
@@ -103,15 +90,10 @@ module _ (d : LogData) (m : Memory) (p : Picture) (victims : List ℕ) (i : IsIn
       (subst (λ (x : Pass). IsTracked log x m.index (state_of d).contents) may.none i.tracked)
 
   around_then : IsAround new no_pass (state_of d).contents (state_of d).safe (suc d.next)
-  around_then = more_around log new more no_pass (λ s never. absurd never) (state_of d).contents (state_of d).safe
-      d.next (suc d.next)
+  around_then = new_around log (log_ids e memory) d.next opening older still_id either_id
+      (no_survivor_keys d.config.master d.next) no_pass (λ s never. absurd never) (state_of d).contents
+      (state_of d).safe d.next refl
       (subst (λ (x : Pass). IsAround log x (state_of d).contents (state_of d).safe d.next) may.none i.around)
-      (omega arith)
-      (λ s c. elim (either_id s c) [ inl l ↦ inl l | inr same ↦ inr (omega arith) ])
-      (λ s f c. elim (either_id s c) [
-        | inl l ↦ inl l
-        | inr same ↦ inr (λ l. subst (λ (es : List Entry). IsAmong f es) (image_is s same ∙ sym (text_is s same)) l)
-      ])
 
   victim_old : (s : ℕ) → IsAmong s victims → IsAmong s (log_ids d m)
   victim_old s c = in_digest d m s (in_others d s (may.older s c))
@@ -163,7 +145,7 @@ module _ (d : LogData) (m : Memory) (p : Picture) (victims : List ℕ) (i : IsIn
       | inr never ↦ absurd never
     ];
     bare = λ s survivor. elim survivor [
-      | inl same ↦ ap opening_of (text_is s (sym same))
+      | inl same ↦ ap opening_of (ap then_log.texts (sym same) ∙ text_there i.log.texts d.next opening)
       | inr never ↦ absurd never
     ];
     text = λ s survivor lt. absurd (omega arith);

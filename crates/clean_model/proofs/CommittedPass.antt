@@ -10,6 +10,7 @@ use Rattle.clean_model.specs.Memory.{Index, LogSet, Pass, no_pass, SegmentHas, I
 use Rattle.clean_model.specs.Tracked.{IsBuried, IsTracked, IsPassing}
 use Rattle.clean_model.proofs.Lists.{among_tells, place_of}
 use Rattle.clean_model.proofs.Premises.{IsLess}
+use Rattle.clean_model.proofs.TrackedBags.{buried_again}
 
 module _ (log : LogSet) (pass : Pass) (index : Index) (contents : Contents) (left : List ℕ)
     (is : IsTracked log pass index contents) (done : IsPassing log.ids log.image pass index [])
@@ -39,13 +40,8 @@ module _ (log : LogSet) (pass : Pass) (index : Index) (contents : Contents) (lef
       → IsBuried left log.image no_pass s o
   left_buried s o counts b =
       let same : b.grave.segment ≡ s = elim b.names [ inl e ↦ e | inr c ↦ absurd (less.gone s counts c.victim) ] in
-      record {
-        grave = b.grave;
-        of_key = b.of_key;
-        of_version = b.of_version;
-        stands = grave_left b.grave (subst (λ (y : ℕ). IsAmong y log.ids) (sym same) (less.from s counts)) b.stands;
-        names = inl same;
-      }
+      buried_again log.ids left log.image log.image pass no_pass s o b
+      (grave_left b.grave (subst (λ (y : ℕ). IsAmong y log.ids) (sym same) (less.from s counts)) b.stands) (inl same)
 
   pub committed : IsTracked after no_pass index contents
   committed = record {

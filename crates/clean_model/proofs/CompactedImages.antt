@@ -14,7 +14,7 @@ use Rattle.clean_model.specs.Memory.{replaced}
 use Rattle.clean_model.specs.Tracked.{IsCopied, IsBuried, IsFound, IsTracked, IsPassing}
 use Rattle.clean_model.proofs.Lists.{member_differs, with_out, with_here, with_there, at_here, at_there, at_from}
 use Rattle.clean_model.proofs.Premises.{IsCompacted}
-use Rattle.clean_model.proofs.TrackedBags.{found_at}
+use Rattle.clean_model.proofs.TrackedBags.{buried_again, found_at}
 
 module _ (log : LogSet) (pass : Pass) (index moved : Index) (contents : Contents) (s : ℕ) (es : List Entry)
     (is : IsTracked log pass index contents) (does : IsCompacted log.ids log.image index moved s es)
@@ -66,13 +66,9 @@ module _ (log : LogSet) (pass : Pass) (index moved : Index) (contents : Contents
 
   still_buried : (z : ℕ) (o : ObjectValue) → IsAmong z log.ids → IsBuried log.ids log.image pass z o
       → IsBuried log.ids then_images pass z o
-  still_buried z o here b = record {
-    grave = b.grave;
-    of_key = b.of_key;
-    of_version = b.of_version;
-    stands = grave_stays b.grave (named z o here b) b.stands;
-    names = elim b.names [ inl same ↦ inl same | inr c ↦ inr (still_copied z b.grave.segment o c) ];
-  }
+  still_buried z o here b = buried_again log.ids log.ids log.image then_images pass pass z o b
+      (grave_stays b.grave (named z o here b) b.stands)
+      (elim b.names [ inl same ↦ inl same | inr c ↦ inr (still_copied z b.grave.segment o c) ])
 
   -- Where the key's object is now: in the segment in which it was.
   pub record Moved (k : Key) (x : Versioned) (p : Place) : Type 0 where

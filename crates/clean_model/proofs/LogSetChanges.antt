@@ -10,6 +10,7 @@ use Rattle.entry.specs.Meaning.{Contents, IsOfKey, object_at}
 use Rattle.log_model.specs.Log.{Texts}
 use Rattle.clean_model.specs.Memory.{Place, Index, LogSet, Pass, no_pass, IsAt, SegmentHas, telling}
 use Rattle.clean_model.specs.Tracked.{IsCopied, IsTracked, IsPassing, IsAround}
+use Rattle.clean_model.proofs.TrackedBags.{buried_again}
 
 -- ---- texts
 
@@ -96,19 +97,16 @@ module _ (log new : LogSet) (more : IsMore log new) where
         | inl e ↦ inl e
         | inr c ↦ inr (recopied s p.segment o c)
       ];
-      buried = λ s o m dead. let b = is.buried s o (was_in s (Object o) o.key refl m) dead in record {
-        grave = b.grave;
-        of_key = b.of_key;
-        of_version = b.of_version;
-        stands = (
-          b.stands.0,
-          record {
-            counts = more.counted b.stands.0 b.stands.1.counts;
-            among = entry_then b.stands.0 (Tombstone b.grave) b.stands.1.counts b.stands.1.among;
-          },
-        );
-        names = elim b.names [ inl e ↦ inl e | inr c ↦ inr (recopied s b.grave.segment o c) ];
-      };
+      buried = λ s o m dead.
+          let b = is.buried s o (was_in s (Object o) o.key refl m) dead in
+          buried_again log.ids new.ids log.image new.image pass pass s o b (
+            b.stands.0,
+            record {
+              counts = more.counted b.stands.0 b.stands.1.counts;
+              among = entry_then b.stands.0 (Tombstone b.grave) b.stands.1.counts b.stands.1.among;
+            },
+          )
+          (elim b.names [ inl e ↦ inl e | inr c ↦ inr (recopied s b.grave.segment o c) ]);
     }
 
     -- where no victim's tombstone names what comes
@@ -166,11 +164,8 @@ begun_tracked log index contents is pass = record {
   found = is.found;
   unindexed = is.unindexed;
   lies = λ k x p h i s o m same. elim (is.lies k x p h i s o m same) [ inl e ↦ inl e | inr c ↦ absurd c.victim ];
-  buried = λ s o m dead. let b = is.buried s o m dead in record {
-    grave = b.grave;
-    of_key = b.of_key;
-    of_version = b.of_version;
-    stands = b.stands;
-    names = elim b.names [ inl e ↦ inl e | inr c ↦ absurd c.victim ];
-  };
+  buried = λ s o m dead.
+      let b = is.buried s o m dead in
+      buried_again log.ids log.ids log.image log.image no_pass pass s o b b.stands
+      (elim b.names [ inl e ↦ inl e | inr c ↦ absurd c.victim ]);
 }

@@ -14,7 +14,8 @@ use Rattle.log_model.proofs.Segments.{no_keys}
 use Rattle.clean_model.specs.Laws.{FreshIsIntact}
 use Rattle.clean_model.specs.Memory.{SegmentHas, log_ids, log_of}
 use Rattle.clean_model.specs.Steps.{first_memory}
-use Rattle.clean_model.proofs.NoPass.{none_passing, none_chosen, none_sealed}
+use Rattle.clean_model.proofs.NoPass.{none_passing, none_chosen}
+use Rattle.clean_model.proofs.SealedSurvivors.{none_sealed}
 
 module _ (c : LogConfig) (p : Picture) (may : MayBegin c p) where
   abbrev log : IsKept (fresh c) p

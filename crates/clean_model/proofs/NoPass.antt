@@ -1,12 +1,9 @@
 -- Without a pass nothing is asked of one.
 use Rattle.std.proofs.Common.{ℕ, List}
 use Rattle.std.specs.Prelude.{Option}
-use Rattle.entry.specs.Bag.{IsAmong}
-use Rattle.replica.specs.Picture.{Picture}
-use Rattle.log_model.specs.Data.{LogConfig, Start}
-use Rattle.log_model.specs.Log.{Texts}
-use Rattle.clean_model.specs.Intact.{IsPassOf, AreSealed}
-use Rattle.clean_model.specs.Memory.{Place, Index, Images, Memory, no_pass}
+use Rattle.log_model.specs.Data.{Start}
+use Rattle.clean_model.specs.Intact.{IsPassOf}
+use Rattle.clean_model.specs.Memory.{Place, Index, Images, no_pass}
 use Rattle.clean_model.specs.Tracked.{IsPassing}
 
 pub none_passing : (ids : List ℕ) (image : Images) (index : Index) (rest : List Place)
@@ -26,15 +23,4 @@ none_chosen in_force new = record {
   some = λ s never. absurd never;
   outside = λ s never. absurd never;
   not_new = λ s n never. absurd never;
-}
-
-pub none_sealed : (c : LogConfig) (m : Memory) (texts : Texts) (p : Picture)
-    → ((s : ℕ) → IsAmong s m.pass.survivors → ⊥) → AreSealed c m texts p
-none_sealed c m texts p none = record {
-  few = λ s survivor. absurd (none s survivor);
-  begins = λ s survivor. absurd (none s survivor);
-  bare = λ s survivor. absurd (none s survivor);
-  text = λ s survivor. absurd (none s survivor);
-  held = λ s j b survivor. absurd (none s survivor);
-  only = λ s b r survivor. absurd (none s survivor);
 }

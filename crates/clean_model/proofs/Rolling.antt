@@ -1,11 +1,12 @@
 -- A roll that begins, ordinary or a pass's commit, leaves all intact.
-use Rattle.std.proofs.Common.{◌≡◌, ℕ, suc, ◌<◌, ◌⊎◌, inl, inr, Bool, true, false, List, [], refl, sym, ap, subst, ◌∙◌}
+use Rattle.std.proofs.Common.{◌≡◌, ℕ, ◌<◌, ◌⊎◌, inl, inr, Bool, true, false, List, [], refl, sym, ap, subst, ◌∙◌}
 use Rattle.std.proofs.Common.{arith}
-use Rattle.std.specs.Prelude.{Option, Some, IsSome}
+use Rattle.std.specs.Prelude.{Option, IsSome}
 use Rattle.std.proofs.lemmas.Option.{same_Some, slice_get_within}
+use Rattle.entry.specs.declared.key.Key.{Key}
 use Rattle.entry.specs.declared.entry.Entry.{Entry}
 use Rattle.entry.specs.Bag.{IsAmong}
-use Rattle.entry.specs.Text.{text_of, opening_of}
+use Rattle.entry.specs.Meaning.{IsOfKey}
 use Rattle.replica.specs.Picture.{Replica, Picture}
 use Rattle.versioned_map.specs.Represents.{Represents}
 use Rattle.versioned_map.proofs.Tops.{among_push}
@@ -16,15 +17,17 @@ use Rattle.log_model.specs.Steps.{next_start, rolling, IsRoll}
 use Rattle.log_model.proofs.Lists.{all_below}
 use Rattle.log_model.proofs.Rolling.{rolling_is_kept, ordinary_is_roll}
 use Rattle.log_model.proofs.Segments.{no_keys}
-use Rattle.log_model.proofs.Texts.{text_there, text_other}
-use Rattle.clean_model.specs.Intact.{AreSealed, IsRollOf, IsIntact}
+use Rattle.log_model.proofs.Texts.{text_other}
+use Rattle.clean_model.specs.Intact.{IsRollOf, IsIntact}
 use Rattle.clean_model.specs.Laws.{RollKeeps, CommitKeeps}
 use Rattle.clean_model.specs.Memory.{Memory, LogSet, new_ids, log_ids, log_of}
 use Rattle.clean_model.specs.Steps.{rolled, MayCommit}
 use Rattle.clean_model.proofs.CommitBase.{commit_stands}
-use Rattle.clean_model.proofs.Lists.{among_at, image_here, image_there}
-use Rattle.clean_model.proofs.LogSetChanges.{IsMore, more_tracked, more_passing, more_around}
+use Rattle.clean_model.proofs.Lists.{among_at, image_there}
+use Rattle.clean_model.proofs.LogSetChanges.{IsMore, more_tracked, more_passing}
 use Rattle.clean_model.proofs.LogSetIds.{ids_out, in_digest, in_survivors}
+use Rattle.clean_model.proofs.NewSegments.{new_more, new_around}
+use Rattle.clean_model.proofs.SealedSurvivors.{still_sealed}
 
 module _ (d : LogData) (m : Memory) (p : Picture) (i : IsIntact d m p) (n : Start) (commits : Bool)
     (roll : IsRoll d p n)
@@ -69,25 +72,11 @@ module _ (d : LogData) (m : Memory) (p : Picture) (i : IsIntact d m p) (n : Star
     | inr (inr l) ↦ in_survivors e memory s l
   ]
 
-  image_is : (s : ℕ) → s ≡ n.id → memory.images s ≡ opening
-  image_is s same = ap memory.images same ∙ image_here m.images n.id opening
-
-  text_is : (s : ℕ) → s ≡ n.id → then_log.texts s ≡ opening
-  text_is s same = ap then_log.texts same ∙ text_there i.log.texts n.id opening
+  no_key : (f : Entry) (k : Key) → IsAmong f opening → IsOfKey k f → ⊥
+  no_key f k l at = no_keys d.config.master n f k l at
 
   more : IsMore log new
-  more = record {
-    counted = still_id;
-    image = λ s c. image_there m.images n.id opening s (older s c);
-    text = λ s c. text_other i.log.texts n.id opening s (older s c);
-    blank = λ s c. elim (either_id s c) [
-      | inl l ↦ inl l
-      | inr same ↦ inr (λ f k at l. elim l as (λ _. ⊥) [
-        | inl a ↦ no_keys d.config.master n f k (subst (λ (es : List Entry). IsAmong f es) (image_is s same) a) at
-        | inr a ↦ no_keys d.config.master n f k (subst (λ (es : List Entry). IsAmong f es) (text_is s same) a) at
-      ])
-    ];
-  }
+  more = new_more log (log_ids e memory) n.id opening older still_id either_id no_key
 
   -- ---- survivors
 
@@ -99,20 +88,6 @@ module _ (d : LogData) (m : Memory) (p : Picture) (i : IsIntact d m p) (n : Star
 
   image_same : (s : ℕ) → IsAmong s m.pass.survivors → memory.images s ≡ m.images s
   image_same s c = image_there m.images n.id opening s (survivor_older s c)
-
-  sealing : AreSealed d.config memory then_log.texts p
-  sealing = record {
-    few = i.sealing.few;
-    begins = λ s survivor. let is = i.sealing.begins s survivor in (is.0, image_same s survivor ∙ is.1);
-    bare = λ s survivor. ap opening_of (text_same s survivor) ∙ i.sealing.bare s survivor;
-    text = λ s survivor some.
-        let is = i.sealing.text s survivor some in
-        (is.0, text_same s survivor ∙ is.1 ∙ sym (image_same s survivor));
-    held = λ s j b survivor home lt.
-        i.sealing.held s j b survivor home lt
-        ∙ ap (λ (es : List Entry). Some (record { bytes = text_of es; is_open = false })) (sym (text_same s survivor));
-    only = i.sealing.only;
-  }
 
   begun : IsIntact e memory p
   begun = record {
@@ -126,14 +101,8 @@ module _ (d : LogData) (m : Memory) (p : Picture) (i : IsIntact d m p) (n : Star
               let lt = i.around.named_below q.segment t counts (among_at _ _ _ at) in
               let next = roll.next in absurd (omega arith))
         ]);
-    around = more_around log new more m.pass i.passing.survivors_count (state_of d).contents (state_of d).safe d.next
-        (suc d.next) i.around (omega arith)
-        (λ s c. elim (either_id s c) [ inl l ↦ inl l | inr same ↦ inr (let next = roll.next in omega arith) ])
-        (λ s f c. elim (either_id s c) [
-          | inl l ↦ inl l
-          | inr same ↦ inr (λ l.
-              subst (λ (es : List Entry). IsAmong f es) (image_is s same ∙ sym (text_is s same)) l)
-        ]);
+    around = new_around log (log_ids e memory) n.id opening older still_id either_id no_key m.pass
+        i.passing.survivors_count (state_of d).contents (state_of d).safe d.next roll.next i.around;
     chosen = record {
       victims = i.chosen.victims;
       some = i.chosen.some;
@@ -141,7 +110,8 @@ module _ (d : LogData) (m : Memory) (p : Picture) (i : IsIntact d m p) (n : Star
       not_new = λ s x survivor is same.
           survivor_older s survivor (sym same ∙ ap (λ (y : Start). y.id) (sym (same_Some n x is)));
     };
-    sealing = sealing;
+    sealing = still_sealed d.config m i.log.texts then_log.texts p p memory.images m.index commits i.sealing image_same
+        text_same (λ b s survivor. refl);
     rolling = λ x is. subst (λ (y : Start). IsRollOf d memory y) (same_Some n x is) which;
     waiting = record {
       out = λ s w c. elim (either_id s c) as (λ _. ⊥) [

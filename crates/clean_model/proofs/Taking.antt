@@ -23,7 +23,8 @@ use Rattle.clean_model.specs.Tracked.{IsTracked, IsPassing, IsAround}
 use Rattle.clean_model.proofs.CommitBase.{passing_done, ready_text}
 use Rattle.clean_model.proofs.LogSetChanges.{IsMore, more_tracked, more_passing, more_around}
 use Rattle.clean_model.proofs.LogSetIds.{ids_out, in_digest, in_survivors, head_in, new_in}
-use Rattle.clean_model.proofs.NoPass.{none_passing, none_chosen, none_sealed}
+use Rattle.clean_model.proofs.NoPass.{none_passing, none_chosen}
+use Rattle.clean_model.proofs.SealedSurvivors.{still_sealed, none_sealed}
 use Rattle.clean_model.proofs.CommittedPass.{committed}
 use Rattle.clean_model.proofs.Premises.{IsLess}
 
@@ -50,14 +51,8 @@ module _ (d : LogData) (m : Memory) (p q : Picture) (i : IsIntact d m p)
   }
 
   sealing : AreSealed d.config m i.log.texts q
-  sealing = record {
-    few = i.sealing.few;
-    begins = i.sealing.begins;
-    bare = i.sealing.bare;
-    text = i.sealing.text;
-    held = λ s j b survivor home lt. same b s survivor ∙ i.sealing.held s j b survivor home lt;
-    only = λ s b r survivor is. i.sealing.only s b r survivor (sym (same b s survivor) ∙ is);
-  }
+  sealing = still_sealed d.config m i.log.texts i.log.texts p q m.images m.index m.commits i.sealing
+      (λ s survivor. refl) (λ s survivor. refl) same
 
   -- ---- the digest in force stays, and the new head
 

@@ -11,7 +11,7 @@ use Rattle.versioned_map.specs.Membership.{IsMeaningBy}
 use Rattle.versioned_map.proofs.Keys.{key_eq-tells}
 use Rattle.versioned_map.proofs.Meanings.{from_membership}
 use Rattle.clean_model.specs.Memory.{Place, Index, Images, LogSet, Pass, IsAt, ImageHas, ImagesHave, SegmentHas, LogHas}
-use Rattle.clean_model.specs.Tracked.{IsTracked}
+use Rattle.clean_model.specs.Tracked.{IsCopied, IsBuried, IsTracked}
 use Rattle.clean_model.proofs.Lists.{among_at}
 
 -- ---- entries and keys
@@ -38,6 +38,18 @@ one_object o p same = cc
 
 pub object_key : (o p : ObjectValue) → Object o ≡ Object p → o.key ≡ p.key
 object_key o p same = ap (λ (z : ObjectValue). z.key) (one_object o p same)
+
+-- an object that is buried is so elsewhere, where its tombstone stands and names what it may
+pub buried_again : (ids more : List ℕ) (image other : Images) (pass next : Pass) (s : ℕ) (o : ObjectValue)
+    (b : IsBuried ids image pass s o) → ImagesHave more other (Tombstone b.grave)
+    → ((b.grave.segment ≡ s) ⊎ IsCopied other next s b.grave.segment o) → IsBuried more other next s o
+buried_again ids more image other pass next s o b stands names = record {
+  grave = b.grave;
+  of_key = b.of_key;
+  of_version = b.of_version;
+  stands = stands;
+  names = names;
+}
 
 -- ---- bags
 

@@ -18,7 +18,8 @@ use Rattle.log_model.specs.Log.{Texts, IsSegmentOf, IsHeadLog, IsWhole, IsNewLog
 use Rattle.log_model.specs.Mirror.{head_replica, IsReplica, IsMirrored}
 use Rattle.log_model.specs.Steps.{with_unit, with_appended, MayAppend, texts_appended}
 use Rattle.log_model.proofs.Fronts.{unit_front, unit_longer, unit_entries}
-use Rattle.log_model.proofs.Replicas.{still_older, older_no_head}
+use Rattle.log_model.proofs.Replicas.{older_no_head}
+use Rattle.log_model.proofs.SameTexts.{still_new, still_older}
 use Rattle.log_model.proofs.Segments.{units_all}
 use Rattle.log_model.proofs.Texts.{text_there, text_other}
 
@@ -112,14 +113,8 @@ module _ (d : LogData) (texts : Texts) (p : Picture) (history : List Record) (un
   new_log n is_new =
       let new = log.new n is_new in
       let newer = new.newer in
-      let same = text_other texts id (texts id ++ unit) n.id (λ is. omega arith) in
-      record {
-        text = same ∙ new.text;
-        segment = subst (λ (es : List Entry). IsSegmentOf d.config n.id es) (sym same) new.segment;
-        below = new.below;
-        newer = new.newer;
-        next = new.next;
-      }
+      still_new d.config d.next d.next texts texts_now (omega arith) id n
+      (text_other texts id (texts id ++ unit) n.id (λ is. omega arith)) new
 
   -- while a roll is under way there is no unit more
   whole : 0 < opened_of d.config.replicas d.phase → IsWhole d.config.replicas e.head
@@ -154,7 +149,7 @@ module _ (d : LogData) (texts : Texts) (p : Picture) (history : List Record) (un
   each_then b s q (inr (inl is)) = inr (inl is)
   each_then b s q (inr (inr is)) =
       let same = text_other texts id (texts id ++ unit) s (older_no_head d texts p held s q is) in
-      inr (inr (still_older d.config d.next d.next id texts texts_now s q same (omega arith) is))
+      inr (inr (still_older d.config d.next d.next texts texts_now (omega arith) id s q same is))
 
   append_held : IsLogHeld e texts_now p
   append_held = record {

@@ -4,6 +4,7 @@ pub mod Pictures
 pub mod Segments
 pub mod Counts
 pub mod Fronts
+pub mod SameTexts
 pub mod Replicas
 pub mod Choices
 pub mod Survivors

@@ -1,18 +1,18 @@
 -- The text of a segment that no digest names is changed, and an id is taken for one.
-use Rattle.std.proofs.Common.{ℕ, suc, inl, inr, List, [], ◌++◌, length, sym, subst, ◌∙◌, arith}
+use Rattle.std.proofs.Common.{refl, ℕ, suc, inl, inr, List, [], ◌++◌, length, sym, subst, arith}
 use Rattle.entry.specs.declared.entry.Entry.{Entry}
 use Rattle.replica.specs.Picture.{Replica, Picture}
 use Rattle.versioned_map.specs.Represents.{Represents}
 use Rattle.log_model.specs.Data.{LogData, front_entries, records_before, state_of, state_after}
 use Rattle.log_model.specs.Kept.{IsKept}
 use Rattle.log_model.specs.Laws.{IdTakenIsHeld, IdTakenIsStanding, IdTakenIsKept}
-use Rattle.log_model.specs.Log.{Texts, with_text, IsSegmentOf, IsLogged, IsStanding}
+use Rattle.log_model.specs.Log.{Texts, with_text, IsLogged, IsStanding}
 use Rattle.log_model.specs.Mirror.{IsReplica, IsOther}
 use Rattle.log_model.specs.Spares.{IsFree}
 use Rattle.log_model.specs.Steps.{id_taken, texts_taken}
 use Rattle.log_model.proofs.Lists.{below_at}
 use Rattle.log_model.proofs.PastHeads.{id_taken_is_past}
-use Rattle.log_model.proofs.Replicas.{still_older}
+use Rattle.log_model.proofs.SameTexts.{still_head, still_new, still_older}
 use Rattle.log_model.proofs.Texts.{text_other, base_other}
 
 -- ---- the text of a segment that no digest names
@@ -22,31 +22,15 @@ module _ (d : LogData) (texts : Texts) (s : ℕ) (es : List Entry) (free : IsFre
   texts_now = with_text texts s es
 
   pub free_logged : IsLogged d texts → IsLogged d texts_now
-  free_logged log =
-      let same = text_other texts s es d.head.start.id (λ e. free.head (sym e)) in
-      record {
-        head = record {
-          text = same ∙ log.head.text;
-          segment = subst (λ (l : List Entry). IsSegmentOf d.config d.head.start.id l) (sym same) log.head.segment;
-          below = log.head.below;
-          next = log.head.next;
-          few = log.head.few;
-          taken = log.head.taken;
-        };
-        opened = log.opened;
-        under_way = log.under_way;
-        new = λ n is.
-            let new = log.new n is in
-            let here = text_other texts s es n.id (λ e. free.new n is (sym e)) in
-            record {
-              text = here ∙ new.text;
-              segment = subst (λ (l : List Entry). IsSegmentOf d.config n.id l) (sym here) new.segment;
-              below = new.below;
-              newer = new.newer;
-              next = new.next;
-            };
-        whole = log.whole;
-      }
+  free_logged log = record {
+    head = still_head d.config d.next d.next texts texts_now (omega arith) d.head
+        (text_other texts s es d.head.start.id (λ e. free.head (sym e))) log.head;
+    opened = log.opened;
+    under_way = log.under_way;
+    new = λ n is. still_new d.config d.next d.next texts texts_now (omega arith) d.head.start.id n
+        (text_other texts s es n.id (λ e. free.new n is (sym e))) (log.new n is);
+    whole = log.whole;
+  }
 
   -- a new head's digest may name the old head, but not this segment
   pub free_standing : IsStanding d texts → IsStanding d texts_now
@@ -79,23 +63,11 @@ next_free d texts log = record {
 
 logged_later : (d : LogData) (texts : Texts) → IsLogged d texts → IsLogged (id_taken d) texts
 logged_later d texts log = record {
-  head = record {
-    text = log.head.text;
-    segment = log.head.segment;
-    below = log.head.below;
-    next = (let lt = log.head.next in omega arith);
-    few = log.head.few;
-    taken = log.head.taken;
-  };
+  head = still_head d.config d.next (suc d.next) texts texts (omega arith) d.head refl log.head;
   opened = log.opened;
   under_way = log.under_way;
-  new = λ n is. let new = log.new n is in record {
-    text = new.text;
-    segment = new.segment;
-    below = new.below;
-    newer = new.newer;
-    next = (let lt = new.next in omega arith);
-  };
+  new = λ n is.
+      still_new d.config d.next (suc d.next) texts texts (omega arith) d.head.start.id n refl (log.new n is);
   whole = log.whole;
 }
 
@@ -117,8 +89,8 @@ id_taken_is_held d texts p es held = record {
   each_then b s r (inr (inl is)) = inr (inl is)
   each_then b s r (inr (inr is)) =
       let lt = is.next in
-      inr (inr (still_older d.config d.next (suc d.next) d.head.start.id texts (texts_taken d texts es) s r
-      (text_other texts d.next es s (λ same. omega arith)) (omega arith) is))
+      inr (inr (still_older d.config d.next (suc d.next) texts (texts_taken d texts es) (omega arith) d.head.start.id
+      s r (text_other texts d.next es s (λ same. omega arith)) is))
 
 pub id_taken_is_standing : IdTakenIsStanding
 id_taken_is_standing d texts p es held standing =

@@ -6,11 +6,11 @@ use Rattle.std.proofs.lemmas.Option.{same_Some, slice_get-get_or, slice_get_with
 use Rattle.entry.specs.declared.entry.Entry.{Entry}
 use Rattle.entry.specs.Bag.{IsAmong}
 use Rattle.entry.specs.Meaning.{among}
-use Rattle.entry.specs.Text.{text_of, is_data, data_in, Opening, opening_in, opening_of}
+use Rattle.entry.specs.Text.{is_data, data_in, Opening, opening_in, opening_of}
 use Rattle.replica.specs.Picture.{Replica, Picture}
 use Rattle.replica.specs.Survival.{HoldsHead}
 use Rattle.versioned_map.proofs.Tops.{among_right, among_push}
-use Rattle.log_model.specs.Data.{LogConfig, Start, Phase, Ready, Opened, Closed, LogData, IsHome, ids_of, start_entries}
+use Rattle.log_model.specs.Data.{Start, Phase, Ready, Opened, Closed, LogData, IsHome, ids_of, start_entries}
 use Rattle.log_model.specs.Data.{front_entries, head_entries, new_of, opened_of, closed_of}
 use Rattle.log_model.specs.Kept.{IsLogHeld}
 use Rattle.log_model.specs.Laws.{ReplicasAreTexts, DigestIsWhole}
@@ -35,16 +35,6 @@ pub stage : (replicas : ℕ) (ph : Phase)
 stage replicas Ready = inr refl
 stage replicas (Opened j n) = inr refl
 stage replicas (Closed j n) = inl (n, refl, λ lt. omega arith)
-
--- an older replica stays one where its segment's text is the same, and ids are taken
-pub still_older : (c : LogConfig) (unused later head : ℕ) (texts other : Texts) (s : ℕ) (r : Replica)
-    → other s ≡ texts s → unused ≤ later → IsOlder c unused head texts s r → IsOlder c later head other s r
-still_older c unused later head texts other s r same le is = record {
-  bytes = is.bytes ∙ ap text_of (sym same);
-  segment = subst (λ (es : List Entry). IsSegmentOf c s es) (sym same) is.segment;
-  next = (let lt = is.next in omega arith);
-  closed = λ some. is.closed (subst (λ (es : List Entry). IsSome (opening_of es)) same some);
-}
 
 -- ---- what is read from each
 

@@ -17,13 +17,14 @@ use Rattle.log_model.specs.Data.{closed_of}
 use Rattle.log_model.specs.Data.{records_before, state_of, state_after}
 use Rattle.log_model.specs.Kept.{IsLogHeld}
 use Rattle.log_model.specs.Laws.{RollingIsHeld, RollingIsStanding, RollingIsKept, OrdinaryIsRoll}
-use Rattle.log_model.specs.Log.{Texts, base_of, IsSegmentOf, IsHeadLog, IsNewLog, IsLogged, IsStanding}
+use Rattle.log_model.specs.Log.{Texts, base_of, IsSegmentOf, IsNewLog, IsLogged, IsStanding}
 use Rattle.log_model.specs.Mirror.{head_replica, IsHeadReplica, IsReplica, IsOther, IsMirrored}
 use Rattle.log_model.specs.Steps.{rolling, texts_rolling, IsRoll}
 use Rattle.log_model.proofs.Fronts.{present}
 use Rattle.log_model.proofs.Lists.{below_at, all_below}
 use Rattle.log_model.proofs.PastHeads.{rolling_is_past}
-use Rattle.log_model.proofs.Replicas.{still_older, head_segment}
+use Rattle.log_model.proofs.Replicas.{head_segment}
+use Rattle.log_model.proofs.SameTexts.{still_head, still_older}
 use Rattle.log_model.proofs.Segments.{start_segment, front_data, units_all}
 use Rattle.log_model.proofs.Texts.{text_there, text_other, base_other}
 
@@ -58,17 +59,6 @@ module _ (d : LogData) (texts : Texts) (p : Picture) (n : Start) (held : IsLogHe
 
   -- ---- texts
 
-  head_log : IsHeadLog d.config (suc d.next) d.head texts_now
-  head_log = record {
-    text = same_before id log.head.next ∙ log.head.text;
-    segment = subst (λ (es : List Entry). IsSegmentOf d.config id es) (sym (same_before id log.head.next))
-        log.head.segment;
-    below = log.head.below;
-    next = (let lt = log.head.next in omega arith);
-    few = log.head.few;
-    taken = log.head.taken;
-  }
-
   there : texts_now n.id ≡ start_entries master n
   there = text_there texts n.id (start_entries master n)
 
@@ -93,7 +83,7 @@ module _ (d : LogData) (texts : Texts) (p : Picture) (n : Start) (held : IsLogHe
   each_then b s q (inr (inl is)) =
       let never : None ≡ Some is.0 = sym (ap new_of roll.ready) ∙ is.2.is_new in absurd (cc)
   each_then b s q (inr (inr is)) = inr (inr
-      (still_older d.config d.next (suc d.next) id texts texts_now s q (same_before s is.next) (omega arith) is))
+      (still_older d.config d.next (suc d.next) texts texts_now (omega arith) id s q (same_before s is.next) is))
 
   others_then : (s b : ℕ) → IsOther e s → IsHome d s b → IsSome (p b master s)
   others_then s b (inl m) home = mir.others s b (inl m) home
@@ -104,7 +94,8 @@ module _ (d : LogData) (texts : Texts) (p : Picture) (n : Start) (held : IsLogHe
   rolling_held = record {
     placed = held.placed;
     logged = record {
-      head = head_log;
+      head = still_head d.config d.next (suc d.next) texts texts_now (omega arith) d.head
+          (same_before id log.head.next) log.head;
       opened = log.opened;
       under_way = held.placed.some;
       new = λ m is. subst (λ (x : Start). IsNewLog d.config (suc d.next) id texts_now x) (same_Some n m is) own_log;

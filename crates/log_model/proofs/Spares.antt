@@ -19,7 +19,7 @@ use Rattle.log_model.proofs.Lists.{some_is}
 use Rattle.log_model.proofs.NewIds.{free_logged, free_standing}
 use Rattle.log_model.proofs.PastHeads.{sealed_is_past}
 use Rattle.log_model.proofs.Pictures.{either, elsewhere, left_before, taken_is}
-use Rattle.log_model.proofs.Replicas.{still_older}
+use Rattle.log_model.proofs.SameTexts.{still_older}
 use Rattle.log_model.proofs.Texts.{text_there, text_other}
 
 -- where texts and replicas of one such segment change
@@ -39,7 +39,7 @@ module _ (d : LogData) (texts other : Texts) (p : Picture) (b s : ℕ) (x : Opti
   each_old c t r not (inl is) = inl is
   each_old c t r not (inr (inl is)) = inr (inl is)
   each_old c t r not (inr (inr is)) = inr (inr
-      (still_older d.config d.next d.next d.head.start.id texts other t r (same t not) (omega arith) is))
+      (still_older d.config d.next d.next texts other (omega arith) d.head.start.id t r (same t not) is))
 
   each_then : (c t : ℕ) (r : Replica) → q c master t ≡ Some r → IsReplica d other c t r
   each_then c t r there = elim (cases_eq t s) as (λ _. IsReplica d other c t r) [
