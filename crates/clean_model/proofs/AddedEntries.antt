@@ -9,7 +9,7 @@ use Rattle.entry.specs.declared.entry.Entry.{Entry}
 use Rattle.entry.specs.declared.entry.Entry.TheVariants.{Object, Tombstone}
 use Rattle.entry.specs.Bag.{IsAmong}
 use Rattle.entry.specs.Meaning.{Versioned, Contents, IsOfKey, rank_of, object_at, IsClean, versioned}
-use Rattle.clean_model.specs.Covered.{IsLive}
+use Rattle.clean_model.specs.Covered.{IsLive, IsDead}
 use Rattle.clean_model.specs.Memory.{Place, Index, LogSet, Pass, IsAt, SegmentHas, ImagesHave, LogHas, copied}
 use Rattle.clean_model.specs.Steps.{next_place}
 use Rattle.clean_model.specs.Tracked.{IsCopied, IsBuried, IsFound, IsTracked}
@@ -153,7 +153,7 @@ module _ (log new : LogSet) (head : ℕ) (o : ObjectValue) (added : IsAdded log 
     ]
   ]
 
-  object_buried : (s : ℕ) (a : ObjectValue) → SegmentHas new s (Object a) → (IsLive after a → ⊥)
+  object_buried : (s : ℕ) (a : ObjectValue) → SegmentHas new s (Object a) → IsDead after a
       → IsBuried new.ids new.image pass s a
   object_buried s a m dead = elim (added.out s (Object a) m) [
     | inl l ↦ buried_grows log new head (Object o) added pass s a (is.buried s a l (λ live.
@@ -218,7 +218,7 @@ module _ (log new : LogSet) (head : ℕ) (t : TombstoneValue) (added : IsAdded l
         ];
       }
 
-  tombstone_buried : (s : ℕ) (a : ObjectValue) → SegmentHas new s (Object a) → (IsLive after a → ⊥)
+  tombstone_buried : (s : ℕ) (a : ObjectValue) → SegmentHas new s (Object a) → IsDead after a
       → IsBuried new.ids new.image pass s a
   tombstone_buried s a m dead =
       let l = old_of s a m in

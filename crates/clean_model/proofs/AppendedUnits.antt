@@ -21,10 +21,10 @@ use Rattle.versioned_map.proofs.Tops.{rank_bound, version_bound}
 use Rattle.log_model.specs.Log.{Texts}
 use Rattle.clean_model.specs.Memory.{Place, Index, Images, LogSet, Pass, SegmentHas, grown, copied}
 use Rattle.clean_model.specs.Steps.{with_place, next_place, images_with, index_with}
-use Rattle.clean_model.specs.Tracked.{IsTracked, IsPassing}
+use Rattle.clean_model.specs.Tracked.{IsTracked, IsPassing, NamesBelow, VersionsBelow}
 use Rattle.clean_model.proofs.AddedEntries.{added_copied, object_added, tombstone_added}
 use Rattle.clean_model.proofs.Copying.{place_set}
-use Rattle.clean_model.proofs.Lists.{member_differs, at_from, grown_in, grown_last, grown_out, image_there}
+use Rattle.clean_model.proofs.Lists.{member_differs, at_from, grown_in, grown_last, grown_out, image_there, have_grown}
 use Rattle.clean_model.proofs.Premises.{IsSet}
 use Rattle.clean_model.proofs.TrackedBags.{key_tells, of_same, of_other}
 
@@ -69,7 +69,7 @@ passing_appended log pass index moved rest head e open_pass no_victim no_survivo
   survivors_count = open_pass.survivors_count;
   disjoint = open_pass.disjoint;
   copies = λ z f k c m at. elim (grown_out log.image head e z f m) [
-    | inl a ↦ (let v = open_pass.copies z f k c a at in (v.0, v.1, grown_in log.image head e v.0 f v.2))
+    | inl a ↦ have_grown log.image head e pass.victims f (open_pass.copies z f k c a at)
     | inr w ↦ absurd (member_differs pass.survivors z head c no_survivor w.0)
   ];
   live = λ k p i victim. elim (to k p i) [
@@ -81,7 +81,7 @@ passing_appended log pass index moved rest head e open_pass no_victim no_survivo
       let was = at_from log.image head _ p.segment p.position (Tombstone t) other at in
       elim (open_pass.carried p t victim was named) [
         | inl m ↦ inl m
-        | inr c ↦ inr (c.0, c.1, grown_in log.image head e c.0 (Tombstone t) c.2)
+        | inr c ↦ inr (have_grown log.image head e pass.survivors (Tombstone t) c)
       ];
 }
 
@@ -91,10 +91,8 @@ pub record IsStage (log : LogSet) (pass : Pass) (index : Index) (rest : List Pla
   pub tracked : IsTracked log pass index contents
   pub passing : IsPassing log.ids log.image pass index rest
   pub below : (s : ℕ) → IsAmong s log.ids → s < next
-  pub named_below : (s : ℕ) (t : TombstoneValue) → IsAmong s log.ids → IsAmong (Tombstone t) (log.image s)
-      → t.segment < next
-  pub versions : (k : Key) → contents k ≡ None → (s : ℕ) (f : Entry) → SegmentHas log s f → IsOfKey k f
-      → version_of f < safe
+  pub named_below : NamesBelow log next
+  pub versions : (k : Key) → contents k ≡ None → VersionsBelow log k safe
 
 module _ (pass : Pass) (rest : List Place) (next head : ℕ) (no_victim : IsAmong head pass.victims → ⊥)
     (no_survivor : IsAmong head pass.survivors → ⊥) where

@@ -15,7 +15,7 @@ use Rattle.log_model.proofs.NewIds.{id_taken_kept}
 use Rattle.log_model.proofs.Texts.{text_there}
 use Rattle.clean_model.specs.Intact.{survivor_entries, IsPassOf, AreSealed, IsIntact}
 use Rattle.clean_model.specs.Laws.{BeginKeeps}
-use Rattle.clean_model.specs.Memory.{Place, Memory, LogSet, Pass, no_pass, IsAt, log_ids, log_of}
+use Rattle.clean_model.specs.Memory.{Place, Memory, LogSet, Pass, no_pass, IsAt, log_ids, log_of, StandsAt}
 use Rattle.clean_model.specs.Steps.{pass_begun, MayBeginClean}
 use Rattle.clean_model.specs.Tracked.{IsTracked, IsPassing, IsAround}
 use Rattle.clean_model.proofs.KeptEntries.{places_all}
@@ -98,7 +98,7 @@ module _ (d : LogData) (m : Memory) (p : Picture) (victims : List ℕ) (i : IsIn
   victim_old : (s : ℕ) → IsAmong s victims → IsAmong s (log_ids d m)
   victim_old s c = in_digest d m s (in_others d s (may.older s c))
 
-  all_rest : (x : Place) (f : Entry) → IsAmong x.segment victims → IsAt (memory.images x.segment) x.position f
+  all_rest : (x : Place) (f : Entry) → IsAmong x.segment victims → StandsAt memory.images x f
       → IsAmong x memory.rest
   all_rest x f victim at =
       let same = image_there m.images d.next opening x.segment (older x.segment (victim_old x.segment victim)) in

@@ -30,8 +30,8 @@ module _ (log : LogSet) (pass : Pass) (index : Index) (contents : Contents) (lef
         elim (done.carried (record { segment = m.0; position = i.0 }) t victim i.1 named) [
           | inl never ↦ absurd never
           | inr c ↦ (
-              let stays = less.stays c.0 (done.survivors_count c.0 c.1) (done.disjoint c.0 c.1) in
-              (c.0, record { counts = stays; among = c.2 }))
+              let stays = less.stays c.0 (done.survivors_count c.0 c.1.counts) (done.disjoint c.0 c.1.counts) in
+              (c.0, record { counts = stays; among = c.1.among }))
         ])
     | inr stays ↦ (m.0, record { counts = less.stays m.0 m.1.counts stays; among = m.1.among })
   ]

@@ -10,9 +10,11 @@ use Rattle.entry.specs.declared.entry.Entry.TheVariants.{Object, Tombstone}
 use Rattle.entry.specs.Bag.{IsAmong}
 use Rattle.entry.specs.Meaning.{Versioned, Contents, object_at}
 use Rattle.clean_model.specs.Memory.{Place, Index, Images, LogSet, Pass, IsAt, SegmentHas, ImagesHave, with_image}
+use Rattle.clean_model.specs.Memory.{StandsAt}
 use Rattle.clean_model.specs.Memory.{replaced}
 use Rattle.clean_model.specs.Tracked.{IsCopied, IsBuried, IsFound, IsTracked, IsPassing}
 use Rattle.clean_model.proofs.Lists.{member_differs, with_out, with_here, with_there, at_here, at_there, at_from}
+use Rattle.clean_model.proofs.Lists.{have_there}
 use Rattle.clean_model.proofs.Premises.{IsCompacted}
 use Rattle.clean_model.proofs.TrackedBags.{buried_again, found_at}
 
@@ -75,10 +77,10 @@ module _ (log : LogSet) (pass : Pass) (index moved : Index) (contents : Contents
     pub place : Place
     pub segment : place.segment ≡ p.segment
     pub indexed : moved k ≡ Some place
-    pub stands : IsAt (with_image log.image s es place.segment) place.position (object_at k x)
+    pub stands : StandsAt (with_image log.image s es) place (object_at k x)
 
   moved_to : (k : Key) (x : Versioned) (p : Place) → index k ≡ Some p
-      → IsAt (log.image p.segment) p.position (object_at k x) → Moved k x p
+      → StandsAt log.image p (object_at k x) → Moved k x p
   moved_to k x p i at = elim (cases_eq p.segment s) [
     | inl same ↦ (
         let was = subst (λ (y : ℕ). IsAt (log.image y) p.position (object_at k x)) same at in
@@ -161,21 +163,13 @@ module _ (log : LogSet) (pass : Pass) (index moved : Index) (contents : Contents
             | inl w ↦ absurd (member_differs pass.survivors z s c no_survivor w.0)
             | inr w ↦ w.1
           ] in
-          let old = open_pass.copies z e q c was key in (
-            old.0,
-            old.1,
-            with_there log.image s es old.0 e (member_differs pass.victims old.0 s old.1 no_victim) old.2,
-          );
+          have_there log.image s es pass.victims e no_victim (open_pass.copies z e q c was key);
       live = λ k p to. live_still k p to (index k) refl;
       carried = λ p t victim at now_named.
           let other = member_differs pass.victims p.segment s victim no_victim in
           let was = at_from log.image s es p.segment p.position (Tombstone t) other at in
           elim (open_pass.carried p t victim was now_named) [
             | inl m ↦ inl m
-            | inr c ↦ inr (
-              c.0,
-              c.1,
-              with_there log.image s es c.0 (Tombstone t) (member_differs pass.survivors c.0 s c.1 no_survivor) c.2,
-            )
+            | inr c ↦ inr (have_there log.image s es pass.survivors (Tombstone t) no_survivor c)
           ];
     }

@@ -9,11 +9,13 @@ use Rattle.entry.specs.declared.entry.Entry.TheVariants.{Object, Tombstone}
 use Rattle.entry.specs.Bag.{IsAmong}
 use Rattle.entry.specs.Meaning.{Versioned, Contents, IsOfKey, object_at}
 use Rattle.clean_model.specs.Covered.{IsLive}
-use Rattle.clean_model.specs.Memory.{Place, Index, Images, LogSet, Pass, IsAt, SegmentHas, grown, copied}
+use Rattle.clean_model.specs.Memory.{Place, Index, Images, LogSet, Pass, IsAt, SegmentHas, grown, copied, ImagesHave}
+use Rattle.clean_model.specs.Memory.{StandsAt}
 use Rattle.clean_model.specs.Steps.{next_place}
 use Rattle.clean_model.specs.Tracked.{IsCopied, IsFound, IsTracked, IsPassing}
 use Rattle.clean_model.proofs.AddedEntries.{added_copied, copied_grows, buried_grows, found_grows}
 use Rattle.clean_model.proofs.Lists.{member_differs, among_at, at_one, at_from, grown_in, grown_last, grown_out}
+use Rattle.clean_model.proofs.Lists.{have_grown}
 use Rattle.clean_model.proofs.Premises.{IsSet, IsAdded}
 use Rattle.clean_model.proofs.TrackedBags.{found_at, key_tells, one_object, object_key}
 
@@ -22,17 +24,17 @@ module _ (log : LogSet) (pass : Pass) (index : Index) (contents : Contents) (fir
     (victim : IsAmong first.segment pass.victims) where
   -- the place at the cursor has this entry
   abbrev IsFirst : Entry → Type 0
-  IsFirst e = IsAt (log.image first.segment) first.position e
+  IsFirst e = StandsAt log.image first e
 
   -- what the cursor has passed is no longer before it
   later : (p : Place) → (first ≡ p → ⊥) → IsAmong p (first ∷ rest) → IsAmong p rest
   later p not m = elim m [ inl same ↦ absurd (not same) | inr l ↦ l ]
 
   -- one entry stands there
-  one_first : (e f : Entry) (p : Place) → IsFirst e → first ≡ p → IsAt (log.image p.segment) p.position f → e ≡ f
+  one_first : (e f : Entry) (p : Place) → IsFirst e → first ≡ p → StandsAt log.image p f → e ≡ f
   one_first e f p here same at =
       at_one (log.image first.segment) first.position e f here
-      (subst (λ (q : Place). IsAt (log.image q.segment) q.position f) (sym same) at)
+      (subst (λ (q : Place). StandsAt log.image q f) (sym same) at)
 
   first_in : (e : Entry) → IsFirst e → SegmentHas log first.segment e
   first_in e here =
@@ -55,20 +57,22 @@ module _ (log : LogSet) (pass : Pass) (index : Index) (contents : Contents) (fir
     ]
 
     then_copies : (z : ℕ) (f : Entry) (q : Key) → IsAmong z pass.survivors → IsAmong f (then_images z) → IsOfKey q f
-        → (v : ℕ) × IsAmong v pass.victims × IsAmong f (then_images v)
+        → ImagesHave pass.victims then_images f
     then_copies z f q c m key = elim (grown_out log.image s e z f m) [
-      | inl a ↦ (let v = open_pass.copies z f q c a key in (v.0, v.1, grown_in log.image s e v.0 f v.2))
+      | inl a ↦ have_grown log.image s e pass.victims f (open_pass.copies z f q c a key)
       | inr w ↦ (
         first.segment,
-        victim,
-        subst (λ (g : Entry). IsAmong g (then_images first.segment)) w.1
-            (grown_in log.image s e first.segment e (among_at _ _ _ here)),
+        record {
+          counts = victim;
+          among = subst (λ (g : Entry). IsAmong g (then_images first.segment)) w.1
+              (grown_in log.image s e first.segment e (among_at _ _ _ here));
+        },
       )
     ]
 
     -- victims' images stay
-    was_at : (p : Place) (f : Entry) → IsAmong p.segment pass.victims → IsAt (then_images p.segment) p.position f
-        → IsAt (log.image p.segment) p.position f
+    was_at : (p : Place) (f : Entry) → IsAmong p.segment pass.victims → StandsAt then_images p f
+        → StandsAt log.image p f
     was_at p f in_victim at = at_from log.image s _ p.segment p.position f
         (member_differs pass.victims p.segment s in_victim (open_pass.disjoint s survivor)) at
 
@@ -84,7 +88,7 @@ module _ (log : LogSet) (pass : Pass) (index : Index) (contents : Contents) (fir
         let f = is.found k x present in
         let i = f.indexed in
         let same : f.place ≡ first = cc in
-        subst (λ (q : Place). IsAt (log.image q.segment) q.position live) same f.stands
+        subst (λ (q : Place). StandsAt log.image q live) same f.stands
 
     is_added : IsAdded log (copied log s live) s live
     is_added = added_copied log s live
@@ -187,7 +191,7 @@ module _ (log : LogSet) (pass : Pass) (index : Index) (contents : Contents) (fir
           elim (open_pass.carried p t in_victim was named) [
             | inl m ↦ inl (later p
                 (λ same. let e = one_first live (Tombstone t) p first_at same was in absurd (cc)) m)
-            | inr c ↦ inr (c.0, c.1, grown_in log.image s live c.0 (Tombstone t) c.2)
+            | inr c ↦ inr (have_grown log.image s live pass.survivors (Tombstone t) c)
           ];
     }
 
@@ -235,13 +239,15 @@ module _ (log : LogSet) (pass : Pass) (index : Index) (contents : Contents) (fir
             | inl m ↦ elim m [
               | inl same ↦ inr (
                 s,
-                survivor,
-                subst (λ (e : Entry). IsAmong e (grown log.image s (Tombstone t) s))
-                    (one_first (Tombstone t) (Tombstone u) p at same was) (grown_last log.image s (Tombstone t)),
+                record {
+                  counts = survivor;
+                  among = subst (λ (e : Entry). IsAmong e (grown log.image s (Tombstone t) s))
+                      (one_first (Tombstone t) (Tombstone u) p at same was) (grown_last log.image s (Tombstone t));
+                },
               )
               | inr l ↦ inl l
             ]
-            | inr c ↦ inr (c.0, c.1, grown_in log.image s (Tombstone t) c.0 (Tombstone u) c.2)
+            | inr c ↦ inr (have_grown log.image s (Tombstone t) pass.survivors (Tombstone u) c)
           ];
     }
 

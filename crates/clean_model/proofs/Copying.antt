@@ -17,7 +17,7 @@ use Rattle.log_model.specs.Data.{Start, LogData, new_of, state_of}
 use Rattle.clean_model.specs.Compaction.{has, is_place}
 use Rattle.clean_model.specs.Intact.{survivor_entries, AreSealed, IsRollOf, IsIntact}
 use Rattle.clean_model.specs.Laws.{CopyKeeps}
-use Rattle.clean_model.specs.Memory.{Place, Index, Memory, Images, LogSet, IsAt, log_ids, log_of, grown, copied}
+use Rattle.clean_model.specs.Memory.{Place, Index, Memory, Images, LogSet, log_ids, log_of, grown, copied, StandsAt}
 use Rattle.clean_model.specs.Steps.{with_place, next_place, is_copied, with_copy}
 use Rattle.clean_model.specs.Tracked.{IsTracked, IsPassing, IsAround}
 use Rattle.clean_model.proofs.KeptEntries.{has_is}
@@ -145,7 +145,7 @@ module _ (d : LogData) (m : Memory) (p : Picture) (i : IsIntact d m p) (first : 
       }
 
   -- a live object
-  moved : (o : ObjectValue) → IsAt (m.images first.segment) first.position (Object o) → m.index o.key ≡ Some first
+  moved : (o : ObjectValue) → StandsAt m.images first (Object o) → m.index o.key ≡ Some first
       → IsIntact d (with_copy m rest s (Object o)) p
   moved o at named =
       let contents = (state_of d).contents in
@@ -169,7 +169,7 @@ module _ (d : LogData) (m : Memory) (p : Picture) (i : IsIntact d m p) (first : 
         waiting = i.waiting;
       }
 
-  carried : (t : TombstoneValue) → IsAt (m.images first.segment) first.position (Tombstone t)
+  carried : (t : TombstoneValue) → StandsAt m.images first (Tombstone t)
       → IsIntact d (with_copy m rest s (Tombstone t)) p
   carried t at = record {
     log = i.log;
@@ -184,7 +184,7 @@ module _ (d : LogData) (m : Memory) (p : Picture) (i : IsIntact d m p) (first : 
     waiting = i.waiting;
   }
 
-  dropped : (e : Entry) → IsAt (m.images first.segment) first.position e
+  dropped : (e : Entry) → StandsAt m.images first e
       → ((o : ObjectValue) → e ≡ Object o → m.index o.key ≡ Some first → ⊥)
       → ((t : TombstoneValue) → e ≡ Tombstone t → IsAmong t.segment (log_ids d m) → ⊥)
       → IsIntact d (record m { rest = rest }) p
@@ -202,7 +202,7 @@ module _ (d : LogData) (m : Memory) (p : Picture) (i : IsIntact d m p) (first : 
 
   -- the entry at the cursor, whichever it is
   treated : (e : Entry) (b : Bool) → is_copied (log_ids d m) m.index first e ≡ b
-      → IsAt (m.images first.segment) first.position e
+      → StandsAt m.images first e
       → IsIntact d (cond b (with_copy m rest s e) (record m { rest = rest })) p
   treated (Object o) true is at = moved o at (place_true (m.index o.key) first is)
   treated (Object o) false is at = dropped (Object o) at

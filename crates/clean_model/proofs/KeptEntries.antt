@@ -14,7 +14,7 @@ use Rattle.entry.specs.Meaning.{object_at}
 use Rattle.versioned_map.proofs.Tops.{among_left, among_right}
 use Rattle.clean_model.specs.Compaction.{has, is_place, kept, kept_from, kept_before, moved_place, moved_index}
 use Rattle.clean_model.specs.Compaction.{places_from, places}
-use Rattle.clean_model.specs.Memory.{Place, Index, Images, IsAt}
+use Rattle.clean_model.specs.Memory.{Place, Index, Images, IsAt, StandsAt}
 use Rattle.clean_model.proofs.Lists.{equal_true}
 use Rattle.clean_model.proofs.Premises.{IsCompacted}
 
@@ -133,7 +133,7 @@ places_at s i (f ∷ es) (suc n) p e at m =
     let next : p ≡ suc i + n = omega arith in inr (places_at s (suc i) es n p e next m)
 
 pub places_all : (ids : List ℕ) (image : Images) (p : Place) (e : Entry) → IsAmong p.segment ids
-    → IsAt (image p.segment) p.position e → IsAmong p (places ids image)
+    → StandsAt image p e → IsAmong p (places ids image)
 places_all [] image p e here at = absurd here
 places_all (z ∷ ids) image p e (inl same) at =
     among_left p (places_from z 0 (image z)) (places ids image)

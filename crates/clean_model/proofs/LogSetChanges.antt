@@ -8,7 +8,8 @@ use Rattle.entry.specs.declared.entry.Entry.TheVariants.{Object, Tombstone}
 use Rattle.entry.specs.Bag.{IsAmong}
 use Rattle.entry.specs.Meaning.{Contents, IsOfKey, object_at}
 use Rattle.log_model.specs.Log.{Texts}
-use Rattle.clean_model.specs.Memory.{Place, Index, LogSet, Pass, no_pass, IsAt, SegmentHas, telling}
+use Rattle.clean_model.specs.Memory.{Place, Index, LogSet, Pass, no_pass, IsAt, SegmentHas, telling, ImagesHave}
+use Rattle.clean_model.specs.Memory.{StandsAt}
 use Rattle.clean_model.specs.Tracked.{IsCopied, IsTracked, IsPassing, IsAround}
 use Rattle.clean_model.proofs.TrackedBags.{buried_again}
 
@@ -61,6 +62,12 @@ module _ (log new : LogSet) (more : IsMore log new) where
     | inr none ↦ absurd (none e k at m.among)
   ]
 
+  have_then : (ids : List ℕ) (e : Entry) → ((s : ℕ) → IsAmong s ids → IsAmong s log.ids) → ImagesHave ids log.image e
+      → ImagesHave ids new.image e
+  have_then ids e within m =
+      let among = entry_then m.0 e (within m.0 m.1.counts) m.1.among in
+      (m.0, record { counts = m.1.counts; among = among })
+
   image_was : (s : ℕ) (e : Entry) (k : Key) → IsOfKey k e → IsAmong s new.ids → IsAmong e (new.image s)
       → IsAmong s log.ids × IsAmong e (log.image s)
   image_was s e k at c m =
@@ -112,23 +119,22 @@ module _ (log new : LogSet) (more : IsMore log new) where
     -- where no victim's tombstone names what comes
     pub more_passing : (index : Index) (rest : List Place) → IsPassing log.ids log.image pass index rest
         → ((p : Place) (t : TombstoneValue) → IsAmong p.segment pass.victims
-        → IsAt (log.image p.segment) p.position (Tombstone t) → IsAmong t.segment new.ids
+        → StandsAt log.image p (Tombstone t) → IsAmong t.segment new.ids
         → IsAmong t.segment log.ids)
         → IsPassing new.ids new.image pass index rest
     more_passing index rest open_pass old = record {
       victims_count = λ s m. more.counted s (open_pass.victims_count s m);
       survivors_count = λ s m. more.counted s (open_pass.survivors_count s m);
       disjoint = open_pass.disjoint;
-      copies = λ s e k c m at.
-          let v = open_pass.copies s e k c (entry_was s e (survive s c) m) at in
-          (v.0, v.1, entry_then v.0 e (open_pass.victims_count v.0 v.1) v.2);
+      copies = λ s e k c m at. have_then pass.victims e open_pass.victims_count
+          (open_pass.copies s e k c (entry_was s e (survive s c) m) at);
       live = open_pass.live;
       carried = λ p t victim at named.
           let counts = open_pass.victims_count p.segment victim in
           let was = at_was p.segment p.position (Tombstone t) counts at in
           elim (open_pass.carried p t victim was (old p t victim was named)) [
             | inl m ↦ inl m
-            | inr c ↦ inr (c.0, c.1, entry_then c.0 (Tombstone t) (survive c.0 c.1) c.2)
+            | inr c ↦ inr (have_then pass.survivors (Tombstone t) survive c)
           ];
     }
 

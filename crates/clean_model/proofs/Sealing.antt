@@ -9,17 +9,14 @@ use Rattle.entry.specs.declared.entry.Entry.{Entry}
 use Rattle.entry.specs.declared.entry.Entry.TheVariants as entry
 use Rattle.entry.specs.declared.entry.Header.{Header as HeaderValue}
 use Rattle.entry.specs.declared.entry.Role.TheVariants as role
-use Rattle.entry.specs.declared.key.Key.{Key}
 use Rattle.entry.specs.Bag.{IsAmong}
-use Rattle.entry.specs.Tablet.{have_key}
 use Rattle.entry.specs.Text.{text_of, opening_of, header_of, are_data, is_whole}
-use Rattle.entry.specs.Meaning.{IsOfKey}
 use Rattle.replica.specs.Op.{Seal}
 use Rattle.replica.specs.Picture.{Replica, Picture, with_replica}
 use Rattle.replica.specs.Take.{effect}
 use Rattle.log_model.specs.Data.{Start, LogData, IsHomeAt, ids_of, new_of, state_of}
 use Rattle.log_model.specs.Kept.{IsKept}
-use Rattle.log_model.specs.Log.{Texts, IsSegmentOf}
+use Rattle.log_model.specs.Log.{Texts, IsSegmentOf, AreOfTablets}
 use Rattle.log_model.specs.Mirror.{IsOther}
 use Rattle.log_model.specs.Ops.{LogOp, taken}
 use Rattle.log_model.specs.Spares.{IsFree, Seals}
@@ -87,12 +84,12 @@ module _ (d : LogData) (m : Memory) (p : Picture) (s b : ℕ) (i : IsIntact d m 
   }
 
   -- what a survivor has of keys the texts of victims have
-  survivor_keys : (f : Entry) (k : Key) → IsAmong f es → IsOfKey k f → have_key d.config.tablets k ≡ true
+  survivor_keys : AreOfTablets d.config es
   survivor_keys f k l at =
       let v = i.passing.copies s f k may.survivor l at in
-      let told = i.around.texted v.0 f (i.passing.victims_count v.0 v.1)
-      (λ survivor. i.passing.disjoint v.0 survivor v.1) v.2 in
-      (digest_is_whole d texts p v.0 i.log.held (in_others d v.0 (i.chosen.victims v.0 v.1))).keys f k told at
+      let told = i.around.texted v.0 f (i.passing.victims_count v.0 v.1.counts)
+      (λ survivor. i.passing.disjoint v.0 survivor v.1.counts) v.1.among in
+      (digest_is_whole d texts p v.0 i.log.held (in_others d v.0 (i.chosen.victims v.0 v.1.counts))).keys f k told at
 
   whole : IsSegmentOf d.config s es
   whole = record {

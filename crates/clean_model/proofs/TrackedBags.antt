@@ -10,7 +10,8 @@ use Rattle.entry.specs.Meaning.{Versioned, Contents, IsOfKey, object_at, IsMeani
 use Rattle.versioned_map.specs.Membership.{IsMeaningBy}
 use Rattle.versioned_map.proofs.Keys.{key_eq-tells}
 use Rattle.versioned_map.proofs.Meanings.{from_membership}
-use Rattle.clean_model.specs.Memory.{Place, Index, Images, LogSet, Pass, IsAt, ImageHas, ImagesHave, SegmentHas, LogHas}
+use Rattle.clean_model.specs.Memory.{Place, Index, Images, LogSet, Pass, ImageHas, ImagesHave, SegmentHas, LogHas}
+use Rattle.clean_model.specs.Memory.{StandsAt}
 use Rattle.clean_model.specs.Tracked.{IsCopied, IsBuried, IsTracked}
 use Rattle.clean_model.proofs.Lists.{among_at}
 
@@ -89,7 +90,7 @@ pub record FoundAt (ids : List ℕ) (image : Images) (contents : Contents) (k : 
   pub has : Versioned
   pub present : contents k ≡ Some has
   pub counts : IsAmong p.segment ids
-  pub stands : IsAt (image p.segment) p.position (object_at k has)
+  pub stands : StandsAt image p (object_at k has)
 
 pub found_at : (log : LogSet) (pass : Pass) (index : Index) (contents : Contents) → IsTracked log pass index contents
     → (k : Key) (p : Place) → index k ≡ Some p → FoundAt log.ids log.image contents k p
@@ -105,5 +106,5 @@ found_at log pass index contents is k p named = told (contents k) refl
           has = x;
           present = e;
           counts = subst (λ (q : Place). IsAmong q.segment log.ids) same f.counts;
-          stands = subst (λ (q : Place). IsAt (log.image q.segment) q.position (object_at k x)) same f.stands;
+          stands = subst (λ (q : Place). StandsAt log.image q (object_at k x)) same f.stands;
         }

@@ -16,7 +16,7 @@ use Rattle.log_model.specs.Ops.{LogOp, taken}
 use Rattle.log_model.specs.Steps.{first_start, unit_now, IsNext}
 use Rattle.clean_model.specs.Compaction.{has, kept, kept_from, moved_index, places}
 use Rattle.clean_model.specs.Intact.{survivor_entries, IsCommit, IsReady}
-use Rattle.clean_model.specs.Memory.{Place, Index, Images, no_pass, Memory, IsAt, log_ids, with_image, grown}
+use Rattle.clean_model.specs.Memory.{Place, Index, Images, no_pass, Memory, log_ids, with_image, grown, StandsAt}
 
 -- ---- a new master
 
@@ -105,7 +105,7 @@ pub record MayCopy (d : LogData) (m : Memory) (first : Place) (rest : List Place
   pub cursor : m.rest ≡ first ∷ rest
   pub victim : IsAmong first.segment m.pass.victims
   pub survivor : IsAmong s m.pass.survivors
-  pub at : IsAt (m.images first.segment) first.position e
+  pub at : StandsAt m.images first e
 
 -- ---- a command
 

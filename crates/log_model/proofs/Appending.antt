@@ -1,15 +1,13 @@
 -- A unit that is appended leaves the backups as they are, whatever it stands for.
-use Rattle.std.proofs.Common.{◌≡◌, ℕ, ◌<◌, inl, inr, true, List, [], ◌++◌, length, take, Some, refl, sym, ap, subst}
+use Rattle.std.proofs.Common.{◌≡◌, ℕ, ◌<◌, inl, inr, List, [], ◌++◌, length, take, Some, refl, sym, ap, subst}
 use Rattle.std.proofs.Common.{◌∙◌}
 use Rattle.std.proofs.Common.{arith, append_assoc}
 use Rattle.std.specs.Prelude.{None, slice_get, not, nat_lt}
 use Rattle.std.proofs.lemmas.List.{append-nil}
 use Rattle.entry.specs.declared.entry.Entry.{Entry}
-use Rattle.entry.specs.Tablet.{have_key}
 use Rattle.entry.specs.Text.{text_of}
 use Rattle.replica.specs.Picture.{Replica, Picture}
 use Rattle.versioned_map.specs.declared.command.Record.{Record}
-use Rattle.versioned_map.proofs.Tops.{among_either}
 use Rattle.log_model.specs.Data.{Start, LogUnit, LogData, start_entries, entries_of, head_entries, new_of, opened_of}
 use Rattle.log_model.specs.Data.{closed_of}
 use Rattle.log_model.specs.Kept.{IsLogHeld}
@@ -20,7 +18,7 @@ use Rattle.log_model.specs.Steps.{with_unit, with_appended, MayAppend, texts_app
 use Rattle.log_model.proofs.Fronts.{unit_front, unit_longer, unit_entries}
 use Rattle.log_model.proofs.Replicas.{older_no_head}
 use Rattle.log_model.proofs.SameTexts.{still_new, still_older}
-use Rattle.log_model.proofs.Segments.{units_all}
+use Rattle.log_model.proofs.Segments.{both_of_tablets, units_all}
 use Rattle.log_model.proofs.Texts.{text_there, text_other}
 
 -- where a roll is under way nothing is appended
@@ -91,10 +89,7 @@ module _ (d : LogData) (texts : Texts) (p : Picture) (history : List Record) (un
       segment = fits.segment;
       limit = fits.limit;
       header = (refl, refl);
-      keys = λ f k m at. elim (among_either f old_entries unit m) as (λ _. have_key d.config.tablets k ≡ true) [
-        | inl l ↦ old_segment.keys f k l at
-        | inr u ↦ may.keys f k u at
-      ];
+      keys = both_of_tablets d.config old_entries unit old_segment.keys may.keys;
     }
   ]
 

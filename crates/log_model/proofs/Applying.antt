@@ -2,10 +2,8 @@
 use Rattle.std.proofs.Common.{◌≡◌, ℕ, suc, ◌≤◌, inl, inr, true, List, [], ◌∷◌, ◌++◌, length, take, Some, sym, ap}
 use Rattle.std.proofs.Common.{subst, ◌∙◌, arith, append_assoc}
 use Rattle.std.proofs.lemmas.List.{append-nil, length-append, take_all}
-use Rattle.entry.specs.declared.key.Key.{Key}
 use Rattle.entry.specs.declared.entry.Entry.{Entry}
 use Rattle.entry.specs.Tablet.{have_key}
-use Rattle.entry.specs.Meaning.{IsOfKey, among}
 use Rattle.replica.specs.Picture.{Picture}
 use Rattle.versioned_map.specs.declared.command.Record.{Record}
 use Rattle.versioned_map.specs.Command.{command_key}
@@ -16,7 +14,7 @@ use Rattle.versioned_map.proofs.Represented.{unit_added}
 use Rattle.log_model.specs.Data.{Start, LogUnit, LogData, entries_of, new_of, records_before, state_of, state_after}
 use Rattle.log_model.specs.Kept.{IsLogHeld}
 use Rattle.log_model.specs.Laws.{AppliedIsStanding, AppliedIsKept}
-use Rattle.log_model.specs.Log.{Texts, Rise, base_of, IsStanding}
+use Rattle.log_model.specs.Log.{Texts, AreOfTablets, Rise, base_of, IsStanding}
 use Rattle.log_model.specs.Steps.{with_unit, unit_now, applied, MayAppend, MayApply, texts_applied}
 use Rattle.log_model.proofs.Appending.{quiet, appended_is_held}
 use Rattle.log_model.proofs.Counts.{before_le}
@@ -29,7 +27,7 @@ use Rattle.log_model.proofs.Texts.{text_again, base_other, base_each}
 
 -- each entry of a unit is of its command's key
 unit_keys : (d : LogData) (segment : ℕ) (r : Record) → have_key d.config.tablets (command_key r.command) ≡ true
-    → (e : Entry) (k : Key) → among (unit_now d segment r) e → IsOfKey k e → have_key d.config.tablets k ≡ true
+    → AreOfTablets d.config (unit_now d segment r)
 unit_keys d segment r key e k m at =
     ap (have_key d.config.tablets) (unit_key e k at (state_of d) segment r.command m) ∙ key
 

@@ -6,22 +6,18 @@ use Rattle.std.specs.List.{AllByRecursion, flat_map}
 use Rattle.std.proofs.lemmas.List.{append-nil}
 use Rattle.std.proofs.lemmas.Grind.{flat_map-append}
 use Rattle.std.proofs.lemmas.Option.{same_Some}
-use Rattle.entry.specs.declared.key.Key.{Key}
 use Rattle.entry.specs.declared.entry.Entry.{Entry}
 use Rattle.entry.specs.Bag.{IsAmong}
-use Rattle.entry.specs.Tablet.{have_key}
 use Rattle.entry.specs.Text.{is_data, data_in, Opening, opening_in, opening_of}
-use Rattle.entry.specs.Meaning.{IsOfKey, among}
 use Rattle.replica.specs.declared.holding.Holding.{Holding}
 use Rattle.replica.specs.Picture.{Replica, Picture, survivors, IsHeld}
 use Rattle.replica.specs.Choice.{Choice, bag_of}
 use Rattle.versioned_map.specs.Represents.{Represents}
 use Rattle.versioned_map.specs.Versioned.{State}
-use Rattle.versioned_map.proofs.Tops.{among_either}
 use Rattle.log_model.specs.Data.{Start, LogData, front_entries, closed_of, state_after, everywhere, durable_of}
 use Rattle.log_model.specs.Data.{records_before, fewest}
 use Rattle.log_model.specs.Kept.{IsLogHeld}
-use Rattle.log_model.specs.Log.{Texts, base_of, IsLogged, IsStanding}
+use Rattle.log_model.specs.Log.{Texts, AreOfTablets, base_of, IsLogged, IsStanding}
 use Rattle.log_model.specs.Mirror.{IsHeadReplica, IsNewReplica, IsOlder, IsReplica}
 use Rattle.log_model.specs.Sound.{IsSurvivingChoice}
 use Rattle.log_model.proofs.Counts.{before_le, before_rise, fewest_below}
@@ -29,6 +25,7 @@ use Rattle.log_model.proofs.Fronts.{after_all}
 use Rattle.log_model.proofs.Lists.{same_front, among_data}
 use Rattle.log_model.proofs.Replicas.{opening_for, IsAll, head_segment, head_bears, head_data, new_bears, new_data}
 use Rattle.log_model.proofs.Replicas.{older_bears, other_all, new_other_all}
+use Rattle.log_model.proofs.Segments.{both_of_tablets}
 
 -- ---- holdings
 
@@ -52,7 +49,7 @@ pub record Stands (d : LogData) (c : Choice) : Type 0 where
   pub durable : durable_of d ≤ count
   pub within : count ≤ length d.history
   pub represents : Represents c.opening.safe (bag_of c) (state_after d count)
-  pub keys : (e : Entry) (k : Key) → among (bag_of c) e → IsOfKey k e → have_key d.config.tablets k ≡ true
+  pub keys : AreOfTablets d.config (bag_of c)
 
 zero_if : (b : Bool) (m n : ℕ) → m ≤ n → cond b 0 m ≤ n
 zero_if true m n le = omega arith
@@ -71,20 +68,10 @@ module _ (d : LogData) (texts : Texts) (p : Picture) (held : IsLogHeld d texts p
   abbrev master : ℕ
   master = d.config.master
 
-  -- the keys of some entries are the master's
-  abbrev AreOurs : List Entry → Type 0
-  AreOurs es = (e : Entry) (k : Key) → among es e → IsOfKey k e → have_key d.config.tablets k ≡ true
-
-  both_ours : (xs ys : List Entry) → AreOurs xs → AreOurs ys → AreOurs (xs ++ ys)
-  both_ours xs ys here there e k m at = elim (among_either e xs ys m) as (λ _. have_key d.config.tablets k ≡ true) [
-    | inl l ↦ here e k l at
-    | inr r ↦ there e k r at
-  ]
-
   -- The others of a choice hold the base.
   pub record IsBase (hs : List Holding) (ids : List ℕ) : Type 0 where
     pub bag : flat_map (λ (h : Holding). data_in h.bytes) hs ≡ base_of texts ids
-    pub keys : AreOurs (base_of texts ids)
+    pub keys : AreOfTablets d.config (base_of texts ids)
 
   -- all replicas of these are whole
   abbrev AreAll : List ℕ → Type 0
@@ -107,7 +94,7 @@ module _ (d : LogData) (texts : Texts) (p : Picture) (held : IsLogHeld d texts p
         let more = others_are hs ids rest all.1 (λ b t r m found. each b t r (inr m) found) in
         record {
           bag = (λ i. here.entries i ++ more.bag i);
-          keys = both_ours (filter is_data (texts s)) (base_of texts ids)
+          keys = both_of_tablets d.config (filter is_data (texts s)) (base_of texts ids)
               (λ e k m at. here.segment.keys e k (among_data e (texts s) m) at) more.keys;
         }
 
@@ -136,7 +123,7 @@ module _ (d : LogData) (texts : Texts) (p : Picture) (held : IsLogHeld d texts p
         -- and whose other segments are whole
         module _ (all : AreAll n.others) (es : List Entry) (own : data_in c.head.bytes ≡ es) (count : ℕ)
             (stands : Represents n.safe (base_of texts n.others ++ es) (state_after d count))
-            (durable : durable_of d ≤ count) (within : count ≤ length d.history) (keys : AreOurs es) where
+            (durable : durable_of d ≤ count) (within : count ≤ length d.history) (keys : AreOfTablets d.config es) where
           base : IsBase c.others n.others
           base = others_are c.others n.others ids choice.others all
 
@@ -150,7 +137,8 @@ module _ (d : LogData) (texts : Texts) (p : Picture) (held : IsLogHeld d texts p
             within = within;
             represents = subst (λ (o : Opening). Represents o.safe (bag_of c) (state_after d count)) (sym opening)
                 (subst (λ (l : List Entry). Represents n.safe l (state_after d count)) (sym bag) stands);
-            keys = subst AreOurs (sym bag) (both_ours (base_of texts n.others) es base.keys keys);
+            keys = subst (AreOfTablets d.config) (sym bag)
+                (both_of_tablets d.config (base_of texts n.others) es base.keys keys);
           }
 
       -- the head in force

@@ -9,11 +9,11 @@ use Rattle.entry.specs.declared.entry.Entry.{Entry}
 use Rattle.entry.specs.Bag.{IsAmong}
 use Rattle.entry.specs.Text.{data_in, is_data}
 use Rattle.entry.specs.Meaning.{among}
-use Rattle.replica.specs.Picture.{Replica, Picture}
+use Rattle.replica.specs.Picture.{Picture}
 use Rattle.versioned_map.proofs.Tops.{among_last, among_push}
 use Rattle.log_model.specs.Data.{LogUnit, Head, LogData, IsHome, front_entries, closed_of, everywhere}
 use Rattle.log_model.specs.Data.{durable_of, fewest}
-use Rattle.log_model.specs.Durable.{HasTaken, AreTaken, IsReplicated}
+use Rattle.log_model.specs.Durable.{HasUnit, HasTaken, AreTaken, IsReplicated}
 use Rattle.log_model.specs.Kept.{IsKept}
 use Rattle.log_model.specs.Laws.{KeptIsDurable, KeptIsReplicated, DurableIsWithin}
 use Rattle.log_model.specs.Log.{Rise, IsSegmentOf, IsWhole}
@@ -110,12 +110,8 @@ module _ (d : LogData) (p : Picture) (kept : IsKept d p) where
 
   -- ---- on the backups
 
-  abbrev Holds : Head → ℕ → LogUnit → Type 0
-  Holds h b u = (r : Replica) × (p b d.config.master h.start.id ≡ Some r)
-      × ((e : Entry) → among u.entries e → among (data_in r.bytes) e)
-
   past_holds : (h : Head) (place b : ℕ) (u : LogUnit) → IsAmong h past → slice_get h.units place ≡ Some u
-      → IsOther d h.start.id → IsHome d h.start.id b → Holds h b u
+      → IsOther d h.start.id → IsHome d h.start.id b → HasUnit d.config.master p b h u
   past_holds h place b u m is other home =
       let there = some_is (p b d.config.master h.start.id) (kept.held.mirrored.others h.start.id b other home) in
       let older = below_head d kept.texts p kept.held b h.start.id there.0 (kept.before.older h m) there.1 in
@@ -132,7 +128,7 @@ module _ (d : LogData) (p : Picture) (kept : IsKept d p) where
       )
 
   head_holds : (place b : ℕ) (u : LogUnit) → slice_get us place ≡ Some u → u.number < durable_of d
-      → IsHome d d.head.start.id b → Holds d.head b u
+      → IsHome d d.head.start.id b → HasUnit d.config.master p b d.head u
   head_holds place b u is lt home =
       let size = slice_get_within (d.config.homes d.head.start.id) home.0 b home.1 in
       let all = kept.held.placed.count d.head.start.id in
@@ -152,12 +148,13 @@ module _ (d : LogData) (p : Picture) (kept : IsKept d p) where
   earlier h m (inr other) = other
 
   replicated : IsReplicated d past p
-  replicated h place b u m is lt of_log home = elim (among_push h past d.head m) as (λ _. Holds h b u) [
-    | inl l ↦ past_holds h place b u l is (earlier h l of_log) home
-    | inr same ↦ subst (λ (x : Head). Holds x b u) same
-        (head_holds place b u (ap (λ (x : Head). slice_get x.units place) same ∙ is) lt
-        (subst (λ (x : Head). IsHome d x.start.id b) (sym same) home))
-  ]
+  replicated h place b u m is lt of_log home = elim (among_push h past d.head m)
+      as (λ _. HasUnit d.config.master p b h u) [
+        | inl l ↦ past_holds h place b u l is (earlier h l of_log) home
+        | inr same ↦ subst (λ (x : Head). HasUnit d.config.master p b x u) same
+            (head_holds place b u (ap (λ (x : Head). slice_get x.units place) same ∙ is) lt
+            (subst (λ (x : Head). IsHome d x.start.id b) (sym same) home))
+      ]
 
 -- ---- laws
 

@@ -1,12 +1,12 @@
 -- The text of a segment that no digest names is changed, and an id is taken for one.
-use Rattle.std.proofs.Common.{refl, ℕ, suc, inl, inr, List, [], ◌++◌, length, sym, subst, arith}
+use Rattle.std.proofs.Common.{refl, ℕ, suc, inl, inr, List, [], ◌++◌, sym, subst, arith}
 use Rattle.entry.specs.declared.entry.Entry.{Entry}
 use Rattle.replica.specs.Picture.{Replica, Picture}
 use Rattle.versioned_map.specs.Represents.{Represents}
-use Rattle.log_model.specs.Data.{LogData, front_entries, records_before, state_of, state_after}
+use Rattle.log_model.specs.Data.{LogData, front_entries, state_of}
 use Rattle.log_model.specs.Kept.{IsKept}
 use Rattle.log_model.specs.Laws.{IdTakenIsHeld, IdTakenIsStanding, IdTakenIsKept}
-use Rattle.log_model.specs.Log.{Texts, with_text, IsLogged, IsStanding}
+use Rattle.log_model.specs.Log.{Texts, with_text, state_before, IsLogged, IsStanding}
 use Rattle.log_model.specs.Mirror.{IsReplica, IsOther}
 use Rattle.log_model.specs.Spares.{IsFree}
 use Rattle.log_model.specs.Steps.{id_taken, texts_taken}
@@ -37,7 +37,7 @@ module _ (d : LogData) (texts : Texts) (s : ℕ) (es : List Entry) (free : IsFre
   free_standing standing = record {
     numbers = standing.numbers;
     fronts = λ k le. subst (λ (bag : List Entry). Represents d.head.start.safe (bag ++ front_entries d.head k)
-        (state_after d (records_before d.head.units (length d.history) k)))
+        (state_before d k))
         (sym (base_other texts s es d.head.start.others (λ m. free.others (inl m)))) (standing.fronts k le);
     new = λ n is. subst (λ (bag : List Entry). Represents n.safe bag (state_of d))
         (sym (base_other texts s es n.others (λ m. free.others (inr (n, is, m, free.head))))) (standing.new n is);

@@ -14,10 +14,10 @@ use Rattle.versioned_map.specs.Versioned.{State}
 use Rattle.versioned_map.proofs.Tops.{among_push}
 use Rattle.log_model.specs.Data.{Start, LogData, IsHome, ids_of, start_entries, entries_of, front_entries, new_of}
 use Rattle.log_model.specs.Data.{closed_of}
-use Rattle.log_model.specs.Data.{records_before, state_of, state_after}
+use Rattle.log_model.specs.Data.{state_of}
 use Rattle.log_model.specs.Kept.{IsLogHeld}
 use Rattle.log_model.specs.Laws.{RollingIsHeld, RollingIsStanding, RollingIsKept, OrdinaryIsRoll}
-use Rattle.log_model.specs.Log.{Texts, base_of, IsSegmentOf, IsNewLog, IsLogged, IsStanding}
+use Rattle.log_model.specs.Log.{Texts, base_of, state_before, IsSegmentOf, IsNewLog, IsLogged, IsStanding}
 use Rattle.log_model.specs.Mirror.{head_replica, IsHeadReplica, IsReplica, IsOther, IsMirrored}
 use Rattle.log_model.specs.Steps.{rolling, texts_rolling, IsRoll}
 use Rattle.log_model.proofs.Fronts.{present}
@@ -123,7 +123,7 @@ module _ (d : LogData) (texts : Texts) (p : Picture) (n : Start) (held : IsLogHe
   rolling_stands standing stands = record {
     numbers = standing.numbers;
     fronts = λ k le. subst (λ (b : List Entry). Represents d.head.start.safe (b ++ front_entries d.head k)
-        (state_after d (records_before d.head.units (length d.history) k)))
+        (state_before d k))
         (sym (same_base d.head.start (λ s m. old s m)))
         (standing.fronts k le);
     new = λ m is. subst (λ (x : Start). Represents x.safe (base_of texts_now x.others) (state_of d))

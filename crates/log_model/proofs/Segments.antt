@@ -11,12 +11,13 @@ use Rattle.entry.specs.declared.entry.Entry.{Entry}
 use Rattle.entry.specs.Text.{text_of, is_data, are_data, is_whole, ends_with, entries_in, data_in, header_of}
 use Rattle.entry.specs.Text.{opening_in, opening_of, IsSegment}
 use Rattle.entry.specs.Meaning.{IsOfKey, among}
+use Rattle.entry.specs.Tablet.{have_key}
 use Rattle.entry.proofs.TextLemmas.{entries_in-text}
 use Rattle.segment.proofs.RowLemmas.{text_of-append, each-split}
-use Rattle.versioned_map.proofs.Tops.{among_left}
+use Rattle.versioned_map.proofs.Tops.{among_left, among_either}
 use Rattle.log_model.specs.Data.{LogConfig, Start, LogUnit, Head, ids_of, start_entries, entries_of, front_entries}
 use Rattle.log_model.specs.Data.{head_entries}
-use Rattle.log_model.specs.Log.{IsSegmentOf}
+use Rattle.log_model.specs.Log.{AreOfTablets, IsSegmentOf}
 use Rattle.log_model.specs.Sound.{IsTextOfSegment}
 
 -- ---- a segment's text
@@ -40,6 +41,14 @@ module _ (c : LogConfig) (s : ℕ) (es : List Entry) (is : IsSegmentOf c s es) w
     header = subst (λ (o : Option Header). IsSomeAnd o (λ (h : Header). (h.master ≡ c.master) × (h.segment ≡ s)))
         (sym (ap header_of read)) is.header;
   }
+
+-- the keys of both are of the master's tablets
+pub both_of_tablets : (c : LogConfig) (xs ys : List Entry) → AreOfTablets c xs → AreOfTablets c ys
+    → AreOfTablets c (xs ++ ys)
+both_of_tablets c xs ys here there e k m at = elim (among_either e xs ys m) as (λ _. have_key c.tablets k ≡ true) [
+  | inl l ↦ here e k l at
+  | inr r ↦ there e k r at
+]
 
 -- ---- data
 

@@ -59,10 +59,13 @@ pub record IsDurable (d : LogData) (past : List Head) (count : ℕ) : Type 0 whe
   pub taken : AreTaken d past count
   pub greatest : (more : ℕ) → more ≤ length d.history → AreTaken d past more → more ≤ count
 
+-- the backup's replica of the head's segment has the unit
+abbrev pub HasUnit : ℕ → Picture → ℕ → Head → LogUnit → Type 0
+HasUnit master p b h u = (r : Replica) × (p b master h.start.id ≡ Some r)
+    × ((e : Entry) → among u.entries e → among (data_in r.bytes) e)
+
 -- Each home of the segment of each durable unit holds that unit, while the segment is of the log.
 abbrev pub IsReplicated : LogData → List Head → Picture → Type 0
 IsReplicated d past p = (h : Head) (place b : ℕ) (u : LogUnit) → IsAmong h (heads_of past d)
     → slice_get h.units place ≡ Some u
-    → u.number < durable_of d → IsInLog d h.start.id → IsHome d h.start.id b
-    → (r : Replica) × (p b d.config.master h.start.id ≡ Some r)
-    × ((e : Entry) → among u.entries e → among (data_in r.bytes) e)
+    → u.number < durable_of d → IsInLog d h.start.id → IsHome d h.start.id b → HasUnit d.config.master p b h u

@@ -9,6 +9,7 @@ use Rattle.entry.specs.Tablet.{have_key}
 use Rattle.entry.specs.Text.{text_of, is_data, header_of, IsSegment}
 use Rattle.entry.specs.Meaning.{IsOfKey, among}
 use Rattle.versioned_map.specs.Represents.{Represents}
+use Rattle.versioned_map.specs.Versioned.{State}
 use Rattle.log_model.specs.Data.{LogConfig, Start, LogUnit, Head, Phase, Ready, Opened, Closed, LogData, start_entries}
 use Rattle.log_model.specs.Data.{front_entries, head_entries, new_of, opened_of, records_before, state_of, state_after}
 
@@ -32,12 +33,16 @@ with_text texts id es = λ s. if s == id then es else texts s
 abbrev pub base_of : Texts → List ℕ → List Entry
 base_of texts ids = flat_map (λ (s : ℕ). filter is_data (texts s)) ids
 
+-- the entries have keys of the master's tablets alone
+abbrev pub AreOfTablets : LogConfig → List Entry → Type 0
+AreOfTablets c es = (e : Entry) (k : Key) → among es e → IsOfKey k e → have_key c.tablets k ≡ true
+
 -- The entries are a whole segment of this id, with keys of the master's tablets.
 pub record IsSegmentOf (c : LogConfig) (s : ℕ) (es : List Entry) : Type 0 where
   pub segment : IsSegment es
   pub limit : length (text_of es) ≤ 8388608
   pub header : IsSomeAnd (header_of es) (λ (h : Header). (h.master ≡ c.master) × (h.segment ≡ s))
-  pub keys : (e : Entry) (k : Key) → among es e → IsOfKey k e → have_key c.tablets k ≡ true
+  pub keys : AreOfTablets c es
 
 -- ---- the heads
 
@@ -90,11 +95,17 @@ abbrev pub Rise : ℕ → List LogUnit → ℕ → Type 0
 Rise from [] all = from ≤ all
 Rise from (u ∷ us) all = (from ≤ u.number) × Rise (suc u.number) us all
 
+-- all objects and tombstones of the log, up to this many of the head's units
+abbrev pub front_bag : LogData → Texts → ℕ → List Entry
+front_bag d texts count = base_of texts d.head.start.others ++ front_entries d.head count
+
+-- the state after the records before the one whose unit is at this place
+abbrev pub state_before : LogData → ℕ → State
+state_before d place = state_after d (records_before d.head.units (length d.history) place)
+
 -- The base with each front of the head's units stands for the state after the records before the next unit; the base
 -- of the head that a roll is opening, for the present state.
 pub record IsStanding (d : LogData) (texts : Texts) : Type 0 where
   pub numbers : Rise 0 d.head.units (length d.history)
-  pub fronts : (k : ℕ) → k ≤ length d.head.units
-      → Represents d.head.start.safe (base_of texts d.head.start.others ++ front_entries d.head k)
-      (state_after d (records_before d.head.units (length d.history) k))
+  pub fronts : (k : ℕ) → k ≤ length d.head.units → Represents d.head.start.safe (front_bag d texts k) (state_before d k)
   pub new : (n : Start) → new_of d.phase ≡ Some n → Represents n.safe (base_of texts n.others) (state_of d)

@@ -2,9 +2,7 @@
 use Rattle.std.specs.Prelude.{◌≡◌, ℕ, zero, suc, ◌<◌, ◌≤◌, ◌⊎◌, ◌==◌, List, [], ◌∷◌, ◌++◌, length, take, drop}
 use Rattle.std.specs.Prelude.{true, Some, None, IsSome, slice_get, slice_set, get_or, if◌then◌else◌}
 use Rattle.entry.specs.declared.entry.Entry.{Entry}
-use Rattle.entry.specs.declared.key.Key.{Key}
 use Rattle.entry.specs.Bag.{IsAmong}
-use Rattle.entry.specs.Meaning.{IsOfKey, among}
 use Rattle.entry.specs.Tablet.{have_key}
 use Rattle.entry.specs.Text.{text_of, IsSegment}
 use Rattle.replica.specs.Op.{ActValue, Open, Extend, Close}
@@ -14,7 +12,7 @@ use Rattle.versioned_map.specs.Command.{command_key}
 use Rattle.versioned_map.specs.Represents.{unit_of, empty_state}
 use Rattle.log_model.specs.Data.{LogConfig, Start, LogUnit, Head, Phase, Ready, Opened, Closed, LogData, IsHomeAt}
 use Rattle.log_model.specs.Data.{IsHome, ids_of, start_entries, entries_of, head_entries, new_of, opened_of, state_of}
-use Rattle.log_model.specs.Log.{Texts, with_text, IsPlaced, AreBelow}
+use Rattle.log_model.specs.Log.{Texts, with_text, AreOfTablets, IsPlaced, AreBelow}
 use Rattle.log_model.specs.Ops.{LogOp}
 
 -- ---- a new master
@@ -71,7 +69,7 @@ pub record Fits (d : LogData) (unit : List Entry) : Type 0 where
 
 -- It has keys of the master's tablets, and is nothing or fits.
 pub record MayAppend (d : LogData) (unit : List Entry) : Type 0 where
-  pub keys : (e : Entry) (k : Key) → among unit e → IsOfKey k e → have_key d.config.tablets k ≡ true
+  pub keys : AreOfTablets d.config unit
   pub fits : (unit ≡ []) ⊎ Fits d unit
 
 -- The command's key is of the master's tablets, and its unit is nothing or fits.
