@@ -36,7 +36,7 @@ abbrev pub SealedAreThere : LogConfig → Memory → Texts → Picture → Type 
 SealedAreThere c m texts p = (s j b : ℕ) → IsAmong s m.pass.survivors → slice_get (c.homes s) j ≡ Some b
     → j < m.sealed s → p b c.master s ≡ Some (record { bytes = text_of (texts s); is_open = false })
 
--- and each replica of a survivor is one of these
+-- each replica of a survivor is one of its first, up to its count
 abbrev pub ThereAreSealed : LogConfig → Memory → Picture → Type 0
 ThereAreSealed c m p = (s b : ℕ) (r : Replica) → IsAmong s m.pass.survivors → p b c.master s ≡ Some r
     → (j : ℕ) × (slice_get (c.homes s) j ≡ Some b) × (j < m.sealed s)

@@ -15,8 +15,7 @@ use Rattle.clean_model.specs.Intact.{IsCommit, IsReady, IsIntact}
 use Rattle.clean_model.specs.Memory.{Place, Memory}
 use Rattle.clean_model.specs.Steps.{first_memory, compacted, MayCompact, pass_begun, MayBeginClean, copy_done, MayCopy}
 use Rattle.clean_model.specs.Steps.{recorded, IsNamed, rolled, commit_start, MayCommit, after_take, seal_op}
-use Rattle.clean_model.specs.Steps.{sealed_more}
-use Rattle.clean_model.specs.Steps.{MaySeal, free_op, MayFree, IsFault}
+use Rattle.clean_model.specs.Steps.{sealed_more, MaySeal, free_op, MayFree, IsFault}
 
 -- ---- what is intact
 
@@ -100,15 +99,15 @@ FreeKeeps = (d : LogData) (m : Memory) (p : Picture) (s b : ℕ) → IsIntact d 
 
 -- ---- a fault
 
--- After a fault, whichever op was taken or not, the picture is sound for what the master knew,
+-- After a fault, whichever op was taken or not, the picture is sound for what the master knew.
 abbrev pub FaultIsSound : Type 0
 FaultIsSound = (d : LogData) (m : Memory) (p q : Picture) → IsIntact d m p → IsFault d m p q → IsSound d q
 
--- images and replicas keep the map that it knew,
+-- After a fault images and replicas keep the map that the master knew.
 abbrev pub FaultIsCovered : Type 0
 FaultIsCovered = (d : LogData) (m : Memory) (p q : Picture) → IsIntact d m p → IsFault d m p q → IsCovered d m q
 
--- and each unit that it knew to be durable is on the backups.
+-- After a fault each unit that the master knew to be durable is on the backups.
 abbrev pub FaultIsReplicated : Type 0
 FaultIsReplicated = (d : LogData) (m : Memory) (p q : Picture) (i : IsIntact d m p) → IsFault d m p q
     → IsReplicated d i.log.past q

@@ -64,7 +64,7 @@ CleanBecomes (Frees s b) w v = MayFree w.knows w.memory w.picture s b
     × (taken w.picture w.knows.config.master (free_op s b) ≡ Some v.picture)
     × (v ≡ record { knows = w.knows; memory = w.memory; picture = v.picture })
 
--- the events in order
+-- the events in order make the second of these from the first
 abbrev pub IsCleanRun : CleanWorld → List CleanEvent → CleanWorld → Type 0
 IsCleanRun w [] v = v ≡ w
 IsCleanRun w (e ∷ es) v = (u : CleanWorld) × CleanBecomes e w u × IsCleanRun u es v

@@ -34,7 +34,7 @@ first_memory c = record {
 
 -- ---- compaction
 
--- the segment's image is its kept entries, and the index follows
+-- memory once the segment's image is its kept entries, and the index follows
 abbrev pub compacted : LogData → Memory → ℕ → Memory
 compacted d m s = record m {
   images = with_image m.images s (kept_from (log_ids d m) m.index s 0 (m.images s));
@@ -49,7 +49,7 @@ pub record MayCompact (d : LogData) (m : Memory) (s : ℕ) : Type 0 where
 
 -- ---- a pass begins
 
--- its survivor has the next id, and its cursor all places of the victims before it
+-- memory once a pass has begun: its survivor has the next id, and its cursor all places of the victims before it
 abbrev pub pass_begun : LogData → Memory → List ℕ → Memory
 pass_begun d m victims = record m {
   images = with_image m.images d.next (survivor_entries d.config.master d.next);
@@ -91,11 +91,11 @@ is_copied ids index p (entry.Safe version) = false
 is_copied ids index p (entry.Object o) = kept ids index p.segment p.position (entry.Object o)
 is_copied ids index p (entry.Tombstone t) = kept ids index p.segment p.position (entry.Tombstone t)
 
--- a survivor has the entry more, and the cursor is past it
+-- memory once a survivor has the entry more, and the cursor is past it
 abbrev pub with_copy : Memory → List Place → ℕ → Entry → Memory
 with_copy m rest s e = record m { images = grown m.images s e; index = index_moved m s e; rest = rest }
 
--- the entry at the cursor is copied where it is kept, and passed over where it isn't
+-- memory once the entry at the cursor is copied where it is kept, or passed over where it isn't
 abbrev pub copy_done : LogData → Memory → Place → List Place → ℕ → Entry → Memory
 copy_done d m first rest s e =
     if is_copied (log_ids d m) m.index first e then with_copy m rest s e else record m { rest = rest }
@@ -122,12 +122,12 @@ abbrev pub images_with : Images → ℕ → List Entry → Images
 images_with images s [] = images
 images_with images s (e ∷ es) = images_with (grown images s e) s es
 
--- and the index
+-- the index once entries are appended one after the other
 abbrev pub index_with : Images → Index → ℕ → List Entry → Index
 index_with images index s [] = index
 index_with images index s (e ∷ es) = index_with (grown images s e) (index_after images index s e) s es
 
--- a record applied: its unit goes to the head
+-- memory once the record is applied: its unit goes to the head
 abbrev pub recorded : LogData → Memory → ℕ → Record → Memory
 recorded d m segment r = record m {
   images = images_with m.images d.head.start.id (unit_now d segment r);
@@ -140,7 +140,7 @@ IsNamed m segment r = (p : Place) → m.index (command_key r.command) ≡ Some p
 
 -- ---- rolls
 
--- a new head's image is its opening; the roll is a commit, or not
+-- memory once a roll has begun: the new head's image is its opening, and the roll is a commit, or not
 abbrev pub rolled : LogData → Memory → Start → Bool → Memory
 rolled d m n commits =
     record m { images = with_image m.images n.id (start_entries d.config.master n); commits = commits }
@@ -150,7 +150,7 @@ abbrev pub inserted : ℕ → List ℕ → List ℕ
 inserted s [] = s ∷ []
 inserted s (z ∷ ids) = if nat_lt s z then s ∷ z ∷ ids else z ∷ inserted s ids
 
--- and with several
+-- ids that rise with several more at their places
 abbrev pub all_inserted : List ℕ → List ℕ → List ℕ
 all_inserted [] ids = ids
 all_inserted (s ∷ more) ids = inserted s (all_inserted more ids)
@@ -178,11 +178,11 @@ pub record MayCommit (d : LogData) (m : Memory) (n : Start) : Type 0 where
   pub segment : IsSegment (start_entries d.config.master n)
   pub limit : length (text_of (start_entries d.config.master n)) ≤ 8388608
 
--- the pass has ended, and its victims may be freed
+-- memory once the pass has ended, and its victims may be freed
 abbrev pub finished : Memory → Memory
 finished m = record m { pass = no_pass; commits = false; waiting = m.pass.victims ++ m.waiting }
 
--- where a roll has ended that was a commit, the pass has
+-- memory by the new head before an op and after it: where a roll has ended that was a commit, the pass has ended
 abbrev pub ended : Option Start → Option Start → Memory → Memory
 ended (Some n) None m = if m.commits then finished m else m
 ended (Some n) (Some x) m = m
@@ -198,7 +198,7 @@ after_take d e m = ended (new_of d.phase) (new_of e.phase) m
 abbrev pub seal_op : Memory → ℕ → ℕ → LogOp
 seal_op m s b = record { backup = b; segment = s; act = Seal (text_of (m.images s)) }
 
--- one more replica of the survivor is sealed
+-- memory once one more replica of the survivor is sealed
 abbrev pub sealed_more : Memory → ℕ → Memory
 sealed_more m s = record m { sealed = λ z. if z == s then suc (m.sealed s) else m.sealed z }
 

@@ -120,7 +120,7 @@ closed_of (Closed j n) = j
 abbrev pub state_after : LogData → ℕ → State
 state_after d count = after d.opening (take count (commands_of d.history))
 
--- and after all
+-- the versioned map's state after all records
 abbrev pub state_of : LogData → State
 state_of d = after d.opening (commands_of d.history)
 
@@ -135,7 +135,7 @@ abbrev pub fewest : ℕ → List ℕ → ℕ
 fewest units [] = units
 fewest units (n ∷ ns) = min n (fewest units ns)
 
--- how many units every replica of the head has
+-- how many of its units all replicas of the head have
 abbrev pub everywhere : LogData → ℕ
 everywhere d =
     if nat_lt (length d.head.taken) d.config.replicas then 0 else fewest (length d.head.units) d.head.taken

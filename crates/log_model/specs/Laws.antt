@@ -113,12 +113,12 @@ abbrev pub IdTakenIsHeld : Type 0
 IdTakenIsHeld = (d : LogData) (texts : Texts) (p : Picture) (es : List Entry) → IsLogHeld d texts p
     → IsLogHeld (id_taken d) (texts_taken d texts es) p
 
--- It is in no base.
+-- It is in no base, so these stand for what they did.
 abbrev pub IdTakenIsStanding : Type 0
 IdTakenIsStanding = (d : LogData) (texts : Texts) (p : Picture) (es : List Entry) → IsLogHeld d texts p
     → IsStanding d texts → IsStanding (id_taken d) (texts_taken d texts es)
 
--- And it is of no head.
+-- And it is no head's, so the heads before stay as they are.
 abbrev pub IdTakenIsPast : Type 0
 IdTakenIsPast = (d : LogData) (texts : Texts) (p : Picture) (past : List Head) (es : List Entry)
     → IsLogHeld d texts p → IsPast d texts past → IsPast (id_taken d) (texts_taken d texts es) past
@@ -133,7 +133,7 @@ IdTakenIsKept = (d : LogData) (p : Picture) → IsKept d p → IsKept (id_taken 
 abbrev pub NextGoesOn : Type 0
 NextGoesOn = (d e : LogData) (o : LogOp) → IsNext d o e → GoesOn d e ⊎ EndsRoll d e
 
--- It is on a replica of the head in force or of the new one.
+-- An op of the head is on a replica of the head in force or of the new one.
 abbrev pub NextIsOfHeads : Type 0
 NextIsOfHeads = (d e : LogData) (o : LogOp) → IsNext d o e
     → (o.segment ≡ d.head.start.id) ⊎ ((n : Start) × (new_of d.phase ≡ Some n) × (o.segment ≡ n.id))
@@ -143,7 +143,7 @@ abbrev pub NextIsHeld : Type 0
 NextIsHeld = (d e : LogData) (texts : Texts) (p : Picture) (o : LogOp) → IsLogHeld d texts p → IsNext d o e
     → (q : Picture) × (taken p d.config.master o ≡ Some q) × IsLogHeld e texts q
 
--- They stand for what they did.
+-- These texts stand for what they did.
 abbrev pub NextIsStanding : Type 0
 NextIsStanding = (d e : LogData) (texts : Texts) (o : LogOp) → IsStanding d texts → IsNext d o e
     → IsStanding e texts
@@ -159,18 +159,18 @@ abbrev pub NextIsKept : Type 0
 NextIsKept = (d e : LogData) (p : Picture) (o : LogOp) → IsKept d p → IsNext d o e
     → (q : Picture) × (taken p d.config.master o ≡ Some q) × IsKept e q
 
--- Where nobody knows that it was taken, the picture is sound for what the master knew.
+-- Where nobody knows that an op was taken, the picture is sound for what the master knew.
 abbrev pub NextIsSound : Type 0
 NextIsSound = (d e : LogData) (p q : Picture) (o : LogOp) → IsKept d p → IsNext d o e
     → taken p d.config.master o ≡ Some q → IsSound d q
 
--- And what was durable is on the backups.
+-- And what the master knew to be durable is on the backups.
 abbrev pub NextIsReplicated : Type 0
 NextIsReplicated = (d e : LogData) (p q : Picture) (o : LogOp) (kept : IsKept d p) → IsNext d o e
     → taken p d.config.master o ≡ Some q → IsReplicated d kept.past q
 
--- What a replica of the head that is handed more lacks: it has the units up to one place, is handed the spelling of
--- those up to another, and then has these.
+-- What an Extend does: its replica of the head ends with the units up to one place, is handed the spelling of those
+-- from there up to another, and then ends with these.
 pub record HandsOver (d : LogData) (p q : Picture) (o : LogOp) (from to : ℕ) : Type 0 where
   pub r : Replica
   pub had : p o.backup d.config.master o.segment ≡ Some r
@@ -193,12 +193,12 @@ SealedIsHeld = (d : LogData) (texts : Texts) (p : Picture) (o : LogOp) (es : Lis
     → Seals d texts p o es
     → (q : Picture) × (taken p d.config.master o ≡ Some q) × IsLogHeld d (texts_sealed texts o es) q
 
--- It is in no base.
+-- It is in no base, so the texts stand for what they did.
 abbrev pub SealedIsStanding : Type 0
 SealedIsStanding = (d : LogData) (texts : Texts) (p : Picture) (o : LogOp) (es : List Entry) → Seals d texts p o es
     → IsStanding d texts → IsStanding d (texts_sealed texts o es)
 
--- And it is of no head.
+-- And it is no head's, so the heads before stay as they are.
 abbrev pub SealedIsPast : Type 0
 SealedIsPast = (d : LogData) (texts : Texts) (p : Picture) (past : List Head) (o : LogOp) (es : List Entry)
     → Seals d texts p o es → IsPast d texts past → IsPast d (texts_sealed texts o es) past
@@ -224,15 +224,15 @@ FreedIsKept = (d : LogData) (p : Picture) (o : LogOp) → IsKept d p → Frees d
 abbrev pub DurableIsWithin : Type 0
 DurableIsWithin = (d : LogData) (p : Picture) → IsKept d p → durable_of d ≤ length d.history
 
--- No command lowers it,
+-- No command lowers the durable count.
 abbrev pub DurableStaysApplied : Type 0
 DurableStaysApplied = (d : LogData) (p : Picture) (segment : ℕ) (r : Record) → IsKept d p
     → durable_of d ≤ durable_of (applied d segment r)
 
--- no roll that begins,
+-- No roll that begins lowers it.
 abbrev pub DurableStaysRolling : Type 0
 DurableStaysRolling = (d : LogData) (n : Start) → durable_of d ≤ durable_of (rolling d n)
 
--- and no op.
+-- No op lowers it.
 abbrev pub DurableStaysNext : Type 0
 DurableStaysNext = (d e : LogData) (p : Picture) (o : LogOp) → IsKept d p → IsNext d o e → durable_of d ≤ durable_of e

@@ -28,7 +28,7 @@ LogBecomes Rolls w v = MayRoll w.knows
     × (v ≡ record { knows = rolling w.knows (next_start w.knows); picture = w.picture })
 LogBecomes (Takes o) w v = IsNext w.knows o v.knows × (taken w.picture w.knows.config.master o ≡ Some v.picture)
 
--- the events in order
+-- the events in order make the second of these from the first
 abbrev pub IsLogRun : LogWorld → List LogEvent → LogWorld → Type 0
 IsLogRun w [] v = v ≡ w
 IsLogRun w (e ∷ es) v = (u : LogWorld) × LogBecomes e w u × IsLogRun u es v

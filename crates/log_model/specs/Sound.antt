@@ -21,7 +21,7 @@ pub record IsTextOfSegment (bytes : List ℕ) (master segment : ℕ) : Type 0 wh
 abbrev pub IsSurvivingChoice : LogData → Picture → (ℕ → Bool) → Choice → Type 0
 IsSurvivingChoice d p keep c = IsChoice (IsHeld (survivors keep p)) d.config.master c
 
--- there is one
+-- these backups hold a choice of the master's newest log
 abbrev pub HasChoice : LogData → Picture → (ℕ → Bool) → Type 0
 HasChoice d p keep = (c : Choice) × IsSurvivingChoice d p keep c
 

@@ -29,11 +29,11 @@ pub record Seals (d : LogData) (texts : Texts) (p : Picture) (o : LogOp) (es : L
   pub nothing : p o.backup d.config.master o.segment ≡ None
   pub act : o.act ≡ Seal (text_of es)
 
--- the survivor's text is what is sealed
+-- the texts once the survivor's is what is sealed
 abbrev pub texts_sealed : Texts → LogOp → List Entry → Texts
 texts_sealed texts o es = with_text texts o.segment es
 
--- A replica of such a segment is freed.
+-- A replica of a segment that no digest names is freed.
 pub record Frees (d : LogData) (p : Picture) (o : LogOp) : Type 0 where
   pub free : IsFree d o.segment
   pub there : IsSome (p o.backup d.config.master o.segment)

@@ -41,7 +41,7 @@ pub record MayBegin (c : LogConfig) (p : Picture) : Type 0 where
 
 -- ---- a command
 
--- units with that of the record of this number, where it appended one
+-- the units with that of the record of this number, where it appended one
 abbrev pub with_unit : List LogUnit → ℕ → List Entry → List LogUnit
 with_unit us number [] = us
 with_unit us number (e ∷ es) = us ++ record { number = number; entries = e ∷ es } ∷ []
@@ -50,14 +50,14 @@ with_unit us number (e ∷ es) = us ++ record { number = number; entries = e ∷
 abbrev pub unit_now : LogData → ℕ → Record → List Entry
 unit_now d segment r = unit_of (state_of d) segment r.command
 
--- this history, and one more unit where it is something
+-- the master with this history, and with the unit at the head's end where it is something
 abbrev pub with_appended : LogData → List Record → List Entry → LogData
 with_appended d history unit = record d {
   history = history;
   head = record d.head { units = with_unit d.head.units (length d.history) unit };
 }
 
--- the record is applied, and its unit appended
+-- the master once the record is applied, and its unit appended
 abbrev pub applied : LogData → ℕ → Record → LogData
 applied d segment r = with_appended d (d.history ++ r ∷ []) (unit_now d segment r)
 
@@ -67,7 +67,7 @@ pub record Fits (d : LogData) (unit : List Entry) : Type 0 where
   pub segment : IsSegment (head_entries d.config.master d.head (length d.head.units) ++ unit)
   pub limit : length (text_of (head_entries d.config.master d.head (length d.head.units) ++ unit)) ≤ 8388608
 
--- It has keys of the master's tablets, and is nothing or fits.
+-- What is appended has keys of the master's tablets, and is nothing or fits.
 pub record MayAppend (d : LogData) (unit : List Entry) : Type 0 where
   pub keys : AreOfTablets d.config unit
   pub fits : (unit ≡ []) ⊎ Fits d unit
@@ -77,11 +77,11 @@ pub record MayApply (d : LogData) (segment : ℕ) (r : Record) : Type 0 where
   pub key : have_key d.config.tablets (command_key r.command) ≡ true
   pub fits : (unit_now d segment r ≡ []) ⊎ Fits d (unit_now d segment r)
 
--- the head's text has the unit at its end
+-- the texts once the unit is at the end of the head's
 abbrev pub texts_appended : LogData → Texts → List Entry → Texts
 texts_appended d texts unit = with_text texts d.head.start.id (texts d.head.start.id ++ unit)
 
--- and so it has once the record is applied
+-- the texts once the record is applied
 abbrev pub texts_applied : LogData → Texts → ℕ → Record → Texts
 texts_applied d texts segment r = texts_appended d texts (unit_now d segment r)
 
@@ -91,11 +91,11 @@ texts_applied d texts segment r = texts_appended d texts (unit_now d segment r)
 abbrev pub next_start : LogData → Start
 next_start d = record { id = d.next; others = ids_of d.head.start; safe = (state_of d).safe }
 
--- a roll to this head has begun
+-- the master once a roll to this head has begun
 abbrev pub rolling : LogData → Start → LogData
 rolling d n = record d { phase = Opened 0 n; next = suc d.next }
 
--- the new head's text is its opening
+-- the texts once the new head's is its opening
 abbrev pub texts_rolling : LogData → Texts → Start → Texts
 texts_rolling d texts n = with_text texts n.id (start_entries d.config.master n)
 
@@ -118,17 +118,17 @@ pub record IsRoll (d : LogData) (p : Picture) (n : Start) : Type 0 where
 
 -- ---- an id is taken without a roll
 
--- a segment that is no head has the next id
+-- the master once a segment that is no head has the next id
 abbrev pub id_taken : LogData → LogData
 id_taken d = record d { next = suc d.next }
 
--- and this text
+-- the texts once that segment's is this
 abbrev pub texts_taken : LogData → Texts → List Entry → Texts
 texts_taken d texts es = with_text texts d.next es
 
 -- ---- an op is taken
 
--- the head's replicas have these units
+-- the master whose head's replicas have this many units each
 abbrev pub with_counts : LogData → List ℕ → LogData
 with_counts d counts = record d { head = record d.head { taken = counts } }
 
@@ -166,7 +166,7 @@ pub record Extends (d : LogData) (o : LogOp) (e : LogData) : Type 0 where
   pub act : o.act ≡ extend_act d.config.master d.head from to
   pub gives : e ≡ with_counts d (slice_set d.head.taken j to)
 
--- the phase when one more replica of the new head is opened
+-- the phase once one more replica of the new head is opened
 abbrev pub one_opened : ℕ → ℕ → Start → Phase
 one_opened replicas j n = if suc j == replicas then Closed 0 n else Opened (suc j) n
 
@@ -191,7 +191,7 @@ no_units (suc n) = 0 ∷ no_units n
 abbrev pub new_head : ℕ → Start → Head
 new_head replicas n = record { start = n; loaded = []; units = []; taken = no_units replicas }
 
--- one more replica of the old head is closed; with the last one the new head is in force
+-- the master once one more replica of the old head is closed; with the last one the new head is in force
 abbrev pub one_closed : LogData → ℕ → Start → LogData
 one_closed d j n =
     if suc j == d.config.replicas then record d { head = new_head d.config.replicas n; phase = Ready }
@@ -207,7 +207,7 @@ pub record ClosesOld (d : LogData) (o : LogOp) (e : LogData) : Type 0 where
   pub act : o.act ≡ Close
   pub gives : e ≡ one_closed d j n
 
--- With the op taken the master is this one.
+-- with the op taken the master is this one
 abbrev pub IsNext : LogData → LogOp → LogData → Type 0
 IsNext d o e = OpensFirst d o e ⊎ (Extends d o e ⊎ (OpensNew d o e ⊎ ClosesOld d o e))
 
