@@ -16,7 +16,7 @@ use Rattle.clean_model.specs.Tracked.{IsCopied, IsBuried, IsFound, IsTracked}
 use Rattle.clean_model.proofs.Lists.{grown_in, grown_out, at_grown, at_grown_last}
 use Rattle.clean_model.proofs.Premises.{IsSet, IsAdded}
 use Rattle.clean_model.proofs.TrackedBags.{in_segment, of_same, of_other, stands_in, key_tells, object_is, one_object}
-use Rattle.clean_model.proofs.TrackedBags.{object_key, buried_again}
+use Rattle.clean_model.proofs.TrackedBags.{one_object_key, buried_again}
 
 pub added_copied : (log : LogSet) (s : ℕ) (e : Entry) → IsAdded log (copied log s e) s e
 added_copied log s e = record {
@@ -137,7 +137,7 @@ module _ (log new : LogSet) (head : ℕ) (o : ObjectValue) (added : IsAdded log 
       | inl l ↦ (
           let r : 2 * a.version ≡ 2 * x.version = ap rank_of same in
           let v = new_number k x here h in
-          absurd (new_version s a l (object_key _ _ same ∙ here) (omega arith)))
+          absurd (new_version s a l (one_object_key _ _ same ∙ here) (omega arith)))
       | inr w ↦ (
           let e = ap moved here in
           let now = to.here in
@@ -149,7 +149,7 @@ module _ (log new : LogSet) (head : ℕ) (o : ObjectValue) (added : IsAdded log 
         | inl e ↦ inl e
         | inr c ↦ inr (copied_grows log new head (Object o) added pass s p.segment a c)
       ]
-      | inr w ↦ absurd (of_no_other k other (Object a) w.1 (object_key _ _ same))
+      | inr w ↦ absurd (of_no_other k other (Object a) w.1 (one_object_key _ _ same))
     ]
   ]
 

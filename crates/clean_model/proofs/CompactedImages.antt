@@ -10,8 +10,7 @@ use Rattle.entry.specs.declared.entry.Entry.TheVariants.{Object, Tombstone}
 use Rattle.entry.specs.Bag.{IsAmong}
 use Rattle.entry.specs.Meaning.{Versioned, Contents, object_at}
 use Rattle.clean_model.specs.Memory.{Place, Index, Images, LogSet, Pass, IsAt, SegmentHas, ImagesHave, with_image}
-use Rattle.clean_model.specs.Memory.{StandsAt}
-use Rattle.clean_model.specs.Memory.{replaced}
+use Rattle.clean_model.specs.Memory.{StandsAt, replaced}
 use Rattle.clean_model.specs.Tracked.{IsCopied, IsBuried, IsFound, IsTracked, IsPassing}
 use Rattle.clean_model.proofs.Lists.{member_differs, with_out, with_here, with_there, at_here, at_there, at_from}
 use Rattle.clean_model.proofs.Lists.{have_there}

@@ -17,7 +17,7 @@ use Rattle.clean_model.proofs.AddedEntries.{added_copied, copied_grows, buried_g
 use Rattle.clean_model.proofs.Lists.{member_differs, among_at, at_one, at_from, grown_in, grown_last, grown_out}
 use Rattle.clean_model.proofs.Lists.{have_grown}
 use Rattle.clean_model.proofs.Premises.{IsSet, IsAdded}
-use Rattle.clean_model.proofs.TrackedBags.{found_at, key_tells, one_object, object_key}
+use Rattle.clean_model.proofs.TrackedBags.{found_at, key_tells, one_object, one_object_key}
 
 module _ (log : LogSet) (pass : Pass) (index : Index) (contents : Contents) (first : Place) (rest : List Place)
     (is : IsTracked log pass index contents) (open_pass : IsPassing log.ids log.image pass index (first ∷ rest))
@@ -143,7 +143,7 @@ module _ (log : LogSet) (pass : Pass) (index : Index) (contents : Contents) (fir
           | inl e ↦ inl e
           | inr c ↦ inr (copied_grows log (copied log s live) s live is_added pass z p.segment o c)
         ]
-        | inr w ↦ absurd (other (sym (object_key _ _ (w.1 ∙ same))))
+        | inr w ↦ absurd (other (sym (one_object_key _ _ (w.1 ∙ same))))
       ]
     ]
 
@@ -175,7 +175,7 @@ module _ (log : LogSet) (pass : Pass) (index : Index) (contents : Contents) (fir
           let was = sym (to.there q other) ∙ i in
           let f = found_at log pass index contents is q p was in
           later p
-          (λ same. other (sym (object_key _ _ (one_first live (object_at q f.has) p first_at same f.stands))))
+          (λ same. other (sym (one_object_key _ _ (one_first live (object_at q f.has) p first_at same f.stands))))
           (open_pass.live q p was in_victim))
     ]
 

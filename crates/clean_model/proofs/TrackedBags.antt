@@ -37,8 +37,8 @@ object_is o k x at version value = λ i. Object (record { key = at i; version = 
 pub one_object : (o p : ObjectValue) → Object o ≡ Object p → o ≡ p
 one_object o p same = cc
 
-pub object_key : (o p : ObjectValue) → Object o ≡ Object p → o.key ≡ p.key
-object_key o p same = ap (λ (z : ObjectValue). z.key) (one_object o p same)
+pub one_object_key : (o p : ObjectValue) → Object o ≡ Object p → o.key ≡ p.key
+one_object_key o p same = ap (λ (z : ObjectValue). z.key) (one_object o p same)
 
 -- an object that is buried is so elsewhere, where its tombstone stands and names what it may
 pub buried_again : (ids more : List ℕ) (image other : Images) (pass next : Pass) (s : ℕ) (o : ObjectValue)

@@ -19,8 +19,7 @@ use Rattle.log_model.specs.Steps.{with_unit, unit_now, applied, MayAppend, MayAp
 use Rattle.log_model.proofs.Appending.{quiet, appended_is_held}
 use Rattle.log_model.proofs.Counts.{before_le}
 use Rattle.log_model.proofs.Fronts.{unit_front, unit_entries, unit_rise, unit_counts, after_all, state_front}
-use Rattle.log_model.proofs.Fronts.{state_next}
-use Rattle.log_model.proofs.Fronts.{present}
+use Rattle.log_model.proofs.Fronts.{state_next, present_stands}
 use Rattle.log_model.proofs.Lists.{below_at}
 use Rattle.log_model.proofs.PastHeads.{applied_is_past}
 use Rattle.log_model.proofs.Texts.{text_again, base_other, base_each}
@@ -101,7 +100,7 @@ module _ (d : LogData) (texts : Texts) (p : Picture) (segment : ℕ) (r : Record
       ∙ (λ i. sym base_now i ++ (d.head.loaded ++ sym (unit_entries us number unit) i)) in
       subst (λ (bag : List Entry). Represents d.head.start.safe bag (state_after e (suc number))) parts
       (subst (λ (st : State). Represents d.head.start.safe (old ++ unit) st) (sym all_then)
-      (unit_added d.head.start.safe old (state_of d) segment r.command (present d texts standing)))
+      (unit_added d.head.start.safe old (state_of d) segment r.command (present_stands d texts standing)))
 
   fronts : (k : ℕ) → k ≤ length more → Front (take k more) (state_after e (records_before more (length e.history) k))
   fronts k le =

@@ -127,10 +127,10 @@ state_next opening records r =
     ∙ (states_pushed opening (commands_of records) r.command).0
 
 -- base and head stand for the present state
-pub present : (d : LogData) (texts : Texts) → IsStanding d texts
+pub present_stands : (d : LogData) (texts : Texts) → IsStanding d texts
     → Represents d.head.start.safe
     (base_of texts d.head.start.others ++ (d.head.loaded ++ entries_of d.head.units)) (state_of d)
-present d texts standing =
+present_stands d texts standing =
     let base = base_of texts d.head.start.others in
     let last = standing.fronts (length d.head.units) (omega arith) in
     let all = before_end d.head.units (length d.history) (length d.head.units) (omega arith) in

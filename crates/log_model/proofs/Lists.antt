@@ -1,7 +1,6 @@
 -- What stands at a place of a list that grew or in which one place was set, members of lists of ids, and options.
 use Rattle.std.proofs.Common.{◌≡◌, ℕ, zero, suc, ◌<◌, ◌⊎◌, inl, inr, Bool, true, false, cond, List, [], ◌∷◌, ◌++◌}
-use Rattle.std.proofs.Common.{length}
-use Rattle.std.proofs.Common.{Some, refl, sym, ap, arith}
+use Rattle.std.proofs.Common.{length, Some, refl, sym, ap, arith}
 use Rattle.std.specs.Prelude.{Option, None, IsSome, IsSomeAnd, filter, slice_get, slice_set}
 use Rattle.std.specs.List.{AllByRecursion}
 use Rattle.std.proofs.lemmas.List.{length-append}

@@ -7,6 +7,7 @@ use Rattle.replica.specs.Picture.{Picture}
 use Rattle.versioned_map.specs.Represents.{Represents}
 use Rattle.versioned_map.specs.Versioned.{State}
 use Rattle.log_model.specs.Data.{Start, Head, Phase, Ready, LogData, entries_of, new_of, state_after}
+use Rattle.log_model.specs.Durable.{heads_of}
 use Rattle.log_model.specs.Kept.{IsKept, IsPast}
 use Rattle.log_model.specs.Laws.{NextIsHeld, NextIsStanding, NextIsKept}
 use Rattle.log_model.specs.Log.{Texts, base_of, IsStanding}
@@ -28,18 +29,18 @@ next_is_held d e texts p o held (inr (inr (inr is))) = close_taken d texts p hel
 -- ---- what the log stands for
 
 module _ (d : LogData) (texts : Texts) (standing : IsStanding d texts) where
-  steady : (ks : List ℕ) (ph : Phase) → new_of ph ≡ new_of d.phase
+  standing_steady : (ks : List ℕ) (ph : Phase) → new_of ph ≡ new_of d.phase
       → IsStanding (record d { head = record d.head { taken = ks }; phase = ph }) texts
-  steady ks ph same = record {
+  standing_steady ks ph same = record {
     numbers = standing.numbers;
     fronts = standing.fronts;
     new = λ n is. standing.new n (sym same ∙ is);
   }
 
   -- the new head stands for what the old one did
-  ended : (n : Start) → new_of d.phase ≡ Some n
+  standing_ended : (n : Start) → new_of d.phase ≡ Some n
       → IsStanding (record d { head = new_head d.config.replicas n; phase = Ready }) texts
-  ended n is = record { numbers = omega arith; fronts = start_fronts; new = λ m never. absurd (cc) } where
+  standing_ended n is = record { numbers = omega arith; fronts = start_fronts; new = λ m never. absurd (cc) } where
     start_fronts : (k : ℕ) → k ≤ 0
         → Represents n.safe (base_of texts n.others ++ entries_of (take k [])) (state_after d (length d.history))
     start_fronts zero le =
@@ -52,9 +53,9 @@ module _ (d : LogData) (texts : Texts) (standing : IsStanding d texts) where
 pub next_is_standing : NextIsStanding
 next_is_standing d e texts o standing next = elim (next_goes_on d e o next) as (λ _. IsStanding e texts) [
   | inl on ↦ subst (λ (x : LogData). IsStanding x texts) (sym on.gives)
-      (steady d texts standing on.counts on.phase on.new)
+      (standing_steady d texts standing on.counts on.phase on.new)
   | inr end ↦ subst (λ (x : LogData). IsStanding x texts) (sym end.gives)
-      (ended d texts standing end.n end.new)
+      (standing_ended d texts standing end.n end.new)
 ]
 
 -- the heads before, whichever
@@ -62,7 +63,7 @@ pub past_then : (d e : LogData) (p : Picture) (o : LogOp) (kept : IsKept d p) �
     → (past : List Head) × IsPast e kept.texts past
 past_then d e p o kept next = elim (next_is_past d e kept.texts p kept.past o kept.held kept.before next) [
   | inl on ↦ (kept.past, on.1)
-  | inr end ↦ (kept.past ++ _, end.1)
+  | inr end ↦ (heads_of kept.past d, end.1)
 ]
 
 abbrev pub next_is_kept : NextIsKept

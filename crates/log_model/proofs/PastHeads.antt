@@ -127,9 +127,9 @@ sealed_is_past d texts p past o es seals is = record {
 -- ---- an op
 
 -- where the head in force stays
-steady : (d : LogData) (texts : Texts) (past : List Head) (ks : List ℕ) (ph : Phase) → IsPast d texts past
+past_steady : (d : LogData) (texts : Texts) (past : List Head) (ks : List ℕ) (ph : Phase) → IsPast d texts past
     → IsPast (record d { head = record d.head { taken = ks }; phase = ph }) texts past
-steady d texts past ks ph is = record {
+past_steady d texts past ks ph is = record {
   units = subst (λ (us : List LogUnit). AreNumbered d.opening 0 (commands_of d.history) us)
       (heads_units past d.head ∙ sym (heads_units past (record d.head { taken = ks }))) is.units;
   whole = is.whole;
@@ -140,13 +140,13 @@ steady d texts past ks ph is = record {
 pub past_goes_on : (d e : LogData) (texts : Texts) (past : List Head) → GoesOn d e → IsPast d texts past
     → IsPast e texts past
 past_goes_on d e texts past on is =
-    subst (λ (x : LogData). IsPast x texts past) (sym on.gives) (steady d texts past on.counts on.phase is)
+    subst (λ (x : LogData). IsPast x texts past) (sym on.gives) (past_steady d texts past on.counts on.phase is)
 
 -- with the last Close the old head joins
-ended : (d : LogData) (texts : Texts) (p : Picture) (past : List Head) (n : Start) → IsLogHeld d texts p
+past_ended : (d : LogData) (texts : Texts) (p : Picture) (past : List Head) (n : Start) → IsLogHeld d texts p
     → IsPast d texts past → new_of d.phase ≡ Some n → opened_of d.config.replicas d.phase ≡ d.config.replicas
     → IsPast (record d { head = new_head d.config.replicas n; phase = Ready }) texts (heads_of past d)
-ended d texts p past n held is is_new opened =
+past_ended d texts p past n held is is_new opened =
     let some = held.placed.some in
     record {
       units = subst (λ (us : List LogUnit). AreNumbered d.opening 0 (commands_of d.history) us)
@@ -174,6 +174,6 @@ next_is_past d e texts p past o held is next = elim (next_goes_on d e o next)
       | inr end ↦ inr (
         end,
         subst (λ (x : LogData). IsPast x texts (heads_of past d)) (sym end.gives)
-            (ended d texts p past end.n held is end.new end.opened),
+            (past_ended d texts p past end.n held is end.new end.opened),
       )
     ]

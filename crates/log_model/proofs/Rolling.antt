@@ -13,14 +13,13 @@ use Rattle.versioned_map.specs.Represents.{Represents}
 use Rattle.versioned_map.specs.Versioned.{State}
 use Rattle.versioned_map.proofs.Tops.{among_push}
 use Rattle.log_model.specs.Data.{Start, LogData, IsHome, ids_of, start_entries, entries_of, front_entries, new_of}
-use Rattle.log_model.specs.Data.{closed_of}
-use Rattle.log_model.specs.Data.{state_of}
+use Rattle.log_model.specs.Data.{closed_of, state_of}
 use Rattle.log_model.specs.Kept.{IsLogHeld}
 use Rattle.log_model.specs.Laws.{RollingIsHeld, RollingIsStanding, RollingIsKept, OrdinaryIsRoll}
 use Rattle.log_model.specs.Log.{Texts, base_of, state_before, IsSegmentOf, IsNewLog, IsLogged, IsStanding}
 use Rattle.log_model.specs.Mirror.{head_replica, IsHeadReplica, IsReplica, IsOther, IsMirrored}
 use Rattle.log_model.specs.Steps.{rolling, texts_rolling, IsRoll}
-use Rattle.log_model.proofs.Fronts.{present}
+use Rattle.log_model.proofs.Fronts.{present_stands}
 use Rattle.log_model.proofs.Lists.{below_at, all_below}
 use Rattle.log_model.proofs.PastHeads.{rolling_is_past}
 use Rattle.log_model.proofs.Replicas.{head_segment}
@@ -188,7 +187,7 @@ ordinary_is_roll d p kept may = (
   },
   subst (λ (bag : List Entry). Represents (state_of d).safe bag (state_of d))
       (sym (whole_base d kept.texts p kept.held))
-      (recorded_anew d.head.start.safe _ (state_of d) (present d kept.texts kept.standing)),
+      (recorded_anew d.head.start.safe _ (state_of d) (present_stands d kept.texts kept.standing)),
 ) where
   id : ℕ
   id = d.head.start.id
