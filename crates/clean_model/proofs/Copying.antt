@@ -1,6 +1,8 @@
--- A copy keeps all that is held: moved, carried or dropped.
-use Rattle.std.proofs.Common.{◌≡◌, ℕ, ◌<◌, inl, inr, Bool, true, false, cond, List, [], ◌∷◌, length, refl, sym, ap, subst, ◌∙◌}
+-- A copy leaves all intact: moved, carried or dropped.
+use Rattle.std.proofs.Common.{◌≡◌, ℕ, ◌<◌, inl, inr, Bool, true, false, cond, List, [], ◌∷◌, ◌++◌, refl, sym, ap}
+use Rattle.std.proofs.Common.{subst, ◌∙◌, append_assoc}
 use Rattle.std.specs.Prelude.{Option, Some, None, ◌==◌, ◌&&◌}
+use Rattle.std.proofs.lemmas.Bool.{cases_eq}
 use Rattle.std.proofs.lemmas.Bool.Decides.{Decides-eqb}
 use Rattle.entry.specs.declared.key.Key.{Key}
 use Rattle.entry.specs.declared.entry.Object.{Object as ObjectValue}
@@ -11,29 +13,39 @@ use Rattle.entry.specs.Bag.{IsAmong}
 use Rattle.entry.specs.Meaning.{IsOfKey, version_of, object_at}
 use Rattle.versioned_map.proofs.Keys.{key_eq-tells}
 use Rattle.replica.specs.Picture.{Picture}
-use Rattle.log_model.specs.Data.{LogData, state_of}
-use Rattle.clean_model.specs.Kept.{has, is_place}
-use Rattle.clean_model.specs.Memory.{Place, Index, Memory, Log, IsAt, log_ids, log_of, grown, copied}
+use Rattle.log_model.specs.Data.{Start, LogData, new_of, state_of}
+use Rattle.clean_model.specs.Compaction.{has, is_place}
+use Rattle.clean_model.specs.Intact.{survivor_entries, AreSealed, IsRollOf, IsIntact}
+use Rattle.clean_model.specs.Laws.{CopyKeeps}
+use Rattle.clean_model.specs.Memory.{Place, Index, Memory, Images, LogSet, log_ids, log_of, grown, copied, StandsAt}
+use Rattle.clean_model.specs.Steps.{with_place, next_place, is_copied, with_copy}
 use Rattle.clean_model.specs.Tracked.{IsTracked, IsPassing, IsAround}
-use Rattle.clean_model.specs.Held.{IsSealing, IsHeld}
-use Rattle.clean_model.specs.Steps.{with_place, index_moved, is_copied, copy_done, MayCopy}
-use Rattle.clean_model.proofs.Kepts.{has_is}
-use Rattle.clean_model.proofs.Lists.{among_at, at_one, grown_out}
-use Rattle.clean_model.proofs.Passes.{live_copied, live_passing, grave_copied, grave_passing, dropped_passing}
-use Rattle.clean_model.proofs.Tracked.{found_at, one_object}
-use Rattle.clean_model.proofs.Words.{IsSet}
+use Rattle.clean_model.proofs.KeptEntries.{has_is}
+use Rattle.clean_model.proofs.Lists.{among_at, at_one, grown_out, image_here, image_there}
+use Rattle.clean_model.proofs.CopiedEntries.{live_copied, live_passing, grave_copied, grave_passing, dropped_passing}
+use Rattle.clean_model.proofs.Premises.{IsSet}
+use Rattle.clean_model.proofs.TrackedBags.{found_at, one_object}
 
-pub with_place-is : (index : Index) (k : Key) (x : Option Place) → IsSet index (with_place index k x) k x
-with_place-is index k x = record {
-  here = elim (key_eq-tells k k) as (λ _. with_place index k x k ≡ x) [ inl t ↦ (let e = t.0 in rw e refl) | inr f ↦ absurd (f.1 refl) ];
-  there = λ q other. elim (key_eq-tells q k) as (λ _. with_place index k x q ≡ index q) [ inl t ↦ absurd (other t.1) | inr f ↦ (let e = f.0 in rw e refl) ];
+-- ---- places of the index
+
+pub place_set : (index : Index) (k : Key) (x : Option Place) → IsSet index (with_place index k x) k x
+place_set index k x = record {
+  here = elim (key_eq-tells k k) as (λ _. with_place index k x k ≡ x) [
+    | inl t ↦ (let e = t.0 in rw e refl)
+    | inr f ↦ absurd (f.1 refl)
+  ];
+  there = λ q other. elim (key_eq-tells q k) as (λ _. with_place index k x q ≡ index q) [
+    | inl t ↦ absurd (other t.1)
+    | inr f ↦ (let e = f.0 in rw e refl)
+  ];
 }
 
 place_true : (o : Option Place) (p : Place) → is_place o p.segment p.position ≡ true → o ≡ Some p
 place_true None p e = absurd (cc)
 place_true (Some q) p e = told (q.segment == p.segment) (q.position == p.position) refl refl e
   where
-    told : (a b : Bool) → (q.segment == p.segment) ≡ a → (q.position == p.position) ≡ b → (a && b) ≡ true → Some q ≡ Some p
+    told : (a b : Bool) → (q.segment == p.segment) ≡ a → (q.position == p.position) ≡ b → (a && b) ≡ true
+        → Some q ≡ Some p
     told true true a b e =
         let segment = (Decides-eqb q.segment p.segment).0 a in
         let position = (Decides-eqb q.position p.position).0 b in
@@ -50,50 +62,79 @@ place_false o p e same =
 has_false : (ids : List ℕ) (s : ℕ) → has ids s ≡ false → IsAmong s ids → ⊥
 has_false ids s e m = let t = has_is ids s m in cc
 
-module _ (d : LogData) (m : Memory) (p : Picture) (held : IsHeld d m p) (first : Place) (rest : List Place) (cursor : m.rest ≡ first ∷ rest)
-    (victim : IsAmong first.segment m.pass.victims) (s : ℕ) (survivor : IsAmong s m.pass.survivors) where
-  abbrev log : Log
-  log = log_of d m held.texts
+-- ---- a copy
+
+module _ (d : LogData) (m : Memory) (p : Picture) (i : IsIntact d m p) (first : Place) (rest : List Place)
+    (cursor : m.rest ≡ first ∷ rest) (victim : IsAmong first.segment m.pass.victims) (s : ℕ)
+    (survivor : IsAmong s m.pass.survivors) where
+  abbrev log : LogSet
+  log = log_of d m i.log.texts
 
   not_done : m.rest ≡ [] → ⊥
   not_done is = let never : first ∷ rest ≡ [] = sym cursor ∙ is in cc
 
-  passing_first : IsPassing log m.pass m.index (first ∷ rest)
-  passing_first = subst (λ (r : List Place). IsPassing log m.pass m.index r) cursor held.passing
+  passing_first : IsPassing (log_ids d m) m.images m.pass m.index (first ∷ rest)
+  passing_first =
+      subst (λ (r : List Place). IsPassing (log_ids d m) m.images m.pass m.index r) cursor i.passing
+
+  -- survivors still begin as they did
+  abbrev Begin : Images → Type 0
+  Begin image = (z : ℕ) → IsAmong z m.pass.survivors
+      → (es : List Entry) × (image z ≡ survivor_entries d.config.master z ++ es)
+
+  begin_grown : (e : Entry) → Begin (grown m.images s e)
+  begin_grown e z there = elim (cases_eq z s)
+      as (λ _. (es : List Entry) × (grown m.images s e z ≡ survivor_entries d.config.master z ++ es)) [
+        | inl same ↦ (
+            let was = i.sealing.begins z there in
+            let here = ap (grown m.images s e) same ∙ image_here m.images s (m.images s ++ e ∷ []) in (
+              was.0 ++ e ∷ [],
+              here
+                  ∙ ap (λ (y : ℕ). m.images y ++ e ∷ []) (sym same)
+                  ∙ ap (λ (es : List Entry). es ++ e ∷ []) was.1
+                  ∙ append_assoc (survivor_entries d.config.master z) was.0 (e ∷ []),
+            ))
+        | inr other ↦ (
+            let was = i.sealing.begins z there in
+            (was.0, image_there m.images s (m.images s ++ e ∷ []) z other ∙ was.1))
+      ]
 
   -- nothing is sealed or committed yet
-  sealing_then : (image : ℕ → List Entry) (index : Index) → IsSealing d (record m { images = image; index = index; rest = rest }) held.texts p
-  sealing_then image index = record {
-    victims = held.sealing.victims;
-    fresh = held.sealing.fresh;
-    apart = held.sealing.apart;
-    opened = held.sealing.opened;
-    few = held.sealing.few;
-    text = λ z there lt. absurd (not_done (held.sealing.text z there lt).0);
-    held = held.sealing.held;
-    only = held.sealing.only;
-    rolling = λ x is. let r = held.sealing.rolling x is in record {
-      ordinary = r.ordinary;
-      commit = λ c. absurd (not_done (r.commit c).1.done);
-    };
-    waiting = held.sealing.waiting;
-    waiting_below = held.sealing.waiting_below;
+  sealing_then : (image : Images) (index : Index) → Begin image
+      → AreSealed d.config (record m { images = image; index = index; rest = rest }) i.log.texts p
+  sealing_then image index begins = record {
+    few = i.sealing.few;
+    begins = begins;
+    bare = i.sealing.bare;
+    text = λ z there lt. absurd (not_done (i.sealing.text z there lt).0);
+    held = i.sealing.held;
+    only = i.sealing.only;
   }
 
-  around_copied : (e : Entry) → IsAmong e (m.images first.segment) → IsAround (copied log s e) m.pass (state_of d).contents (state_of d).safe d.next
+  rolling_then : (image : Images) (index : Index) (n : Start) → new_of d.phase ≡ Some n
+      → IsRollOf d (record m { images = image; index = index; rest = rest }) n
+  rolling_then image index n is =
+      let was = i.rolling n is in (was.0, λ c. absurd (not_done (was.1 c).1.done))
+
+  around_copied : (e : Entry) → IsAmong e (m.images first.segment)
+      → IsAround (copied log s e) m.pass (state_of d).contents (state_of d).safe d.next
   around_copied e there =
-      let here = held.passing.victims_count first.segment victim in
-      let is = held.around in
+      let here = i.passing.victims_count first.segment victim in
+      let is = i.around in
       record {
         below = is.below;
         named_below = λ z t c l. elim (grown_out m.images s e z (Tombstone t) l) as (λ _. t.segment < d.next) [
           | inl a ↦ is.named_below z t c a
-          | inr w ↦ is.named_below first.segment t here (subst (λ (g : Entry). IsAmong g (m.images first.segment)) w.1 there)
+          | inr w ↦ is.named_below first.segment t here
+              (subst (λ (g : Entry). IsAmong g (m.images first.segment)) w.1 there)
         ];
         versions = λ k h z f l. elim l.among as (λ _. IsOfKey k f → version_of f < (state_of d).safe) [
           | inl a ↦ elim (grown_out m.images s e z f a) as (λ _. IsOfKey k f → version_of f < (state_of d).safe) [
             | inl b ↦ is.versions k h z f (record { counts = l.counts; among = inl b })
-            | inr w ↦ is.versions k h first.segment f (record { counts = here; among = inl (subst (λ (g : Entry). IsAmong g (m.images first.segment)) w.1 there) })
+            | inr w ↦ is.versions k h first.segment f (record {
+              counts = here;
+              among = inl (subst (λ (g : Entry). IsAmong g (m.images first.segment)) w.1 there);
+            })
           ]
           | inr a ↦ is.versions k h z f (record { counts = l.counts; among = inr a })
         ];
@@ -103,66 +144,75 @@ module _ (d : LogData) (m : Memory) (p : Picture) (held : IsHeld d m p) (first :
         ];
       }
 
-  abbrev copied_memory : Entry → Memory
-  copied_memory e = record m { images = grown m.images s e; index = index_moved m s e; rest = rest }
-
   -- a live object
-  moved : (o : ObjectValue) → IsAt (m.images first.segment) first.position (Object o) → m.index o.key ≡ Some first → IsHeld d (copied_memory (Object o)) p
+  moved : (o : ObjectValue) → StandsAt m.images first (Object o) → m.index o.key ≡ Some first
+      → IsIntact d (with_copy m rest s (Object o)) p
   moved o at named =
-      let f = found_at log m.pass m.index (state_of d).contents held.tracked o.key first named in
-      let it : object_at o.key f.has ≡ Object o = at_one (m.images first.segment) first.position (object_at o.key f.has) (Object o) f.stands at in
-      let index = with_place m.index o.key (Some (record { segment = s; position = length (m.images s) })) in
-      let to = with_place-is m.index o.key (Some (record { segment = s; position = length (m.images s) })) in
+      let contents = (state_of d).contents in
+      let f = found_at log m.pass m.index contents i.tracked o.key first named in
+      let it : object_at o.key f.has ≡ Object o =
+      at_one (m.images first.segment) first.position (object_at o.key f.has) (Object o) f.stands at in
+      let index = with_place m.index o.key (Some (next_place m.images s)) in
+      let to = place_set m.index o.key (Some (next_place m.images s)) in
       record {
-        placed = held.placed;
-        texts = held.texts;
-        logged = held.logged;
-        mirrored = held.mirrored;
-        standing = held.standing;
-        tracked = subst (λ (e : Entry). IsTracked (copied log s e) m.pass index (state_of d).contents) it
-            (live_copied log m.pass m.index (state_of d).contents first rest s held.tracked passing_first victim survivor o.key f.has f.present named index to);
-        passing = subst (λ (e : Entry). IsPassing (copied log s e) m.pass index rest) it
-            (live_passing log m.pass m.index (state_of d).contents first rest s held.tracked passing_first victim survivor o.key f.has f.present named index to);
+        log = i.log;
+        tracked = subst (λ (e : Entry). IsTracked (copied log s e) m.pass index contents) it
+            (live_copied log m.pass m.index contents first rest i.tracked passing_first victim s survivor o.key f.has
+            f.present named index to);
+        passing = subst (λ (e : Entry). IsPassing (log_ids d m) (grown m.images s e) m.pass index rest) it
+            (live_passing log m.pass m.index contents first rest i.tracked passing_first victim s survivor o.key f.has
+            f.present named index to);
         around = around_copied (Object o) (among_at _ _ _ at);
-        sealing = sealing_then (grown m.images s (Object o)) index;
+        chosen = i.chosen;
+        sealing = sealing_then (grown m.images s (Object o)) index (begin_grown (Object o));
+        rolling = rolling_then (grown m.images s (Object o)) index;
+        waiting = i.waiting;
       }
 
-  carried : (t : TombstoneValue) → IsAt (m.images first.segment) first.position (Tombstone t) → IsHeld d (copied_memory (Tombstone t)) p
+  carried : (t : TombstoneValue) → StandsAt m.images first (Tombstone t)
+      → IsIntact d (with_copy m rest s (Tombstone t)) p
   carried t at = record {
-    placed = held.placed;
-    texts = held.texts;
-    logged = held.logged;
-    mirrored = held.mirrored;
-    standing = held.standing;
-    tracked = grave_copied log m.pass m.index (state_of d).contents first rest s held.tracked passing_first victim survivor t at;
-    passing = grave_passing log m.pass m.index (state_of d).contents first rest s held.tracked passing_first victim survivor t at;
+    log = i.log;
+    tracked = grave_copied log m.pass m.index (state_of d).contents first rest i.tracked passing_first victim s
+        survivor t at;
+    passing = grave_passing log m.pass m.index (state_of d).contents first rest i.tracked passing_first victim s
+        survivor t at;
     around = around_copied (Tombstone t) (among_at _ _ _ at);
-    sealing = sealing_then (grown m.images s (Tombstone t)) m.index;
+    chosen = i.chosen;
+    sealing = sealing_then (grown m.images s (Tombstone t)) m.index (begin_grown (Tombstone t));
+    rolling = rolling_then (grown m.images s (Tombstone t)) m.index;
+    waiting = i.waiting;
   }
 
-  dropped : (e : Entry) → IsAt (m.images first.segment) first.position e → ((o : ObjectValue) → e ≡ Object o → m.index o.key ≡ Some first → ⊥)
-      → ((t : TombstoneValue) → e ≡ Tombstone t → IsAmong t.segment (log_ids d m) → ⊥) → IsHeld d (record m { rest = rest }) p
+  dropped : (e : Entry) → StandsAt m.images first e
+      → ((o : ObjectValue) → e ≡ Object o → m.index o.key ≡ Some first → ⊥)
+      → ((t : TombstoneValue) → e ≡ Tombstone t → IsAmong t.segment (log_ids d m) → ⊥)
+      → IsIntact d (record m { rest = rest }) p
   dropped e at unnamed gone = record {
-    placed = held.placed;
-    texts = held.texts;
-    logged = held.logged;
-    mirrored = held.mirrored;
-    standing = held.standing;
-    tracked = held.tracked;
-    passing = dropped_passing log m.pass m.index (state_of d).contents first rest 0 held.tracked passing_first victim e at unnamed gone;
-    around = record { below = held.around.below; named_below = held.around.named_below; versions = held.around.versions; texted = held.around.texted };
-    sealing = sealing_then m.images m.index;
+    log = i.log;
+    tracked = i.tracked;
+    passing = dropped_passing log m.pass m.index (state_of d).contents first rest i.tracked passing_first victim e at
+        unnamed gone;
+    around = i.around;
+    chosen = i.chosen;
+    sealing = sealing_then m.images m.index i.sealing.begins;
+    rolling = rolling_then m.images m.index;
+    waiting = i.waiting;
   }
 
-  treated : (e : Entry) (b : Bool) → is_copied (log_ids d m) m.index first e ≡ b → IsAt (m.images first.segment) first.position e
-      → IsHeld d (cond b (copied_memory e) (record m { rest = rest })) p
+  -- the entry at the cursor, whichever it is
+  treated : (e : Entry) (b : Bool) → is_copied (log_ids d m) m.index first e ≡ b
+      → StandsAt m.images first e
+      → IsIntact d (cond b (with_copy m rest s e) (record m { rest = rest })) p
   treated (Object o) true is at = moved o at (place_true (m.index o.key) first is)
   treated (Object o) false is at = dropped (Object o) at
-      (λ q same named. place_false (m.index o.key) first is (ap (λ (z : ObjectValue). m.index z.key) (one_object o q same) ∙ named)) (λ t e. absurd (cc))
+      (λ q same named. place_false (m.index o.key) first is
+      (ap (λ (z : ObjectValue). m.index z.key) (one_object o q same) ∙ named)) (λ t e. absurd (cc))
   treated (Tombstone t) true is at = carried t at
   treated (Tombstone t) false is at = dropped (Tombstone t) at (λ o e. absurd (cc)) (λ u e named.
       let same : t ≡ u = cc in
-      has_false (log_ids d m) t.segment is (subst (λ (y : ℕ). IsAmong y (log_ids d m)) (sym (ap (λ (w : TombstoneValue). w.segment) same)) named))
+      has_false (log_ids d m) t.segment is (subst (λ (y : ℕ). IsAmong y (log_ids d m))
+      (sym (ap (λ (w : TombstoneValue). w.segment) same)) named))
   treated (Header h) true is at = absurd (cc)
   treated (Header h) false is at = dropped (Header h) at (λ o e. absurd (cc)) (λ u e. absurd (cc))
   treated (Digest l) true is at = absurd (cc)
@@ -170,7 +220,7 @@ module _ (d : LogData) (m : Memory) (p : Picture) (held : IsHeld d m p) (first :
   treated (Safe v) true is at = absurd (cc)
   treated (Safe v) false is at = dropped (Safe v) at (λ o e. absurd (cc)) (λ u e. absurd (cc))
 
-pub copy_keeps : (d : LogData) (m : Memory) (p : Picture) (first : Place) (rest : List Place) (s : ℕ) (e : Entry) → IsHeld d m p
-    → MayCopy d m first rest s e → IsHeld d (copy_done d m first rest s e) p
-copy_keeps d m p first rest s e held may =
-    treated d m p held first rest may.cursor may.victim s may.survivor e (is_copied (log_ids d m) m.index first e) refl may.at
+pub copy_keeps : CopyKeeps
+copy_keeps d m p first rest s e i may =
+    treated d m p i first rest may.cursor may.victim s may.survivor e (is_copied (log_ids d m) m.index first e) refl
+    may.at

@@ -1,23 +1,26 @@
--- What a master and its memory become: compaction, a pass, a roll, an op taken.
-use Rattle.std.specs.Prelude.{◌≡◌, ℕ, suc, ◌<◌, ◌≤◌, ◌==◌, List, [], ◌∷◌, ◌++◌, length, Bool, false, Option, Some, None, IsSome, nat_lt, if◌then◌else◌}
+-- What a master and its memory become: compaction, a pass, a command, a roll, an op taken.
+use Rattle.std.specs.Prelude.{◌≡◌, ℕ, suc, ◌<◌, ◌≤◌, ◌⊎◌, ◌==◌, List, [], ◌∷◌, ◌++◌, length, Bool, false, Option}
+use Rattle.std.specs.Prelude.{Some, None, IsSome, nat_lt, if◌then◌else◌}
 use Rattle.entry.specs.declared.key.Key.{Key}
 use Rattle.entry.specs.declared.entry.Entry.{Entry}
 use Rattle.entry.specs.declared.entry.Entry.TheVariants as entry
-use Rattle.entry.specs.declared.entry.Role.TheVariants as role
 use Rattle.entry.specs.Bag.{IsAmong}
 use Rattle.entry.specs.Order.{key_eq}
 use Rattle.entry.specs.Text.{text_of, IsSegment}
-use Rattle.replica.specs.Picture.{Replica, Picture, with_replica}
-use Rattle.log_model.specs.Data.{LogConfig, Start, Ready, LogData, IsHomeAt, ids_of, start_entries, new_of, state_of}
-use Rattle.log_model.specs.Steps.{first_start, unit_now}
+use Rattle.replica.specs.Op.{Seal, Free}
+use Rattle.replica.specs.Picture.{Picture}
 use Rattle.versioned_map.specs.declared.command.Record.{Record}
 use Rattle.versioned_map.specs.Command.{command_key}
-use Rattle.clean_model.specs.Kept.{has, kept, kept_from, moved_index, places}
-use Rattle.clean_model.specs.Memory.{Place, Index, no_pass, Memory, IsAt, log_ids, with_image, grown}
-use Rattle.clean_model.specs.Held.{IsCommit, IsReady}
+use Rattle.log_model.specs.Data.{LogConfig, Start, Ready, LogData, IsHomeAt, ids_of, start_entries, new_of, state_of}
+use Rattle.log_model.specs.Ops.{LogOp, taken}
+use Rattle.log_model.specs.Steps.{first_start, unit_now, IsNext}
+use Rattle.clean_model.specs.Compaction.{has, kept, kept_from, moved_index, places}
+use Rattle.clean_model.specs.Intact.{survivor_entries, IsCommit, IsReady}
+use Rattle.clean_model.specs.Memory.{Place, Index, Images, no_pass, Memory, log_ids, with_image, grown, StandsAt}
 
 -- ---- a new master
 
+-- each image is the first head's opening, and nothing is indexed
 abbrev pub first_memory : LogConfig → Memory
 first_memory c = record {
   images = λ s. start_entries c.master first_start;
@@ -31,13 +34,14 @@ first_memory c = record {
 
 -- ---- compaction
 
--- the segment's image is its kept entries, and the index follows
+-- memory once the segment's image is its kept entries, and the index follows
 abbrev pub compacted : LogData → Memory → ℕ → Memory
 compacted d m s = record m {
   images = with_image m.images s (kept_from (log_ids d m) m.index s 0 (m.images s));
   index = moved_index (log_ids d m) m.images m.index s;
 }
 
+-- A segment of the log set is compacted, where no pass has it.
 pub record MayCompact (d : LogData) (m : Memory) (s : ℕ) : Type 0 where
   pub counts : IsAmong s (log_ids d m)
   pub no_survivor : IsAmong s m.pass.survivors → ⊥
@@ -45,13 +49,7 @@ pub record MayCompact (d : LogData) (m : Memory) (s : ℕ) : Type 0 where
 
 -- ---- a pass begins
 
--- what a survivor begins with
-abbrev pub survivor_entries : ℕ → ℕ → List Entry
-survivor_entries master s = entry.Header (record { master = master; segment = s; role = role.Survivor }) ∷ []
-
-abbrev pub id_taken : LogData → LogData
-id_taken d = record d { next = suc d.next }
-
+-- memory once a pass has begun: its survivor has the next id, and its cursor all places of the victims before it
 abbrev pub pass_begun : LogData → Memory → List ℕ → Memory
 pass_begun d m victims = record m {
   images = with_image m.images d.next (survivor_entries d.config.master d.next);
@@ -60,12 +58,12 @@ pass_begun d m victims = record m {
   sealed = λ s. 0;
 }
 
+-- No pass is open nor its commit under way, and there are victims, older segments of the digest in force.
 pub record MayBeginClean (d : LogData) (m : Memory) (victims : List ℕ) : Type 0 where
   pub none : m.pass ≡ no_pass
   pub no_commit : m.commits ≡ false
+  pub some : victims ≡ [] → ⊥
   pub older : (s : ℕ) → IsAmong s victims → IsAmong s d.head.start.others
-  -- a head with older segments is opened on all its homes
-  pub opened : length d.head.taken ≡ d.config.replicas
 
 -- ---- a copy
 
@@ -73,12 +71,16 @@ pub record MayBeginClean (d : LogData) (m : Memory) (victims : List ℕ) : Type 
 abbrev pub with_place : Index → Key → Option Place → Index
 with_place index k x = λ q. if key_eq q k then x else index q
 
--- the entry at the cursor is copied to a survivor, and the index moves with an object
+-- the place of the next entry of a segment
+abbrev pub next_place : Images → ℕ → Place
+next_place image s = record { segment = s; position = length (image s) }
+
+-- the index once the entry at the cursor is copied to a survivor: it moves with an object
 abbrev pub index_moved : Memory → ℕ → Entry → Index
 index_moved m s (entry.Header h) = m.index
 index_moved m s (entry.Digest ids) = m.index
 index_moved m s (entry.Safe version) = m.index
-index_moved m s (entry.Object o) = with_place m.index o.key (Some (record { segment = s; position = length (m.images s) }))
+index_moved m s (entry.Object o) = with_place m.index o.key (Some (next_place m.images s))
 index_moved m s (entry.Tombstone t) = m.index
 
 -- an opening isn't copied, though compaction keeps it
@@ -89,38 +91,43 @@ is_copied ids index p (entry.Safe version) = false
 is_copied ids index p (entry.Object o) = kept ids index p.segment p.position (entry.Object o)
 is_copied ids index p (entry.Tombstone t) = kept ids index p.segment p.position (entry.Tombstone t)
 
--- The entry at the cursor is copied where it is kept, and passed over where it isn't.
+-- memory once a survivor has the entry more, and the cursor is past it
+abbrev pub with_copy : Memory → List Place → ℕ → Entry → Memory
+with_copy m rest s e = record m { images = grown m.images s e; index = index_moved m s e; rest = rest }
+
+-- memory once the entry at the cursor is copied where it is kept, or passed over where it isn't
 abbrev pub copy_done : LogData → Memory → Place → List Place → ℕ → Entry → Memory
 copy_done d m first rest s e =
-    if is_copied (log_ids d m) m.index first e then record m { images = grown m.images s e; index = index_moved m s e; rest = rest }
-    else record m { rest = rest }
+    if is_copied (log_ids d m) m.index first e then with_copy m rest s e else record m { rest = rest }
 
+-- The cursor stands before the entry, of a victim, and this is a survivor.
 pub record MayCopy (d : LogData) (m : Memory) (first : Place) (rest : List Place) (s : ℕ) (e : Entry) : Type 0 where
   pub cursor : m.rest ≡ first ∷ rest
   pub victim : IsAmong first.segment m.pass.victims
   pub survivor : IsAmong s m.pass.survivors
-  pub at : IsAt (m.images first.segment) first.position e
+  pub at : StandsAt m.images first e
 
 -- ---- a command
 
 -- the index once an entry is appended to the segment
-abbrev pub index_after : (ℕ → List Entry) → Index → ℕ → Entry → Index
+abbrev pub index_after : Images → Index → ℕ → Entry → Index
 index_after images index s (entry.Header h) = index
 index_after images index s (entry.Digest ids) = index
 index_after images index s (entry.Safe version) = index
-index_after images index s (entry.Object o) = with_place index o.key (Some (record { segment = s; position = length (images s) }))
+index_after images index s (entry.Object o) = with_place index o.key (Some (next_place images s))
 index_after images index s (entry.Tombstone t) = with_place index t.key None
 
--- images and index once entries are appended one after the other
-abbrev pub images_with : (ℕ → List Entry) → ℕ → List Entry → ℕ → List Entry
+-- images once entries are appended one after the other
+abbrev pub images_with : Images → ℕ → List Entry → Images
 images_with images s [] = images
 images_with images s (e ∷ es) = images_with (grown images s e) s es
 
-abbrev pub index_with : (ℕ → List Entry) → Index → ℕ → List Entry → Index
+-- the index once entries are appended one after the other
+abbrev pub index_with : Images → Index → ℕ → List Entry → Index
 index_with images index s [] = index
 index_with images index s (e ∷ es) = index_with (grown images s e) (index_after images index s e) s es
 
--- a record applied: its unit goes to the head
+-- memory once the record is applied: its unit goes to the head
 abbrev pub recorded : LogData → Memory → ℕ → Record → Memory
 recorded d m segment r = record m {
   images = images_with m.images d.head.start.id (unit_now d segment r);
@@ -133,15 +140,17 @@ IsNamed m segment r = (p : Place) → m.index (command_key r.command) ≡ Some p
 
 -- ---- rolls
 
--- a new head's image is its opening; the roll is a commit, or not
+-- memory once a roll has begun: the new head's image is its opening, and the roll is a commit, or not
 abbrev pub rolled : LogData → Memory → Start → Bool → Memory
-rolled d m n commits = record m { images = with_image m.images n.id (start_entries d.config.master n); commits = commits }
+rolled d m n commits =
+    record m { images = with_image m.images n.id (start_entries d.config.master n); commits = commits }
 
--- ids that rise with one more at its place, and with several
+-- ids that rise with one more at its place
 abbrev pub inserted : ℕ → List ℕ → List ℕ
 inserted s [] = s ∷ []
 inserted s (z ∷ ids) = if nat_lt s z then s ∷ z ∷ ids else z ∷ inserted s ids
 
+-- ids that rise with several more at their places
 abbrev pub all_inserted : List ℕ → List ℕ → List ℕ
 all_inserted [] ids = ids
 all_inserted (s ∷ more) ids = inserted s (all_inserted more ids)
@@ -159,54 +168,66 @@ commit_start d m = record {
   safe = (state_of d).safe;
 }
 
+-- A roll to this head is the commit of a pass that is ready.
 pub record MayCommit (d : LogData) (m : Memory) (n : Start) : Type 0 where
   pub now : d.phase ≡ Ready
-  pub ready : IsReady d m
-  pub commit : IsCommit d m n
+  pub ready : IsReady d.config.replicas m.pass m.rest m.sealed
+  pub commit : IsCommit d.head.start m.pass n
   pub next : n.id ≡ d.next
   pub safe : n.safe ≡ (state_of d).safe
   pub segment : IsSegment (start_entries d.config.master n)
   pub limit : length (text_of (start_entries d.config.master n)) ≤ 8388608
 
--- with the last Close of a commit the victims leave
+-- memory once the pass has ended, and its victims may be freed
 abbrev pub finished : Memory → Memory
 finished m = record m { pass = no_pass; commits = false; waiting = m.pass.victims ++ m.waiting }
 
--- where a roll has ended that was a commit
+-- memory by the new head before an op and after it: where a roll has ended that was a commit, the pass has ended
 abbrev pub ended : Option Start → Option Start → Memory → Memory
 ended (Some n) None m = if m.commits then finished m else m
 ended (Some n) (Some x) m = m
 ended None x m = m
 
+-- memory once an op of the head is taken
 abbrev pub after_take : LogData → LogData → Memory → Memory
 after_take d e m = ended (new_of d.phase) (new_of e.phase) m
 
 -- ---- seal and free
 
-abbrev pub sealed_replica : Memory → ℕ → Replica
-sealed_replica m s = record { bytes = text_of (m.images s); is_open = false }
+-- the op that seals a survivor on a backup: its image is written, closed
+abbrev pub seal_op : Memory → ℕ → ℕ → LogOp
+seal_op m s b = record { backup = b; segment = s; act = Seal (text_of (m.images s)) }
 
+-- memory once one more replica of the survivor is sealed
 abbrev pub sealed_more : Memory → ℕ → Memory
 sealed_more m s = record m { sealed = λ z. if z == s then suc (m.sealed s) else m.sealed z }
 
--- the next replica of a survivor is sealed, on this backup
+-- The next replica of a survivor is sealed, on this backup: nothing is to be copied, and what was fits a segment.
 pub record MaySeal (d : LogData) (m : Memory) (s b : ℕ) : Type 0 where
   pub survivor : IsAmong s m.pass.survivors
   pub done : m.rest ≡ []
   pub home : IsHomeAt d s (m.sealed s) b
   pub few : m.sealed s < d.config.replicas
-  -- it was begun as a survivor, and what was copied fits a segment
-  pub begins : (rest : List Entry) × (m.images s ≡ survivor_entries d.config.master s ++ rest)
   pub segment : IsSegment (m.images s)
   pub limit : length (text_of (m.images s)) ≤ 8388608
 
-abbrev pub sealed_picture : LogData → Memory → Picture → ℕ → ℕ → Picture
-sealed_picture d m p s b = with_replica p b d.config.master s (Some (sealed_replica m s))
+-- the op that frees a replica
+abbrev pub free_op : ℕ → ℕ → LogOp
+free_op s b = record { backup = b; segment = s; act = Free }
 
--- a victim of an earlier pass has a replica there
+-- A victim of an earlier pass has a replica there.
 pub record MayFree (d : LogData) (m : Memory) (p : Picture) (s b : ℕ) : Type 0 where
   pub waits : IsAmong s m.waiting
   pub there : IsSome (p b d.config.master s)
 
-abbrev pub freed_picture : LogData → Picture → ℕ → ℕ → Picture
-freed_picture d p s b = with_replica p b d.config.master s None
+-- ---- a fault
+
+-- the op is the head's next, or one that seals or frees
+abbrev pub IsOp : LogData → Memory → Picture → LogOp → Type 0
+IsOp d m p o = ((e : LogData) × IsNext d o e)
+    ⊎ (((s : ℕ) × (b : ℕ) × MaySeal d m s b × (o ≡ seal_op m s b))
+    ⊎ ((s : ℕ) × (b : ℕ) × MayFree d m p s b × (o ≡ free_op s b)))
+
+-- the picture after a fault: as it was, or with an op taken
+abbrev pub IsFault : LogData → Memory → Picture → Picture → Type 0
+IsFault d m p q = (q ≡ p) ⊎ ((o : LogOp) × IsOp d m p o × (taken p d.config.master o ≡ Some q))

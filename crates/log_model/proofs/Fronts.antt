@@ -1,35 +1,38 @@
--- What a head holds when a unit is added.
-use Rattle.std.proofs.Common.{◌≡◌, ℕ, zero, suc, ◌≤◌, ◌⊎◌, inl, inr, List, [], ◌∷◌, ◌++◌, length, take, refl, sym, ap, subst, ◌∙◌, arith}
+-- What a head holds when a unit is added, and which states its fronts stand for.
+use Rattle.std.proofs.Common.{◌≡◌, ℕ, suc, ◌<◌, ◌≤◌, ◌⊎◌, inl, inr, List, [], ◌∷◌, ◌++◌, length, take, refl, sym, ap}
+use Rattle.std.proofs.Common.{zero, subst, ◌∙◌, arith, Some}
+use Rattle.std.specs.Prelude.{slice_get}
 use Rattle.std.proofs.lemmas.Bool.{cases_lt}
-use Rattle.std.proofs.lemmas.List.{append-nil, length-append, length-map, map-append}
+use Rattle.std.proofs.lemmas.List.{append-nil, length-append, length-map, map-append, take-append-le, take_all}
 use Rattle.std.proofs.lemmas.Grind.{flat_map-append}
+use Rattle.std.proofs.lemmas.Option.{same_Some}
 use Rattle.entry.specs.declared.entry.Entry.{Entry}
+use Rattle.entry.specs.Meaning.{among}
 use Rattle.versioned_map.specs.declared.command.Command.{Command}
 use Rattle.versioned_map.specs.declared.command.Record.{Record}
 use Rattle.versioned_map.specs.History.{commands_of}
 use Rattle.versioned_map.specs.Represents.{Represents}
 use Rattle.versioned_map.specs.Versioned.{State, after, after_command}
+use Rattle.versioned_map.proofs.Tops.{among_left, among_right, among_either}
 use Rattle.versioned_map.proofs.Units.{states_pushed}
-use Rattle.log_model.specs.Data.{LogUnit, LogData, entries_of, front_entries, records_before, state_of, state_after}
+use Rattle.log_model.specs.Data.{LogUnit, Head, LogData, entries_of, front_entries, records_before, state_of}
+use Rattle.log_model.specs.Data.{state_after}
 use Rattle.log_model.specs.Log.{Texts, Rise, base_of, IsStanding}
 use Rattle.log_model.specs.Steps.{with_unit}
-use Rattle.log_model.proofs.Counts.{rise-more, rise-push, before-within, before-end, before-push}
-use Rattle.log_model.proofs.Reading.{units_all}
-use Rattle.log_model.proofs.Standing.{after_all}
+use Rattle.log_model.proofs.Counts.{rise_more, rise_push, before_within, before_end, before_push}
+use Rattle.log_model.proofs.Segments.{units_all}
 
-take_less : {A : Type 0} (xs ys : List A) (k : ℕ) → k ≤ length xs → take k (xs ++ ys) ≡ take k xs
-take_less xs ys zero le = refl
-take_less [] ys (suc k) le = absurd (omega arith)
-take_less (x ∷ xs) ys (suc k) le = ap (λ (zs : List _). x ∷ zs) (take_less xs ys k (omega arith))
+-- ---- one unit more
 
 module _ (us : List LogUnit) (number : ℕ) where
   pub unit_front : (u : List Entry) (k : ℕ) → k ≤ length us → take k (with_unit us number u) ≡ take k us
   unit_front [] k le = refl
-  unit_front (e ∷ es) k le = take_less us (record { number = number; entries = e ∷ es } ∷ []) k le
+  unit_front (e ∷ es) k le = take-append-le k us (record { number = number; entries = e ∷ es } ∷ []) le
 
   pub unit_longer : (u : List Entry) → length us ≤ length (with_unit us number u)
   unit_longer [] = omega arith
-  unit_longer (e ∷ es) = let n = length-append us (record { number = number; entries = e ∷ es } ∷ []) in omega arith
+  unit_longer (e ∷ es) =
+      let n = length-append us (record { number = number; entries = e ∷ es } ∷ []) in omega arith
 
   pub unit_entries : (u : List Entry) → entries_of (with_unit us number u) ≡ entries_of us ++ u
   unit_entries [] = sym (append-nil (entries_of us))
@@ -38,8 +41,8 @@ module _ (us : List LogUnit) (number : ℕ) where
       ∙ ap (λ (l : List Entry). entries_of us ++ l) (append-nil (e ∷ es))
 
   pub unit_rise : (u : List Entry) → Rise 0 us number → Rise 0 (with_unit us number u) (suc number)
-  unit_rise [] r = rise-more 0 us number (suc number) (omega arith) r
-  unit_rise (e ∷ es) r = rise-push 0 us (record { number = number; entries = e ∷ es }) (suc number) (omega arith) r
+  unit_rise [] r = rise_more 0 us number (suc number) (omega arith) r
+  unit_rise (e ∷ es) r = rise_push 0 us (record { number = number; entries = e ∷ es }) (suc number) (omega arith) r
 
   -- a front is an old one with the records that it had, or all with all records
   abbrev pub Either : List Entry → ℕ → Type 0
@@ -49,37 +52,89 @@ module _ (us : List LogUnit) (number : ℕ) where
 
   pub unit_counts : (u : List Entry) (k : ℕ) → Either u k
   unit_counts [] k = elim (cases_lt k (length us)) as (λ _. Either [] k) [
-    | inl lt ↦ inl (omega arith, before-within us (suc number) number k lt)
-    | inr le ↦ inr (le, before-end us (suc number) k le)
+    | inl lt ↦ inl (omega arith, before_within us (suc number) number k lt)
+    | inr le ↦ inr (le, before_end us (suc number) k le)
   ]
-  unit_counts (e ∷ es) k = elim (cases_lt (length us) k) as (λ _. Either (e ∷ es) k) [
-    | inl lt ↦ (let n = length-append us (record { number = number; entries = e ∷ es } ∷ []) in
-        inr (omega arith, before-end (us ++ record { number = number; entries = e ∷ es } ∷ []) (suc number) k (omega arith)))
-    | inr le ↦ inl (le, before-push us (record { number = number; entries = e ∷ es }) (suc number) k le)
-  ]
+  unit_counts (e ∷ es) k =
+      let u : LogUnit = record { number = number; entries = e ∷ es } in
+      elim (cases_lt (length us) k) as (λ _. Either (e ∷ es) k) [
+        | inl lt ↦ (let n = length-append us (u ∷ []) in
+            inr (omega arith, before_end (us ++ u ∷ []) (suc number) k (omega arith)))
+        | inr le ↦ inl (le, before_push us u (suc number) k le)
+      ]
+
+-- ---- entries
+
+-- a unit that is there is among the first that reach past it
+in_units : (us : List LogUnit) (place count : ℕ) (u : LogUnit) (e : Entry) → slice_get us place ≡ Some u
+    → place < count → among u.entries e → among (entries_of (take count us)) e
+in_units [] place count u e is lt m = absurd (cc)
+in_units (v ∷ us) place zero u e is lt m = absurd (omega arith)
+in_units (v ∷ us) zero (suc count) u e is lt m =
+    among_left e v.entries (entries_of (take count us))
+    (subst (λ (x : LogUnit). among x.entries e) (sym (same_Some v u is)) m)
+in_units (v ∷ us) (suc place) (suc count) u e is lt m =
+    among_right e v.entries (entries_of (take count us)) (in_units us place count u e is (omega arith) m)
+
+-- so it is in the head's front
+pub in_front : (h : Head) (place count : ℕ) (u : LogUnit) (e : Entry) → slice_get h.units place ≡ Some u
+    → place < count → among u.entries e → among (front_entries h count) e
+in_front h place count u e is lt m =
+    among_right e h.loaded (entries_of (take count h.units)) (in_units h.units place count u e is lt m)
+
+-- the entries of the first units are among all
+first_units : (e : Entry) (k : ℕ) (us : List LogUnit) → among (entries_of (take k us)) e → among (entries_of us) e
+first_units e zero us m = absurd m
+first_units e (suc k) [] m = absurd m
+first_units e (suc k) (u ∷ us) m = elim (among_either e u.entries (entries_of (take k us)) m) [
+  | inl l ↦ among_left e u.entries (entries_of us) l
+  | inr r ↦ among_right e u.entries (entries_of us) (first_units e k us r)
+]
+
+-- so a front is among the whole
+pub front_in : (h : Head) (k : ℕ) (e : Entry) → among (front_entries h k) e
+    → among (front_entries h (length h.units)) e
+front_in h k e m =
+    subst (λ (us : List LogUnit). among (h.loaded ++ entries_of us) e) (sym (units_all h.units))
+    (elim (among_either e h.loaded (entries_of (take k h.units)) m) as (λ _. among (h.loaded ++ entries_of h.units) e) [
+      | inl l ↦ among_left e h.loaded (entries_of h.units) l
+      | inr r ↦ among_right e h.loaded (entries_of h.units) (first_units e k h.units r)
+    ])
 
 -- ---- states
+
+-- all records that there are
+pub after_all : (d : LogData) → state_after d (length d.history) ≡ state_of d
+after_all d =
+    let n = length-map d.history (λ (r : Record). r.command) in
+    ap (λ (cs : List Command). after d.opening cs)
+    (take_all (length d.history) (commands_of d.history) (omega arith))
 
 -- the state after the first records doesn't change with one more
 pub state_front : (opening : State) (records : List Record) (r : Record) (k : ℕ) → k ≤ length records
     → after opening (take k (commands_of (records ++ r ∷ []))) ≡ after opening (take k (commands_of records))
 state_front opening records r k le =
     let n = length-map records (λ (x : Record). x.command) in
-    ap (λ (cs : List Command). after opening (take k cs)) (map-append (λ (x : Record). x.command) records (r ∷ []))
-    ∙ ap (after opening) (take_less (commands_of records) (r.command ∷ []) k (omega arith))
+    ap (λ (cs : List Command). after opening (take k cs))
+    (map-append (λ (x : Record). x.command) records (r ∷ []))
+    ∙ ap (after opening) (take-append-le k (commands_of records) (r.command ∷ []) (omega arith))
 
 pub state_next : (opening : State) (records : List Record) (r : Record)
-    → after opening (commands_of (records ++ r ∷ [])) ≡ after_command (after opening (commands_of records)) r.command
+    → after opening (commands_of (records ++ r ∷ []))
+    ≡ after_command (after opening (commands_of records)) r.command
 state_next opening records r =
     ap (after opening) (map-append (λ (x : Record). x.command) records (r ∷ []))
     ∙ (states_pushed opening (commands_of records) r.command).0
 
-module _ (d : LogData) (texts : Texts) (standing : IsStanding d texts) where
-  -- base and head stand for the present state
-  pub present : Represents d.head.start.safe (base_of texts d.head.start.others ++ (d.head.loaded ++ entries_of d.head.units)) (state_of d)
-  present =
-      let last = standing.fronts (length d.head.units) (omega arith) in
-      let all = before-end d.head.units (length d.history) (length d.head.units) (omega arith) in
-      subst (λ (us : List LogUnit). Represents d.head.start.safe (base_of texts d.head.start.others ++ (d.head.loaded ++ entries_of us)) (state_of d)) (units_all d.head.units)
-      (subst (λ (st : State). Represents d.head.start.safe (base_of texts d.head.start.others ++ front_entries d.head (length d.head.units)) st)
-      (ap (state_after d) all ∙ after_all d) last)
+-- base and head stand for the present state
+pub present_stands : (d : LogData) (texts : Texts) → IsStanding d texts
+    → Represents d.head.start.safe
+    (base_of texts d.head.start.others ++ (d.head.loaded ++ entries_of d.head.units)) (state_of d)
+present_stands d texts standing =
+    let base = base_of texts d.head.start.others in
+    let last = standing.fronts (length d.head.units) (omega arith) in
+    let all = before_end d.head.units (length d.history) (length d.head.units) (omega arith) in
+    subst (λ (us : List LogUnit). Represents d.head.start.safe (base ++ (d.head.loaded ++ entries_of us)) (state_of d))
+    (units_all d.head.units)
+    (subst (λ (st : State). Represents d.head.start.safe (base ++ front_entries d.head (length d.head.units)) st)
+    (ap (state_after d) all ∙ after_all d) last)

@@ -1,6 +1,17 @@
--- What stands at a place of a list that grew, or in which one place was set.
-use Rattle.std.proofs.Common.{◌≡◌, ℕ, zero, suc, ◌<◌, ◌⊎◌, inl, inr, List, [], ◌∷◌, ◌++◌, length, Some, refl, ap, arith}
-use Rattle.std.specs.Prelude.{slice_get, slice_set}
+-- What stands at a place of a list that grew or in which one place was set, members of lists of ids, and options.
+use Rattle.std.proofs.Common.{◌≡◌, ℕ, zero, suc, ◌<◌, ◌⊎◌, inl, inr, Bool, true, false, cond, List, [], ◌∷◌, ◌++◌}
+use Rattle.std.proofs.Common.{length, Some, refl, sym, ap, arith}
+use Rattle.std.specs.Prelude.{Option, None, IsSome, IsSomeAnd, filter, slice_get, slice_set}
+use Rattle.std.specs.List.{AllByRecursion}
+use Rattle.std.proofs.lemmas.List.{length-append}
+use Rattle.std.proofs.lemmas.Option.{same_Some}
+use Rattle.entry.specs.declared.entry.Entry.{Entry}
+use Rattle.entry.specs.Bag.{IsAmong}
+use Rattle.entry.specs.Text.{is_data}
+use Rattle.entry.specs.Meaning.{among}
+use Rattle.log_model.specs.Steps.{no_units}
+
+-- ---- places
 
 pub get_push : {A : Type 0} (xs : List A) (y : A) (j : ℕ) (l : A) → slice_get (xs ++ y ∷ []) j ≡ Some l
     → (slice_get xs j ≡ Some l) ⊎ ((j ≡ length xs) × (y ≡ l))
@@ -9,7 +20,8 @@ get_push [] y (suc j) l h = absurd (cc)
 get_push (x ∷ xs) y zero l h = inl h
 get_push (x ∷ xs) y (suc j) l h = elim (get_push xs y j l h) [ inl a ↦ inl a | inr b ↦ inr (ap suc b.0, b.1) ]
 
-pub get_left : {A : Type 0} (xs ys : List A) (j : ℕ) (l : A) → slice_get xs j ≡ Some l → slice_get (xs ++ ys) j ≡ Some l
+pub get_left : {A : Type 0} (xs ys : List A) (j : ℕ) (l : A) → slice_get xs j ≡ Some l
+    → slice_get (xs ++ ys) j ≡ Some l
 get_left [] ys j l h = absurd (cc)
 get_left (x ∷ xs) ys zero l h = h
 get_left (x ∷ xs) ys (suc j) l h = get_left xs ys j l h
@@ -18,14 +30,80 @@ pub get_last : {A : Type 0} (xs : List A) (y : A) → slice_get (xs ++ y ∷ [])
 get_last [] y = refl
 get_last (x ∷ xs) y = get_last xs y
 
-pub get_set_same : {A : Type 0} (xs : List A) (j : ℕ) (l : A) → j < length xs → slice_get (slice_set xs j l) j ≡ Some l
+pub get_set_same : {A : Type 0} (xs : List A) (j : ℕ) (l : A) → j < length xs
+    → slice_get (slice_set xs j l) j ≡ Some l
 get_set_same [] j l h = absurd (omega arith)
 get_set_same (x ∷ xs) zero l h = refl
 get_set_same (x ∷ xs) (suc j) l h = get_set_same xs j l (omega arith)
 
-pub get_set_other : {A : Type 0} (xs : List A) (i j : ℕ) (l : A) → (i ≡ j → ⊥) → slice_get (slice_set xs i l) j ≡ slice_get xs j
+pub get_set_other : {A : Type 0} (xs : List A) (i j : ℕ) (l : A) → (i ≡ j → ⊥)
+    → slice_get (slice_set xs i l) j ≡ slice_get xs j
 get_set_other [] i j l h = refl
 get_set_other (x ∷ xs) zero zero l h = absurd (h refl)
 get_set_other (x ∷ xs) zero (suc j) l h = refl
 get_set_other (x ∷ xs) (suc i) zero l h = refl
 get_set_other (x ∷ xs) (suc i) (suc j) l h = get_set_other xs i j l (λ e. h (ap suc e))
+
+-- ---- ids
+
+pub below_at : (n : ℕ) (ids : List ℕ) (s : ℕ) → AllByRecursion (λ (t : ℕ). t < n) ids → IsAmong s ids → s < n
+below_at n [] s all m = absurd m
+below_at n (t ∷ ids) s all (inl e) = let lt = all.0 in omega arith
+below_at n (t ∷ ids) s all (inr m) = below_at n ids s all.1 m
+
+pub all_below : (n : ℕ) (ids : List ℕ) → ((s : ℕ) → IsAmong s ids → s < n)
+    → AllByRecursion (λ (s : ℕ). s < n) ids
+all_below n [] each = tt
+all_below n (s ∷ ids) each = (each s (inl refl), all_below n ids (λ z m. each z (inr m)))
+
+-- two lists are one where they are with one more element each
+pub same_front : (xs ys : List ℕ) (x y : ℕ) → xs ++ x ∷ [] ≡ ys ++ y ∷ [] → xs ≡ ys
+same_front [] [] x y e = refl
+same_front [] (z ∷ ys) x y e = let n = ap length e in let parts = length-append ys (y ∷ []) in absurd (omega arith)
+same_front (w ∷ xs) [] x y e = let n = ap length e in let parts = length-append xs (x ∷ []) in absurd (omega arith)
+same_front (w ∷ xs) (z ∷ ys) x y e =
+    let first : w ≡ z = cc in
+    let rest : xs ++ x ∷ [] ≡ ys ++ y ∷ [] = cc in
+    let more = same_front xs ys x y rest in cc
+
+-- ---- counts of none
+
+pub no_units_length : (n : ℕ) → length (no_units n) ≡ n
+no_units_length zero = refl
+no_units_length (suc n) = let rest = no_units_length n in omega arith
+
+pub no_units_none : (n j count : ℕ) → slice_get (no_units n) j ≡ Some count → count ≡ 0
+no_units_none zero j count is = absurd (cc)
+no_units_none (suc n) zero count is = sym (same_Some 0 count is)
+no_units_none (suc n) (suc j) count is = no_units_none n j count is
+
+pub no_units_some : (n j : ℕ) → j < n → slice_get (no_units n) j ≡ Some 0
+no_units_some zero j lt = absurd (omega arith)
+no_units_some (suc n) zero lt = refl
+no_units_some (suc n) (suc j) lt = no_units_some n j (omega arith)
+
+-- ---- options
+
+pub some_given : {A : Type 0} (o : Option A) (P : A → Type 0) → IsSomeAnd o P → (r : A) × (o ≡ Some r) × P r
+some_given None P h = absurd h
+some_given (Some r) P h = (r, refl, h)
+
+pub some_is : {A : Type 0} (o : Option A) → IsSome o → (r : A) × (o ≡ Some r)
+some_is None h = absurd (cc)
+some_is (Some r) h = (r, refl)
+
+pub is_none : {A : Type 0} (o : Option A) → ((r : A) → o ≡ Some r → ⊥) → o ≡ None
+is_none None never = refl
+is_none (Some r) never = absurd (never r refl)
+
+-- ---- data
+
+-- what is among the objects and tombstones of a list is among it
+pub among_data : (e : Entry) (es : List Entry) → among (filter is_data es) e → among es e
+among_data e [] m = absurd m
+among_data e (x ∷ es) m = go (λ (n : among (filter is_data es) e). among_data e es n) (is_data x) m where
+  go : (among (filter is_data es) e → among es e) → (b : Bool)
+      → among (cond b (x ∷ filter is_data es) (filter is_data es)) e → among (x ∷ es) e
+  go more true (inl p) = inl p
+  go more true (inr n) = inr (more n)
+  go more false n = inr (more n)

@@ -1,216 +1,209 @@
--- A roll that begins keeps the backups mirrored.
-use Rattle.std.proofs.Common.{◌≡◌, ℕ, ◌<◌, ◌⊎◌, inl, inr, List, [], ◌∷◌, ◌++◌, length, Some, refl, sym, ap, subst, ◌∙◌, arith}
-use Rattle.std.specs.Prelude.{None, IsSome, not, nat_lt, filter}
-use Rattle.std.specs.List.{AllByRecursion}
+-- A roll that begins leaves the backups as they are.
+use Rattle.std.proofs.Common.{◌≡◌, ℕ, suc, ◌<◌, inl, inr, List, [], ◌∷◌, ◌++◌, length, Some, refl, sym, ap, subst, ◌∙◌}
+use Rattle.std.proofs.Common.{arith}
+use Rattle.std.specs.Prelude.{None, IsSome, filter}
 use Rattle.std.proofs.lemmas.List.{append-nil}
 use Rattle.std.proofs.lemmas.Grind.{flat_map-append}
 use Rattle.std.proofs.lemmas.Option.{same_Some}
-use Rattle.entry.specs.declared.key.Key.{Key}
 use Rattle.entry.specs.declared.entry.Entry.{Entry}
 use Rattle.entry.specs.Bag.{IsAmong}
-use Rattle.entry.specs.Text.{text_of, is_data, opening_of}
-use Rattle.entry.specs.Meaning.{IsOfKey, among}
+use Rattle.entry.specs.Text.{is_data}
 use Rattle.replica.specs.Picture.{Replica, Picture}
 use Rattle.versioned_map.specs.Represents.{Represents}
 use Rattle.versioned_map.specs.Versioned.{State}
-use Rattle.log_model.specs.Data.{Start, LogUnit, Phase, LogData, IsHome, ids_of, start_entries, entries_of, front_entries, head_entries, new_of, closed_of, records_before, state_of, state_after}
-use Rattle.log_model.specs.Kept.{IsHeld, IsKept, IsRoll}
-use Rattle.log_model.specs.Log.{Texts, base_of, IsSegmentOf, IsPlaced, IsHeadLog, IsNewLog, IsLogged, IsStanding}
-use Rattle.log_model.specs.Mirror.{head_replica, IsReplica, IsOther, IsMirrored}
-use Rattle.log_model.specs.Steps.{next_start, rolling, MayRoll}
-use Rattle.log_model.proofs.Fronts.{present}
-use Rattle.log_model.proofs.Reading.{front_data, units_all}
-use Rattle.log_model.proofs.Replicas.{whole}
-use Rattle.log_model.proofs.Texts.{with_text, text_there, text_other, base_below}
+use Rattle.versioned_map.proofs.Tops.{among_push}
+use Rattle.log_model.specs.Data.{Start, LogData, IsHome, ids_of, start_entries, entries_of, front_entries, new_of}
+use Rattle.log_model.specs.Data.{closed_of, state_of}
+use Rattle.log_model.specs.Kept.{IsLogHeld}
+use Rattle.log_model.specs.Laws.{RollingIsHeld, RollingIsStanding, RollingIsKept, OrdinaryIsRoll}
+use Rattle.log_model.specs.Log.{Texts, base_of, state_before, IsSegmentOf, IsNewLog, IsLogged, IsStanding}
+use Rattle.log_model.specs.Mirror.{head_replica, IsHeadReplica, IsReplica, IsOther, IsMirrored}
+use Rattle.log_model.specs.Steps.{rolling, texts_rolling, IsRoll}
+use Rattle.log_model.proofs.Fronts.{present_stands}
+use Rattle.log_model.proofs.Lists.{below_at, all_below}
+use Rattle.log_model.proofs.PastHeads.{rolling_is_past}
+use Rattle.log_model.proofs.Replicas.{head_segment}
+use Rattle.log_model.proofs.SameTexts.{still_head, still_older}
+use Rattle.log_model.proofs.Segments.{start_segment, front_data, units_all}
+use Rattle.log_model.proofs.Texts.{text_there, text_other, base_other}
 
--- the opening has no keys
-pub no_keys : (master : ℕ) (n : Start) (e : Entry) (k : Key) → among (start_entries master n) e → IsOfKey k e → ⊥
-no_keys master n e k (inl is) at = subst (λ (f : Entry). IsOfKey k f) (sym is) at
-no_keys master n e k (inr (inl is)) at = subst (λ (f : Entry). IsOfKey k f) (sym is) at
-no_keys master n e k (inr (inr (inl is))) at = subst (λ (f : Entry). IsOfKey k f) (sym is) at
-no_keys master n e k (inr (inr (inr m))) at = m
+module _ (d : LogData) (texts : Texts) (p : Picture) (n : Start) (held : IsLogHeld d texts p)
+    (roll : IsRoll d p n) where
+  abbrev log : IsLogged d texts
+  log = held.logged
 
-module _ (d : LogData) (p : Picture) (texts : Texts) (placed : IsPlaced d.config) (log : IsLogged d texts) (mir : IsMirrored d texts p) (n : Start)
-    (roll : IsRoll d texts p n) where
-  abbrev e : LogData
-  e = rolling d n
+  abbrev mir : IsMirrored d texts p
+  mir = held.mirrored
 
   abbrev master : ℕ
   master = d.config.master
 
-  abbrev pub texts_then : Texts
-  texts_then = with_text texts n.id (start_entries master n)
+  abbrev id : ℕ
+  id = d.head.start.id
 
-  same_before : (s : ℕ) → s < d.next → texts_then s ≡ texts s
-  same_before s lt = let next = roll.next in text_other texts n.id (start_entries master n) s (λ is. omega arith)
+  abbrev e : LogData
+  e = rolling d n
 
-  same_head : texts_then d.head.start.id ≡ texts d.head.start.id
-  same_head = same_before d.head.start.id log.head.next
+  abbrev texts_now : Texts
+  texts_now = texts_rolling d texts n
 
-  same_base : base_of texts_then d.head.start.others ≡ base_of texts d.head.start.others
-  same_base =
-      let next = roll.next in
-      let newer = log.head.next in base_below texts n.id (start_entries master n) d.head.start.id d.head.start.others (omega arith) log.head.below
+  same_before : (s : ℕ) → s < d.next → texts_now s ≡ texts s
+  same_before s lt =
+      let next = roll.next in text_other texts n.id (start_entries master n) s (λ is. omega arith)
 
-  head_log : IsHeadLog e texts_then
-  head_log = record {
-    text = same_head ∙ log.head.text;
-    segment = subst (λ (es : List Entry). IsSegmentOf d.config d.head.start.id es) (sym same_head) log.head.segment;
-    below = log.head.below;
-    next = (let lt = log.head.next in omega arith);
-    opened = log.head.opened;
-    taken = log.head.taken;
-  }
+  same_base : (m : Start) → ((s : ℕ) → IsAmong s m.others → s < n.id)
+      → base_of texts_now m.others ≡ base_of texts m.others
+  same_base m below =
+      base_other texts n.id (start_entries master n) m.others (λ k. let lt = below n.id k in omega arith)
 
-  there : texts_then n.id ≡ start_entries master n
+  -- ---- texts
+
+  there : texts_now n.id ≡ start_entries master n
   there = text_there texts n.id (start_entries master n)
 
-  own_log : IsNewLog e texts_then n
+  own_log : IsNewLog d.config (suc d.next) id texts_now n
   own_log = record {
     text = there;
-    segment = subst (λ (es : List Entry). IsSegmentOf d.config n.id es) (sym there) (record {
-      segment = roll.segment;
-      limit = roll.limit;
-      header = (refl, refl);
-      keys = λ f k m at. absurd (no_keys master n f k m at);
-    });
+    segment = subst (λ (es : List Entry). IsSegmentOf d.config n.id es) (sym there)
+        (start_segment d.config n roll.segment roll.limit);
     below = roll.below;
     newer = (let next = roll.next in let lt = log.head.next in omega arith);
     next = (let next = roll.next in omega arith);
-    whole = λ lt. absurd (omega arith);
-  }
-
-  pub logged : IsLogged e texts_then
-  logged = record {
-    head = head_log;
-    under_way = placed.some;
-    new = λ m is. subst (λ (x : Start). IsNewLog e texts_then x) (same_Some n m is) own_log;
-  }
-
-  own_stands : Represents n.safe (base_of texts n.others) (state_of d) → Represents n.safe (base_of texts_then n.others) (state_of d)
-  own_stands stands = subst (λ (bag : List Entry). Represents n.safe bag (state_of d))
-      (sym (base_below texts n.id (start_entries master n) n.id n.others (omega arith) roll.below)) stands
-
-  pub standing_then : IsStanding d texts → Represents n.safe (base_of texts n.others) (state_of d) → IsStanding e texts_then
-  standing_then standing stands = record {
-    numbers = standing.numbers;
-    fronts = λ k le. subst (λ (b : List Entry). Represents d.head.start.safe (b ++ front_entries d.head k) (state_after d (records_before d.head.units (length d.history) k)))
-        (sym same_base) (standing.fronts k le);
-    new = λ m is. subst (λ (x : Start). Represents x.safe (base_of texts_then x.others) (state_of d)) (same_Some n m is) (own_stands stands);
   }
 
   -- ---- replicas
 
-  same_replica : (j count : ℕ) → head_replica d j count ≡ head_replica e j count
-  same_replica j count =
-      ap (λ (ph : Phase). record { bytes = text_of (head_entries master d.head count); is_open = not (nat_lt j (closed_of ph)) }) roll.ready
+  none_closed : closed_of d.phase ≡ 0
+  none_closed = ap closed_of roll.ready
 
-  each_then : (b s : ℕ) (q : Replica) → IsReplica d texts b s q → IsReplica e texts_then b s q
-  each_then b s q (inl is) = inl (
-    is.0,
-    record {
-      j = is.1.j;
-      count = is.1.count;
-      home = is.1.home;
-      taken = is.1.taken;
-      same = is.1.same ∙ same_replica is.1.j is.1.count;
-    },
-  )
-  each_then b s q (inr (inl is)) = (let never : None ≡ Some is.0 = sym (ap new_of roll.ready) ∙ is.2.is_new in absurd (cc))
-  each_then b s q (inr (inr is)) =
-      (let same = same_before s is.next in
-      let lt = is.next in
-      inr (inr (record {
-        bytes = is.bytes ∙ ap text_of (sym same);
-        segment = subst (λ (es : List Entry). IsSegmentOf d.config s es) (sym same) is.segment;
-        next = omega arith;
-        closed = λ some. is.closed (subst (λ (es : List Entry). IsSome (opening_of es)) same some);
-      })))
+  each_then : (b s : ℕ) (q : Replica) → IsReplica d texts b s q → IsReplica e texts_now b s q
+  each_then b s q (inl is) =
+      inl (is.0, subst (λ (k : ℕ). IsHeadReplica d.config d.head k b q) none_closed is.1)
+  each_then b s q (inr (inl is)) =
+      let never : None ≡ Some is.0 = sym (ap new_of roll.ready) ∙ is.2.is_new in absurd (cc)
+  each_then b s q (inr (inr is)) = inr (inr
+      (still_older d.config d.next (suc d.next) texts texts_now (omega arith) id s q (same_before s is.next) is))
 
   others_then : (s b : ℕ) → IsOther e s → IsHome d s b → IsSome (p b master s)
   others_then s b (inl m) home = mir.others s b (inl m) home
   others_then s b (inr is) home =
       roll.held s b (subst (λ (x : Start). IsAmong s x.others) (sym (same_Some n is.0 is.1)) is.2) is.3 home
 
-  pub mirrored : IsMirrored e texts_then p
-  mirrored = record {
-    each = λ b s q held. each_then b s q (mir.each b s q held);
-    head = λ j count b home is. mir.head j count b home is ∙ ap (λ (q : Replica). Some q) (same_replica j count);
-    new = λ m j b is home lt. absurd (omega arith);
-    others = others_then;
-    first = mir.first;
+  rolling_held : IsLogHeld e texts_now p
+  rolling_held = record {
+    placed = held.placed;
+    logged = record {
+      head = still_head d.config d.next (suc d.next) texts texts_now (omega arith) d.head
+          (same_before id log.head.next) log.head;
+      opened = log.opened;
+      under_way = held.placed.some;
+      new = λ m is. subst (λ (x : Start). IsNewLog d.config (suc d.next) id texts_now x) (same_Some n m is) own_log;
+      whole = λ none. absurd (omega arith);
+    };
+    mirrored = record {
+      each = λ b s q is. each_then b s q (mir.each b s q is);
+      head = λ j count b home is. mir.head j count b home is
+          ∙ ap (λ (k : ℕ). Some (head_replica master d.head k j count)) none_closed;
+      new = λ m j b is home lt. absurd (omega arith);
+      others = others_then;
+      first = mir.first;
+    };
   }
+
+  -- ---- what the log stands for
+
+  own_stands : Represents n.safe (base_of texts n.others) (state_of d)
+      → Represents n.safe (base_of texts_now n.others) (state_of d)
+  own_stands stands = subst (λ (bag : List Entry). Represents n.safe bag (state_of d))
+      (sym (same_base n (λ s m. below_at n.id n.others s roll.below m))) stands
+
+  rolling_stands : IsStanding d texts → Represents n.safe (base_of texts n.others) (state_of d)
+      → IsStanding e texts_now
+  rolling_stands standing stands = record {
+    numbers = standing.numbers;
+    fronts = λ k le. subst (λ (b : List Entry). Represents d.head.start.safe (b ++ front_entries d.head k)
+        (state_before d k))
+        (sym (same_base d.head.start (λ s m. old s m)))
+        (standing.fronts k le);
+    new = λ m is. subst (λ (x : Start). Represents x.safe (base_of texts_now x.others) (state_of d))
+        (same_Some n m is) (own_stands stands);
+  } where
+    old : (s : ℕ) → IsAmong s d.head.start.others → s < n.id
+    old s m =
+        let lt = below_at id d.head.start.others s log.head.below m in
+        let less = log.head.next in
+        let next = roll.next in omega arith
+
+pub rolling_is_held : RollingIsHeld
+rolling_is_held d texts p n held roll = rolling_held d texts p n held roll
+
+pub rolling_is_standing : RollingIsStanding
+rolling_is_standing d texts p n held roll standing stands = rolling_stands d texts p n held roll standing stands
+
+abbrev pub rolling_is_kept : RollingIsKept
+rolling_is_kept d p n kept roll stands = record {
+  texts = texts_rolling d kept.texts n;
+  held = rolling_is_held d kept.texts p n kept.held roll;
+  standing = rolling_is_standing d kept.texts p n kept.held roll kept.standing stands;
+  past = kept.past;
+  before = rolling_is_past d kept.texts p kept.past n kept.held roll kept.before;
+}
 
 -- ---- an ordinary roll
 
 -- a bag that represents a state does so with the state's own safe version
-recorded_anew : (recorded : ℕ) (bag : List Entry) (st : State) → Represents recorded bag st → Represents st.safe bag st
-recorded_anew recorded bag st is = record { meaning = is.meaning; clean = is.clean; below = is.below; safe = omega arith }
-
-all_below : (n more : ℕ) (ids : List ℕ) → n < more → AllByRecursion (λ (s : ℕ). s < n) ids → AllByRecursion (λ (s : ℕ). s < more) (ids ++ n ∷ [])
-all_below n more [] lt all = (lt, tt)
-all_below n more (s ∷ ids) lt all = let here = all.0 in (omega arith, all_below n more ids lt all.1)
-
-pub among_last : (s x : ℕ) (ids : List ℕ) → IsAmong s (ids ++ x ∷ []) → IsAmong s ids ⊎ (x ≡ s)
-among_last s x [] (inl is) = inr is
-among_last s x [] (inr m) = absurd m
-among_last s x (y ∷ ids) (inl is) = inl (inl is)
-among_last s x (y ∷ ids) (inr m) = elim (among_last s x ids m) [ inl l ↦ inl (inr l) | inr r ↦ inr r ]
-
-module _ (d : LogData) (p : Picture) (texts : Texts) (log : IsLogged d texts) (mir : IsMirrored d texts p) (standing : IsStanding d texts) (may : MayRoll d) where
-  base_is : base_of texts (ids_of d.head.start) ≡ base_of texts d.head.start.others ++ (d.head.loaded ++ entries_of d.head.units)
-  base_is =
-      flat_map-append (λ (s : ℕ). filter is_data (texts s)) d.head.start.others (d.head.start.id ∷ [])
-      ∙ ap (λ (es : List Entry). base_of texts d.head.start.others ++ es) (append-nil (filter is_data (texts d.head.start.id)) ∙ own)
-    where
-      own : filter is_data (texts d.head.start.id) ≡ d.head.loaded ++ entries_of d.head.units
-      own = ap (filter is_data) log.head.text
-          ∙ front_data d.config d.head (length d.head.units) (whole d p texts log mir)
-          ∙ ap (λ (us : List LogUnit). d.head.loaded ++ entries_of us) (units_all d.head.units)
-
-  held_then : (s b : ℕ) → IsAmong s (ids_of d.head.start) → (s ≡ d.head.start.id → ⊥) → IsHome d s b → IsSome (p b d.config.master s)
-  held_then s b m other home = elim (among_last s d.head.start.id d.head.start.others m) as (λ _. IsSome (p b d.config.master s)) [
-    | inl l ↦ mir.others s b (inl l) home
-    | inr is ↦ absurd (other (sym is))
-  ]
-
-  pub ordinary : IsRoll d texts p (next_start d)
-  ordinary = record {
-    ready = may.ready;
-    next = refl;
-    below = all_below d.head.start.id d.next d.head.start.others log.head.next log.head.below;
-    segment = may.segment;
-    limit = may.limit;
-    held = held_then;
-  }
-
-  pub ordinary_stands : Represents (state_of d).safe (base_of texts (ids_of d.head.start)) (state_of d)
-  ordinary_stands =
-      subst (λ (bag : List Entry). Represents (state_of d).safe bag (state_of d)) (sym base_is)
-      (recorded_anew d.head.start.safe (base_of texts d.head.start.others ++ (d.head.loaded ++ entries_of d.head.units)) (state_of d) (present d texts standing))
-
-pub roll_holds : (d : LogData) (texts : Texts) (p : Picture) (n : Start) → IsHeld d texts p → IsRoll d texts p n → (more : Texts) × IsHeld (rolling d n) more p
-roll_holds d texts p n held roll = (
-  texts_then d p texts held.placed held.logged held.mirrored n roll,
-  record {
-    placed = held.placed;
-    logged = logged d p texts held.placed held.logged held.mirrored n roll;
-    mirrored = mirrored d p texts held.placed held.logged held.mirrored n roll;
-  },
-)
-
--- a roll to any head for which its premises hold
-pub begun : (d : LogData) (p : Picture) (kept : IsKept d p) (n : Start) → IsRoll d kept.texts p n → Represents n.safe (base_of kept.texts n.others) (state_of d) → IsKept (rolling d n) p
-begun d p kept n roll stands = record {
-  texts = texts_then d p kept.texts kept.held.placed kept.held.logged kept.held.mirrored n roll;
-  held = record {
-    placed = kept.held.placed;
-    logged = logged d p kept.texts kept.held.placed kept.held.logged kept.held.mirrored n roll;
-    mirrored = mirrored d p kept.texts kept.held.placed kept.held.logged kept.held.mirrored n roll;
-  };
-  standing = standing_then d p kept.texts kept.held.placed kept.held.logged kept.held.mirrored n roll kept.standing stands;
+recorded_anew : (recorded : ℕ) (bag : List Entry) (st : State) → Represents recorded bag st
+    → Represents st.safe bag st
+recorded_anew recorded bag st is = record {
+  meaning = is.meaning;
+  clean = is.clean;
+  below = is.below;
+  safe = omega arith;
 }
 
-pub roll_keeps : (d : LogData) (p : Picture) → IsKept d p → MayRoll d → IsKept (rolling d (next_start d)) p
-roll_keeps d p kept may = begun d p kept (next_start d) (ordinary d p kept.texts kept.held.logged kept.held.mirrored kept.standing may)
-    (ordinary_stands d p kept.texts kept.held.logged kept.held.mirrored kept.standing may)
+-- the base of the digest in force and the old head is all that the log holds
+whole_base : (d : LogData) (texts : Texts) (p : Picture) → IsLogHeld d texts p
+    → base_of texts (ids_of d.head.start)
+    ≡ base_of texts d.head.start.others ++ (d.head.loaded ++ entries_of d.head.units)
+whole_base d texts p held =
+    flat_map-append (λ (s : ℕ). filter is_data (texts s)) d.head.start.others (d.head.start.id ∷ [])
+    ∙ ap (λ (es : List Entry). base_of texts d.head.start.others ++ es)
+    (append-nil (filter is_data (texts d.head.start.id)) ∙ own)
+  where
+    own : filter is_data (texts d.head.start.id) ≡ d.head.loaded ++ entries_of d.head.units
+    own = ap (filter is_data) held.logged.head.text
+        ∙ front_data d.config d.head (length d.head.units) (head_segment d texts p held (length d.head.units))
+        ∙ ap (λ (us : List _). d.head.loaded ++ entries_of us) (units_all d.head.units)
+
+pub ordinary_is_roll : OrdinaryIsRoll
+ordinary_is_roll d p kept may = (
+  record {
+    ready = may.ready;
+    next = refl;
+    below = all_below d.next (ids_of d.head.start) below;
+    segment = may.segment;
+    limit = may.limit;
+    held = there;
+  },
+  subst (λ (bag : List Entry). Represents (state_of d).safe bag (state_of d))
+      (sym (whole_base d kept.texts p kept.held))
+      (recorded_anew d.head.start.safe _ (state_of d) (present_stands d kept.texts kept.standing)),
+) where
+  id : ℕ
+  id = d.head.start.id
+
+  below : (s : ℕ) → IsAmong s (ids_of d.head.start) → s < d.next
+  below s m =
+      let less = kept.held.logged.head.next in
+      elim (among_push s d.head.start.others d.head.start.id m) as (λ _. s < d.next) [
+        | inl l ↦ (let lt = below_at d.head.start.id d.head.start.others s kept.held.logged.head.below l in omega arith)
+        | inr is ↦ omega arith
+      ]
+
+  there : (s b : ℕ) → IsAmong s (ids_of d.head.start) → (s ≡ d.head.start.id → ⊥) → IsHome d s b
+      → IsSome (p b d.config.master s)
+  there s b m other home = elim (among_push s d.head.start.others d.head.start.id m)
+      as (λ _. IsSome (p b d.config.master s)) [
+        | inl l ↦ kept.held.mirrored.others s b (inl l) home
+        | inr is ↦ absurd (other (sym is))
+      ]

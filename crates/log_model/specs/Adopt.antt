@@ -8,18 +8,17 @@ use Rattle.replica.specs.Picture.{Picture}
 use Rattle.versioned_map.specs.Represents.{Represents}
 use Rattle.versioned_map.specs.Versioned.{State, with_contents}
 use Rattle.log_model.specs.Data.{Ready, LogData, front_entries}
-use Rattle.log_model.specs.Kept.{IsHeld}
-use Rattle.log_model.specs.Log.{Texts, base_of, IsWhole}
+use Rattle.log_model.specs.Kept.{IsLogHeld}
+use Rattle.log_model.specs.Log.{Texts, front_bag, IsWhole}
 use Rattle.log_model.specs.Steps.{no_units}
 
 -- All that was loaded is on the backups, and stands for this state.
 pub record IsLoaded (d : LogData) (p : Picture) (st : State) : Type 0 where
   pub texts : Texts
-  pub held : IsHeld d texts p
+  pub held : IsLogHeld d texts p
   pub ready : d.phase ≡ Ready
   pub whole : IsWhole d.config.replicas d.head
-  pub stands : Represents d.head.start.safe
-      (base_of texts d.head.start.others ++ front_entries d.head (length d.head.units)) st
+  pub stands : Represents d.head.start.safe (front_bag d texts (length d.head.units)) st
 
 -- the master whose history begins with this state
 abbrev pub adopted : LogData → State → LogData

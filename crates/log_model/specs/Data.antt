@@ -1,5 +1,6 @@
 -- What a master knows of its log, its fleet apart.
-use Rattle.std.specs.Prelude.{◌≡◌, ℕ, zero, suc, List, [], ◌∷◌, ◌++◌, length, take, Option, Some, None, slice_get, min, nat_lt, if◌then◌else◌}
+use Rattle.std.specs.Prelude.{◌≡◌, ℕ, zero, suc, List, [], ◌∷◌, ◌++◌, length, take, Option, Some, None, slice_get}
+use Rattle.std.specs.Prelude.{min, nat_lt, if◌then◌else◌}
 use Rattle.std.specs.List.{flat_map}
 use Rattle.entry.specs.declared.tablet.Tablet.{Tablet}
 use Rattle.entry.specs.declared.entry.Entry.{Entry}
@@ -11,6 +12,7 @@ use Rattle.versioned_map.specs.Versioned.{State, after}
 
 -- ---- data
 
+-- What a log is set up with.
 pub record LogConfig : Type 0 where
   pub master : ℕ
   pub replicas : ℕ
@@ -18,17 +20,18 @@ pub record LogConfig : Type 0 where
   pub homes : ℕ → List ℕ
   pub tablets : List Tablet
 
--- what a head begins with: its id, the other ids of its digest, and the recorded safe version
+-- What a head begins with: its id, the other ids of its digest, and the recorded safe version.
 pub record Start : Type 0 where
   pub id : ℕ
   pub others : List ℕ
   pub safe : ℕ
 
--- what one record appended, which is something
+-- What one record appended, which is something.
 pub record LogUnit : Type 0 where
   pub number : ℕ
   pub entries : List Entry
 
+-- The segment that is appended to.
 pub record Head : Type 0 where
   pub start : Start
   -- what it was given before the history began
@@ -37,13 +40,14 @@ pub record Head : Type 0 where
   -- how many units each replica has, of those that were opened
   pub taken : List ℕ
 
--- no roll is under way; or this many replicas of a new head were opened; or all were, and this many of the old
--- head are closed
+-- No roll is under way; or this many replicas of a new head were opened; or all were, and this many of the old head
+-- are closed.
 pub data Phase : Type 0 where
   Ready : Phase
   Opened : ℕ → Start → Phase
   Closed : ℕ → Start → Phase
 
+-- All that a master knows of its log.
 pub record LogData : Type 0 where
   pub config : LogConfig
   -- the state that the history begins with
@@ -64,6 +68,7 @@ homes d s = d.config.homes s
 abbrev pub IsHomeAt : LogData → ℕ → ℕ → ℕ → Type 0
 IsHomeAt d s j b = slice_get (homes d s) j ≡ Some b
 
+-- the backup is that of some replica of the segment
 abbrev pub IsHome : LogData → ℕ → ℕ → Type 0
 IsHome d s b = (j : ℕ) × IsHomeAt d s j b
 
@@ -111,10 +116,11 @@ closed_of (Closed j n) = j
 
 -- ---- history
 
--- the versioned map's state after the first records, and after all
+-- the versioned map's state after the first records
 abbrev pub state_after : LogData → ℕ → State
 state_after d count = after d.opening (take count (commands_of d.history))
 
+-- the versioned map's state after all records
 abbrev pub state_of : LogData → State
 state_of d = after d.opening (commands_of d.history)
 
@@ -129,9 +135,10 @@ abbrev pub fewest : ℕ → List ℕ → ℕ
 fewest units [] = units
 fewest units (n ∷ ns) = min n (fewest units ns)
 
--- how many units every replica of the head has
+-- how many of its units all replicas of the head have
 abbrev pub everywhere : LogData → ℕ
-everywhere d = if nat_lt (length d.head.taken) d.config.replicas then 0 else fewest (length d.head.units) d.head.taken
+everywhere d =
+    if nat_lt (length d.head.taken) d.config.replicas then 0 else fewest (length d.head.units) d.head.taken
 
 -- how many of the first records are durable
 abbrev pub durable_of : LogData → ℕ

@@ -1,189 +1,238 @@
 -- What holds through every step.
-use Rattle.std.specs.Prelude.{◌≡◌, ℕ, ◌≤◌, ◌⊎◌, ◌<◌, List, [], ◌∷◌, length, false, Option, Some, None}
+use Rattle.std.specs.Prelude.{◌≡◌, ℕ, ◌≤◌, ◌⊎◌, List, length, Some}
 use Rattle.entry.specs.declared.entry.Entry.{Entry}
 use Rattle.entry.specs.Bag.{IsAmong}
-use Rattle.entry.specs.Text.{text_of, opening_of}
-use Rattle.replica.specs.Picture.{Replica, Picture, with_replica}
+use Rattle.entry.specs.Meaning.{among}
+use Rattle.entry.specs.Text.{text_of, data_in}
+use Rattle.replica.specs.Picture.{Replica, Picture}
 use Rattle.versioned_map.specs.declared.command.Record.{Record}
+use Rattle.versioned_map.specs.Represents.{Represents}
 use Rattle.versioned_map.specs.Versioned.{State}
 use Rattle.log_model.specs.Adopt.{IsLoaded, adopted}
-use Rattle.log_model.specs.Data.{LogConfig, Start, Head, LogData, new_of, state_of, durable_of}
-use Rattle.log_model.specs.Durable.{IsDurable, IsReplicated}
-use Rattle.log_model.specs.Kept.{IsHeld, IsKept, IsPast, IsRoll}
-use Rattle.log_model.specs.Log.{Texts, base_of, IsSegmentOf}
-use Rattle.versioned_map.specs.Represents.{Represents}
-use Rattle.log_model.specs.Mirror.{IsOther}
+use Rattle.log_model.specs.Data.{LogConfig, Start, Head, LogData, ids_of, head_entries, new_of, state_of, durable_of}
+use Rattle.log_model.specs.Durable.{heads_of, IsDurable, IsReplicated}
+use Rattle.log_model.specs.Kept.{IsLogHeld, IsPast, IsKept}
+use Rattle.log_model.specs.Log.{Texts, base_of, IsSegmentOf, IsStanding}
 use Rattle.log_model.specs.Ops.{LogOp, taken}
 use Rattle.log_model.specs.Sound.{IsSound}
-use Rattle.log_model.specs.Steps.{fresh, MayBegin, appended, applied, MayAppend, MayApply, next_start, rolling, MayRoll, IsNext}
+use Rattle.log_model.specs.Spares.{Seals, texts_sealed, Frees}
+use Rattle.log_model.specs.Steps.{fresh, MayBegin, with_appended, applied, MayAppend, MayApply, texts_appended}
+use Rattle.log_model.specs.Steps.{texts_applied, next_start, rolling, texts_rolling, MayRoll, IsRoll, id_taken}
+use Rattle.log_model.specs.Steps.{texts_taken, extend_act, Extends, IsNext, GoesOn, EndsRoll}
 
--- Backups that mirror a log hold a sound picture, in every phase of a roll.
+-- ---- what is kept
+
+-- Backups that hold a log hold a sound picture of it, in every phase of a roll.
 abbrev pub KeptIsSound : Type 0
 KeptIsSound = (d : LogData) (p : Picture) → IsKept d p → IsSound d p
 
--- A command that is applied keeps the backups mirrored.
-abbrev pub ApplyKeeps : Type 0
-ApplyKeeps = (d : LogData) (p : Picture) (segment : ℕ) (r : Record) → IsKept d p → MayApply d segment r
-    → IsKept (applied d segment r) p
+-- The count of the records before the first unit that some replica lacks is the durable count.
+abbrev pub KeptIsDurable : Type 0
+KeptIsDurable = (d : LogData) (p : Picture) (kept : IsKept d p) → IsDurable d kept.past (durable_of d)
 
--- An entry that is loaded, in any phase but a roll, leaves the backups as they are.
-abbrev pub AppendHolds : Type 0
-AppendHolds = (d : LogData) (texts : Texts) (p : Picture) (history : List Record) (unit : List Entry)
-    → IsHeld d texts p → MayAppend d unit → (more : Texts) × IsHeld (appended d history unit) more p
+-- Each durable unit is on all homes of its segment.
+abbrev pub KeptIsReplicated : Type 0
+KeptIsReplicated = (d : LogData) (p : Picture) (kept : IsKept d p) → IsReplicated d kept.past p
 
--- A roll that begins keeps the backups mirrored.
-abbrev pub RollKeeps : Type 0
-RollKeeps = (d : LogData) (p : Picture) → IsKept d p → MayRoll d → IsKept (rolling d (next_start d)) p
+-- What a replica holds, its segment's text has.
+abbrev pub ReplicasAreTexts : Type 0
+ReplicasAreTexts = (d : LogData) (texts : Texts) (p : Picture) (b s : ℕ) (r : Replica) (e : Entry)
+    → IsLogHeld d texts p → p b d.config.master s ≡ Some r → among (data_in r.bytes) e → among (texts s) e
 
--- The op that comes next is taken, and keeps the backups mirrored.
-abbrev pub TakeKeeps : Type 0
-TakeKeeps = (d e : LogData) (p : Picture) (o : LogOp) → IsKept d p → IsNext d o e
-    → (q : Picture) × (taken p d.config.master o ≡ Some q) × IsKept e q
+-- The text of each id of the digest in force is a whole segment.
+abbrev pub DigestIsWhole : Type 0
+DigestIsWhole = (d : LogData) (texts : Texts) (p : Picture) (s : ℕ) → IsLogHeld d texts p
+    → IsAmong s (ids_of d.head.start) → IsSegmentOf d.config s (texts s)
 
--- So it is of a master that is still loading.
-abbrev pub TakeHolds : Type 0
-TakeHolds = (d e : LogData) (texts : Texts) (p : Picture) (o : LogOp) → IsHeld d texts p → IsNext d o e
-    → (q : Picture) × (taken p d.config.master o ≡ Some q) × IsHeld e texts q
+-- ---- a new master
 
--- After a fault, with the op taken or not, the picture is sound for what the master knew.
-abbrev pub FaultIsSound : Type 0
-FaultIsSound = (d e : LogData) (p q : Picture) (o : LogOp) → IsKept d p → IsNext d o e → (q ≡ p)
-    ⊎ (taken p d.config.master o ≡ Some q) → IsSound d q
-
--- A new master of which nothing is held is mirrored.
+-- A new master of which nothing is held is kept.
 abbrev pub FreshIsKept : Type 0
 FreshIsKept = (c : LogConfig) (p : Picture) → MayBegin c p → IsKept (fresh c) p
 
--- The durable count is within the history, and no step lowers it.
+-- A master that took over a recovered map is kept, from the first stop of its history on.
+abbrev pub AdoptedIsKept : Type 0
+AdoptedIsKept = (d : LogData) (p : Picture) (st : State) → IsLoaded d p st → IsKept (adopted d st) p
+
+-- ---- a command
+
+-- What is appended leaves the backups as they are, of a master that is still loading too.
+abbrev pub AppendedIsHeld : Type 0
+AppendedIsHeld = (d : LogData) (texts : Texts) (p : Picture) (history : List Record) (unit : List Entry)
+    → IsLogHeld d texts p → MayAppend d unit → IsLogHeld (with_appended d history unit) (texts_appended d texts unit) p
+
+-- A record that is applied has its unit in the head.
+abbrev pub AppliedIsStanding : Type 0
+AppliedIsStanding = (d : LogData) (texts : Texts) (p : Picture) (segment : ℕ) (r : Record)
+    → IsLogHeld d texts p → IsStanding d texts → MayApply d segment r
+    → IsStanding (applied d segment r) (texts_applied d texts segment r)
+
+-- The heads before stay as they are.
+abbrev pub AppliedIsPast : Type 0
+AppliedIsPast = (d : LogData) (texts : Texts) (past : List Head) (segment : ℕ) (r : Record)
+    → IsPast d texts past → IsPast (applied d segment r) (texts_applied d texts segment r) past
+
+-- So a log is kept when a command is applied, in any phase.
+abbrev pub AppliedIsKept : Type 0
+AppliedIsKept = (d : LogData) (p : Picture) (segment : ℕ) (r : Record) → IsKept d p → MayApply d segment r
+    → IsKept (applied d segment r) p
+
+-- ---- a roll begins
+
+-- A roll that begins leaves the backups as they are, of a master that is still loading too.
+abbrev pub RollingIsHeld : Type 0
+RollingIsHeld = (d : LogData) (texts : Texts) (p : Picture) (n : Start) → IsLogHeld d texts p → IsRoll d p n
+    → IsLogHeld (rolling d n) (texts_rolling d texts n) p
+
+-- The new head's base stands for the present state where it did before.
+abbrev pub RollingIsStanding : Type 0
+RollingIsStanding = (d : LogData) (texts : Texts) (p : Picture) (n : Start) → IsLogHeld d texts p → IsRoll d p n
+    → IsStanding d texts → Represents n.safe (base_of texts n.others) (state_of d)
+    → IsStanding (rolling d n) (texts_rolling d texts n)
+
+-- The heads before stay as they are, whatever the new digest leaves out or takes in.
+abbrev pub RollingIsPast : Type 0
+RollingIsPast = (d : LogData) (texts : Texts) (p : Picture) (past : List Head) (n : Start) → IsLogHeld d texts p
+    → IsRoll d p n → IsPast d texts past → IsPast (rolling d n) (texts_rolling d texts n) past
+
+-- So a log is kept when a roll begins whose digest stands for the present state.
+abbrev pub RollingIsKept : Type 0
+RollingIsKept = (d : LogData) (p : Picture) (n : Start) (kept : IsKept d p) → IsRoll d p n
+    → Represents n.safe (base_of kept.texts n.others) (state_of d) → IsKept (rolling d n) p
+
+-- An ordinary roll is one.
+abbrev pub OrdinaryIsRoll : Type 0
+OrdinaryIsRoll = (d : LogData) (p : Picture) (kept : IsKept d p) → MayRoll d
+    → IsRoll d p (next_start d)
+    × Represents (next_start d).safe (base_of kept.texts (next_start d).others) (state_of d)
+
+-- ---- an id is taken
+
+-- An id that is taken without a roll leaves the backups as they are, whatever its text is.
+abbrev pub IdTakenIsHeld : Type 0
+IdTakenIsHeld = (d : LogData) (texts : Texts) (p : Picture) (es : List Entry) → IsLogHeld d texts p
+    → IsLogHeld (id_taken d) (texts_taken d texts es) p
+
+-- It is in no base, so these stand for what they did.
+abbrev pub IdTakenIsStanding : Type 0
+IdTakenIsStanding = (d : LogData) (texts : Texts) (p : Picture) (es : List Entry) → IsLogHeld d texts p
+    → IsStanding d texts → IsStanding (id_taken d) (texts_taken d texts es)
+
+-- And it is no head's, so the heads before stay as they are.
+abbrev pub IdTakenIsPast : Type 0
+IdTakenIsPast = (d : LogData) (texts : Texts) (p : Picture) (past : List Head) (es : List Entry)
+    → IsLogHeld d texts p → IsPast d texts past → IsPast (id_taken d) (texts_taken d texts es) past
+
+-- So a log is kept when an id is taken.
+abbrev pub IdTakenIsKept : Type 0
+IdTakenIsKept = (d : LogData) (p : Picture) → IsKept d p → IsKept (id_taken d) p
+
+-- ---- an op is taken
+
+-- An op of the head leaves the digest in force and the new head as they are, or ends the roll.
+abbrev pub NextGoesOn : Type 0
+NextGoesOn = (d e : LogData) (o : LogOp) → IsNext d o e → GoesOn d e ⊎ EndsRoll d e
+
+-- An op of the head is on a replica of the head in force or of the new one.
+abbrev pub NextIsOfHeads : Type 0
+NextIsOfHeads = (d e : LogData) (o : LogOp) → IsNext d o e
+    → (o.segment ≡ d.head.start.id) ⊎ ((n : Start) × (new_of d.phase ≡ Some n) × (o.segment ≡ n.id))
+
+-- The op that comes next fits, and the backups then hold the same texts, of a master that is still loading too.
+abbrev pub NextIsHeld : Type 0
+NextIsHeld = (d e : LogData) (texts : Texts) (p : Picture) (o : LogOp) → IsLogHeld d texts p → IsNext d o e
+    → (q : Picture) × (taken p d.config.master o ≡ Some q) × IsLogHeld e texts q
+
+-- These texts stand for what they did.
+abbrev pub NextIsStanding : Type 0
+NextIsStanding = (d e : LogData) (texts : Texts) (o : LogOp) → IsStanding d texts → IsNext d o e
+    → IsStanding e texts
+
+-- The heads before stay as they are; where the roll ends, the old head joins them.
+abbrev pub NextIsPast : Type 0
+NextIsPast = (d e : LogData) (texts : Texts) (p : Picture) (past : List Head) (o : LogOp) → IsLogHeld d texts p
+    → IsPast d texts past → IsNext d o e
+    → (GoesOn d e × IsPast e texts past) ⊎ (EndsRoll d e × IsPast e texts (heads_of past d))
+
+-- So a log is kept when its next op is taken.
+abbrev pub NextIsKept : Type 0
+NextIsKept = (d e : LogData) (p : Picture) (o : LogOp) → IsKept d p → IsNext d o e
+    → (q : Picture) × (taken p d.config.master o ≡ Some q) × IsKept e q
+
+-- Where nobody knows that an op was taken, the picture is sound for what the master knew.
+abbrev pub NextIsSound : Type 0
+NextIsSound = (d e : LogData) (p q : Picture) (o : LogOp) → IsKept d p → IsNext d o e
+    → taken p d.config.master o ≡ Some q → IsSound d q
+
+-- And what the master knew to be durable is on the backups.
+abbrev pub NextIsReplicated : Type 0
+NextIsReplicated = (d e : LogData) (p q : Picture) (o : LogOp) (kept : IsKept d p) → IsNext d o e
+    → taken p d.config.master o ≡ Some q → IsReplicated d kept.past q
+
+-- What an Extend does: its replica of the head ends with the units up to one place, is handed the spelling of those
+-- from there up to another, and then ends with these.
+pub record HandsOver (d : LogData) (p q : Picture) (o : LogOp) (from to : ℕ) : Type 0 where
+  pub r : Replica
+  pub had : p o.backup d.config.master o.segment ≡ Some r
+  pub ends : r.bytes ≡ text_of (head_entries d.config.master d.head from)
+  pub act : o.act ≡ extend_act d.config.master d.head from to
+  pub s : Replica
+  pub has : q o.backup d.config.master o.segment ≡ Some s
+  pub reaches : s.bytes ≡ text_of (head_entries d.config.master d.head to)
+
+-- An Extend hands over whole units of the log.
+abbrev pub ExtendHandsOver : Type 0
+ExtendHandsOver = (d e : LogData) (texts : Texts) (p q : Picture) (o : LogOp) → IsLogHeld d texts p
+    → (is : Extends d o e) → taken p d.config.master o ≡ Some q → HandsOver d p q o is.from is.to
+
+-- ---- segments that no digest names
+
+-- A survivor's replica that is sealed fits, and its text is what was sealed.
+abbrev pub SealedIsHeld : Type 0
+SealedIsHeld = (d : LogData) (texts : Texts) (p : Picture) (o : LogOp) (es : List Entry) → IsLogHeld d texts p
+    → Seals d texts p o es
+    → (q : Picture) × (taken p d.config.master o ≡ Some q) × IsLogHeld d (texts_sealed texts o es) q
+
+-- It is in no base, so the texts stand for what they did.
+abbrev pub SealedIsStanding : Type 0
+SealedIsStanding = (d : LogData) (texts : Texts) (p : Picture) (o : LogOp) (es : List Entry) → Seals d texts p o es
+    → IsStanding d texts → IsStanding d (texts_sealed texts o es)
+
+-- And it is no head's, so the heads before stay as they are.
+abbrev pub SealedIsPast : Type 0
+SealedIsPast = (d : LogData) (texts : Texts) (p : Picture) (past : List Head) (o : LogOp) (es : List Entry)
+    → Seals d texts p o es → IsPast d texts past → IsPast d (texts_sealed texts o es) past
+
+-- So a log is kept when a survivor is sealed.
+abbrev pub SealedIsKept : Type 0
+SealedIsKept = (d : LogData) (p : Picture) (o : LogOp) (es : List Entry) (kept : IsKept d p)
+    → Seals d kept.texts p o es → (q : Picture) × (taken p d.config.master o ≡ Some q) × IsKept d q
+
+-- A replica that is freed was there, and what the log needs stays.
+abbrev pub FreedIsHeld : Type 0
+FreedIsHeld = (d : LogData) (texts : Texts) (p : Picture) (o : LogOp) → IsLogHeld d texts p → Frees d p o
+    → (q : Picture) × (taken p d.config.master o ≡ Some q) × IsLogHeld d texts q
+
+-- So a log is kept when a replica is freed.
+abbrev pub FreedIsKept : Type 0
+FreedIsKept = (d : LogData) (p : Picture) (o : LogOp) → IsKept d p → Frees d p o
+    → (q : Picture) × (taken p d.config.master o ≡ Some q) × IsKept d q
+
+-- ---- durable
+
+-- The durable count is within the history.
 abbrev pub DurableIsWithin : Type 0
 DurableIsWithin = (d : LogData) (p : Picture) → IsKept d p → durable_of d ≤ length d.history
 
+-- No command lowers the durable count.
 abbrev pub DurableStaysApplied : Type 0
 DurableStaysApplied = (d : LogData) (p : Picture) (segment : ℕ) (r : Record) → IsKept d p
     → durable_of d ≤ durable_of (applied d segment r)
 
+-- No roll that begins lowers it.
 abbrev pub DurableStaysRolling : Type 0
 DurableStaysRolling = (d : LogData) (n : Start) → durable_of d ≤ durable_of (rolling d n)
 
+-- No op lowers it.
 abbrev pub DurableStaysNext : Type 0
 DurableStaysNext = (d e : LogData) (p : Picture) (o : LogOp) → IsKept d p → IsNext d o e → durable_of d ≤ durable_of e
-
--- The count of the records before the first unit that some replica lacks is the durable count.
-abbrev pub DurableIsCounted : Type 0
-DurableIsCounted = (d : LogData) (p : Picture) (past : List Head) → IsKept d p → IsPast d p past
-    → IsDurable d past (durable_of d)
-
--- Each durable unit is on all homes of its segment.
-abbrev pub DurableIsReplicated : Type 0
-DurableIsReplicated = (d : LogData) (p : Picture) (past : List Head) → IsKept d p → IsPast d p past
-    → IsReplicated d past p
-
--- There are such heads at the beginning, and after each step.
-abbrev pub PastBegins : Type 0
-PastBegins = (c : LogConfig) (p : Picture) → IsPast (fresh c) p []
-
-abbrev pub PastStaysApplied : Type 0
-PastStaysApplied = (d : LogData) (p : Picture) (past : List Head) (segment : ℕ) (r : Record) → IsPast d p past
-    → IsPast (applied d segment r) p past
-
-abbrev pub PastStaysRolling : Type 0
-PastStaysRolling = (d : LogData) (p : Picture) (past : List Head) → IsPast d p past
-    → IsPast (rolling d (next_start d)) p past
-
--- The digest of a roll that commits takes in no earlier head that had left the log.
-abbrev pub PastStaysCommitting : Type 0
-PastStaysCommitting = (d : LogData) (p : Picture) (past : List Head) (n : Start)
-    → ((h : Head) → IsAmong h past → IsAmong h.start.id n.others → IsAmong h.start.id d.head.start.others)
-    → IsPast d p past → IsPast (rolling d n) p past
-
-abbrev pub PastGoesOn : Type 0
-PastGoesOn = (d e : LogData) (p q : Picture) (past : List Head) (o : LogOp) → IsKept d p → IsPast d p past
-    → IsNext d o e → taken p d.config.master o ≡ Some q
-    → (more : List Head) × IsPast e q more
-
--- So does a roll that leaves segments out of its digest and takes others in, where these stand for the state.
-abbrev pub CommitKeeps : Type 0
-CommitKeeps = (d : LogData) (p : Picture) (kept : IsKept d p) (n : Start) → IsRoll d kept.texts p n
-    → Represents n.safe (base_of kept.texts n.others) (state_of d)
-    → IsKept (rolling d n) p
-
--- A roll that begins leaves the backups as they are, of a master that is still loading too.
-abbrev pub RollHolds : Type 0
-RollHolds = (d : LogData) (texts : Texts) (p : Picture) (n : Start) → IsHeld d texts p → IsRoll d texts p n
-    → (more : Texts) × IsHeld (rolling d n) more p
-
--- A segment that no digest names, apart from the heads.
-pub record IsFree (d : LogData) (s : ℕ) : Type 0 where
-  pub head : s ≡ d.head.start.id → ⊥
-  pub new : (n : Start) → new_of d.phase ≡ Some n → s ≡ n.id → ⊥
-  pub others : IsOther d s → ⊥
-
--- A replica of such a segment may be freed.
-abbrev pub FreeKeeps : Type 0
-FreeKeeps = (d : LogData) (p : Picture) (b s : ℕ) → IsKept d p → IsFree d s
-    → (length d.head.taken ≡ d.config.replicas)
-    → IsKept d (with_replica p b d.config.master s None)
-
--- And one of a survivor, of one text that bears no digest, may be sealed.
-abbrev pub SealKeeps : Type 0
-SealKeeps = (d : LogData) (p : Picture) (b s : ℕ) (es : List Entry) → IsKept d p → IsFree d s
-    → (length d.head.taken ≡ d.config.replicas)
-    → s < d.next → IsSegmentOf d.config s es → opening_of es ≡ None
-    → ((c : ℕ) (r : Replica) → p c d.config.master s ≡ Some r → r.bytes ≡ text_of es)
-    → IsKept d (with_replica p b d.config.master s (Some (record { bytes = text_of es; is_open = false })))
-
--- Neither touches an earlier head of the log.
-abbrev pub PastStaysSpared : Type 0
-PastStaysSpared = (d : LogData) (p : Picture) (past : List Head) (b s : ℕ) (x : Option Replica) → IsFree d s
-    → IsPast d p past → IsPast d (with_replica p b d.config.master s x) past
-
--- ---- runs
-
-pub data Event : Type 0 where
-  Applies : ℕ → Record → Event
-  Rolls : Event
-  Takes : LogOp → Event
-
-pub record World : Type 0 where
-  pub knows : LogData
-  pub picture : Picture
-
--- what the event makes of a master and its backups
-abbrev pub Becomes : Event → World → World → Type 0
-Becomes (Applies segment r) w v = MayApply w.knows segment r
-    × (v ≡ record { knows = applied w.knows segment r; picture = w.picture })
-Becomes Rolls w v = MayRoll w.knows
-    × (v ≡ record { knows = rolling w.knows (next_start w.knows); picture = w.picture })
-Becomes (Takes o) w v = IsNext w.knows o v.knows × (taken w.picture w.knows.config.master o ≡ Some v.picture)
-
-abbrev pub IsRun : World → List Event → World → Type 0
-IsRun w [] v = v ≡ w
-IsRun w (e ∷ es) v = (u : World) × Becomes e w u × IsRun u es v
-
--- What holds at a stop.
-pub record IsStop (w : World) : Type 0 where
-  pub kept : IsKept w.knows w.picture
-  pub sound : IsSound w.knows w.picture
-  pub past : List Head
-  pub before : IsPast w.knows w.picture past
-  pub durable : IsDurable w.knows past (durable_of w.knows)
-  pub replicated : IsReplicated w.knows past w.picture
-
--- At each stop of each run the picture is sound, and each durable unit is on the backups: the run begins at any stop,
--- as a new master is one, and one that took over a recovered map.
-abbrev pub RunsAreSound : Type 0
-RunsAreSound = (v w : World) (past : List Head) (es : List Event) → IsKept v.knows v.picture
-    → IsPast v.knows v.picture past → IsRun v es w → IsStop w
-
-abbrev pub FreshIsStop : Type 0
-FreshIsStop = (c : LogConfig) (p : Picture) → MayBegin c p → IsStop (record { knows = fresh c; picture = p })
-
-abbrev pub AdoptedIsStop : Type 0
-AdoptedIsStop = (d : LogData) (p : Picture) (st : State) → IsLoaded d p st
-    → IsStop (record { knows = adopted d st; picture = p })
-
--- ---- adoption
-
--- A master that took over a recovered map is mirrored from the first stop of its history on.
-abbrev pub AdoptKeeps : Type 0
-AdoptKeeps = (d : LogData) (p : Picture) (st : State) → IsLoaded d p st → IsKept (adopted d st) p

@@ -5,7 +5,7 @@ use Rattle.replica.specs.Op.{ActValue, OpValue}
 use Rattle.replica.specs.Picture.{Replica, Picture, with_replica}
 use Rattle.replica.specs.Take.{effect}
 
--- an act on the replica that a backup holds of a segment
+-- An act on the replica that a backup holds of a segment.
 pub record LogOp : Type 0 where
   pub backup : ℕ
   pub segment : ℕ

@@ -1,18 +1,16 @@
 -- What a master keeps true of the replicas on the backups, whichever of these are left.
-use Rattle.std.specs.Prelude.{◌≡◌, ℕ, ◌≤◌, max, List, length, take, Bool, true, Some, IsSomeAnd}
+use Rattle.std.specs.Prelude.{◌≡◌, ℕ, ◌≤◌, max, List, length, take, Bool, Some, IsSomeAnd}
 use Rattle.entry.specs.declared.entry.Header.{Header}
-use Rattle.entry.specs.declared.entry.Entry.{Entry}
-use Rattle.entry.specs.declared.key.Key.{Key}
-use Rattle.entry.specs.Tablet.{have_key}
 use Rattle.entry.specs.Text.{header_in, opening_in}
 use Rattle.segment.specs.Bytes.{IsSegmentBytes}
-use Rattle.entry.specs.Meaning.{IsOfKey, IsMeaning, IsClean, among, bound_of}
+use Rattle.entry.specs.Meaning.{IsMeaning, IsClean, among, bound_of}
 use Rattle.replica.specs.Picture.{Replica, Picture, survivors, IsHeld}
 use Rattle.replica.specs.Choice.{Choice, IsChoice, bag_of}
 use Rattle.replica.specs.Survival.{BothSurvive}
 use Rattle.versioned_map.specs.History.{commands_of}
 use Rattle.versioned_map.specs.Versioned.{IsSafeAfter}
 use Rattle.log_model.specs.Data.{LogData, IsHome, state_after, durable_of}
+use Rattle.log_model.specs.Log.{AreOfTablets}
 
 -- the bytes are a segment's, whose header names this master and segment
 pub record IsTextOfSegment (bytes : List ℕ) (master segment : ℕ) : Type 0 where
@@ -22,6 +20,15 @@ pub record IsTextOfSegment (bytes : List ℕ) (master segment : ℕ) : Type 0 wh
 -- a choice of the master's newest log from what these backups hold
 abbrev pub IsSurvivingChoice : LogData → Picture → (ℕ → Bool) → Choice → Type 0
 IsSurvivingChoice d p keep c = IsChoice (IsHeld (survivors keep p)) d.config.master c
+
+-- these backups hold a choice of the master's newest log
+abbrev pub HasChoice : LogData → Picture → (ℕ → Bool) → Type 0
+HasChoice d p keep = (c : Choice) × IsSurvivingChoice d p keep c
+
+-- the replicas of a segment bear one digest
+abbrev pub BearOneDigest : Picture → ℕ → Type 0
+BearOneDigest p master = (b c s : ℕ) (r q : Replica) → p b master s ≡ Some r → p c master s ≡ Some q
+    → opening_in r.bytes ≡ opening_in q.bytes
 
 -- The choice stands for the map after this many of the commands, each durable one among them, and gives a safe
 -- version for what follows.
@@ -35,15 +42,10 @@ pub record IsPrefix (d : LogData) (c : Choice) (count : ℕ) : Type 0 where
 pub record IsSound (d : LogData) (p : Picture) : Type 0 where
   -- each replica of the master is a segment's text whose header names it
   pub texts : (b s : ℕ) (r : Replica) → p b d.config.master s ≡ Some r → IsTextOfSegment r.bytes d.config.master s
-  -- the replicas of a segment bear one digest
-  pub digests : (b c s : ℕ) (r q : Replica) → p b d.config.master s ≡ Some r → p c d.config.master s ≡ Some q
-      → opening_in r.bytes ≡ opening_in q.bytes
+  pub digests : BearOneDigest p d.config.master
   -- whichever backups are left, each choice is clean, holds the master's keys alone, and stands for a prefix
   pub clean : (keep : ℕ → Bool) (c : Choice) → IsSurvivingChoice d p keep c → IsClean (among (bag_of c))
-  pub keys : (keep : ℕ → Bool) (c : Choice) → IsSurvivingChoice d p keep c → (e : Entry) (k : Key)
-      → among (bag_of c) e → IsOfKey k e →
-      have_key d.config.tablets k ≡ true
+  pub keys : (keep : ℕ → Bool) (c : Choice) → IsSurvivingChoice d p keep c → AreOfTablets d.config (bag_of c)
   pub prefix : (keep : ℕ → Bool) (c : Choice) → IsSurvivingChoice d p keep c → (count : ℕ) × IsPrefix d c count
   -- where both survive there is a choice
-  pub choice : (keep : ℕ → Bool) → BothSurvive (IsHome d) p d.config.master keep → (c : Choice)
-      × IsSurvivingChoice d p keep c
+  pub choice : (keep : ℕ → Bool) → BothSurvive (IsHome d) p d.config.master keep → HasChoice d p keep

@@ -12,25 +12,28 @@ use Rattle.versioned_map.proofs.Keys.{key_eq-tells, at_key, at_other}
 
 -- ---- lists
 
-pub among_left : (e : Entry) (xs ys : List Entry) → IsAmong e xs → IsAmong e (xs ++ ys)
-among_left e [] ys h = absurd h
-among_left e (z ∷ xs) ys (inl p) = inl p
-among_left e (z ∷ xs) ys (inr h) = inr (among_left e xs ys h)
+pub among_left : {X : Type 0} (x : X) (xs ys : List X) → IsAmong x xs → IsAmong x (xs ++ ys)
+among_left x [] ys h = absurd h
+among_left x (z ∷ xs) ys (inl p) = inl p
+among_left x (z ∷ xs) ys (inr h) = inr (among_left x xs ys h)
 
-pub among_either : (e : Entry) (xs ys : List Entry) → IsAmong e (xs ++ ys) → IsAmong e xs ⊎ IsAmong e ys
-among_either e [] ys h = inr h
-among_either e (z ∷ xs) ys (inl p) = inl (inl p)
-among_either e (z ∷ xs) ys (inr h) = elim (among_either e xs ys h) [ inl l ↦ inl (inr l) | inr r ↦ inr r ]
+pub among_right : {X : Type 0} (x : X) (xs ys : List X) → IsAmong x ys → IsAmong x (xs ++ ys)
+among_right x [] ys h = h
+among_right x (z ∷ xs) ys h = inr (among_right x xs ys h)
 
-pub among_last : (xs : List Entry) (e : Entry) → IsAmong e (xs ++ e ∷ [])
-among_last [] e = inl refl
-among_last (z ∷ xs) e = inr (among_last xs e)
+pub among_either : {X : Type 0} (x : X) (xs ys : List X) → IsAmong x (xs ++ ys) → IsAmong x xs ⊎ IsAmong x ys
+among_either x [] ys h = inr h
+among_either x (z ∷ xs) ys (inl p) = inl (inl p)
+among_either x (z ∷ xs) ys (inr h) = elim (among_either x xs ys h) [ inl l ↦ inl (inr l) | inr r ↦ inr r ]
 
-pub among_push : (e : Entry) (xs : List Entry) (f : Entry) → IsAmong e (xs ++ f ∷ []) → IsAmong e xs ⊎ (f ≡ e)
-among_push e [] f (inl p) = inr p
-among_push e [] f (inr h) = absurd h
-among_push e (z ∷ xs) f (inl p) = inl (inl p)
-among_push e (z ∷ xs) f (inr h) = elim (among_push e xs f h) [ inl l ↦ inl (inr l) | inr p ↦ inr p ]
+pub among_last : {X : Type 0} (xs : List X) (x : X) → IsAmong x (xs ++ x ∷ [])
+among_last xs x = among_right x xs (x ∷ []) (inl refl)
+
+pub among_push : {X : Type 0} (x : X) (xs : List X) (y : X) → IsAmong x (xs ++ y ∷ []) → IsAmong x xs ⊎ (y ≡ x)
+among_push x xs y h = elim (among_either x xs (y ∷ []) h) [
+  | inl l ↦ inl l
+  | inr r ↦ elim r [ inl p ↦ inr p | inr never ↦ absurd never ]
+]
 
 -- ---- keys and ranks
 

@@ -1,0 +1,5 @@
+use Rattle.clean_model.proofs.Coverage.{intact_is_covered, intact_is_sound, intact_is_durable}
+use Rattle.clean_model.proofs.laws.what_intact_says.Goals as goal
+
+pub returns : goal.returns
+returns c = record { covered = intact_is_covered; sound = intact_is_sound; durable = intact_is_durable }

@@ -1,0 +1,65 @@
+-- What compaction keeps of a segment, and where it goes.
+use Rattle.std.specs.Prelude.{ℕ, zero, suc, ◌==◌, Bool, true, false, ◌&&◌, ◌||◌, if◌then◌else◌, List, [], ◌∷◌, ◌++◌}
+use Rattle.std.specs.Prelude.{Option, Some, None}
+use Rattle.entry.specs.declared.entry.Entry.{Entry}
+use Rattle.entry.specs.declared.entry.Entry.TheVariants as entry
+use Rattle.clean_model.specs.Memory.{Place, Index, Images}
+
+-- ---- the kept entries
+
+-- whether the id is among these
+abbrev pub has : List ℕ → ℕ → Bool
+has [] s = false
+has (z ∷ ids) s = (z == s) || has ids s
+
+-- whether this is the place of a segment's entry
+abbrev pub is_place : Option Place → ℕ → ℕ → Bool
+is_place None s i = false
+is_place (Some p) s i = (p.segment == s) && (p.position == i)
+
+-- An object is kept where the index names its place, a tombstone where the segment that it names is in the log set; an
+-- opening stays.
+abbrev pub kept : List ℕ → Index → ℕ → ℕ → Entry → Bool
+kept ids index s i (entry.Header h) = true
+kept ids index s i (entry.Digest l) = true
+kept ids index s i (entry.Safe version) = true
+kept ids index s i (entry.Object o) = is_place (index o.key) s i
+kept ids index s i (entry.Tombstone t) = has ids t.segment
+
+-- the kept ones among the entries from place i on
+abbrev pub kept_from : List ℕ → Index → ℕ → ℕ → List Entry → List Entry
+kept_from ids index s i [] = []
+kept_from ids index s i (e ∷ es) =
+    if kept ids index s i e then e ∷ kept_from ids index s (suc i) es else kept_from ids index s (suc i) es
+
+-- ---- their places
+
+-- how many of the first n are kept
+abbrev pub kept_before : List ℕ → Index → ℕ → ℕ → List Entry → ℕ → ℕ
+kept_before ids index s i [] n = 0
+kept_before ids index s i (e ∷ es) zero = 0
+kept_before ids index s i (e ∷ es) (suc n) =
+    if kept ids index s i e then suc (kept_before ids index s (suc i) es n) else kept_before ids index s (suc i) es n
+
+-- where what stood at a place stands after compaction of a segment with these entries
+abbrev pub moved_place : List ℕ → Index → ℕ → List Entry → Option Place → Option Place
+moved_place ids index s es None = None
+moved_place ids index s es (Some p) =
+    if p.segment == s then Some (record { segment = s; position = kept_before ids index s 0 es p.position })
+    else Some p
+
+-- the index after compaction of a segment
+abbrev pub moved_index : List ℕ → Images → Index → ℕ → Index
+moved_index ids image index s = λ k. moved_place ids index s (image s) (index k)
+
+-- ---- the places of a pass
+
+-- the places of a segment's entries, in order
+abbrev pub places_from : ℕ → ℕ → List Entry → List Place
+places_from s i [] = []
+places_from s i (e ∷ es) = record { segment = s; position = i } ∷ places_from s (suc i) es
+
+-- the places of some segments, in order
+abbrev pub places : List ℕ → Images → List Place
+places [] image = []
+places (s ∷ ids) image = places_from s 0 (image s) ++ places ids image

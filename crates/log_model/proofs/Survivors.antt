@@ -1,0 +1,352 @@
+-- Where both survive, what is left has a choice.
+use Rattle.std.proofs.Common.{◌≡◌, ℕ, zero, suc, ◌<◌, ◌≤◌, ◌⊎◌, inl, inr, Bool, true, false, cond, List, [], ◌∷◌, ◌++◌}
+use Rattle.std.proofs.Common.{length, map, Some, refl, sym, ap, subst, ◌∙◌, arith}
+use Rattle.std.specs.Prelude.{Option, None, IsSome, IsSomeAnd, slice_get, nat_lt}
+use Rattle.std.specs.List.{AllByRecursion}
+use Rattle.std.proofs.lemmas.Bool.{cases_lt, cases_eq}
+use Rattle.std.proofs.lemmas.Bool.Decides.{nat_tests}
+use Rattle.std.proofs.lemmas.Option.{slice_get_within}
+use Rattle.entry.specs.Bag.{IsAmong}
+use Rattle.entry.specs.Text.{Opening, opening_in}
+use Rattle.replica.specs.declared.holding.Holding.{Holding}
+use Rattle.replica.specs.Picture.{Replica, Picture, survivors, IsHeld}
+use Rattle.replica.specs.Choice.{Choice}
+use Rattle.replica.specs.Survival.{HoldsHead, IsOpened, IsHeadLeft, HeadSurvives, BothSurvive}
+use Rattle.versioned_map.proofs.Tops.{among_left}
+use Rattle.log_model.specs.Data.{Start, LogData, IsHome, new_of, opened_of, closed_of}
+use Rattle.log_model.specs.Kept.{IsLogHeld}
+use Rattle.log_model.specs.Log.{Texts, IsLogged}
+use Rattle.log_model.specs.Mirror.{head_replica, new_replica, IsHeadReplica, IsNewReplica, IsMirrored}
+use Rattle.log_model.specs.Sound.{IsSurvivingChoice}
+use Rattle.log_model.proofs.Choices.{held_by, shown_in}
+use Rattle.log_model.proofs.Lists.{below_at, some_given, some_is}
+use Rattle.log_model.proofs.Replicas.{opening_for, one_new, stage, head_bears, home_held, whole_held, new_bears}
+use Rattle.log_model.proofs.Replicas.{bearing}
+
+-- ---- homes that are left
+
+-- one of the first homes is left
+record Left (keep : ℕ → Bool) (homes : List ℕ) (limit : ℕ) : Type 0 where
+  j : ℕ
+  b : ℕ
+  home : slice_get homes j ≡ Some b
+  below : j < limit
+  is_kept : keep b ≡ true
+
+-- none of them is
+abbrev NoneLeft : (ℕ → Bool) → List ℕ → ℕ → Type 0
+NoneLeft keep homes limit = (j b : ℕ) → slice_get homes j ≡ Some b → j < limit → keep b ≡ true → ⊥
+
+-- one or the other
+abbrev Tells : (ℕ → Bool) → List ℕ → ℕ → Type 0
+Tells keep homes limit = Left keep homes limit ⊎ NoneLeft keep homes limit
+
+left_or_not : (keep : ℕ → Bool) (homes : List ℕ) (limit : ℕ) → Tells keep homes limit
+left_or_not keep homes zero = inr (λ j b home lt is_kept. omega arith)
+left_or_not keep [] (suc limit) = inr (λ j b home lt is_kept. cc)
+left_or_not keep (x ∷ homes) (suc limit) = first (keep x) refl (left_or_not keep homes limit) where
+  next : (keep x ≡ false) → Tells keep homes limit → Tells keep (x ∷ homes) (suc limit)
+  next not_x (inl l) =
+      (let below = l.below in
+      inl (record { j = suc l.j; b = l.b; home = l.home; below = omega arith; is_kept = l.is_kept }))
+  next not_x (inr none) = inr (λ j b home lt is_kept. later j b home lt is_kept) where
+    later : (j b : ℕ) → slice_get (x ∷ homes) j ≡ Some b → j < suc limit → keep b ≡ true → ⊥
+    later zero b home lt is_kept =
+        (let same : x ≡ b = cc in
+        let also : keep x ≡ true = ap keep same ∙ is_kept in
+        let never : true ≡ false = sym also ∙ not_x in cc)
+    later (suc j) b home lt is_kept = none j b home (omega arith) is_kept
+
+  first : (t : Bool) → keep x ≡ t → Tells keep homes limit → Tells keep (x ∷ homes) (suc limit)
+  first true is rest = inl (record { j = 0; b = x; home = refl; below = omega arith; is_kept = is })
+  first false is rest = next is rest
+
+-- ---- heads that are left
+
+-- a head that survives leaves one of its replicas
+head_left : (Home : ℕ → ℕ → Type 0) (p : Picture) (master : ℕ) (keep : ℕ → Bool) → HeadSurvives Home p master keep
+    → (s : ℕ) × IsHeadLeft p master keep s
+head_left Home p master keep (inl newest) = elim newest.2 [
+  | inl left ↦ (newest.0, (left.0, left.2, newest.1.opened left.0 left.1))
+  | inr later ↦ (later.0, later.2)
+]
+head_left Home p master keep (inr none) = none.1
+
+-- where one head was opened on all its homes, a head as new is left
+newer_left : (Home : ℕ → ℕ → Type 0) (p : Picture) (master : ℕ) (keep : ℕ → Bool) (s : ℕ)
+    → IsOpened Home p master s → HeadSurvives Home p master keep → (t : ℕ) × (s ≤ t) × IsHeadLeft p master keep t
+newer_left Home p master keep s opened (inl newest) =
+    let le = newest.1.newest s opened in
+    elim newest.2 as (λ _. (t : ℕ) × (s ≤ t) × IsHeadLeft p master keep t) [
+      | inl left ↦ (newest.0, le, (left.0, left.2, newest.1.opened left.0 left.1))
+      | inr later ↦ (let gt = later.1 in (later.0, omega arith, later.2))
+    ]
+newer_left Home p master keep s opened (inr none) = absurd (none.0 s opened)
+
+holds : (p : Picture) (master b s : ℕ) (r : Replica) (o : Opening) → p b master s ≡ Some r
+    → opening_in r.bytes ≡ Some o → HoldsHead p master b s
+holds p master b s r o is bears =
+    subst (λ (x : Option Replica). IsSomeAnd x (λ (q : Replica). IsSome (opening_in q.bytes))) (sym is)
+    (subst IsSome (sym bears) refl)
+
+-- ---- a choice from a head that is left
+
+-- what is left of the other ids
+record Found (p : Picture) (master : ℕ) (keep : ℕ → Bool) (id : ℕ) : Type 0 where
+  b : ℕ
+  r : Replica
+  is_kept : keep b ≡ true
+  there : p b master id ≡ Some r
+
+-- how it is shown
+abbrev shown_as : ℕ → ℕ → ℕ → Replica → Holding
+shown_as b master s r = record {
+  backup = b;
+  master = master;
+  segment = s;
+  bytes = r.bytes;
+  is_open = r.is_open;
+}
+
+shown_held : (p : Picture) (keep : ℕ → Bool) (b master s : ℕ) (r : Replica) → keep b ≡ true
+    → p b master s ≡ Some r → IsHeld (survivors keep p) (shown_as b master s r)
+shown_held p keep b master s r is_kept there =
+    ap (λ (t : Bool). cond t (p b master s) None) is_kept ∙ there
+
+module _ (p : Picture) (master : ℕ) (keep : ℕ → Bool) where
+  abbrev Held : Holding → Type 0
+  Held h = IsHeld (survivors keep p) h × (h.master ≡ master) × Unit {0}
+
+  record Others (ids : List ℕ) : Type 0 where
+    hs : List Holding
+    ids_are : map (λ (h : Holding). h.segment) hs ≡ ids
+    each : AllByRecursion Held hs
+
+  others_found : (ids : List ℕ) → ((id : ℕ) → IsAmong id ids → Found p master keep id) → Others ids
+  others_found [] all = record { hs = []; ids_are = refl; each = tt }
+  others_found (id ∷ ids) all =
+      let here = all id (inl refl) in
+      let rest = others_found ids (λ t m. all t (inr m)) in
+      record {
+        hs = shown_as here.b master id here.r ∷ rest.hs;
+        ids_are = ap (λ (l : List ℕ). id ∷ l) rest.ids_are;
+        each = ((shown_held p keep here.b master id here.r here.is_kept here.there, refl, tt), rest.each);
+      }
+
+-- a head that is left, open, and the newest
+record HeadFound (d : LogData) (p : Picture) (keep : ℕ → Bool) : Type 0 where
+  n : Start
+  b : ℕ
+  r : Replica
+  is_kept : keep b ≡ true
+  there : p b d.config.master n.id ≡ Some r
+  is_open : r.is_open ≡ true
+  bears : opening_in r.bytes ≡ Some (opening_for n)
+  newest : (t : ℕ) → IsHeadLeft p d.config.master keep t → t ≤ n.id
+  others : (id b : ℕ) → IsAmong id n.others → IsHome d id b → (q : Replica) × (p b d.config.master id ≡ Some q)
+  below : (id : ℕ) → IsAmong id n.others → id < n.id
+
+module _ (d : LogData) (p : Picture) (keep : ℕ → Bool) (survive : BothSurvive (IsHome d) p d.config.master keep)
+    (h : HeadFound d p keep) where
+  -- one replica of each other id is left
+  other_left : (id : ℕ) → IsAmong id h.n.others → Found p d.config.master keep id
+  other_left id m =
+      let lt = h.below id m in
+      let left = survive.segments h.n.id (opening_for h.n) (record {
+        b = h.b;
+        r = h.r;
+        is_kept = h.is_kept;
+        held = h.there;
+        bears = h.bears;
+        newest = h.newest;
+      }) id (among_left id h.n.others (h.n.id ∷ []) m) (λ e. omega arith) in
+      let there = h.others id left.0 m left.1 in
+      record { b = left.0; r = there.0; is_kept = left.2; there = there.1 }
+
+  chosen : Others p d.config.master keep h.n.others
+  chosen = others_found p d.config.master keep h.n.others other_left
+
+  choose : (c : Choice) × IsSurvivingChoice d p keep c
+  choose = (
+    record { opening = opening_for h.n; head = shown_as h.b d.config.master h.n.id h.r; others = chosen.hs },
+    record {
+      held = shown_held p keep h.b d.config.master h.n.id h.r h.is_kept h.there;
+      of_master = refl;
+      is_open = h.is_open;
+      opening = h.bears;
+      usable = tt;
+      newest = λ g held own bears usable.
+          let there = held_by p keep d.config.master g held own in
+          let opening = some_is (opening_in g.bytes) bears in
+          let heads = holds p d.config.master g.backup g.segment (shown_in g) opening.0 there.1 opening.1 in
+          h.newest g.segment (g.backup, there.0, heads);
+      others = chosen.each;
+      ids = ap (λ (l : List ℕ). l ++ h.n.id ∷ []) chosen.ids_are;
+    },
+  )
+
+-- ---- which head
+
+module _ (d : LogData) (texts : Texts) (p : Picture) (held : IsLogHeld d texts p) (keep : ℕ → Bool) where
+  abbrev log : IsLogged d texts
+  log = held.logged
+
+  abbrev mir : IsMirrored d texts p
+  mir = held.mirrored
+
+  abbrev master : ℕ
+  master = d.config.master
+
+  abbrev id : ℕ
+  id = d.head.start.id
+
+  abbrev closed : ℕ
+  closed = closed_of d.phase
+
+  abbrev opened : ℕ
+  opened = opened_of d.config.replicas d.phase
+
+  -- no replica of a new head is left
+  abbrev NoNew : Type 0
+  NoNew = (n : Start) → new_of d.phase ≡ Some n → NoneLeft keep (d.config.homes n.id) opened
+
+  -- a head that is left is none that is newer
+  no_newer : (n : Start) → new_of d.phase ≡ Some n → (t : ℕ) → IsHeadLeft p master keep t → t ≤ n.id
+  no_newer n is_new t left = elim (bearing d texts p held left.0 t left.2) as (λ _. t ≤ n.id) [
+    | inl x ↦ (let same = x.1 in let newer = (log.new n is_new).newer in omega arith)
+    | inr (inl x) ↦ (
+        let same = x.2 in
+        let one = ap (λ (s : Start). s.id) (one_new d.phase n x.0 is_new x.3.is_new) in omega arith)
+    | inr (inr lt) ↦ (let newer = (log.new n is_new).newer in omega arith)
+  ]
+
+  -- the new head, a replica of which is left
+  new_found : (n : Start) → new_of d.phase ≡ Some n → Left keep (d.config.homes n.id) opened → HeadFound d p keep
+  new_found n is_new left =
+      let lt = left.below in
+      let replica : IsNewReplica d.config d.phase n left.b (new_replica master n) =
+      record { is_new = is_new; j = left.j; home = left.home; opened = left.below; same = refl } in
+      record {
+        n = n;
+        b = left.b;
+        r = new_replica master n;
+        is_kept = left.is_kept;
+        there = mir.new n left.j left.b is_new left.home left.below;
+        is_open = refl;
+        bears = new_bears d texts p held n left.b (new_replica master n) replica;
+        newest = no_newer n is_new;
+        others = λ s b m home. elim (cases_eq s id) as (λ _. (q : Replica) × (p b master s ≡ Some q)) [
+          | inl same ↦ (
+              let whole = log.whole (omega arith) in
+              let at : IsHome d id b = subst (λ (t : ℕ). IsHome d t b) same home in (
+                head_replica master d.head closed at.0 (length d.head.units),
+                ap (p b master) same ∙ whole_held d texts p held whole b at,
+              ))
+          | inr other ↦ some_is (p b master s) (mir.others s b (inr (n, is_new, m, other)) home)
+        ];
+        below = λ s m. below_at n.id n.others s (log.new n is_new).below m;
+      }
+
+  -- the head in force, open, where no replica of a new one is left
+  old_found : NoNew → closed ≡ 0 → (b : ℕ) (r : Replica) → keep b ≡ true → IsHeadReplica d.config d.head closed b r
+      → HeadFound d p keep
+  old_found no_new shut b r is_kept is =
+      let same : IsHeadReplica d.config d.head closed b (head_replica master d.head closed is.j is.count) =
+      record { j = is.j; count = is.count; home = is.home; taken = is.taken; same = refl } in
+      record {
+        n = d.head.start;
+        b = b;
+        r = head_replica master d.head closed is.j is.count;
+        is_kept = is_kept;
+        there = mir.head is.j is.count b is.home is.taken;
+        is_open = (let t : nat_lt is.j closed ≡ false = grind (arith, nat_tests) in rw t refl);
+        bears = head_bears d texts p held b (head_replica master d.head closed is.j is.count) same;
+        newest = λ t left. elim (bearing d texts p held left.0 t left.2) as (λ _. t ≤ id) [
+          | inl x ↦ (let one = x.1 in omega arith)
+          | inr (inl x) ↦ absurd (no_new x.0 x.3.is_new x.3.j left.0 x.3.home x.3.opened left.1)
+          | inr (inr lt) ↦ omega arith
+        ];
+        others = λ s c m home. some_is (p c master s) (mir.others s c (inl m) home);
+        below = λ s m. below_at id d.head.start.others s log.head.below m;
+      }
+
+  -- a head that is left is that in force, where no replica of a new one is left and it isn't older
+  old_left : NoNew → (t : ℕ) → id ≤ t → IsHeadLeft p master keep t
+      → (b : ℕ) × (r : Replica) × (keep b ≡ true) × IsHeadReplica d.config d.head closed b r
+  old_left no_new t le left = elim (bearing d texts p held left.0 t left.2)
+      as (λ _. (b : ℕ) × (r : Replica) × (keep b ≡ true) × IsHeadReplica d.config d.head closed b r) [
+        | inl x ↦ (left.0, x.0, left.1, x.2)
+        | inr (inl x) ↦ absurd (no_new x.0 x.3.is_new x.3.j left.0 x.3.home x.3.opened left.1)
+        | inr (inr lt) ↦ absurd (omega arith)
+      ]
+
+  head_opened : d.config.replicas ≤ length d.head.taken → IsOpened (IsHome d) p master id
+  head_opened enough b home =
+      let there = home_held d texts p held enough b home in
+      let r = head_replica master d.head closed home.0 there.0 in
+      holds p master b id r (opening_for d.head.start) there.2 (head_bears d texts p held b r
+      (record { j = home.0; count = there.0; home = home.1; taken = there.1; same = refl }))
+
+  new_opened : (n : Start) → new_of d.phase ≡ Some n → d.config.replicas ≤ opened → IsOpened (IsHome d) p master n.id
+  new_opened n is_new enough b home =
+      let size = slice_get_within (d.config.homes n.id) home.0 b home.1 in
+      let all = held.placed.count n.id in
+      let below : home.0 < opened = omega arith in
+      holds p master b n.id (new_replica master n) (opening_for n) (mir.new n home.0 b is_new home.1 below)
+      (new_bears d texts p held n b (new_replica master n)
+      (record { is_new = is_new; j = home.0; home = home.1; opened = below; same = refl }))
+
+  -- a head that survives leaves the one in force or a newer one
+  not_older : HeadSurvives (IsHome d) p master keep → (t : ℕ) × (id ≤ t) × IsHeadLeft p master keep t
+  not_older survives = elim (cases_lt (length d.head.taken) d.config.replicas)
+      as (λ _. (t : ℕ) × (id ≤ t) × IsHeadLeft p master keep t) [
+        | inl fewer ↦ (
+            let left = head_left (IsHome d) p master keep survives in
+            let given =
+            some_given (p left.1.0 master left.0) (λ (r : Replica). IsSome (opening_in r.bytes)) left.1.2 in
+            let same = mir.first fewer left.1.0 left.0 given.0 given.1 in (left.0, omega arith, left.1))
+        | inr enough ↦ newer_left (IsHome d) p master keep id (head_opened enough) survives
+      ]
+
+  -- where all replicas of a new head were opened one of them is left
+  all_opened : HeadSurvives (IsHome d) p master keep → NoNew → (n : Start) → new_of d.phase ≡ Some n
+      → (opened < d.config.replicas → ⊥) → ⊥
+  all_opened survives no_new n is_new all = elim (cases_lt opened d.config.replicas) as (λ _. ⊥) [
+    | inl lt ↦ all lt
+    | inr le ↦ (
+        let left = newer_left (IsHome d) p master keep n.id (new_opened n is_new le) survives in
+        let newer = (log.new n is_new).newer in
+        let ge = left.1 in
+        elim (bearing d texts p held left.2.0 left.0 left.2.2) as (λ _. ⊥) [
+          | inl x ↦ (let s = x.1 in omega arith)
+          | inr (inl x) ↦ no_new x.0 x.3.is_new x.3.j left.2.0 x.3.home x.3.opened left.2.1
+          | inr (inr lt) ↦ omega arith
+        ])
+  ]
+
+  -- a replica of a new head is left
+  abbrev LeftNew : Type 0
+  LeftNew = (n : Start) × (new_of d.phase ≡ Some n) × Left keep (d.config.homes n.id) opened
+
+  new_left_or_not : (o : Option Start) → new_of d.phase ≡ o → LeftNew ⊎ NoNew
+  new_left_or_not None is = inr (λ n is_new. let never : None ≡ Some n = sym is ∙ is_new in absurd (cc))
+  new_left_or_not (Some n) is = elim (left_or_not keep (d.config.homes n.id) opened) as (λ _. LeftNew ⊎ NoNew) [
+    | inl left ↦ inl (n, is, left)
+    | inr none ↦ inr (λ m is_new.
+        subst (λ (x : Start). NoneLeft keep (d.config.homes x.id) opened) (one_new d.phase n m is is_new) none)
+  ]
+
+  old_or_never : HeadSurvives (IsHome d) p master keep → NoNew → HeadFound d p keep
+  old_or_never survives no_new = elim (stage d.config.replicas d.phase) as (λ _. HeadFound d p keep) [
+    | inl x ↦ absurd (all_opened survives no_new x.0 x.1 x.2)
+    | inr shut ↦ (
+        let t = not_older survives in
+        let is = old_left no_new t.0 t.1 t.2 in old_found no_new shut is.0 is.1 is.2 is.3)
+  ]
+
+  pub surviving_choice : BothSurvive (IsHome d) p master keep → (c : Choice) × IsSurvivingChoice d p keep c
+  surviving_choice survive = choose d p keep survive
+      (elim (new_left_or_not (new_of d.phase) refl) as (λ _. HeadFound d p keep) [
+        | inl x ↦ new_found x.0 x.1 x.2
+        | inr no_new ↦ old_or_never survive.head no_new
+      ])
