@@ -12,7 +12,7 @@ use Rattle.entry.specs.Text.{text_of}
 use Rattle.segment.proofs.RowLemmas.{text_of-append}
 use Rattle.log_head.specs.declared.head.UnitEnd.{UnitEnd}
 use Rattle.log_model.specs.Data.{fewest}
-use Rattle.log_model.proofs.Fewest.{fewest_below}
+use Rattle.log_model.proofs.Counts.{fewest_below}
 use Rattle.log_head.specs.Head.{HeadValue, end_of, EndAt, IsLagging, everywhere}
 
 pub EndAt_le : (us : List UnitEnd) (from len : ℕ) → EndAt from us len → from ≤ len

@@ -12,11 +12,9 @@ use Rattle.versioned_map.specs.declared.command.Command.{Command}
 use Rattle.versioned_map.specs.declared.command.Record.{Record}
 use Rattle.versioned_map.specs.Command.{command_key}
 use Rattle.log_model.specs.Data.{LogUnit, Head, LogData, start_entries, entries_of, head_entries}
-use Rattle.log_model.specs.Kept.{IsPast}
 use Rattle.log_model.specs.Steps.{with_unit, unit_now, MayApply}
-use Rattle.log_model.proofs.Pasts.{past_applied}
 use Rattle.log_head.specs.Log.{head_of}
-use Rattle.clean_model.specs.Held.{IsHeld}
+use Rattle.clean_model.specs.Intact.{IsIntact}
 use Rattle.clean_model.specs.Memory.{Place as EntryPlace, Memory, log_ids}
 use Rattle.clean_model.specs.Memory.{grown}
 use Rattle.clean_model.specs.Steps.{images_with, recorded, IsNamed}
@@ -77,7 +75,7 @@ module _ (d e : MasterData) (f : FleetState) (seat : ℕ) (command : Command) (a
   named : IsNamed m (dead_segment d command) r
   named p indexed = elim (head_or_none d command kept.core) as (λ _. dead_segment d command ≡ p.segment) [
     | inl head ↦ head ∙ sym (in_head ((state_now d).contents (command_key command)) refl)
-    | inr none ↦ (let never : None ≡ Some p = sym (kept.held.tracked.unindexed (command_key command) none) ∙ indexed in absurd (cc))
+    | inr none ↦ (let never : None ≡ Some p = sym (kept.intact.tracked.unindexed (command_key command) none) ∙ indexed in absurd (cc))
   ] where
     ids_are : log_ids (log_of d) m ≡ (head_of d.head).start.id ∷ []
     ids_are = λ i. (kept.alone i ++ (head_of d.head).start.id ∷ []) ++ (kept.memory_is.pass i).survivors
@@ -89,9 +87,9 @@ module _ (d e : MasterData) (f : FleetState) (seat : ℕ) (command : Command) (a
     ]
 
     in_head : (x : Option Versioned) → (state_now d).contents (command_key command) ≡ x → p.segment ≡ d.head.id
-    in_head None has = (let never : None ≡ Some p = sym (kept.held.tracked.unindexed (command_key command) has) ∙ indexed in absurd (cc))
+    in_head None has = (let never : None ≡ Some p = sym (kept.intact.tracked.unindexed (command_key command) has) ∙ indexed in absurd (cc))
     in_head (Some x) has =
-        let found = kept.held.tracked.found (command_key command) x has in
+        let found = kept.intact.tracked.found (command_key command) x has in
         let same : found.place ≡ p = same_place found.place p (sym found.indexed ∙ indexed) in
         ap (λ (q : EntryPlace). q.segment) (sym same) ∙ one_id found.place.segment found.counts
       where
@@ -122,10 +120,8 @@ module _ (d e : MasterData) (f : FleetState) (seat : ℕ) (command : Command) (a
     memory = recorded (log_of d) m (dead_segment d command) r;
     memory_is = memory_then;
     before = kept.before;
-    held = subst (λ (l : LogData). IsHeld l (recorded (log_of d) m (dead_segment d command) r) kept.before) (sym is.log)
-        (apply_keeps (log_of d) m kept.before (dead_segment d command) r kept.held may named);
-    first = subst (λ (l : LogData). IsPast l kept.before []) (sym is.log)
-        (past_applied (log_of d) kept.before [] (dead_segment d command) r kept.first);
+    intact = subst (λ (l : LogData). IsIntact l (recorded (log_of d) m (dead_segment d command) r) kept.before) (sym is.log)
+        (apply_keeps (log_of d) m kept.before (dead_segment d command) r kept.intact may named);
     backups = (let same = is.config in subst (λ (n : ℕ). n ≤ f.backups) (ap (λ c. c.backups) (sym is.config)) kept.backups);
     now = inl (kept.running running);
     running = λ going. kept.running running;

@@ -12,8 +12,8 @@ use Rattle.log_model.specs.Data.{LogData, durable_of}
 use Rattle.log_model.specs.Kept.{IsKept as IsLogKept}
 use Rattle.log_model.specs.Ops.{LogOp, op_of}
 use Rattle.log_model.specs.Steps.{IsNext}
-use Rattle.log_model.proofs.Durables.{durable-apply, durable-next}
-use Rattle.log_model.proofs.Texts.{same_place-tells}
+use Rattle.log_model.proofs.DurableSteps.{durable_stays_applied, durable_stays_next}
+use Rattle.log_model.proofs.Pictures.{place_tells}
 use Rattle.master_core.specs.declared.step.Refusal.{Refusal}
 use Rattle.master_core.specs.declared.step.Refusal.TheVariants as refusal
 use Rattle.master_core.specs.declared.step.Step.{Step}
@@ -73,7 +73,7 @@ beside_same : (master : ℕ) (f : FleetState) → IsBeside master f f
 beside_same master f = record { takes = (omega arith, omega arith); others = λ b m s other. refl }
 
 elsewhere : (b m s c n t : ℕ) → (n ≡ m → ⊥) → is_same_place b m s c n t ≡ false
-elsewhere b m s c n t other = elim (same_place-tells b m s c n t) as (λ _. is_same_place b m s c n t ≡ false) [
+elsewhere b m s c n t other = elim (place_tells b m s c n t) as (λ _. is_same_place b m s c n t ≡ false) [
   | inl same ↦ absurd (other (sym same.2))
   | inr apart ↦ apart.0
 ]
@@ -108,11 +108,7 @@ is_next d e o (Applied place reply) is = absurd is
 
 module _ (old new : World) (kept : IsKept old.knows old.fleet) where
   log_kept : IsLogKept (log_of old.knows) kept.before
-  log_kept = record {
-    texts = kept.held.texts;
-    held = record { placed = kept.held.placed; logged = kept.held.logged; mirrored = kept.held.mirrored };
-    standing = kept.held.standing;
-  }
+  log_kept = kept.intact.log
 
   -- a step that adds no record
   silent : new.knows.config ≡ old.knows.config → new.knows.history ≡ old.knows.history → IsBeside old.knows.config.master old.fleet new.fleet
@@ -137,7 +133,7 @@ module _ (old new : World) (kept : IsKept old.knows old.fleet) where
         takes = beside.takes;
         others = beside.others;
         durable = subst (λ (l : LogData). durable_of (log_of old.knows) ≤ durable_of l) (sym a.log)
-            (durable-apply (log_of d) kept.before log_kept (dead_segment d command) (record_now d seat command));
+            (durable_stays_applied (log_of d) kept.before (dead_segment d command) (record_now d seat command) log_kept);
         history = (record_now d seat command ∷ [], ap (λ (l : LogData). l.history) a.log);
       }
 
@@ -145,7 +141,7 @@ module _ (old new : World) (kept : IsKept old.knows old.fleet) where
   pushed answer p =
       silent (ap (λ (d : MasterData). d.config) p.rest) (ap (λ (d : MasterData). d.history) p.rest)
       (taken_beside old.fleet p.op.backup (op_of old.knows.config.master p.op) new.fleet p.takes.1)
-      (durable-next (log_of old.knows) kept.before log_kept p.op (log_of new.knows) (is_next (log_of old.knows) (log_of new.knows) p.op answer p.next))
+      (durable_stays_next (log_of old.knows) (log_of new.knows) kept.before p.op log_kept (is_next (log_of old.knows) (log_of new.knows) p.op answer p.next))
 
   halts : FailsTake old refusal.Halted new → Keeps 1 old new
   halts t =

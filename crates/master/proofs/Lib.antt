@@ -1,6 +1,5 @@
 pub mod Placing
 pub mod Memories
-pub mod Faulted
 pub mod Starting
 pub mod Applied
 pub mod Pushed

@@ -10,7 +10,7 @@ use Rattle.entry.specs.Meaning.{Contents, IsMeaning, IsClean, object_at, among}
 use Rattle.replica.specs.Picture.{Picture}
 use Rattle.log_model.specs.Data.{LogData, ids_of, new_of, state_of}
 use Rattle.clean_model.specs.Memory.{Memory, Pass, no_pass, new_ids, log_ids}
-use Rattle.clean_model.specs.Covered.{IsInImage, IsInLog, images_bag, whole_bag, MayName, HasGrave, IsCovered}
+use Rattle.clean_model.specs.Covered.{IsInImage, IsInLogBag, image_bag, log_bag, MayName, HasGrave, IsCovered}
 
 -- ---- bags with the same entries
 
@@ -56,7 +56,7 @@ module _ (d : LogData) (m n : Memory) (p : Picture) (same : IsSame d m n) where
     held = subst (λ (es : List Entry). among (filter is_data es) e) (same.images s i.counts) i.held;
   }
 
-  log_too : (s : ℕ) (e : Entry) → IsInLog d m p s e → IsInLog d n p s e
+  log_too : (s : ℕ) (e : Entry) → IsInLogBag d m p s e → IsInLogBag d n p s e
   log_too s e (inl i) = inl (image_too s e i)
   log_too s e (inr i) = inr (record {
     counts = counts_too s i.counts;
@@ -83,23 +83,23 @@ module _ (d : LogData) (m n : Memory) (p : Picture) (same : IsSame d m n) where
   back : IsSame d n m
   back = turned d m n same
 
-  images_to : (e : Entry) → images_bag d m e → images_bag d n e
+  images_to : (e : Entry) → image_bag d m e → image_bag d n e
   images_to e i = (i.0, image_too d m n p same i.0 e i.1)
 
-  images_from : (e : Entry) → images_bag d n e → images_bag d m e
+  images_from : (e : Entry) → image_bag d n e → image_bag d m e
   images_from e i = (i.0, image_too d n m p back i.0 e i.1)
 
-  whole_to : (e : Entry) → whole_bag d m p e → whole_bag d n p e
+  whole_to : (e : Entry) → log_bag d m p e → log_bag d n p e
   whole_to e i = (i.0, log_too d m n p same i.0 e i.1)
 
-  whole_from : (e : Entry) → whole_bag d n p e → whole_bag d m p e
+  whole_from : (e : Entry) → log_bag d n p e → log_bag d m p e
   whole_from e i = (i.0, log_too d n m p back i.0 e i.1)
 
   pub covered_too : IsCovered d m p → IsCovered d n p
   covered_too is = record {
-    image_clean = clean_same (images_bag d m) (images_bag d n) images_to images_from is.image_clean;
-    log_clean = clean_same (whole_bag d m p) (whole_bag d n p) whole_to whole_from is.log_clean;
-    image_meaning = means_same (images_bag d m) (images_bag d n) images_to images_from (state_of d).contents is.image_meaning;
-    log_meaning = means_same (whole_bag d m p) (whole_bag d n p) whole_to whole_from (state_of d).contents is.log_meaning;
+    image_clean = clean_same (image_bag d m) (image_bag d n) images_to images_from is.image_clean;
+    log_clean = clean_same (log_bag d m p) (log_bag d n p) whole_to whole_from is.log_clean;
+    image_meaning = means_same (image_bag d m) (image_bag d n) images_to images_from (state_of d).contents is.image_meaning;
+    log_meaning = means_same (log_bag d m p) (log_bag d n p) whole_to whole_from (state_of d).contents is.log_meaning;
     dead = λ s o there dead. grave_too d m n p same s o (is.dead s o (log_too d n m p back s (entry.Object o) there) dead);
   }

@@ -1,15 +1,17 @@
 -- The homes of a configuration: as many as replicas, no two alike, each a backup.
 use Rattle.std.proofs.Common.{◌≡◌, ℕ, zero, suc, ◌+◌, ◌*◌, ◌<◌, inl, inr, length, Some, refl, sym, ap, ◌∙◌, arith}
-use Rattle.std.specs.Prelude.{None, slice_get}
+use Rattle.std.specs.Prelude.{◌⊎◌, None, slice_get}
 use Rattle.std.proofs.lemmas.Nat.{mod_below}
 use Rattle.std.proofs.lemmas.Option.{same_Some}
 use Rattle.log_model.specs.Log.{IsPlaced}
-use Rattle.log_model.proofs.Texts.{is_same}
 use Rattle.master_core.specs.declared.config.Config.{Config}
 use Rattle.master_core.specs.Config.{config_fault}
 use Rattle.master_core.specs.Log.{home, homes_from, log_config}
 use Rattle.master_core.proofs.Homes.{homes_apart}
 use Rattle.master_core.proofs.Refusals.{has_homes}
+
+is_same : (i j : ℕ) → (i ≡ j) ⊎ (i ≡ j → ⊥)
+is_same i j = grind arith
 
 homes_length : (c : Config) (s j n : ℕ) → length (homes_from c s j n) ≡ n
 homes_length c s j zero = refl

@@ -9,11 +9,11 @@ use Rattle.replica.specs.Take.{Refuses, taken as fleet_taken, with_effect, effec
 use Rattle.replica.specs.declared.op.TakeFault.{TakeFault}
 use Rattle.replica.specs.declared.op.TakeFault.TheVariants as take_fault
 use Rattle.log_model.specs.Data.{LogData}
-use Rattle.log_model.specs.Kept.{IsPast}
 use Rattle.log_model.specs.Ops.{LogOp, op_of, taken}
 use Rattle.log_model.specs.Steps.{IsNext}
-use Rattle.clean_model.specs.Held.{IsHeld}
-use Rattle.clean_model.proofs.Takes.{take_keeps}
+use Rattle.clean_model.specs.Intact.{IsIntact}
+use Rattle.clean_model.specs.Steps.{IsFault}
+use Rattle.clean_model.proofs.Taking.{take_keeps}
 use Rattle.master_core.specs.declared.step.StepAnswer.{StepAnswer}
 use Rattle.master_core.specs.declared.step.Step.TheVariants.{Push}
 use Rattle.master_core.specs.Causes.{push_refusal}
@@ -56,8 +56,8 @@ module _ (d : MasterData) (ks : List ℕ) (f : FleetState) (o : LogOp) (kept : I
   abbrev here : f.picture ≡ kept.before
   here = kept.running running
 
-  then_is : (q : Picture) × (taken kept.before d.config.master o ≡ Some q) × IsHeld (log_of e) kept.memory q
-  then_is = take_keeps (log_of d) (log_of e) kept.memory kept.before o kept.held next
+  then_is : (q : Picture) × (taken kept.before d.config.master o ≡ Some q) × IsIntact (log_of e) kept.memory q
+  then_is = take_keeps (log_of d) (log_of e) kept.memory kept.before o kept.intact next
 
   took : taken f.picture d.config.master o ≡ Some then_is.0
   took = ap (λ (p : Picture). taken p d.config.master o) here ∙ then_is.1
@@ -74,16 +74,6 @@ module _ (d : MasterData) (ks : List ℕ) (f : FleetState) (o : LogOp) (kept : I
       let same = same_Some (record f { picture = then_is.0; takes = f.takes + 1 }) g (sym fits ∙ is) in
       (ap (λ (h : FleetState). h.picture) same, sym (ap (λ (h : FleetState). h.backups) same))
 
-  -- no head went before, as before
-  first_then : (q : Picture) → IsPast (log_of e) q []
-  first_then q = record {
-    numbered = kept.first.numbered;
-    whole = λ h m. absurd m;
-    older = λ h m. absurd m;
-    segment = λ h m. absurd m;
-    held = λ h b m other home. absurd m;
-  }
-
   pub taken_kept : (g : FleetState) → IsCore e → fleet_taken f o.backup (op_of d.config.master o) ≡ Some g → IsKept e g
   taken_kept g core is =
       let same = picture_is g is in
@@ -93,8 +83,7 @@ module _ (d : MasterData) (ks : List ℕ) (f : FleetState) (o : LogOp) (kept : I
         memory = kept.memory;
         memory_is = record { image = kept.memory_is.image; pass = kept.memory_is.pass };
         before = then_is.0;
-        held = then_is.2;
-        first = first_then then_is.0;
+        intact = then_is.2;
         backups = (let le = kept.backups in let count = same.1 in omega arith);
         now = inl (sym same.0);
         running = λ going. sym same.0;
@@ -110,8 +99,7 @@ module _ (d : MasterData) (ks : List ℕ) (f : FleetState) (o : LogOp) (kept : I
     memory = kept.memory;
     memory_is = record { image = kept.memory_is.image; pass = kept.memory_is.pass };
     before = kept.before;
-    held = kept.held;
-    first = kept.first;
+    intact = kept.intact;
     backups = go refused;
     now = after refused;
     running = λ never. absurd (cc);
@@ -124,12 +112,11 @@ module _ (d : MasterData) (ks : List ℕ) (f : FleetState) (o : LogOp) (kept : I
         let was = (picture_is t.0 t.1.1).1 in omega arith
 
     after : Refuses f o.backup (op_of d.config.master o) take_fault.Fault g
-        → (g.picture ≡ kept.before) ⊎ ((p : LogOp) × (x : LogData) × IsNext (log_of d) p x × (taken kept.before d.config.master p ≡ Some g.picture))
+        → IsFault (log_of d) kept.memory kept.before g.picture
     after (inl same) = inl (ap (λ (h : FleetState). h.picture) same ∙ here)
     after (inr t) = inr (
       o,
-      log_of e,
-      next,
+      inl (log_of e, next),
       then_is.1 ∙ ap (λ (p : Picture). Some p) ((picture_is t.0 t.1.1).0 ∙ sym (ap (λ (h : FleetState). h.picture) t.2)),
     )
 

@@ -5,12 +5,10 @@ use Rattle.replica.specs.Picture.{FleetState}
 use Rattle.log_head.proofs.HeadLog.{head_is, image_fresh}
 use Rattle.log_head.specs.Steps.{fresh_head}
 use Rattle.log_model.specs.Data.{Ready, LogData}
-use Rattle.log_model.specs.Kept.{IsPast}
 use Rattle.log_model.specs.Steps.{first_start, fresh}
-use Rattle.log_model.proofs.Pasts.{past_begins}
-use Rattle.clean_model.specs.Held.{IsHeld}
+use Rattle.clean_model.specs.Intact.{IsIntact}
 use Rattle.clean_model.specs.Steps.{first_memory}
-use Rattle.clean_model.proofs.Firsts.{fresh_held}
+use Rattle.clean_model.proofs.NewMaster.{fresh_is_intact}
 use Rattle.master_core.specs.declared.config.Config.{Config}
 use Rattle.master_core.specs.Config.{config_fault}
 use Rattle.master_core.specs.Data.{fresh_data}
@@ -34,10 +32,9 @@ fresh_kept c f ok core backups nothing =
       memory = first_memory (log_config c);
       memory_is = record { image = refl; pass = refl };
       before = f.picture;
-      held = subst (λ (l : LogData). IsHeld l (first_memory (log_config c)) f.picture) (sym same)
-          (fresh_held (log_config c) f.picture
+      intact = subst (λ (l : LogData). IsIntact l (first_memory (log_config c)) f.picture) (sym same)
+          (fresh_is_intact (log_config c) f.picture
           (record { placed = placed c ok; segment = core.head.segment; limit = core.head.limit; nothing = nothing }));
-      first = subst (λ (l : LogData). IsPast l f.picture []) (sym same) (past_begins (log_config c) f.picture);
       backups = backups;
       now = inl refl;
       running = λ going. refl;

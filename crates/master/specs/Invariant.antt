@@ -1,13 +1,10 @@
 -- What a master keeps: the laws of a log hold of what it knows, its memory, and the backups before a fault.
-use Rattle.std.specs.Prelude.{◌≡◌, ◌⊎◌, ◌≤◌, [], false, Some}
+use Rattle.std.specs.Prelude.{◌≡◌, ◌≤◌, [], false}
 use Rattle.replica.specs.Picture.{Picture, FleetState}
 use Rattle.log_head.specs.Log.{head_of}
-use Rattle.log_model.specs.Data.{LogData}
-use Rattle.log_model.specs.Kept.{IsPast}
-use Rattle.log_model.specs.Ops.{LogOp, taken}
-use Rattle.log_model.specs.Steps.{IsNext}
-use Rattle.clean_model.specs.Held.{IsHeld}
+use Rattle.clean_model.specs.Intact.{IsIntact}
 use Rattle.clean_model.specs.Memory.{Memory, no_pass}
+use Rattle.clean_model.specs.Steps.{IsFault}
 use Rattle.master_core.specs.Data.{MasterData}
 use Rattle.master_core.specs.Invariant.{IsCore}
 use Rattle.master_core.specs.Log.{log_of}
@@ -17,10 +14,6 @@ pub record IsMemoryOf (d : MasterData) (m : Memory) : Type 0 where
   pub image : m.images d.head.id ≡ d.head.image
   pub pass : m.pass ≡ no_pass
 
--- the backups are as before, or have the next op besides
-abbrev pub IsAfter : LogData → Picture → Picture → Type 0
-IsAfter d before now = (now ≡ before) ⊎ ((o : LogOp) × (e : LogData) × IsNext d o e × (taken before d.config.master o ≡ Some now))
-
 pub record IsKept (d : MasterData) (f : FleetState) : Type 0 where
   pub core : IsCore d
   -- the digest lists the head alone
@@ -29,9 +22,8 @@ pub record IsKept (d : MasterData) (f : FleetState) : Type 0 where
   pub memory_is : IsMemoryOf d memory
   -- what the backups held before a fault
   pub before : Picture
-  pub held : IsHeld (log_of d) memory before
-  -- no head went before
-  pub first : IsPast (log_of d) before []
+  pub intact : IsIntact (log_of d) memory before
   pub backups : d.config.backups ≤ f.backups
-  pub now : IsAfter (log_of d) before f.picture
+  -- they are as before, or have one op besides
+  pub now : IsFault (log_of d) memory before f.picture
   pub running : d.is_halted ≡ false → f.picture ≡ before

@@ -14,9 +14,8 @@ use Rattle.master_core.specs.Log.{opening_of, log_of, memory_of, IsIndexed}
 -- The durable count is the most of the first records whose units were each taken whole, by takes that answered Ok, by
 -- every replica of the head that they were appended to; and each home of such a segment of the log holds these units.
 pub record CountsDurable (d : LogData) (p : Picture) : Type 0 where
-  -- the heads before the one in force: their units and its own are those of the history, in order
+  -- the heads before the one in force
   pub past : List Head
-  pub numbered : AreNumbered d.opening 0 (commands_of d.history) (flat_map (λ (h : Head). h.units) (heads_of past d))
   pub counted : IsDurable d past (durable_of d)
   pub replicated : IsReplicated d past p
 
