@@ -1,10 +1,9 @@
 -- What holds of every master and its fleet, at each stop.
 use Rattle.std.specs.Prelude.{◌≡◌, ◌≤◌, List, length, None}
-use Rattle.std.specs.List.{flat_map}
 use Rattle.replica.specs.Picture.{Picture, FleetState}
-use Rattle.versioned_map.specs.History.{commands_of, IsLegal}
+use Rattle.versioned_map.specs.History.{IsLegal}
 use Rattle.log_model.specs.Data.{Head, LogData, durable_of}
-use Rattle.log_model.specs.Durable.{heads_of, AreNumbered, IsDurable, IsReplicated}
+use Rattle.log_model.specs.Durable.{IsDurable, IsReplicated}
 use Rattle.log_model.specs.Sound.{IsSound}
 use Rattle.clean_model.specs.Covered.{IsCovered}
 use Rattle.master_core.specs.Config.{config_fault}
