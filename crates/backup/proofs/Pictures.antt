@@ -9,7 +9,7 @@ use Rattle.std.proofs.lemmas.Option.{slice_get_within}
 use Rattle.replica.specs.declared.op.TakeFault.{TakeFault}
 use Rattle.replica.specs.declared.op.TakeFault.TheVariants as take_fault
 use Rattle.replica.specs.Op.{OpValue}
-use Rattle.replica.specs.Picture.{Replica, FleetState, with_replica, survivors}
+use Rattle.replica.specs.Picture.{Replica, FleetState, with_replica, left_on}
 use Rattle.replica.specs.Take.{effect, taken, with_effect, Refuses}
 use Rattle.backup.specs.declared.memory.MemoryBackup.{MemoryBackup}
 use Rattle.backup.specs.Acts.{Acts}
@@ -82,7 +82,7 @@ emptied_at old new n t false empty = refl
 emptied_at old new n t true empty = empty
 
 lost_at : (backups : List MemoryBackup) (b : ℕ) (new : MemoryBackup) → b < length backups → ((m s : ℕ) → replica_at new m s ≡ None)
-    → (c n t : ℕ) → picture_of (set backups b new) c n t ≡ survivors (λ d. not (b == d)) (picture_of backups) c n t
+    → (c n t : ℕ) → picture_of (set backups b new) c n t ≡ left_on (λ d. not (b == d)) (picture_of backups) c n t
 lost_at backups b new within empty c n t =
     rw (slice_get-set backups b new c within) (emptied_at (slice_get backups c) new n t (b == c) (empty n t))
 
@@ -91,7 +91,7 @@ pub lost_by : (backups : List MemoryBackup) (b : ℕ) (new : MemoryBackup) (take
     → ((m s : ℕ) → replica_at new m s ≡ None)
     → fleet_of (set backups b new) takes end faults ≡ lost (fleet_of backups takes end faults) b
 lost_by backups b new takes end faults within empty =
-    let left : picture_of (set backups b new) ≡ survivors (λ d. not (b == d)) (picture_of backups) =
+    let left : picture_of (set backups b new) ≡ left_on (λ d. not (b == d)) (picture_of backups) =
     fun_ext (λ c. fun_ext (λ n. fun_ext (λ t. lost_at backups b new within empty c n t))) in
     rw (length-set, left) refl
 

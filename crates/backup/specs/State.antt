@@ -1,7 +1,7 @@
 -- What a fleet in memory holds.
 use Rattle.std.specs.Prelude.{ℕ, ◌==◌, List, length, Option, Some, None, not}
 use Rattle.std.specs.List.{slice_get}
-use Rattle.replica.specs.Picture.{Replica, Picture, FleetState, survivors}
+use Rattle.replica.specs.Picture.{Replica, Picture, FleetState, left_on}
 use Rattle.replica.specs.Take.{no_limit}
 use Rattle.backup.specs.declared.memory.MemoryBackup.{MemoryBackup}
 use Rattle.backup.specs.declared.fleet.MemoryFleet.{MemoryFleet}
@@ -34,7 +34,7 @@ new_fleet backups = record { backups = backups; picture = λ b m s. None; takes 
 abbrev pub lost : FleetState → ℕ → FleetState
 lost f b = record {
   backups = f.backups;
-  picture = survivors (λ c. not (b == c)) f.picture;
+  picture = left_on (λ c. not (b == c)) f.picture;
   takes = f.takes;
   end = f.end;
   faults = f.faults;

@@ -10,8 +10,8 @@ use Rattle.entry.specs.declared.entry.Entry.{Entry}
 use Rattle.entry.specs.Bag.{IsAmong}
 use Rattle.entry.specs.Text.{is_data, data_in, Opening, opening_in, opening_of}
 use Rattle.replica.specs.declared.holding.Holding.{Holding}
-use Rattle.replica.specs.Picture.{Replica, Picture, survivors, IsHeld}
-use Rattle.replica.specs.Choice.{Choice, bag_of}
+use Rattle.replica.specs.Picture.{Replica, Picture, left_on, IsHeld}
+use Rattle.replica.specs.Choice.{Choice, IsOther, bag_of}
 use Rattle.versioned_map.specs.Represents.{Represents}
 use Rattle.versioned_map.specs.Versioned.{State}
 use Rattle.log_model.specs.Data.{Start, LogData, front_entries, closed_of, state_after, everywhere, durable_of}
@@ -37,7 +37,7 @@ kept_one true o r is = (refl, is)
 kept_one false o r is = absurd (cc)
 
 -- what a survivor holds of the master is held, on a backup that is left
-pub held_by : (p : Picture) (keep : ℕ → Bool) (master : ℕ) (h : Holding) → IsHeld (survivors keep p) h
+pub held_by : (p : Picture) (keep : ℕ → Bool) (master : ℕ) (h : Holding) → IsHeld (left_on keep p) h
     → h.master ≡ master → (keep h.backup ≡ true) × (p h.backup master h.segment ≡ Some (shown_in h))
 held_by p keep master h held own =
     let parts = kept_one (keep h.backup) (p h.backup h.master h.segment) (shown_in h) held in
@@ -78,20 +78,20 @@ module _ (d : LogData) (texts : Texts) (p : Picture) (held : IsLogHeld d texts p
   AreAll ids = (b s : ℕ) (r : Replica) → IsAmong s ids → p b master s ≡ Some r → IsAll d texts p held s r
 
   module _ (keep : ℕ → Bool) where
-    abbrev Held : Holding → Type 0
-    Held h = IsHeld (survivors keep p) h × (h.master ≡ master) × Unit {0}
+    abbrev Held : Opening → Holding → Type 0
+    Held opening h = IsHeld (left_on keep p) h × IsOther master opening h
 
-    others_are : (hs : List Holding) (ids : List ℕ) → map (λ (h : Holding). h.segment) hs ≡ ids
-        → AllByRecursion Held hs → AreAll ids → IsBase hs ids
-    others_are [] [] is all each = record { bag = refl; keys = λ e k m at. absurd m }
-    others_are [] (s ∷ ids) is all each = absurd (cc)
-    others_are (h ∷ hs) [] is all each = absurd (cc)
-    others_are (h ∷ hs) (s ∷ ids) is all each =
+    others_are : (opening : Opening) (hs : List Holding) (ids : List ℕ) → map (λ (h : Holding). h.segment) hs ≡ ids
+        → AllByRecursion (Held opening) hs → AreAll ids → IsBase hs ids
+    others_are opening [] [] is all each = record { bag = refl; keys = λ e k m at. absurd m }
+    others_are opening [] (s ∷ ids) is all each = absurd (cc)
+    others_are opening (h ∷ hs) [] is all each = absurd (cc)
+    others_are opening (h ∷ hs) (s ∷ ids) is all each =
         let same : h.segment ≡ s = cc in
         let rest : map (λ (g : Holding). g.segment) hs ≡ ids = cc in
-        let there = held_by p keep master h all.0.0 all.0.1 in
+        let there = held_by p keep master h all.0.0 all.0.1.0 in
         let here = each h.backup s (shown_in h) (inl refl) (ap (λ (t : ℕ). p h.backup master t) (sym same) ∙ there.1) in
-        let more = others_are hs ids rest all.1 (λ b t r m found. each b t r (inr m) found) in
+        let more = others_are opening hs ids rest all.1 (λ b t r m found. each b t r (inr m) found) in
         record {
           bag = (λ i. here.entries i ++ more.bag i);
           keys = both_of_tablets d.config (filter is_data (texts s)) (base_of texts ids)
@@ -125,7 +125,7 @@ module _ (d : LogData) (texts : Texts) (p : Picture) (held : IsLogHeld d texts p
             (stands : Represents n.safe (base_of texts n.others ++ es) (state_after d count))
             (durable : durable_of d ≤ count) (within : count ≤ length d.history) (keys : AreOfTablets d.config es) where
           base : IsBase c.others n.others
-          base = others_are c.others n.others ids choice.others all
+          base = others_are c.opening c.others n.others ids choice.others all
 
           bag : bag_of c ≡ base_of texts n.others ++ es
           bag = bag_parts ∙ (λ i. base.bag i ++ own i)

@@ -9,8 +9,8 @@ use Rattle.std.proofs.lemmas.Option.{slice_get_within}
 use Rattle.entry.specs.Bag.{IsAmong}
 use Rattle.entry.specs.Text.{Opening, opening_in}
 use Rattle.replica.specs.declared.holding.Holding.{Holding}
-use Rattle.replica.specs.Picture.{Replica, Picture, survivors, IsHeld}
-use Rattle.replica.specs.Choice.{Choice}
+use Rattle.replica.specs.Picture.{Replica, Picture, left_on, Shown, shown_by, IsHeld}
+use Rattle.replica.specs.Choice.{Choice, IsOther}
 use Rattle.replica.specs.Survival.{HoldsHead, IsOpened, IsHeadLeft, HeadSurvives, BothSurvive}
 use Rattle.versioned_map.proofs.Tops.{among_left}
 use Rattle.log_model.specs.Data.{Start, LogData, IsHome, new_of, opened_of, closed_of}
@@ -64,7 +64,7 @@ left_or_not keep (x ∷ homes) (suc limit) = first (keep x) refl (left_or_not ke
 -- ---- heads that are left
 
 -- a head that survives leaves one of its replicas
-head_left : (Home : ℕ → ℕ → Type 0) (p : Picture) (master : ℕ) (keep : ℕ → Bool) → HeadSurvives Home p master keep
+head_left : (Home : ℕ → ℕ → Type 0) (p : Shown) (master : ℕ) (keep : ℕ → Bool) → HeadSurvives Home p master keep
     → (s : ℕ) × IsHeadLeft p master keep s
 head_left Home p master keep (inl newest) = elim newest.2 [
   | inl left ↦ (newest.0, (left.0, left.2, newest.1.opened left.0 left.1))
@@ -73,7 +73,7 @@ head_left Home p master keep (inl newest) = elim newest.2 [
 head_left Home p master keep (inr none) = none.1
 
 -- where one head was opened on all its homes, a head as new is left
-newer_left : (Home : ℕ → ℕ → Type 0) (p : Picture) (master : ℕ) (keep : ℕ → Bool) (s : ℕ)
+newer_left : (Home : ℕ → ℕ → Type 0) (p : Shown) (master : ℕ) (keep : ℕ → Bool) (s : ℕ)
     → IsOpened Home p master s → HeadSurvives Home p master keep → (t : ℕ) × (s ≤ t) × IsHeadLeft p master keep t
 newer_left Home p master keep s opened (inl newest) =
     let le = newest.1.newest s opened in
@@ -84,10 +84,13 @@ newer_left Home p master keep s opened (inl newest) =
 newer_left Home p master keep s opened (inr none) = absurd (none.0 s opened)
 
 holds : (p : Picture) (master b s : ℕ) (r : Replica) (o : Opening) → p b master s ≡ Some r
-    → opening_in r.bytes ≡ Some o → HoldsHead p master b s
-holds p master b s r o is bears =
-    subst (λ (x : Option Replica). IsSomeAnd x (λ (q : Replica). IsSome (opening_in q.bytes))) (sym is)
-    (subst IsSome (sym bears) refl)
+    → opening_in r.bytes ≡ Some o → HoldsHead (shown_by p) master b s
+holds p master b s r o is bears = record {
+  bears =
+      subst (λ (x : Option Replica). IsSomeAnd x (λ (q : Replica). IsSome (opening_in q.bytes))) (sym is)
+      (subst IsSome (sym bears) refl);
+  usable = omega arith;
+}
 
 -- ---- a choice from a head that is left
 
@@ -109,13 +112,13 @@ shown_as b master s r = record {
 }
 
 shown_held : (p : Picture) (keep : ℕ → Bool) (b master s : ℕ) (r : Replica) → keep b ≡ true
-    → p b master s ≡ Some r → IsHeld (survivors keep p) (shown_as b master s r)
+    → p b master s ≡ Some r → IsHeld (left_on keep p) (shown_as b master s r)
 shown_held p keep b master s r is_kept there =
     ap (λ (t : Bool). cond t (p b master s) None) is_kept ∙ there
 
-module _ (p : Picture) (master : ℕ) (keep : ℕ → Bool) where
+module _ (p : Picture) (master : ℕ) (opening : Opening) (keep : ℕ → Bool) where
   abbrev Held : Holding → Type 0
-  Held h = IsHeld (survivors keep p) h × (h.master ≡ master) × Unit {0}
+  Held h = IsHeld (left_on keep p) h × IsOther master opening h
 
   record Others (ids : List ℕ) : Type 0 where
     hs : List Holding
@@ -130,7 +133,7 @@ module _ (p : Picture) (master : ℕ) (keep : ℕ → Bool) where
       record {
         hs = shown_as here.b master id here.r ∷ rest.hs;
         ids_are = ap (λ (l : List ℕ). id ∷ l) rest.ids_are;
-        each = ((shown_held p keep here.b master id here.r here.is_kept here.there, refl, tt), rest.each);
+        each = ((shown_held p keep here.b master id here.r here.is_kept here.there, (refl, tt)), rest.each);
       }
 
 -- a head that is left, open, and the newest
@@ -142,11 +145,11 @@ record HeadFound (d : LogData) (p : Picture) (keep : ℕ → Bool) : Type 0 wher
   there : p b d.config.master n.id ≡ Some r
   is_open : r.is_open ≡ true
   bears : opening_in r.bytes ≡ Some (opening_for n)
-  newest : (t : ℕ) → IsHeadLeft p d.config.master keep t → t ≤ n.id
+  newest : (t : ℕ) → IsHeadLeft (shown_by p) d.config.master keep t → t ≤ n.id
   others : (id b : ℕ) → IsAmong id n.others → IsHome d id b → (q : Replica) × (p b d.config.master id ≡ Some q)
   below : (id : ℕ) → IsAmong id n.others → id < n.id
 
-module _ (d : LogData) (p : Picture) (keep : ℕ → Bool) (survive : BothSurvive (IsHome d) p d.config.master keep)
+module _ (d : LogData) (p : Picture) (keep : ℕ → Bool) (survive : BothSurvive (IsHome d) (shown_by p) d.config.master keep)
     (h : HeadFound d p keep) where
   -- one replica of each other id is left
   other_left : (id : ℕ) → IsAmong id h.n.others → Found p d.config.master keep id
@@ -158,13 +161,14 @@ module _ (d : LogData) (p : Picture) (keep : ℕ → Bool) (survive : BothSurviv
         is_kept = h.is_kept;
         held = h.there;
         bears = h.bears;
+        usable = omega arith;
         newest = h.newest;
       }) id (among_left id h.n.others (h.n.id ∷ []) m) (λ e. omega arith) in
       let there = h.others id left.0 m left.1 in
       record { b = left.0; r = there.0; is_kept = left.2; there = there.1 }
 
-  chosen : Others p d.config.master keep h.n.others
-  chosen = others_found p d.config.master keep h.n.others other_left
+  chosen : Others p d.config.master (opening_for h.n) keep h.n.others
+  chosen = others_found p d.config.master (opening_for h.n) keep h.n.others other_left
 
   choose : (c : Choice) × IsSurvivingChoice d p keep c
   choose = (
@@ -174,10 +178,10 @@ module _ (d : LogData) (p : Picture) (keep : ℕ → Bool) (survive : BothSurviv
       of_master = refl;
       is_open = h.is_open;
       opening = h.bears;
-      usable = tt;
-      newest = λ g held own bears usable.
-          let there = held_by p keep d.config.master g held own in
-          let opening = some_is (opening_in g.bytes) bears in
+      usable = omega arith;
+      newest = λ g held head.
+          let there = held_by p keep d.config.master g held head.0 in
+          let opening = some_is (opening_in g.bytes) head.1 in
           let heads = holds p d.config.master g.backup g.segment (shown_in g) opening.0 there.1 opening.1 in
           h.newest g.segment (g.backup, there.0, heads);
       others = chosen.each;
@@ -211,7 +215,7 @@ module _ (d : LogData) (texts : Texts) (p : Picture) (held : IsLogHeld d texts p
   NoNew = (n : Start) → new_of d.phase ≡ Some n → NoneLeft keep (d.config.homes n.id) opened
 
   -- a head that is left is none that is newer
-  no_newer : (n : Start) → new_of d.phase ≡ Some n → (t : ℕ) → IsHeadLeft p master keep t → t ≤ n.id
+  no_newer : (n : Start) → new_of d.phase ≡ Some n → (t : ℕ) → IsHeadLeft (shown_by p) master keep t → t ≤ n.id
   no_newer n is_new t left = elim (bearing d texts p held left.0 t left.2) as (λ _. t ≤ n.id) [
     | inl x ↦ (let same = x.1 in let newer = (log.new n is_new).newer in omega arith)
     | inr (inl x) ↦ (
@@ -271,7 +275,7 @@ module _ (d : LogData) (texts : Texts) (p : Picture) (held : IsLogHeld d texts p
       }
 
   -- a head that is left is that in force, where no replica of a new one is left and it isn't older
-  old_left : NoNew → (t : ℕ) → id ≤ t → IsHeadLeft p master keep t
+  old_left : NoNew → (t : ℕ) → id ≤ t → IsHeadLeft (shown_by p) master keep t
       → (b : ℕ) × (r : Replica) × (keep b ≡ true) × IsHeadReplica d.config d.head closed b r
   old_left no_new t le left = elim (bearing d texts p held left.0 t left.2)
       as (λ _. (b : ℕ) × (r : Replica) × (keep b ≡ true) × IsHeadReplica d.config d.head closed b r) [
@@ -280,14 +284,14 @@ module _ (d : LogData) (texts : Texts) (p : Picture) (held : IsLogHeld d texts p
         | inr (inr lt) ↦ absurd (omega arith)
       ]
 
-  head_opened : d.config.replicas ≤ length d.head.taken → IsOpened (IsHome d) p master id
+  head_opened : d.config.replicas ≤ length d.head.taken → IsOpened (IsHome d) (shown_by p) master id
   head_opened enough b home =
       let there = home_held d texts p held enough b home in
       let r = head_replica master d.head closed home.0 there.0 in
       holds p master b id r (opening_for d.head.start) there.2 (head_bears d texts p held b r
       (record { j = home.0; count = there.0; home = home.1; taken = there.1; same = refl }))
 
-  new_opened : (n : Start) → new_of d.phase ≡ Some n → d.config.replicas ≤ opened → IsOpened (IsHome d) p master n.id
+  new_opened : (n : Start) → new_of d.phase ≡ Some n → d.config.replicas ≤ opened → IsOpened (IsHome d) (shown_by p) master n.id
   new_opened n is_new enough b home =
       let size = slice_get_within (d.config.homes n.id) home.0 b home.1 in
       let all = held.placed.count n.id in
@@ -297,24 +301,24 @@ module _ (d : LogData) (texts : Texts) (p : Picture) (held : IsLogHeld d texts p
       (record { is_new = is_new; j = home.0; home = home.1; opened = below; same = refl }))
 
   -- a head that survives leaves the one in force or a newer one
-  not_older : HeadSurvives (IsHome d) p master keep → (t : ℕ) × (id ≤ t) × IsHeadLeft p master keep t
+  not_older : HeadSurvives (IsHome d) (shown_by p) master keep → (t : ℕ) × (id ≤ t) × IsHeadLeft (shown_by p) master keep t
   not_older survives = elim (cases_lt (length d.head.taken) d.config.replicas)
-      as (λ _. (t : ℕ) × (id ≤ t) × IsHeadLeft p master keep t) [
+      as (λ _. (t : ℕ) × (id ≤ t) × IsHeadLeft (shown_by p) master keep t) [
         | inl fewer ↦ (
-            let left = head_left (IsHome d) p master keep survives in
+            let left = head_left (IsHome d) (shown_by p) master keep survives in
             let given =
-            some_given (p left.1.0 master left.0) (λ (r : Replica). IsSome (opening_in r.bytes)) left.1.2 in
+            some_given (p left.1.0 master left.0) (λ (r : Replica). IsSome (opening_in r.bytes)) left.1.2.bears in
             let same = mir.first fewer left.1.0 left.0 given.0 given.1 in (left.0, omega arith, left.1))
-        | inr enough ↦ newer_left (IsHome d) p master keep id (head_opened enough) survives
+        | inr enough ↦ newer_left (IsHome d) (shown_by p) master keep id (head_opened enough) survives
       ]
 
   -- where all replicas of a new head were opened one of them is left
-  all_opened : HeadSurvives (IsHome d) p master keep → NoNew → (n : Start) → new_of d.phase ≡ Some n
+  all_opened : HeadSurvives (IsHome d) (shown_by p) master keep → NoNew → (n : Start) → new_of d.phase ≡ Some n
       → (opened < d.config.replicas → ⊥) → ⊥
   all_opened survives no_new n is_new all = elim (cases_lt opened d.config.replicas) as (λ _. ⊥) [
     | inl lt ↦ all lt
     | inr le ↦ (
-        let left = newer_left (IsHome d) p master keep n.id (new_opened n is_new le) survives in
+        let left = newer_left (IsHome d) (shown_by p) master keep n.id (new_opened n is_new le) survives in
         let newer = (log.new n is_new).newer in
         let ge = left.1 in
         elim (bearing d texts p held left.2.0 left.0 left.2.2) as (λ _. ⊥) [
@@ -336,7 +340,7 @@ module _ (d : LogData) (texts : Texts) (p : Picture) (held : IsLogHeld d texts p
         subst (λ (x : Start). NoneLeft keep (d.config.homes x.id) opened) (one_new d.phase n m is is_new) none)
   ]
 
-  old_or_never : HeadSurvives (IsHome d) p master keep → NoNew → HeadFound d p keep
+  old_or_never : HeadSurvives (IsHome d) (shown_by p) master keep → NoNew → HeadFound d p keep
   old_or_never survives no_new = elim (stage d.config.replicas d.phase) as (λ _. HeadFound d p keep) [
     | inl x ↦ absurd (all_opened survives no_new x.0 x.1 x.2)
     | inr shut ↦ (
@@ -344,7 +348,7 @@ module _ (d : LogData) (texts : Texts) (p : Picture) (held : IsLogHeld d texts p
         let is = old_left no_new t.0 t.1 t.2 in old_found no_new shut is.0 is.1 is.2 is.3)
   ]
 
-  pub surviving_choice : BothSurvive (IsHome d) p master keep → (c : Choice) × IsSurvivingChoice d p keep c
+  pub surviving_choice : BothSurvive (IsHome d) (shown_by p) master keep → (c : Choice) × IsSurvivingChoice d p keep c
   surviving_choice survive = choose d p keep survive
       (elim (new_left_or_not (new_of d.phase) refl) as (λ _. HeadFound d p keep) [
         | inl x ↦ new_found x.0 x.1 x.2

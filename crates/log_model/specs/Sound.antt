@@ -4,8 +4,8 @@ use Rattle.entry.specs.declared.entry.Header.{Header}
 use Rattle.entry.specs.Text.{header_in, opening_in}
 use Rattle.segment.specs.Bytes.{IsSegmentBytes}
 use Rattle.entry.specs.Meaning.{IsMeaning, IsClean, among, bound_of}
-use Rattle.replica.specs.Picture.{Replica, Picture, survivors, IsHeld}
-use Rattle.replica.specs.Choice.{Choice, IsChoice, bag_of}
+use Rattle.replica.specs.Picture.{Replica, Picture, shown_by, survivors}
+use Rattle.replica.specs.Choice.{Choice, IsShownChoice, bag_of}
 use Rattle.replica.specs.Survival.{BothSurvive}
 use Rattle.versioned_map.specs.History.{commands_of}
 use Rattle.versioned_map.specs.Versioned.{IsSafeAfter}
@@ -19,7 +19,7 @@ pub record IsTextOfSegment (bytes : List ℕ) (master segment : ℕ) : Type 0 wh
 
 -- a choice of the master's newest log from what these backups hold
 abbrev pub IsSurvivingChoice : LogData → Picture → (ℕ → Bool) → Choice → Type 0
-IsSurvivingChoice d p keep c = IsChoice (IsHeld (survivors keep p)) d.config.master c
+IsSurvivingChoice d p keep c = IsShownChoice (survivors keep (shown_by p)) d.config.master c
 
 -- these backups hold a choice of the master's newest log
 abbrev pub HasChoice : LogData → Picture → (ℕ → Bool) → Type 0
@@ -48,4 +48,4 @@ pub record IsSound (d : LogData) (p : Picture) : Type 0 where
   pub keys : (keep : ℕ → Bool) (c : Choice) → IsSurvivingChoice d p keep c → AreOfTablets d.config (bag_of c)
   pub prefix : (keep : ℕ → Bool) (c : Choice) → IsSurvivingChoice d p keep c → (count : ℕ) × IsPrefix d c count
   -- where both survive there is a choice
-  pub choice : (keep : ℕ → Bool) → BothSurvive (IsHome d) p d.config.master keep → HasChoice d p keep
+  pub choice : (keep : ℕ → Bool) → BothSurvive (IsHome d) (shown_by p) d.config.master keep → HasChoice d p keep

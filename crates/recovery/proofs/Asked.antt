@@ -6,7 +6,7 @@ use Rattle.std.proofs.lemmas.Bool.Decides.{nat_tests}
 use Rattle.std.proofs.lemmas.Grind.{take_at_read}
 use Rattle.entry.specs.Bag.{IsAmong}
 use Rattle.replica.specs.declared.holding.Holding.{Holding}
-use Rattle.replica.specs.Picture.{Picture, IsHeld, survivors}
+use Rattle.replica.specs.Picture.{Picture, IsHeld, left_on}
 use Rattle.entry.proofs.BagLemmas.{among_either, among_left, among_right}
 use Rattle.recovery.specs.Kept.{is_kept}
 
@@ -17,7 +17,7 @@ pub record AreAll (p : Picture) (asked : List ℕ) (hs : List Holding) : Type 0 
 
 -- they are what is left of the picture where the others are gone
 pub left-shown : (p : Picture) (asked : List ℕ) (hs : List Holding) → AreAll p asked hs → (h : Holding)
-    → IsAmong h hs ↔ IsHeld (survivors (is_kept asked) p) h
+    → IsAmong h hs ↔ IsHeld (left_on (is_kept asked) p) h
 left-shown p asked hs are h =
     (λ m. rw (are.only h m).0 (are.only h m).1, left (is_kept asked h.backup) refl)
   where

@@ -5,8 +5,8 @@ use Rattle.std.proofs.lemmas.List.Folds.{flat_map-map}
 use Rattle.entry.specs.Bag.{IsAmong}
 use Rattle.entry.specs.Text.{Opening, is_data, entries_in, opening_in}
 use Rattle.replica.specs.declared.holding.Holding.{Holding}
-use Rattle.replica.specs.Picture.{Replica, Picture, survivors, IsHeld}
-use Rattle.replica.specs.Choice.{Choice, IsChoice, bag_of}
+use Rattle.replica.specs.Picture.{Replica, Picture, left_on, shown_by, survivors, IsHeld}
+use Rattle.replica.specs.Choice.{Choice, IsOther, IsChoice, IsShownChoice, bag_of}
 use Rattle.replay.specs.Bags.{bag_of as segments_bag}
 use Rattle.recovery_plan.specs.declared.chosen.Plan.{Plan}
 use Rattle.recovery_plan.specs.Good.{IsGood}
@@ -27,17 +27,17 @@ bag-of-plan hs m c plan is =
 
 -- only the master's replicas count for a choice
 pub choice-of-same : (holds also : Holding → Type 0) (m : ℕ) (c : Choice) → ((h : Holding) → h.master ≡ m → holds h ↔ also h) →
-    IsChoice holds m c → IsChoice also m c
+    IsChoice holds 0 m c → IsChoice also 0 m c
 choice-of-same holds also m c same choice = record {
   held = (same c.head choice.of_master).0 choice.held;
   of_master = choice.of_master;
   is_open = choice.is_open;
   opening = choice.opening;
   usable = choice.usable;
-  newest = λ h held master some usable. choice.newest h ((same h master).1 held) master some usable;
+  newest = λ h held head. choice.newest h ((same h head.0).1 held) head;
   others =
-      all-map (λ (h : Holding). holds h × (h.master ≡ m) × Unit {0}) (λ (h : Holding). also h × (h.master ≡ m) × Unit {0})
-      (λ h is. ((same h is.1).0 is.0, is.1, is.2)) c.others choice.others;
+      all-map (λ (h : Holding). holds h × IsOther m c.opening h) (λ (h : Holding). also h × IsOther m c.opening h)
+      (λ h is. ((same h is.1.0).0 is.0, is.1)) c.others choice.others;
   ids = choice.ids;
 }
 
@@ -48,21 +48,21 @@ left-kept true r x h = h
 left-kept false r x h = absurd (cc)
 
 -- what is left of a picture was in it
-pub left-held : (keep : ℕ → Bool) (p : Picture) (h : Holding) → IsHeld (survivors keep p) h → IsHeld p h
+pub left-held : (keep : ℕ → Bool) (p : Picture) (h : Holding) → IsHeld (left_on keep p) h → IsHeld p h
 left-held keep p h held = left-kept (keep h.backup) (p h.backup h.master h.segment) _ held
 
 module _ (hs : List Holding) (m : ℕ) (d : LogData) (p : Picture) (keep : ℕ → Bool)
-    (is : d.config.master ≡ m) (shows : Shows hs (survivors keep p) m) where
+    (is : d.config.master ≡ m) (shows : Shows hs (survivors keep (shown_by p)) m) where
   -- what is chosen in the inventory is chosen among what survives
   pub surviving-choice : (c : Choice) → IsChoiceOf hs m c → IsSurvivingChoice d p keep c
   surviving-choice c choice =
-      subst (λ n. IsChoice (IsHeld (survivors keep p)) n c) (sym is) (choice-of-same (λ h. IsAmong h hs) (IsHeld (survivors keep p)) m c shows choice)
+      subst (λ n. IsShownChoice (survivors keep (shown_by p)) n c) (sym is) (choice-of-same (λ h. IsAmong h hs) (IsHeld (left_on keep p)) m c shows choice)
 
   -- and back
   pub shown-choice : (c : Choice) → IsSurvivingChoice d p keep c → IsChoiceOf hs m c
   shown-choice c choice =
-      choice-of-same (IsHeld (survivors keep p)) (λ h. IsAmong h hs) m c (λ h of. ((shows h of).1, (shows h of).0))
-      (subst (λ n. IsChoice (IsHeld (survivors keep p)) n c) is choice)
+      choice-of-same (IsHeld (left_on keep p)) (λ h. IsAmong h hs) m c (λ h of. ((shows h of).1, (shows h of).0))
+      (subst (λ n. IsShownChoice (survivors keep (shown_by p)) n c) is choice)
 
   -- the picture has each replica that is shown
   pub shown-held : (h : Holding) → h.master ≡ m → IsAmong h hs →

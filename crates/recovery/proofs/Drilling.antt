@@ -4,7 +4,7 @@ use Rattle.std.specs.Prelude.{◌↔◌, Result, Ok, Err, IfOk, IfErr}
 use Rattle.entry.specs.Bag.{IsAmong}
 use Rattle.replay.specs.declared.rebuilt.Rebuilt.{Rebuilt}
 use Rattle.replica.specs.declared.holding.Holding.{Holding}
-use Rattle.replica.specs.Picture.{FleetState, survivors, IsHeld}
+use Rattle.replica.specs.Picture.{FleetState, left_on, shown_by, IsHeld}
 use Rattle.replica.specs.Survival.{BothSurvive}
 use Rattle.log_model.specs.Data.{IsHome}
 use Rattle.master_core.specs.declared.config.Config.{Config}
@@ -34,7 +34,7 @@ module _ (start stop : World) (steps : List Step) (kept : List ℕ) (answers : L
   of_master = ap (λ (c : Config). c.master) (run_keeps start stop steps answers ran)
 
   -- what some backups show of the fleet gives a prefix, or a loss
-  pub drilled : (hs : List Holding) → ((h : Holding) → IsAmong h hs ↔ IsHeld (survivors (is_kept kept) left.picture) h)
+  pub drilled : (hs : List Holding) → ((h : Holding) → IsAmong h hs ↔ IsHeld (left_on (is_kept kept) left.picture) h)
       → (r : Result Rebuilt RecoveryFault) → IfOk r (IsSomePrefix hs start.knows.config.master)
       → IfErr r (IsSomeLoss hs start.knows.config.master) → IsDrill start steps kept answers r left
   drilled hs shown r recovered refused = record {
@@ -52,7 +52,7 @@ module _ (start stop : World) (steps : List Step) (kept : List ℕ) (answers : L
 
     loss : (r : Result Rebuilt RecoveryFault) → IfErr r (IsSomeLoss hs start.knows.config.master)
         → IfErr r (λ e. IsLossOrMemory e
-        × (BothSurvive (IsHome (log_of stop.knows)) left.picture stop.knows.config.master (is_kept kept) → IsWant e))
+        × (BothSurvive (IsHome (log_of stop.knows)) (shown_by left.picture) stop.knows.config.master (is_kept kept) → IsWant e))
     loss (Ok b) is = tt
     loss (Err e) is = is (log_of stop.knows) left.picture (is_kept kept) valid.sound of_master (λ h of. shown h)
 

@@ -3,7 +3,7 @@ use Rattle.std.proofs.Common.{◌≡◌, ℕ, max, inl, Bool, List, ◌∷◌, r
 use Rattle.entry.specs.Bag.{IsAmong}
 use Rattle.entry.specs.Meaning.{IsMeaning, IsClean, among, bound_of, contents_of}
 use Rattle.replica.specs.declared.holding.Holding.{Holding}
-use Rattle.replica.specs.Picture.{Picture, survivors}
+use Rattle.replica.specs.Picture.{Picture, shown_by, survivors}
 use Rattle.replica.specs.Choice.{Choice, bag_of}
 use Rattle.replica.specs.Survival.{BothSurvive}
 use Rattle.replay.specs.Bags.{bag_of as segments_bag}
@@ -30,7 +30,7 @@ use Rattle.recovery.proofs.Choices.{bag-of-plan, surviving-choice, shown-choice,
 
 -- a prefix of the commands, whatever the sound state is that the inventory shows a part of
 abbrev pub IsSomePrefix : List Holding → ℕ → Rebuilt → Type 0
-IsSomePrefix hs m r = (d : LogData) (p : Picture) (keep : ℕ → Bool) → IsSound d p → d.config.master ≡ m → Shows hs (survivors keep p) m →
+IsSomePrefix hs m r = (d : LogData) (p : Picture) (keep : ℕ → Bool) → IsSound d p → d.config.master ≡ m → Shows hs (survivors keep (shown_by p)) m →
     (count : ℕ) × IsRecovered d count r
 
 pub rebuilt-prefix : (hs : List Holding) (m : ℕ) (c : Choice) (plan : Plan) (r : Rebuilt) →
@@ -57,13 +57,13 @@ rebuilt-prefix hs m c plan r planned rebuilt d p keep sound is shows =
 
 -- whatever the sound state is that the inventory shows a part of, a loss, or want of memory, and this alone where both survive
 abbrev pub IsSomeLoss : List Holding → ℕ → RecoveryFault → Type 0
-IsSomeLoss hs m e = (d : LogData) (p : Picture) (keep : ℕ → Bool) → IsSound d p → d.config.master ≡ m → Shows hs (survivors keep p) m →
-    IsLossOrMemory e × (BothSurvive (IsHome d) p d.config.master keep → IsWant e)
+IsSomeLoss hs m e = (d : LogData) (p : Picture) (keep : ℕ → Bool) → IsSound d p → d.config.master ≡ m → Shows hs (survivors keep (shown_by p)) m →
+    IsLossOrMemory e × (BothSurvive (IsHome d) (shown_by p) d.config.master keep → IsWant e)
 
 module _ (hs : List Holding) (m : ℕ) (d : LogData) (p : Picture) (keep : ℕ → Bool)
-    (sound : IsSound d p) (is : d.config.master ≡ m) (shows : Shows hs (survivors keep p) m) where
+    (sound : IsSound d p) (is : d.config.master ≡ m) (shows : Shows hs (survivors keep (shown_by p)) m) where
   -- where there is nothing to choose, not both survive
-  not-both : ((c : Choice) → IsChoiceOf hs m c → ⊥) → BothSurvive (IsHome d) p d.config.master keep → ⊥
+  not-both : ((c : Choice) → IsChoiceOf hs m c → ⊥) → BothSurvive (IsHome d) (shown_by p) d.config.master keep → ⊥
   not-both none both =
       let some = sound.choice keep both in
       none some.0 (shown-choice hs m d p keep is shows some.0 some.1)
@@ -76,7 +76,7 @@ module _ (hs : List Holding) (m : ℕ) (d : LogData) (p : Picture) (keep : ℕ �
       first.is_bad (shown-good hs m d p keep is shows sound first.bad first.of_master there)
 
   pub plan-loss : (e : PlanFault) → IsFault hs m e → NamesLoss hs m e →
-      IsPlanLoss e × (BothSurvive (IsHome d) p d.config.master keep → IsPlanWant e)
+      IsPlanLoss e × (BothSurvive (IsHome d) (shown_by p) d.config.master keep → IsPlanWant e)
   plan-loss plan_fault.NoHead says loss = (tt, λ both. absurd (not-both loss both))
   plan-loss (plan_fault.HeadClosed id) says loss = (tt, λ both. absurd (not-both loss both))
   plan-loss (plan_fault.Missing id) says loss = (tt, λ both. absurd (not-both (loss.1 (shown-agree hs m d p keep is shows sound)) both))

@@ -1,7 +1,7 @@
 -- A master's steps, its end, and its recovery from what some backups hold.
 use Rattle.std.specs.Prelude.{◌≡◌, ℕ, List, Result, IfOk, IfErr}
 use Rattle.replay.specs.declared.rebuilt.Rebuilt.{Rebuilt}
-use Rattle.replica.specs.Picture.{FleetState}
+use Rattle.replica.specs.Picture.{FleetState, shown_by}
 use Rattle.replica.specs.Survival.{BothSurvive}
 use Rattle.log_model.specs.Data.{IsHome}
 use Rattle.master_core.specs.declared.step.Refusal.{Refusal}
@@ -26,4 +26,4 @@ pub record IsDrill (start : World) (steps : List Step) (kept : List ℕ) (answer
   pub valid : IsValid stop.knows left
   pub prefix : IfOk recovered (λ r. (count : ℕ) × IsRecovered (log_of stop.knows) count r)
   pub loss : IfErr recovered (λ e. IsLossOrMemory e
-      × (BothSurvive (IsHome (log_of stop.knows)) left.picture stop.knows.config.master (is_kept kept) → IsWant e))
+      × (BothSurvive (IsHome (log_of stop.knows)) (shown_by left.picture) stop.knows.config.master (is_kept kept) → IsWant e))

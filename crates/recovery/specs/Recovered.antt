@@ -7,7 +7,7 @@ use Rattle.entry.specs.Meaning.{contents_of}
 use Rattle.entry.specs.Order.{key_cmp}
 use Rattle.replica.specs.declared.holding.Holding.{Holding}
 use Rattle.replica.specs.Choice.{Choice}
-use Rattle.replica.specs.Picture.{Picture, IsHeld}
+use Rattle.replica.specs.Picture.{Shown, IsHeld}
 use Rattle.recovery_plan.specs.declared.chosen.Plan.{Plan as PlanValue}
 use Rattle.recovery_plan.specs.declared.fault.PlanFault.{PlanFault}
 use Rattle.recovery_plan.specs.declared.fault.PlanFault.TheVariants as plan_fault
@@ -22,9 +22,9 @@ use Rattle.versioned_map.specs.Versioned.{IsSafeAfter}
 use Rattle.recovery.specs.declared.recovery.RecoveryFault.{RecoveryFault}
 use Rattle.recovery.specs.declared.recovery.RecoveryFault.TheVariants.{Plan, Replay}
 
--- the inventory shows of this master just what the picture has
-abbrev pub Shows : List Holding → Picture → ℕ → Type 0
-Shows inventory p master = (h : Holding) → h.master ≡ master → IsAmong h inventory ↔ IsHeld p h
+-- the inventory has of this master just what is shown
+abbrev pub Shows : List Holding → Shown → ℕ → Type 0
+Shows inventory shown master = (h : Holding) → h.master ≡ master → IsAmong h inventory ↔ IsHeld shown.holds h
 
 -- Exactly the map after this many of the commands, each durable one among them, and a safe version for what follows.
 pub record IsRecovered (d : LogData) (count : ℕ) (r : Rebuilt) : Type 0 where

@@ -1,7 +1,7 @@
 //! Recovery from the replicas that are left, and from nothing else.
 
 ghost use Rattle.std.specs.Prelude.{◌≡◌, ℕ, Bool, IfOk, IfErr, Some};
-ghost use Rattle.replica.specs.Picture.{Picture, survivors};
+ghost use Rattle.replica.specs.Picture.{Picture, shown_by, survivors};
 ghost use Rattle.replica.specs.Survival.{BothSurvive};
 ghost use Rattle.log_model.specs.Data.{LogData, IsHome};
 ghost use Rattle.log_model.specs.Sound.{IsSound};
@@ -40,11 +40,11 @@ pub fn recover(alloc: Global, inventory: &Inventory, master: u64) -> Result<Rebu
     // Of whatever sound state of the master the inventory shows what some backups still hold: exactly the map after a
     // prefix of its commands, each durable one among them.
     ensures ok { IfOk result (λ r. (d : LogData) (p : Picture) (keep : ℕ → Bool) →
-        IsSound d p → d.config.master ≡ master → Shows inventory.now (survivors keep p) master → (count : ℕ) × IsRecovered d count r) }
+        IsSound d p → d.config.master ≡ master → Shows inventory.now (survivors keep (shown_by p)) master → (count : ℕ) × IsRecovered d count r) }
     // Of such a state only a lost head or segment is named, or want of memory, and a loss only where it hides the log.
     ensures refused { IfErr result (λ e. (d : LogData) (p : Picture) (keep : ℕ → Bool) →
-        IsSound d p → d.config.master ≡ master → Shows inventory.now (survivors keep p) master →
-        IsLossOrMemory e × (BothSurvive (IsHome d) p d.config.master keep → IsWant e)) }
+        IsSound d p → d.config.master ≡ master → Shows inventory.now (survivors keep (shown_by p)) master →
+        IsLossOrMemory e × (BothSurvive (IsHome d) (shown_by p) d.config.master keep → IsWant e)) }
     // Of any inventory what comes back, or the fault, stands in it.
     ensures rebuilt { IfOk result (IsRebuiltFrom inventory.now master) }
     ensures fault { IfErr result (IsRefusedFrom inventory.now master) }

@@ -9,6 +9,7 @@ use Rattle.std.specs.Ordering.{nat_cmp}
 use Rattle.std.specs.BTreeMap.{is_at}
 use Rattle.std.specs.Borrow.{Bor}
 use Rattle.entry.specs.Bag.{IsAmong}
+use Rattle.entry.specs.Text.{Opening}
 use Rattle.replica.specs.declared.holding.Holding.{Holding}
 use Rattle.recovery_plan.specs.Good.{IsReplicaOf}
 use Rattle.recovery_plan.specs.Preferred.{is_preferred, better, IsPreferred, IsBest}
@@ -142,25 +143,38 @@ same_key s q e = grind (arith, nat_tests)
 other_key : (s q : ℕ) → (q ≡ s → ⊥) → is_at (nat_cmp s) q ≡ false
 other_key s q n = grind (arith, nat_tests)
 
--- one more replica, put at its segment
-pub bests-more : (hs : List Holding) (h : Holding) (m : ℕ) (old new : ℕ → Option (Bor Holding)) (v : Bor Holding) → h.master ≡ m →
-    ((q : ℕ) → new q ≡ cond (is_at (nat_cmp h.segment) q) (Some v) (old q)) → v.now ≡ better (option_copied (old h.segment)) h →
-    ((id : ℕ) → IsBest (IsReplicaOf m id) hs (option_copied (old id))) → (id : ℕ) → IsBest (IsReplicaOf m id) (hs ++ h ∷ []) (option_copied (new id))
-bests-more hs h m old new v master put is best id = ⊎_elim same other (cases_eq id h.segment)
-  where
-    same : id ≡ h.segment → IsBest (IsReplicaOf m id) (hs ++ h ∷ []) (option_copied (new id))
-    same e =
-        let at : new id ≡ Some v = put id ∙ ap (λ t. cond t (Some v) (old id)) (same_key h.segment id e) in
-        let now : option_copied (new id) ≡ Some (better (option_copied (old id)) h) =
-        ap option_copied at ∙ ap Some is ∙ ap (λ k. Some (better (option_copied (old k)) h)) (sym e) in
-        subst (IsBest (IsReplicaOf m id) (hs ++ h ∷ [])) (sym now) (best-more (IsReplicaOf m id) hs h (option_copied (old id)) (master, sym e) (best id))
+module _ (hs : List Holding) (h : Holding) (m : ℕ) (o : Opening) where
+  abbrev Is : ℕ → Holding → Type 0
+  Is id = IsReplicaOf m o id
 
-    other : (id ≡ h.segment → ⊥) → IsBest (IsReplicaOf m id) (hs ++ h ∷ []) (option_copied (new id))
-    other n =
-        let at : new id ≡ old id = put id ∙ ap (λ t. cond t (Some v) (old id)) (other_key h.segment id n) in
-        subst (λ o. IsBest (IsReplicaOf m id) (hs ++ h ∷ []) (option_copied o)) (sym at) (best-skip (IsReplicaOf m id) hs h (option_copied (old id)) (λ p. n (sym p.1)) (best id))
+  -- the best of each segment
+  abbrev Bests : List Holding → (ℕ → Option (Bor Holding)) → Type 0
+  Bests gs look = (id : ℕ) → IsBest (Is id) gs (option_copied (look id))
 
--- a replica of another master changes nothing
-pub bests-skip : (hs : List Holding) (h : Holding) (m : ℕ) (old : ℕ → Option (Bor Holding)) → (h.master ≡ m → ⊥) →
-    ((id : ℕ) → IsBest (IsReplicaOf m id) hs (option_copied (old id))) → (id : ℕ) → IsBest (IsReplicaOf m id) (hs ++ h ∷ []) (option_copied (old id))
-bests-skip hs h m old n best id = best-skip (IsReplicaOf m id) hs h (option_copied (old id)) (λ p. n p.0) (best id)
+  -- one more replica, put at its segment
+  pub bests-more : (old new : ℕ → Option (Bor Holding)) (v : Bor Holding) → h.master ≡ m
+      → ((q : ℕ) → new q ≡ cond (is_at (nat_cmp h.segment) q) (Some v) (old q))
+      → v.now ≡ better (option_copied (old h.segment)) h → Bests hs old → Bests (hs ++ h ∷ []) new
+  bests-more old new v master put is best id = elim (cases_eq id h.segment)
+      as (λ _. IsBest (Is id) (hs ++ h ∷ []) (option_copied (new id))) [
+        | inl e ↦ same e
+        | inr n ↦ other n
+      ]
+    where
+      same : id ≡ h.segment → IsBest (Is id) (hs ++ h ∷ []) (option_copied (new id))
+      same e =
+          let at : new id ≡ Some v = put id ∙ ap (λ t. cond t (Some v) (old id)) (same_key h.segment id e) in
+          let now : option_copied (new id) ≡ Some (better (option_copied (old id)) h) =
+          ap option_copied at ∙ ap Some is ∙ ap (λ k. Some (better (option_copied (old k)) h)) (sym e) in
+          subst (IsBest (Is id) (hs ++ h ∷ [])) (sym now)
+          (best-more (Is id) hs h (option_copied (old id)) ((master, tt), sym e) (best id))
+
+      other : (id ≡ h.segment → ⊥) → IsBest (Is id) (hs ++ h ∷ []) (option_copied (new id))
+      other n =
+          let at : new id ≡ old id = put id ∙ ap (λ t. cond t (Some v) (old id)) (other_key h.segment id n) in
+          subst (λ x. IsBest (Is id) (hs ++ h ∷ []) (option_copied x)) (sym at)
+          (best-skip (Is id) hs h (option_copied (old id)) (λ p. n (sym p.1)) (best id))
+
+  -- a replica of another master changes nothing
+  pub bests-skip : (old : ℕ → Option (Bor Holding)) → (h.master ≡ m → ⊥) → Bests hs old → Bests (hs ++ h ∷ []) old
+  bests-skip old n best id = best-skip (Is id) hs h (option_copied (old id)) (λ p. n p.0.0) (best id)

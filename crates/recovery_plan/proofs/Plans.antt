@@ -8,12 +8,13 @@ use Rattle.std.proofs.lemmas.List.{map-append}
 use Rattle.entry.specs.Bag.{IsAmong}
 use Rattle.entry.specs.Text.{Opening, opening_in, entries_in}
 use Rattle.replica.specs.declared.holding.Holding.{Holding}
+use Rattle.replica.specs.Choice.{IsOther}
 use Rattle.recovery_plan.specs.declared.fault.PlanFault.{PlanFault}
 use Rattle.recovery_plan.specs.declared.fault.PlanFault.TheVariants.{NoHead, HeadClosed, Missing, BadReplica, NoMemory}
 use Rattle.recovery_plan.specs.declared.chosen.Plan.{Plan}
 use Rattle.recovery_plan.specs.Good.{IsGood, IsOpenHead, IsReplicaOf}
 use Rattle.recovery_plan.specs.Preferred.{IsPreferred, IsBest}
-use Rattle.recovery_plan.specs.Looked.{lent, AreFound, IsFirstLacking, IsLack}
+use Rattle.recovery_plan.specs.Looked.{lent, ArePreferred, AreFound, IsFirstLacking, IsLack}
 use Rattle.recovery_plan.specs.Planned.{IsChoiceOf, IsHeadTaken, IsMissing, IsHere, IsPlanOf, IsLaterFault}
 use Rattle.recovery_plan.proofs.Bests.{among-right}
 use Rattle.recovery_plan.proofs.Digests.{digest-of, ends-last, ends-some, among-place, place-among, earlier}
@@ -27,18 +28,23 @@ taken-good hs m h t = t.good h (preferred-among (IsOpenHead m h.segment) hs h t.
 -- ---- the replicas that were found
 
 -- what is said of each of them
-pub record IsTaken (hs : List Holding) (m : ℕ) (h : Holding) : Type 0 where
+pub record IsTaken (hs : List Holding) (m : ℕ) (o : Opening) (h : Holding) : Type 0 where
   pub among : IsAmong h hs
-  pub master : h.master ≡ m
-  pub preferred : IsPreferred (IsReplicaOf m h.segment) hs h
+  pub other : IsOther m o h
+  pub preferred : IsPreferred (IsReplicaOf m o h.segment) hs h
 
-module _ (hs : List Holding) (m : ℕ) (look : ℕ → Option (Bor Holding)) (best : (id : ℕ) → IsBest (IsReplicaOf m id) hs (option_copied (look id))) where
-  found-one : (id : ℕ) (v : Bor Holding) → Some v ≡ look id → (v.now.segment ≡ id) × IsTaken hs m v.now
+module _ (hs : List Holding) (m : ℕ) (look : ℕ → Option (Bor Holding)) (best : ArePreferred m hs look) (o : Opening) where
+  found-one : (id : ℕ) (v : Bor Holding) → Some v ≡ look id → (v.now.segment ≡ id) × IsTaken hs m o v.now
   found-one id v is =
-      let p : IsPreferred (IsReplicaOf m id) hs v.now = subst (IsBest (IsReplicaOf m id) hs) (ap option_copied (sym is)) (best id) in
+      let p : IsPreferred (IsReplicaOf m o id) hs v.now =
+      subst (IsBest (IsReplicaOf m o id) hs) (ap option_copied (sym is)) (best o id) in
       let segment : id ≡ v.now.segment = sym p.candidate.1 in (
         sym segment,
-        record { among = preferred-among (IsReplicaOf m id) hs v.now p; master = p.candidate.0; preferred = subst (λ s. IsPreferred (IsReplicaOf m s) hs v.now) segment p },
+        record {
+          among = preferred-among (IsReplicaOf m o id) hs v.now p;
+          other = p.candidate.0;
+          preferred = subst (λ s. IsPreferred (IsReplicaOf m o s) hs v.now) segment p;
+        },
       )
 
   pub found-ids : (ids : List ℕ) (vs : List (Bor Holding)) → AreFound look ids vs → map (λ (h : Holding). h.segment) (lent vs) ≡ ids
@@ -50,7 +56,7 @@ module _ (hs : List Holding) (m : ℕ) (look : ℕ → Option (Bor Holding)) (be
       let rest : AreFound look ids vs = cc in
       λ k. (found-one id v e).0 k ∷ found-ids ids vs rest k
 
-  pub found-taken : (ids : List ℕ) (vs : List (Bor Holding)) → AreFound look ids vs → AllByRecursion (IsTaken hs m) (lent vs)
+  pub found-taken : (ids : List ℕ) (vs : List (Bor Holding)) → AreFound look ids vs → AllByRecursion (IsTaken hs m o) (lent vs)
   found-taken ids [] found = tt
   found-taken [] (v ∷ vs) found = absurd (cc)
   found-taken (id ∷ ids) (v ∷ vs) found =
@@ -59,14 +65,15 @@ module _ (hs : List Holding) (m : ℕ) (look : ℕ → Option (Bor Holding)) (be
       ((found-one id v e).1, found-taken ids vs rest)
 
   -- the first that isn't found is lost, and the lowest that is
-  pub lacking-missing : (head : Holding) (o : Opening) (id : ℕ) → IsHeadTaken hs m head → opening_in head.bytes ≡ Some o → IsFirstLacking look o.ids id → IsMissing hs m id
-  lacking-missing head o id taken opened lack = record {
+  pub lacking-missing : (head : Holding) (id : ℕ) → IsHeadTaken hs m head → opening_in head.bytes ≡ Some o
+      → IsFirstLacking look o.ids id → IsMissing hs m id
+  lacking-missing head id taken opened lack = record {
     head = head;
     taken = taken;
     opening = o;
     opened = opened;
     listed = place-among id o.ids lack.place lack.within lack.listed;
-    lost = subst (IsBest (IsReplicaOf m id) hs) (ap option_copied lack.lacking) (best id);
+    lost = subst (IsBest (IsReplicaOf m o id) hs) (ap option_copied lack.lacking) (best o id);
     lowest = λ n among lt.
         let at = among-place n o.ids among in
         let is : get_or o.ids at.0 0 ≡ n = at.2 in
@@ -76,16 +83,17 @@ module _ (hs : List Holding) (m : ℕ) (look : ℕ → Option (Bor Holding)) (be
         here n (look n) refl (subst (λ k. IsSome (look k)) is (lack.before at.0 before));
   }
     where
-      here : (n : ℕ) (r : Option (Bor Holding)) → look n ≡ r → IsSome r → IsHere hs m n
+      here : (n : ℕ) (r : Option (Bor Holding)) → look n ≡ r → IsSome r → IsHere hs m o n
       here n None is some = absurd (cc)
-      here n (Some v) is some = let f = found-one n v (sym is) in (v.now, f.1.among, (f.1.master, f.0))
+      here n (Some v) is some = let f = found-one n v (sym is) in (v.now, f.1.among, (f.1.other, f.0))
 
-  pub lack-later : (head : Holding) (o : Opening) (fault : PlanFault) → IsHeadTaken hs m head → opening_in head.bytes ≡ Some o → IsLack look o.ids fault → IsLaterFault hs m fault
-  lack-later head o (Missing id) taken opened lack = lacking-missing head o id taken opened lack
-  lack-later head o NoMemory taken opened lack = tt
-  lack-later head o NoHead taken opened lack = absurd lack
-  lack-later head o (HeadClosed id) taken opened lack = absurd lack
-  lack-later head o (BadReplica b id) taken opened lack = absurd lack
+  pub lack-later : (head : Holding) (fault : PlanFault) → IsHeadTaken hs m head → opening_in head.bytes ≡ Some o
+      → IsLack look o.ids fault → IsLaterFault hs m fault
+  lack-later head (Missing id) taken opened lack = lacking-missing head id taken opened lack
+  lack-later head NoMemory taken opened lack = tt
+  lack-later head NoHead taken opened lack = absurd lack
+  lack-later head (HeadClosed id) taken opened lack = absurd lack
+  lack-later head (BadReplica b id) taken opened lack = absurd lack
 
 -- ---- all that are chosen
 
@@ -100,15 +108,18 @@ all-push P (g ∷ hs) h all p = (all.0, all-push P hs h all.1 p)
 pub lent-push : (vs ws : List (Bor Holding)) (b : Bor Holding) → ws ≡ vs ++ b ∷ [] → lent ws ≡ lent vs ++ b.now ∷ []
 lent-push vs ws b e = ap lent e ∙ map-append (λ (x : Bor Holding). x.now) vs (b ∷ [])
 
-pub chosen-good : (hs : List Holding) (m : ℕ) (head : Holding) (vs ws : List (Bor Holding)) (b : Bor Holding) → IsHeadTaken hs m head → AllByRecursion (IsTaken hs m) (lent vs) →
-    b.now ≡ head → ws ≡ vs ++ b ∷ [] → AllByRecursion IsGood (lent ws)
-chosen-good hs m head vs ws b taken all is e =
+pub chosen-good : (hs : List Holding) (m : ℕ) (head : Holding) (o : Opening) (vs ws : List (Bor Holding)) (b : Bor Holding)
+    → IsHeadTaken hs m head → AllByRecursion (IsTaken hs m o) (lent vs) → b.now ≡ head → ws ≡ vs ++ b ∷ []
+    → AllByRecursion IsGood (lent ws)
+chosen-good hs m head o vs ws b taken all is e =
     subst (AllByRecursion IsGood) (sym (lent-push vs ws b e))
-    (all-push IsGood (lent vs) b.now (all-map (IsTaken hs m) IsGood (λ h t. taken.good h t.among t.master) (lent vs) all) (subst IsGood (sym is) (taken-good hs m head taken)))
+    (all-push IsGood (lent vs) b.now
+    (all-map (IsTaken hs m o) IsGood (λ h t. taken.good h t.among t.other.0) (lent vs) all)
+    (subst IsGood (sym is) (taken-good hs m head taken)))
 
 -- what was found is a choice
-pub found-choice : (hs : List Holding) (m : ℕ) (head : Holding) (o : Opening) (others : List Holding) → IsHeadTaken hs m head → opening_in head.bytes ≡ Some o →
-    AllByRecursion (IsTaken hs m) others → map (λ (h : Holding). h.segment) others ≡ take (length o.ids - 1) o.ids →
+pub found-choice : (hs : List Holding) (m : ℕ) (head : Holding) (o : Opening) (others : List Holding)
+    → IsHeadTaken hs m head → opening_in head.bytes ≡ Some o → AllByRecursion (IsTaken hs m o) others → map (λ (h : Holding). h.segment) others ≡ take (length o.ids - 1) o.ids →
     IsChoiceOf hs m (record { opening = o; head = head; others = others })
 found-choice hs m head o others taken opened all ids =
     let head_is = taken.preferred.candidate in
@@ -121,25 +132,28 @@ found-choice hs m head o others taken opened all ids =
       of_master = head_is.0.0;
       is_open = head_is.2;
       opening = opened;
-      usable = tt;
-      newest = λ h i master some usable. taken.newest.greatest h i (master, some);
-      others = all-map (IsTaken hs m) (λ (h : Holding). IsAmong h hs × (h.master ≡ m) × Unit {0}) (λ h t. (t.among, t.master, tt)) others all;
+      usable = head_is.0.2;
+      newest = taken.newest.greatest;
+      others = all-map (IsTaken hs m o) (λ (h : Holding). IsAmong h hs × IsOther m o h) (λ h t. (t.among, t.other)) others all;
       ids = ap (λ l. l ++ head.segment ∷ []) ids ∙ sym last;
     }
 
 -- and what is copied of it a plan
-pub found-plan : (hs : List Holding) (m : ℕ) (head : Holding) (o : Opening) (look : ℕ → Option (Bor Holding)) (vs ws : List (Bor Holding)) (b : Bor Holding) (p : Plan) →
-    IsHeadTaken hs m head → opening_in head.bytes ≡ Some o → ((id : ℕ) → IsBest (IsReplicaOf m id) hs (option_copied (look id))) →
+pub found-plan : (hs : List Holding) (m : ℕ) (head : Holding) (o : Opening) (look : ℕ → Option (Bor Holding))
+    (vs ws : List (Bor Holding)) (b : Bor Holding) (p : Plan)
+    → IsHeadTaken hs m head → opening_in head.bytes ≡ Some o → ArePreferred m hs look →
     AreFound look (take (length o.ids - 1) o.ids) vs → b.now ≡ head → ws ≡ vs ++ b ∷ [] → p.segments ≡ map (λ (h : Holding). entries_in h.bytes) (lent ws) → p.safe ≡ o.safe →
     IsPlanOf hs m (record { opening = o; head = head; others = lent vs }) p
 found-plan hs m head o look vs ws b p taken opened best found is e segments safe =
-    let all = found-taken hs m look best (take (length o.ids - 1) o.ids) vs found in
-    let ids = found-ids hs m look best (take (length o.ids - 1) o.ids) vs found in
+    let all = found-taken hs m look best o (take (length o.ids - 1) o.ids) vs found in
+    let ids = found-ids hs m look best o (take (length o.ids - 1) o.ids) vs found in
     record {
       choice = found-choice hs m head o (lent vs) taken opened all ids;
       good = taken.good;
       head = taken.preferred;
-      others = all-map (IsTaken hs m) (λ (h : Holding). IsPreferred (IsReplicaOf m h.segment) hs h) (λ h t. t.preferred) (lent vs) all;
+      others =
+          all-map (IsTaken hs m o) (λ (h : Holding). IsPreferred (IsReplicaOf m o h.segment) hs h) (λ h t. t.preferred) (lent vs)
+          all;
       segments = segments ∙ ap (map (λ (h : Holding). entries_in h.bytes)) (lent-push vs ws b e ∙ ap (λ x. lent vs ++ x ∷ []) is);
       safe = safe;
     }

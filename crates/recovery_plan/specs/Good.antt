@@ -2,9 +2,10 @@
 use Rattle.std.specs.Prelude.{◌≡◌, ℕ, ◌≤◌, List, true, Option, Some, None, IsSome, IsSomeAnd}
 use Rattle.entry.specs.declared.entry.Header.{Header}
 use Rattle.entry.specs.Bag.{IsAmong}
-use Rattle.entry.specs.Text.{header_in, opening_in}
+use Rattle.entry.specs.Text.{header_in, Opening}
 use Rattle.segment.specs.Bytes.{IsSegmentBytes}
 use Rattle.replica.specs.declared.holding.Holding.{Holding}
+use Rattle.replica.specs.Choice.{IsHead, IsOther}
 
 -- the bytes are a segment's, whose header names the replica's master and segment
 pub record IsGood (h : Holding) : Type 0 where
@@ -15,27 +16,27 @@ pub record IsGood (h : Holding) : Type 0 where
 abbrev pub AreGood : ℕ → List Holding → Type 0
 AreGood master hs = (h : Holding) → IsAmong h hs → h.master ≡ master → IsGood h
 
--- a replica of the master that bears a digest
-abbrev pub IsHead : ℕ → Holding → Type 0
-IsHead master h = (h.master ≡ master) × IsSome (opening_in h.bytes)
+-- An inventory names no least head: any of them may be used.
+abbrev pub least_head : ℕ
+least_head = 0
 
--- an open one of this segment
+-- an open replica of this segment of the master, which bears a digest
 abbrev pub IsOpenHead : ℕ → ℕ → Holding → Type 0
-IsOpenHead master id h = IsHead master h × (h.segment ≡ id) × (h.is_open ≡ true)
+IsOpenHead master id h = IsHead least_head master h × (h.segment ≡ id) × (h.is_open ≡ true)
 
--- a replica of this segment of the master
-abbrev pub IsReplicaOf : ℕ → ℕ → Holding → Type 0
-IsReplicaOf master id h = (h.master ≡ master) × (h.segment ≡ id)
+-- a replica of this segment of the master that may be used for an id of the digest
+abbrev pub IsReplicaOf : ℕ → Opening → ℕ → Holding → Type 0
+IsReplicaOf master opening id h = IsOther master opening h × (h.segment ≡ id)
 
 -- some replica that bears a digest is of this segment, and none is of a greater one
 pub record IsNewest (master : ℕ) (hs : List Holding) (id : ℕ) : Type 0 where
   pub head : Holding
   pub among : IsAmong head hs
-  pub is_head : IsHead master head
+  pub is_head : IsHead least_head master head
   pub segment : head.segment ≡ id
-  pub greatest : (h : Holding) → IsAmong h hs → IsHead master h → h.segment ≤ id
+  pub greatest : (h : Holding) → IsAmong h hs → IsHead least_head master h → h.segment ≤ id
 
 -- the newest head; None where no replica bears a digest
 abbrev pub IsNewestOf : ℕ → List Holding → Option ℕ → Type 0
-IsNewestOf master hs None = (h : Holding) → IsAmong h hs → IsHead master h → ⊥
+IsNewestOf master hs None = (h : Holding) → IsAmong h hs → IsHead least_head master h → ⊥
 IsNewestOf master hs (Some id) = IsNewest master hs id

@@ -1,13 +1,21 @@
 -- How the replicas of a digest's ids are looked up.
 use Rattle.std.specs.Prelude.{◌≡◌, ℕ, ◌<◌, List, map, length, slice_index, Option, Some, None, IsSome}
 use Rattle.std.specs.Borrow.{Bor}
+use Rattle.std.specs.Option.{option_copied}
+use Rattle.entry.specs.Text.{Opening}
 use Rattle.replica.specs.declared.holding.Holding.{Holding}
 use Rattle.recovery_plan.specs.declared.fault.PlanFault.{PlanFault}
 use Rattle.recovery_plan.specs.declared.fault.PlanFault.TheVariants.{Missing, NoMemory}
+use Rattle.recovery_plan.specs.Good.{IsReplicaOf}
+use Rattle.recovery_plan.specs.Preferred.{IsBest}
 
 -- the replicas, without where they lie in memory
 abbrev pub lent : List (Bor Holding) → List Holding
 lent hs = map (λ (h : Bor Holding). h.now) hs
+
+-- what is known of each segment is the preferred replica of it, whatever the digest
+abbrev pub ArePreferred : ℕ → List Holding → (ℕ → Option (Bor Holding)) → Type 0
+ArePreferred master hs look = (opening : Opening) (id : ℕ) → IsBest (IsReplicaOf master opening id) hs (option_copied (look id))
 
 -- what is found, id by id
 abbrev pub AreFound : (ℕ → Option (Bor Holding)) → List ℕ → List (Bor Holding) → Type 0

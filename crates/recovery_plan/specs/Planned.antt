@@ -4,25 +4,25 @@ use Rattle.std.specs.List.{AllByRecursion}
 use Rattle.entry.specs.Bag.{IsAmong}
 use Rattle.entry.specs.Text.{Opening, entries_in, opening_in}
 use Rattle.replica.specs.declared.holding.Holding.{Holding}
-use Rattle.replica.specs.Choice.{Choice, IsChoice}
+use Rattle.replica.specs.Choice.{Choice, IsHead, IsChoice}
 use Rattle.recovery_plan.specs.declared.chosen.Plan.{Plan}
 use Rattle.recovery_plan.specs.declared.fault.PlanFault.{PlanFault}
 use Rattle.recovery_plan.specs.declared.fault.PlanFault.TheVariants.{NoHead, HeadClosed, Missing, BadReplica, NoMemory}
-use Rattle.recovery_plan.specs.Good.{IsGood, AreGood, IsHead, IsOpenHead, IsReplicaOf, IsNewest}
+use Rattle.recovery_plan.specs.Good.{IsGood, AreGood, least_head, IsOpenHead, IsReplicaOf, IsNewest}
 use Rattle.recovery_plan.specs.Preferred.{IsPreferred}
 
 -- ---- a plan
 
 -- a choice of the master's newest log from these replicas
 abbrev pub IsChoiceOf : List Holding → ℕ → Choice → Type 0
-IsChoiceOf hs master c = IsChoice (λ (h : Holding). IsAmong h hs) master c
+IsChoiceOf hs master c = IsChoice (λ (h : Holding). IsAmong h hs) least_head master c
 
 -- The plan has the segments of a choice, in the digest's order, and no other. Each is read from its preferred replica.
 pub record IsPlanOf (hs : List Holding) (master : ℕ) (c : Choice) (p : Plan) : Type 0 where
   pub choice : IsChoiceOf hs master c
   pub good : AreGood master hs
   pub head : IsPreferred (IsOpenHead master c.head.segment) hs c.head
-  pub others : AllByRecursion (λ (h : Holding). IsPreferred (IsReplicaOf master h.segment) hs h) c.others
+  pub others : AllByRecursion (λ (h : Holding). IsPreferred (IsReplicaOf master c.opening h.segment) hs h) c.others
   pub segments : p.segments ≡ map (λ (h : Holding). entries_in h.bytes) (c.others ++ c.head ∷ [])
   pub safe : p.safe ≡ c.opening.safe
 
@@ -48,7 +48,7 @@ IsBadFault hs master _ = ⊥
 -- all replicas are well, and none bears a digest
 pub record HasNoHead (hs : List Holding) (master : ℕ) : Type 0 where
   pub good : AreGood master hs
-  pub no_head : (h : Holding) → IsAmong h hs → IsHead master h → ⊥
+  pub no_head : (h : Holding) → IsAmong h hs → IsHead least_head master h → ⊥
 
 -- all replicas are well, and none of the newest head is open
 pub record IsHeadClosed (hs : List Holding) (master id : ℕ) : Type 0 where
@@ -62,13 +62,13 @@ pub record IsHeadTaken (hs : List Holding) (master : ℕ) (head : Holding) : Typ
   pub newest : IsNewest master hs head.segment
   pub preferred : IsPreferred (IsOpenHead master head.segment) hs head
 
--- no replica of the segment is there
-abbrev pub IsLost : List Holding → ℕ → ℕ → Type 0
-IsLost hs master id = (h : Holding) → IsAmong h hs → IsReplicaOf master id h → ⊥
+-- no replica that may be used for this id of the digest is there
+abbrev pub IsLost : List Holding → ℕ → Opening → ℕ → Type 0
+IsLost hs master opening id = (h : Holding) → IsAmong h hs → IsReplicaOf master opening id h → ⊥
 
--- some replica of the segment is there
-abbrev pub IsHere : List Holding → ℕ → ℕ → Type 0
-IsHere hs master id = (h : Holding) × IsAmong h hs × IsReplicaOf master id h
+-- some such replica is there
+abbrev pub IsHere : List Holding → ℕ → Opening → ℕ → Type 0
+IsHere hs master opening id = (h : Holding) × IsAmong h hs × IsReplicaOf master opening id h
 
 -- the digest of the head that is taken lists the segment, which is lost; none of those below it is
 pub record IsMissing (hs : List Holding) (master id : ℕ) : Type 0 where
@@ -77,8 +77,8 @@ pub record IsMissing (hs : List Holding) (master id : ℕ) : Type 0 where
   pub opening : Opening
   pub opened : opening_in head.bytes ≡ Some opening
   pub listed : IsAmong id opening.ids
-  pub lost : IsLost hs master id
-  pub lowest : (n : ℕ) → IsAmong n opening.ids → n < id → IsHere hs master n
+  pub lost : IsLost hs master opening id
+  pub lowest : (n : ℕ) → IsAmong n opening.ids → n < id → IsHere hs master opening n
 
 -- what each fault says of the replicas, in the order of the tests
 abbrev pub IsFault : List Holding → ℕ → PlanFault → Type 0

@@ -1,11 +1,11 @@
 //! Which replica of a segment is taken.
 
-ghost use Rattle.std.specs.Prelude.{◌≡◌, ◌==◌, ◌&&◌, ◌||◌, ℕ, nat_lt, length, IfOk};
+ghost use Rattle.std.specs.Prelude.{◌≡◌, ◌==◌, ◌&&◌, ◌||◌, nat_lt, length, IfOk};
 ghost use Rattle.std.specs.Option.{option_copied};
 ghost use Rattle.std.specs.Ordering.{nat_cmp};
 ghost use Rattle.std.specs.BTreeMap.{get};
-ghost use Rattle.recovery_plan.specs.Good.{IsReplicaOf};
-ghost use Rattle.recovery_plan.specs.Preferred.{is_longer, is_preferred, better, IsBest};
+ghost use Rattle.recovery_plan.specs.Looked.{ArePreferred};
+ghost use Rattle.recovery_plan.specs.Preferred.{is_longer, is_preferred, better};
 
 use replica::Holding;
 use std::alloc::{AllocError, Global};
@@ -47,7 +47,7 @@ pub(crate) fn best_replicas<'a>(
     holdings: &'a [Holding],
     master: u64,
 ) -> Result<BTreeMap<u64, &'a Holding>, AllocError>
-    ensures { IfOk result (λ best. (id : ℕ) → IsBest (IsReplicaOf master id) holdings.entry.now (option_copied (get nat_cmp best id))) }
+    ensures { IfOk result (λ best. ArePreferred master holdings.entry.now (get nat_cmp best)) }
 {
     let mut best: BTreeMap<u64, &'a Holding> = BTreeMap::new(alloc);
     for holding in holdings {

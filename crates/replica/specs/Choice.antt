@@ -4,10 +4,11 @@ use Rattle.std.specs.List.{flat_map, AllByRecursion}
 use Rattle.entry.specs.declared.entry.Entry.{Entry}
 use Rattle.entry.specs.Text.{Opening, opening_in, data_in}
 use Rattle.replica.specs.declared.holding.Holding.{Holding}
+use Rattle.replica.specs.Picture.{Shown, IsHeld}
 
--- heads that may be used: any
-abbrev pub IsUsableHead : ℕ → Type 0
-IsUsableHead segment = Unit {0}
+-- a head that may be used: none below the least
+abbrev pub IsUsableHead : ℕ → ℕ → Type 0
+IsUsableHead least segment = least ≤ segment
 
 -- replicas of an id of a digest that may be used: any
 abbrev pub IsUsableReplica : Opening → Holding → Type 0
@@ -23,14 +24,26 @@ pub record Choice : Type 0 where
 abbrev pub bag_of : Choice → List Entry
 bag_of c = flat_map (λ (h : Holding). data_in h.bytes) (c.others ++ c.head ∷ [])
 
--- A choice of a master's newest log, from the replicas that are held.
-pub record IsChoice (holds : Holding → Type 0) (master : ℕ) (c : Choice) : Type 0 where
+-- a replica of the master that bears a digest, and that may be used
+abbrev pub IsHead : ℕ → ℕ → Holding → Type 0
+IsHead least master h = (h.master ≡ master) × IsSome (opening_in h.bytes) × IsUsableHead least h.segment
+
+-- a replica of the master that may be used for an id of the digest
+abbrev pub IsOther : ℕ → Opening → Holding → Type 0
+IsOther master opening h = (h.master ≡ master) × IsUsableReplica opening h
+
+-- A choice of a master's newest log, from the replicas that are held, where this is the least head that may be used.
+pub record IsChoice (holds : Holding → Type 0) (least master : ℕ) (c : Choice) : Type 0 where
   pub held : holds c.head
   pub of_master : c.head.master ≡ master
   pub is_open : c.head.is_open ≡ true
   pub opening : opening_in c.head.bytes ≡ Some c.opening
-  pub usable : IsUsableHead c.head.segment
+  pub usable : IsUsableHead least c.head.segment
   -- no head that may be used is newer
-  pub newest : (h : Holding) → holds h → h.master ≡ master → IsSome (opening_in h.bytes) → IsUsableHead h.segment → h.segment ≤ c.head.segment
-  pub others : AllByRecursion (λ (h : Holding). holds h × (h.master ≡ master) × IsUsableReplica c.opening h) c.others
+  pub newest : (h : Holding) → holds h → IsHead least master h → h.segment ≤ c.head.segment
+  pub others : AllByRecursion (λ (h : Holding). holds h × IsOther master c.opening h) c.others
   pub ids : map (λ (h : Holding). h.segment) c.others ++ c.head.segment ∷ [] ≡ c.opening.ids
+
+-- a choice of a master's newest log from what is shown
+abbrev pub IsShownChoice : Shown → ℕ → Choice → Type 0
+IsShownChoice s master c = IsChoice (IsHeld s.holds) s.least master c

@@ -19,12 +19,25 @@ abbrev pub with_replica : Picture → ℕ → ℕ → ℕ → Option Replica →
 with_replica p b m s r = λ c n t. if is_same_place b m s c n t then r else p c n t
 
 -- the replicas on some backups
-abbrev pub survivors : (ℕ → Bool) → Picture → Picture
-survivors keep p = λ b m s. if keep b then p b m s else None
+abbrev pub left_on : (ℕ → Bool) → Picture → Picture
+left_on keep p = λ b m s. if keep b then p b m s else None
 
 -- the picture has just this replica at its place
 abbrev pub IsHeld : Picture → Holding → Type 0
 IsHeld p h = p h.backup h.master h.segment ≡ Some (record { bytes = h.bytes; is_open = h.is_open })
+
+-- What a recovery is shown: what the backups hold, and the least id of a head that may be used.
+pub record Shown : Type 0 where
+  pub holds : Picture
+  pub least : ℕ
+
+-- a picture shows itself, and any of its heads may be used
+abbrev pub shown_by : Picture → Shown
+shown_by p = record { holds = p; least = 0 }
+
+-- what is shown where these backups are left
+abbrev pub survivors : (ℕ → Bool) → Shown → Shown
+survivors keep s = record { holds = left_on keep s.holds; least = s.least }
 
 -- no replica is shown twice
 abbrev pub IsOnce : List Holding → Type 0

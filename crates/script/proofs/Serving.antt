@@ -12,8 +12,8 @@ use Rattle.entry.specs.Bag.{IsAmong}
 use Rattle.entry.specs.Meaning.{IsMeaning, among, contents_of}
 use Rattle.replay.specs.declared.rebuilt.Rebuilt.{Rebuilt}
 use Rattle.replica.specs.declared.holding.Holding.{Holding}
-use Rattle.replica.specs.Picture.{Replica, Picture, FleetState, survivors, IsHeld}
-use Rattle.replica.specs.Choice.{IsChoice}
+use Rattle.replica.specs.Picture.{Replica, Picture, FleetState, left_on, shown_by, survivors, IsHeld}
+use Rattle.replica.specs.Choice.{IsShownChoice}
 use Rattle.replica.specs.Survival.{BothSurvive}
 use Rattle.recovery_plan.specs.declared.fault.PlanFault.TheVariants as plan_fault
 use Rattle.versioned_map.specs.declared.command.Command.{Command}
@@ -402,11 +402,11 @@ same_picture d l old new is of = record {
 
 -- the inventory of what is left of a picture shows it
 pub shows_left : (hs : List Holding) (d : MasterData) (l : Left) (f : FleetState) (master : ℕ) → d.config.master ≡ master
-    → IsLeftOf d l f → ((h : Holding) → IsAmong h hs ↔ IsHeld f.picture h) → Shows hs (survivors (is_left l.lost) l.picture) master
+    → IsLeftOf d l f → ((h : Holding) → IsAmong h hs ↔ IsHeld f.picture h) → Shows hs (survivors (is_left l.lost) (shown_by l.picture)) master
 shows_left hs d l f master number of shown h of_master =
     let at : d.config.master ≡ h.master = number ∙ sym of_master in
-    let eq : f.picture h.backup h.master h.segment ≡ survivors (is_left l.lost) l.picture h.backup h.master h.segment =
-    subst (λ (m : ℕ). f.picture h.backup m h.segment ≡ survivors (is_left l.lost) l.picture h.backup m h.segment) at (of.shown h.backup h.segment) in
+    let eq : f.picture h.backup h.master h.segment ≡ left_on (is_left l.lost) l.picture h.backup h.master h.segment =
+    subst (λ (m : ℕ). f.picture h.backup m h.segment ≡ left_on (is_left l.lost) l.picture h.backup m h.segment) at (of.shown h.backup h.segment) in
     (λ among. sym eq ∙ (shown h).0 among, λ held. (shown h).1 (eq ∙ held))
 
 pub table_told : (d : MasterData) (node : Node) (config : Config) (at : Position) (r : Rebuilt) → Stands node config d at
@@ -444,7 +444,7 @@ module _ (node : Node) (fleet : MemoryFleet) (config : Config) (d : MasterData) 
     of_master : d.config.master ≡ master
     of_master = ap (λ (c : Config). c.master) s.configured ∙ number
 
-    shows : Shows hs (survivors (is_left left_at.0.lost) left_at.0.picture) master
+    shows : Shows hs (survivors (is_left left_at.0.lost) (shown_by left_at.0.picture)) master
     shows = shows_left hs d left_at.0 (state_of fleet) master of_master left_at.2 shown
 
     sound : IsSound (log_of d) left_at.0.picture
@@ -463,7 +463,7 @@ module _ (node : Node) (fleet : MemoryFleet) (config : Config) (d : MasterData) 
           table_told d node config at r s found,
           (
             c,
-            subst (λ (n : ℕ). IsChoice (IsHeld (survivors (is_left left_at.0.lost) left_at.0.picture)) n c) (ap (λ (k : Config). k.master) s.configured) choice,
+            subst (λ (n : ℕ). IsShownChoice (survivors (is_left left_at.0.lost) (shown_by left_at.0.picture)) n c) (ap (λ (k : Config). k.master) s.configured) choice,
             subst (λ (es : List Entry). IsMeaning (among es) (contents_of r.objects)) bag from.2.meaning,
           ),
           refl,
@@ -477,7 +477,7 @@ module _ (node : Node) (fleet : MemoryFleet) (config : Config) (d : MasterData) 
           left_at.1,
           (
             loss.0,
-            λ both. loss.1 (subst (λ (k : Config). BothSurvive (IsHomeBy k) left_at.0.picture k.master (is_left left_at.0.lost)) (sym s.configured) both),
+            λ both. loss.1 (subst (λ (k : Config). BothSurvive (IsHomeBy k) (shown_by left_at.0.picture) k.master (is_left left_at.0.lost)) (sym s.configured) both),
           ),
           refl,
         )

@@ -2,7 +2,7 @@
 use Rattle.std.specs.Prelude.{◌≡◌, ◌⊎◌, ℕ, ◌<◌, ◌≤◌, List, [], ◌∷◌, ◌++◌, Bool, true, false, Option, Some, None, length}
 use Rattle.backup.specs.State.{state_of}
 use Rattle.lines.specs.Grammar.{LineValue}
-use Rattle.replica.specs.Picture.{FleetState, survivors}
+use Rattle.replica.specs.Picture.{FleetState, left_on}
 use Rattle.versioned_map.specs.declared.command.Command.{Command}
 use Rattle.versioned_map.specs.declared.command.Record.{Record}
 use Rattle.versioned_map.specs.declared.command.Reply.{Reply}
@@ -50,7 +50,7 @@ pub record IsLeftOf (d : MasterData) (l : Left) (f : FleetState) : Type 0 where
   pub crashed : FleetState
   pub valid : IsValid d crashed
   pub picture : l.picture ≡ crashed.picture
-  pub shown : (b s : ℕ) → f.picture b d.config.master s ≡ survivors (is_left l.lost) l.picture b d.config.master s
+  pub shown : (b s : ℕ) → f.picture b d.config.master s ≡ left_on (is_left l.lost) l.picture b d.config.master s
 
 -- a master that is up knows this; one that is down knew it, and this is left of it
 abbrev pub IsOf : Node → Option Left → MasterData → Type 0

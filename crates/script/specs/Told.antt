@@ -7,8 +7,8 @@ use Rattle.entry.specs.Meaning.{IsMeaning, among, contents_of}
 use Rattle.entry.specs.Order.{key_cmp}
 use Rattle.entry.specs.Text.{text_of}
 use Rattle.lines.specs.Grammar.{LineValue, Idle, Put, Get, Hex, Stop, Crash, Lose, Recover}
-use Rattle.replica.specs.Choice.{Choice, IsChoice, bag_of}
-use Rattle.replica.specs.Picture.{FleetState, survivors, IsHeld}
+use Rattle.replica.specs.Choice.{Choice, IsShownChoice, bag_of}
+use Rattle.replica.specs.Picture.{FleetState, shown_by, survivors, IsHeld}
 use Rattle.replica.specs.Survival.{BothSurvive}
 use Rattle.versioned_map.specs.declared.command.Command.{Command}
 use Rattle.versioned_map.specs.declared.command.Command.TheVariants as command
@@ -120,13 +120,13 @@ IsRecoveredAt life at r =
 
 -- the objects are those of a choice from what the backups still hold
 abbrev pub IsOfLeft : Config → Left → Rebuilt → Type 0
-IsOfLeft config l r = (c : Choice) × IsChoice (IsHeld (survivors (is_left l.lost) l.picture)) config.master c
+IsOfLeft config l r = (c : Choice) × IsShownChoice (survivors (is_left l.lost) (shown_by l.picture)) config.master c
     × IsMeaning (among (bag_of c)) (contents_of r.objects)
 
 -- what is refused is lost, or memory ran out; and this alone where both survive among the backups that are left
 abbrev pub IsLossOf : Config → Left → RecoveryFault → Type 0
 IsLossOf config l e = IsLossOrMemory e
-    × (BothSurvive (IsHomeBy config) l.picture config.master (is_left l.lost) → IsWant e)
+    × (BothSurvive (IsHomeBy config) (shown_by l.picture) config.master (is_left l.lost) → IsWant e)
 
 -- ---- lines
 
