@@ -1,5 +1,5 @@
 -- Which replicas are well.
-use Rattle.std.specs.Prelude.{◌≡◌, ℕ, ◌≤◌, List, true, Option, Some, None, IsSome, IsSomeAnd}
+use Rattle.std.specs.Prelude.{◌≡◌, ℕ, ◌≤◌, List, true, Option, Some, None, IsSomeAnd}
 use Rattle.entry.specs.declared.entry.Header.{Header}
 use Rattle.entry.specs.Bag.{IsAmong}
 use Rattle.entry.specs.Text.{header_in, Opening}

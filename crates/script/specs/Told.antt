@@ -8,7 +8,7 @@ use Rattle.entry.specs.Order.{key_cmp}
 use Rattle.entry.specs.Text.{text_of}
 use Rattle.lines.specs.Grammar.{LineValue, Idle, Put, Get, Hex, Stop, Crash, Lose, Recover}
 use Rattle.replica.specs.Choice.{Choice, IsShownChoice, bag_of}
-use Rattle.replica.specs.Picture.{FleetState, shown_by, survivors, IsHeld}
+use Rattle.replica.specs.Picture.{FleetState, shown_by, survivors}
 use Rattle.replica.specs.Survival.{BothSurvive}
 use Rattle.versioned_map.specs.declared.command.Command.{Command}
 use Rattle.versioned_map.specs.declared.command.Command.TheVariants as command
