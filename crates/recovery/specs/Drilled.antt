@@ -16,8 +16,8 @@ use Rattle.recovery.specs.Kept.{is_kept}
 use Rattle.recovery.specs.Recovered.{IsRecovered, IsLossOrMemory, IsWant}
 
 -- The steps were taken from this start, and left this fleet. Whichever backups are kept: what is recovered is exactly
--- the map after a prefix that holds each durable command; what is refused, the loss that hides the log, or want of memory,
--- and this alone where the head and the segments survive.
+-- the map after a prefix that holds each durable command. A refusal names the loss that hides the log, or memory ran out,
+-- and only memory if the head and the segments survive.
 pub record IsDrill (start : World) (steps : List Step) (kept : List ℕ) (answers : List (Result StepAnswer Refusal))
     (recovered : Result Rebuilt RecoveryFault) (left : FleetState) : Type 0 where
   pub stop : World
@@ -25,5 +25,6 @@ pub record IsDrill (start : World) (steps : List Step) (kept : List ℕ) (answer
   pub fleet : left ≡ stop.fleet
   pub valid : IsValid stop.knows left
   pub prefix : IfOk recovered (λ r. (count : ℕ) × IsRecovered (log_of stop.knows) count r)
-  pub loss : IfErr recovered (λ e. IsLossOrMemory e
-      × (BothSurvive (IsHome (log_of stop.knows)) (shown_by left.picture) stop.knows.config.master (is_kept kept) → IsWant e))
+  pub loss : IfErr recovered (λ e. IsLossOrMemory e × (
+      BothSurvive (IsHome (log_of stop.knows)) (shown_by left.picture) stop.knows.config.master (is_kept kept)
+      → IsWant e))

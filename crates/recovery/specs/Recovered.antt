@@ -44,7 +44,8 @@ IsAcknowledged answered place = (later : ℕ) × IsAmong later answered × (plac
 -- Where durable records alone are answered, each acknowledged one is among those that are recovered.
 abbrev pub AcknowledgedAreRecovered : Type 0
 AcknowledgedAreRecovered = (d : LogData) (count : ℕ) (r : Rebuilt) (answered : List ℕ) → IsRecovered d count r
-    → ((place : ℕ) → IsAmong place answered → place < durable_of d) → (place : ℕ) → IsAcknowledged answered place → place < count
+    → ((place : ℕ) → IsAmong place answered → place < durable_of d)
+    → (place : ℕ) → IsAcknowledged answered place → place < count
 
 -- ---- refusals
 
@@ -76,11 +77,17 @@ IsWant (Replay fault) = IsReplayWant fault
 
 -- ---- any inventory, whatever it shows
 
+-- a plan of the inventory
+abbrev pub IsPlan : List Holding → ℕ → PlanValue → Type 0
+IsPlan inventory master plan = (c : Choice) × IsPlanOf inventory master c plan
+
 -- what the log of a plan of the inventory stands for
 abbrev pub IsRebuiltFrom : List Holding → ℕ → Rebuilt → Type 0
-IsRebuiltFrom inventory master r = (plan : PlanValue) × ((c : Choice) × IsPlanOf inventory master c plan) × IsRebuilt plan.segments plan.safe r
+IsRebuiltFrom inventory master r =
+    (plan : PlanValue) × IsPlan inventory master plan × IsRebuilt plan.segments plan.safe r
 
 -- The fault stands in the inventory: there is no plan of it, or the log of its plan is refused.
 abbrev pub IsRefusedFrom : List Holding → ℕ → RecoveryFault → Type 0
 IsRefusedFrom inventory master (Plan fault) = IsFault inventory master fault × NamesLoss inventory master fault
-IsRefusedFrom inventory master (Replay fault) = (plan : PlanValue) × ((c : Choice) × IsPlanOf inventory master c plan) × IsRefusal plan.segments fault
+IsRefusedFrom inventory master (Replay fault) =
+    (plan : PlanValue) × IsPlan inventory master plan × IsRefusal plan.segments fault

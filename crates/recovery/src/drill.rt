@@ -21,15 +21,16 @@ pub struct Drill<F> {
     pub fleet: F,
 }
 
-/// Lets a master take any steps, stops it, and recovers it from what these backups hold, and from nothing else. If there is
-/// no memory for the answers, the master comes back as it was.
+/// Lets a master take any steps, stops it, and recovers it from what these backups hold, and from nothing else. If there
+/// is no memory for the answers, the master comes back as it was.
 pub fn run_drill<F: Fleet>(
     alloc: Global,
     master: Master<F>,
     steps: &[Step],
     kept: &[u64],
 ) -> Result<Drill<F>, (NoMemory, Master<F>)>
-    ensures drill { IfOk result (λ d. IsDrill (world F.state master) steps.now kept.now d.answers.items d.recovered (F.state d.fleet)) }
+    ensures drill { IfOk result (λ d.
+        IsDrill (world F.state master) steps.now kept.now d.answers.items d.recovered (F.state d.fleet)) }
     ensures refused { IfErr result (λ e. world F.state e.1 ≡ world F.state master) }
 {
     let mut master = master;

@@ -1,8 +1,8 @@
 //! The theorem on recovery: what some backups still hold of a master gives back its map after a prefix of its commands.
 //!
-//! `recover` says it of whatever sound state an inventory shows a part of, and `run_drill` of a whole life: any steps of any
-//! master, its end, and the recovery from what these backups hold. Both stand on the definitions of `log_model` alone: what a
-//! sound picture is, and what was durable. What comes back stands in `specs/Recovered.antt`.
+//! `recover` promises it for any sound state of which an inventory shows a part, and `run_drill` for a whole life: any
+//! steps of any master, its end, and the recovery from what these backups hold. Both rest on the definitions of
+//! `log_model` alone: what a sound picture is, and what was durable. `specs/Recovered.antt` defines what comes back.
 #![tactic(auto)]
 
 mod drill;

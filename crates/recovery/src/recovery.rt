@@ -40,7 +40,8 @@ pub fn recover(alloc: Global, inventory: &Inventory, master: u64) -> Result<Rebu
     // Of whatever sound state of the master the inventory shows what some backups still hold: exactly the map after a
     // prefix of its commands, each durable one among them.
     ensures ok { IfOk result (λ r. (d : LogData) (p : Picture) (keep : ℕ → Bool) →
-        IsSound d p → d.config.master ≡ master → Shows inventory.now (survivors keep (shown_by p)) master → (count : ℕ) × IsRecovered d count r) }
+        IsSound d p → d.config.master ≡ master → Shows inventory.now (survivors keep (shown_by p)) master →
+        (count : ℕ) × IsRecovered d count r) }
     // Of such a state only a lost head or segment is named, or want of memory, and a loss only where it hides the log.
     ensures refused { IfErr result (λ e. (d : LogData) (p : Picture) (keep : ℕ → Bool) →
         IsSound d p → d.config.master ≡ master → Shows inventory.now (survivors keep (shown_by p)) master →

@@ -10,7 +10,8 @@ use Rattle.replica.specs.Choice.{IsHead, IsOther}
 -- the bytes are a segment's, whose header names the replica's master and segment
 pub record IsGood (h : Holding) : Type 0 where
   pub segment : IsSegmentBytes h.bytes
-  pub header : IsSomeAnd (header_in h.bytes) (λ (header : Header). (header.master ≡ h.master) × (header.segment ≡ h.segment))
+  pub header :
+      IsSomeAnd (header_in h.bytes) (λ (header : Header). (header.master ≡ h.master) × (header.segment ≡ h.segment))
 
 -- each replica of the master is well
 abbrev pub AreGood : ℕ → List Holding → Type 0

@@ -1,5 +1,5 @@
 -- How the replicas of a digest's ids are looked up.
-use Rattle.std.specs.Prelude.{◌≡◌, ℕ, ◌<◌, List, map, length, slice_index, Option, Some, None, IsSome}
+use Rattle.std.specs.Prelude.{◌≡◌, ℕ, ◌-◌, ◌<◌, List, take, map, length, slice_index, Option, Some, None, IsSome}
 use Rattle.std.specs.Borrow.{Bor}
 use Rattle.std.specs.Option.{option_copied}
 use Rattle.entry.specs.Text.{Opening}
@@ -15,7 +15,12 @@ lent hs = map (λ (h : Bor Holding). h.now) hs
 
 -- what is known of each segment is the preferred replica of it, whatever the digest
 abbrev pub ArePreferred : ℕ → List Holding → (ℕ → Option (Bor Holding)) → Type 0
-ArePreferred master hs look = (opening : Opening) (id : ℕ) → IsBest (IsReplicaOf master opening id) hs (option_copied (look id))
+ArePreferred master hs look =
+    (opening : Opening) (id : ℕ) → IsBest (IsReplicaOf master opening id) hs (option_copied (look id))
+
+-- the ids of a digest but the last, which is the head's own
+abbrev pub but_last : List ℕ → List ℕ
+but_last ids = take (length ids - 1) ids
 
 -- what is found, id by id
 abbrev pub AreFound : (ℕ → Option (Bor Holding)) → List ℕ → List (Bor Holding) → Type 0

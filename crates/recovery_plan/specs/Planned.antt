@@ -98,11 +98,12 @@ IsLaterFault hs master _ = ⊥
 
 -- the open replicas of the newest head bear one digest
 abbrev pub AgreeOnDigest : List Holding → ℕ → Type 0
-AgreeOnDigest hs master = (id : ℕ) (g h : Holding) (o q : Opening) → IsNewest master hs id → IsAmong g hs → IsAmong h hs →
-    IsOpenHead master id g → IsOpenHead master id h → opening_in g.bytes ≡ Some o → opening_in h.bytes ≡ Some q → o.ids ≡ q.ids
+AgreeOnDigest hs master = (id : ℕ) (g h : Holding) (o q : Opening) → IsNewest master hs id
+    → IsAmong g hs → IsAmong h hs → IsOpenHead master id g → IsOpenHead master id h
+    → opening_in g.bytes ≡ Some o → opening_in h.bytes ≡ Some q → o.ids ≡ q.ids
 
--- Where the master's replicas are well, a loss is named only where there is no choice: at once for a lost head; for a lost
--- segment no choice takes a head whose digest lists it, so there is none where the open heads agree.
+-- If the master's replicas are well, a loss is named only where there is no choice: at once for a lost head; for a lost
+-- segment no choice takes a head whose digest lists it, so there is none if the open heads agree.
 abbrev pub NamesLoss : List Holding → ℕ → PlanFault → Type 0
 NamesLoss hs master NoHead = (c : Choice) → IsChoiceOf hs master c → ⊥
 NamesLoss hs master (HeadClosed id) = (c : Choice) → IsChoiceOf hs master c → ⊥

@@ -5,7 +5,8 @@ use Rattle.replica.specs.declared.holding.Holding.{Holding}
 
 -- the first is longer, or as long and on a lower backup
 abbrev pub is_longer : Holding → Holding → Bool
-is_longer a b = nat_lt (length b.bytes) (length a.bytes) || ((length a.bytes == length b.bytes) && nat_lt a.backup b.backup)
+is_longer a b =
+    nat_lt (length b.bytes) (length a.bytes) || ((length a.bytes == length b.bytes) && nat_lt a.backup b.backup)
 
 -- a closed replica is preferred to an open one, of closed ones that on the lower backup, of open ones the longer
 abbrev pub is_preferred : Holding → Holding → Bool

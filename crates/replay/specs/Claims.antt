@@ -56,7 +56,8 @@ claim_cmp a b =
 
 -- objects of one key and version with different values
 abbrev pub is_clash : Claimed → Claimed → Bool
-is_clash a b = key_eq a.key b.key && (a.version == b.version) && not a.dead && not b.dead && not (pointwise nat_eq a.value b.value)
+is_clash a b =
+    key_eq a.key b.key && (a.version == b.version) && not a.dead && not b.dead && not (pointwise nat_eq a.value b.value)
 
 -- no claim of its key comes next
 abbrev pub is_last : Claimed → List Claimed → Bool

@@ -1,5 +1,5 @@
 -- What the backups hold.
-use Rattle.std.specs.Prelude.{◌≡◌, ℕ, ◌==◌, ◌&&◌, List, [], ◌∷◌, Bool, Option, Some, None, if◌then◌else◌}
+use Rattle.std.specs.Prelude.{◌≡◌, ◌↔◌, ℕ, ◌==◌, ◌&&◌, List, [], ◌∷◌, Bool, Option, Some, None, if◌then◌else◌}
 use Rattle.entry.specs.Bag.{IsAmong}
 use Rattle.replica.specs.declared.holding.Holding.{Holding}
 
@@ -39,13 +39,21 @@ shown_by p = record { holds = p; least = 0 }
 abbrev pub survivors : (ℕ → Bool) → Shown → Shown
 survivors keep s = record { holds = left_on keep s.holds; least = s.least }
 
+-- the list has just the replicas that the picture has
+abbrev pub AreHeld : List Holding → Picture → Type 0
+AreHeld hs p = (h : Holding) → IsAmong h hs ↔ IsHeld p h
+
+-- the list has just the replicas that this backup holds
+abbrev pub AreHeldBy : List Holding → Picture → ℕ → Type 0
+AreHeldBy hs p backup = (h : Holding) → IsAmong h hs ↔ ((h.backup ≡ backup) × IsHeld p h)
+
 -- no replica is shown twice
 abbrev pub IsOnce : List Holding → Type 0
 IsOnce [] = Unit {0}
 IsOnce (h ∷ hs) = (IsAmong h hs → ⊥) × IsOnce hs
 
--- A fleet: how many backups it has, numbered from 0, what they hold, how many ops were taken, after how many it is spent,
--- and how many takes ended in a fault.
+-- A fleet: how many backups it has, numbered from 0, what they hold, how many ops were taken, after how many it is
+-- spent, and how many takes ended in a fault.
 pub record FleetState : Type 0 where
   pub backups : ℕ
   pub picture : Picture

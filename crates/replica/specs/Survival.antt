@@ -29,8 +29,8 @@ pub record IsNewestOpened (IsHome : ℕ → ℕ → Type 0) (shown : Shown) (mas
   pub opened : IsOpened IsHome shown master s
   pub newest : (t : ℕ) → IsOpened IsHome shown master t → t ≤ s
 
--- Of the newest head that was opened on all its homes one of these is left, or a replica of a later head; of any head, if
--- none was opened on all.
+-- Of the newest head that was opened on all its homes one of these is left, or a replica of a later head; of any head,
+-- if none was opened on all.
 abbrev pub HeadSurvives : (ℕ → ℕ → Type 0) → Shown → ℕ → (ℕ → Bool) → Type 0
 HeadSurvives IsHome shown master keep =
     ((s : ℕ) × IsNewestOpened IsHome shown master s

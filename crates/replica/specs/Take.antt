@@ -11,7 +11,8 @@ effect (Open bytes) None = Some (Some (record { bytes = bytes; is_open = true })
 effect (Open bytes) (Some r) = None
 effect (Extend at bytes) None = None
 effect (Extend at bytes) (Some r) =
-    if r.is_open && (at == length r.bytes) then Some (Some (record { bytes = r.bytes ++ bytes; is_open = true })) else None
+    if r.is_open && (at == length r.bytes) then Some (Some (record { bytes = r.bytes ++ bytes; is_open = true }))
+    else None
 effect Close None = None
 effect Close (Some r) = if r.is_open then Some (Some (record { bytes = r.bytes; is_open = false })) else None
 effect (Seal bytes) None = Some (Some (record { bytes = bytes; is_open = false }))
@@ -31,11 +32,12 @@ with_effect f b op (Some r) = Some (record {
 
 -- the fleet after the op; None where there is no such backup or the op doesn't fit
 abbrev pub taken : FleetState → ℕ → OpValue → Option FleetState
-taken f b op = if nat_lt b f.backups then with_effect f b op (effect op.act (f.picture b op.master op.segment)) else None
+taken f b op =
+    if nat_lt b f.backups then with_effect f b op (effect op.act (f.picture b op.master op.segment)) else None
 
 -- the same fleet, with one more fault
 abbrev pub faulted : FleetState → FleetState
-faulted f = record { backups = f.backups; picture = f.picture; takes = f.takes; end = f.end; faults = f.faults + 1 }
+faulted f = record f { faults = f.faults + 1 }
 
 -- the fleet was not spent, and took the op
 abbrev pub Takes : FleetState → ℕ → OpValue → FleetState → Type 0
@@ -60,4 +62,4 @@ no_limit = 2 ^ 64 - 1
 
 -- the fleet that takes this many further ops
 abbrev pub limited : FleetState → ℕ → FleetState
-limited f n = record { backups = f.backups; picture = f.picture; takes = f.takes; end = min (f.takes + n) no_limit; faults = f.faults }
+limited f n = record f { end = min (f.takes + n) no_limit }

@@ -1,9 +1,8 @@
 //! What a fleet of backups promises.
 
-ghost use Rattle.std.specs.Prelude.{◌≡◌, ◌≤◌, ℕ, [], IfOk, ◌↔◌};
-ghost use Rattle.entry.specs.Bag.{IsAmong};
+ghost use Rattle.std.specs.Prelude.{◌≡◌, ◌≤◌, ℕ, [], IfOk};
 ghost use Rattle.replica.specs.Op.{shown_op};
-ghost use Rattle.replica.specs.Picture.{FleetState, IsHeld, IsOnce};
+ghost use Rattle.replica.specs.Picture.{FleetState, AreHeldBy, IsOnce};
 ghost use Rattle.replica.specs.Take.{TakeGives, limited};
 
 use crate::holding::Holding;
@@ -13,8 +12,8 @@ use std::alloc::Global;
 
 /// Backups that hold replicas.
 ///
-/// They are honest: what a backup shows is what it took. A take is whole or not at all; one that ends in a fault may have
-/// been taken. No op changes another replica than the one that it names.
+/// They are honest: what a backup shows is what it took. A take is whole or not at all; one that ends in a fault may
+/// have been taken. No op changes another replica than the one that it names.
 pub trait Fleet {
     /// What the backups hold, and the counts.
     ghost state: { Self → FleetState };
@@ -25,7 +24,7 @@ pub trait Fleet {
 
     /// All replicas that a backup holds, each once; none for a number that is no backup's.
     fn holdings(&self, alloc: Global, backup: u64) -> Result<Vec<Holding>, NoMemory>
-        ensures shown { IfOk result (λ hs. (h : Holding) → IsAmong h hs.items ↔ ((h.backup ≡ backup) × IsHeld (state self.now).picture h)) }
+        ensures shown { IfOk result (λ hs. AreHeldBy hs.items (state self.now).picture backup) }
         ensures once { IfOk result (λ hs. IsOnce hs.items) }
         ensures none { IfOk result (λ hs. (state self.now).backups ≤ backup → hs.items ≡ []) };
 
