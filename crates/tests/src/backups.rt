@@ -23,16 +23,6 @@ fn op_of<'a>(segment: u64, at: Option<usize>, text: &'a str) -> Op<'a> {
     }
 }
 
-/// Whether the ops are answered so, one after another.
-fn are_answered(fleet: &mut MemoryFleet, rows: &[Row<'_>]) -> bool {
-    for (backup, segment, at, text, want) in rows {
-        if fleet.take(*backup, &op_of(*segment, *at, text)) != *want {
-            return false;
-        }
-    }
-    true
-}
-
 /// Writes the backup, the segment and the bytes of each replica, and whether it is open.
 fn write_holdings(text: &mut String, holdings: &[Holding]) -> Result<(), AllocError> {
     for holding in holdings {
@@ -48,26 +38,24 @@ fn write_holdings(text: &mut String, holdings: &[Holding]) -> Result<(), AllocEr
     Ok(())
 }
 
-/// Whether replicas are these.
-fn are_shown(alloc: Global, holdings: &[Holding], want: &str) -> bool {
+/// Replicas, each with its backup, its segment and its bytes.
+fn shown(alloc: Global, holdings: &[Holding]) -> Result<String, Fail> {
     let mut text = String::new(alloc);
-    write_holdings(&mut text, holdings).is_ok() && text.as_str() == want
+    write_holdings(&mut text, holdings)?;
+    Ok(text)
 }
 
-fn holds(alloc: Global, fleet: &MemoryFleet, backup: u64, want: &str) -> bool {
-    match fleet.holdings(alloc, backup) {
-        Ok(holdings) => are_shown(alloc, holdings.as_slice(), want),
-        Err(_) => false,
-    }
+/// What a backup holds.
+fn held(alloc: Global, fleet: &MemoryFleet, backup: u64) -> Result<String, Fail> {
+    shown(alloc, fleet.holdings(alloc, backup)?.as_slice())
 }
 
-fn has_inventory(alloc: Global, fleet: &MemoryFleet, want: &str) -> bool {
-    match fleet.inventory(alloc) {
-        Ok(inventory) => are_shown(alloc, inventory.as_slice(), want),
-        Err(_) => false,
-    }
+/// What all backups hold.
+fn inventory(alloc: Global, fleet: &MemoryFleet) -> Result<String, Fail> {
+    shown(alloc, fleet.inventory(alloc)?.as_slice())
 }
 
+/// Ops, some of which fit.
 const FITS: &[Row<'static>] = &[
     (0, 7, None, "ab", Ok(())),
     (0, 7, Some(2), "c", Ok(())),
@@ -77,17 +65,16 @@ const FITS: &[Row<'static>] = &[
     (2, 7, None, "ab", Err(TakeFault::Wrong)),
 ];
 
-fn takes_what_fits(alloc: Global, fleet: &mut MemoryFleet) -> bool {
-    let are_answered = are_answered(fleet, FITS);
-    let are_counted = (fleet.backups(), fleet.takes(), fleet.faults()) == (2, 2, 0);
-    let are_held = holds(alloc, fleet, 0, "0 7 abc true, ") && holds(alloc, fleet, 1, "");
-    are_answered && are_counted && are_held
-}
-
 #[test]
 fn an_op_is_taken_where_it_fits(rt: HostRuntime) -> Result<(), Fail> {
     let mut fleet = MemoryFleet::new(rt.alloc(), 2)?;
-    assert!(rt; takes_what_fits(rt.alloc(), &mut fleet));
+    for (backup, segment, at, text, want) in FITS {
+        let answer = fleet.take(*backup, &op_of(*segment, *at, text));
+        assert_eq!(rt; answer, *want, "{backup} {segment} {at:?} {text}");
+    }
+    assert_eq!(rt; (fleet.backups(), fleet.takes(), fleet.faults()), (2, 2, 0));
+    assert_eq!(rt; held(rt.alloc(), &fleet, 0)?.as_str(), "0 7 abc true, ");
+    assert_eq!(rt; held(rt.alloc(), &fleet, 1)?.as_str(), "");
     Ok(())
 }
 
@@ -98,58 +85,39 @@ const LIMITED: &[Row<'static>] = &[
     (9, 2, None, "a", Err(TakeFault::Spent)),
 ];
 
-/// The next of them, which it takes without the limit.
-const NEXT: &[Row<'static>] = &[(0, 2, None, "a", Ok(()))];
-
-fn takes_to_the_limit(fleet: &mut MemoryFleet) -> bool {
-    let begun = fleet.end();
-    fleet.limit(1);
-    let are_limited = are_answered(fleet, LIMITED);
-    fleet.limit(u64::MAX);
-    let end = fleet.end();
-    begun == u64::MAX && are_limited && end == u64::MAX && are_answered(fleet, NEXT)
-}
-
 #[test]
 fn a_limit_ends_the_takes(rt: HostRuntime) -> Result<(), Fail> {
     let mut fleet = MemoryFleet::new(rt.alloc(), 1)?;
-    assert!(rt; takes_to_the_limit(&mut fleet));
+    assert_eq!(rt; fleet.end(), u64::MAX);
+    fleet.limit(1);
+    for (backup, segment, at, text, want) in LIMITED {
+        let answer = fleet.take(*backup, &op_of(*segment, *at, text));
+        assert_eq!(rt; answer, *want, "{backup} {segment}");
+    }
+    fleet.limit(u64::MAX);
+    assert_eq!(rt; fleet.end(), u64::MAX);
+    assert_eq!(rt; fleet.take(0, &op_of(2, None, "a")), Ok(()));
     Ok(())
 }
 
-/// Replicas that are opened.
-const OPENED: &[Row<'static>] = &[
-    (2, 5, None, "a", Ok(())),
-    (0, 9, None, "a", Ok(())),
-    (1, 5, None, "a", Ok(())),
-    (0, 4, None, "a", Ok(())),
-];
-
-/// One that is opened again on a backup that was lost.
-const AGAIN: &[Row<'static>] = &[(0, 4, None, "b", Ok(()))];
-
-fn has_opened(alloc: Global, fleet: &mut MemoryFleet) -> bool {
-    are_answered(fleet, OPENED)
-        && has_inventory(
-            alloc,
-            fleet,
-            "0 4 a true, 0 9 a true, 1 5 a true, 2 5 a true, ",
-        )
-}
-
-fn loses(alloc: Global, fleet: &mut MemoryFleet) -> bool {
-    if fleet.backups() != 3 {
-        return false;
-    }
-    fleet.lose(0);
-    has_inventory(alloc, fleet, "1 5 a true, 2 5 a true, ")
-        && are_answered(fleet, AGAIN)
-        && has_inventory(alloc, fleet, "0 4 b true, 1 5 a true, 2 5 a true, ")
-}
+/// Backups and segments whose replicas are opened.
+const OPENED: &[(u64, u64)] = &[(2, 5), (0, 9), (1, 5), (0, 4)];
 
 #[test]
 fn a_lost_backup_is_empty(rt: HostRuntime) -> Result<(), Fail> {
     let mut fleet = MemoryFleet::new(rt.alloc(), 3)?;
-    assert!(rt; has_opened(rt.alloc(), &mut fleet) && loses(rt.alloc(), &mut fleet));
+    for (backup, segment) in OPENED {
+        fleet.take(*backup, &op_of(*segment, None, "a"))?;
+    }
+    let all = "0 4 a true, 0 9 a true, 1 5 a true, 2 5 a true, ";
+    assert_eq!(rt; inventory(rt.alloc(), &fleet)?.as_str(), all);
+    fleet.lose(0);
+    assert_eq!(rt;
+        inventory(rt.alloc(), &fleet)?.as_str(),
+        "1 5 a true, 2 5 a true, "
+    );
+    fleet.take(0, &op_of(4, None, "b"))?;
+    let again = "0 4 b true, 1 5 a true, 2 5 a true, ";
+    assert_eq!(rt; inventory(rt.alloc(), &fleet)?.as_str(), again);
     Ok(())
 }

@@ -28,26 +28,21 @@ const ASKS: &[Ask] = &[
     Ask::Put("b", b'p', If::Any),
 ];
 
-fn has_object(objects: &[Object], want: &Object) -> bool {
+/// Objects by table and key: the table, the key, the version and the value of each.
+fn texts(alloc: Global, objects: &[Object]) -> Result<Vec<String>, Fail> {
+    let mut texts = Vec::new(alloc);
     for object in objects {
-        if object.key == want.key
-            && object.version == want.version
-            && object.value.as_slice() == want.value.as_slice()
-        {
-            return true;
-        }
+        let Object {
+            key,
+            version,
+            value,
+        } = object;
+        let (table, version) = (key.table, version.get());
+        let (key, value) = (key.bytes.as_slice(), value.as_slice());
+        texts.push(format!(in alloc; "{table} {key:?} {version} {value:?}")?)?;
     }
-    false
-}
-
-/// Whether two lists, each of different keys, have the same objects.
-fn are_same_objects(some: &[Object], others: &[Object]) -> bool {
-    for object in some {
-        if !has_object(others, object) {
-            return false;
-        }
-    }
-    some.len() == others.len()
+    texts.as_mut_slice().sort_unstable();
+    Ok(texts)
 }
 
 /// Pushes so often.
@@ -76,36 +71,6 @@ fn reply(alloc: Global, master: &mut Master<MemoryFleet>, step: Step) -> Option<
     }
 }
 
-/// Asks both, and tells whether they answered alike.
-fn answers_alike(
-    alloc: Global,
-    master: &mut Master<MemoryFleet>,
-    map: &mut VersionedMap,
-    step: Step,
-) -> bool {
-    let want = plain_reply(alloc, map, &step);
-    let reply = reply(alloc, master, step);
-    want.is_some() && want == reply
-}
-
-/// Asks both all of these.
-fn answer_alike(
-    alloc: Global,
-    master: &mut Master<MemoryFleet>,
-    map: &mut VersionedMap,
-    asks: &[Ask],
-) -> bool {
-    for ask in asks {
-        let Some(step) = step_of(alloc, ask) else {
-            return false;
-        };
-        if !answers_alike(alloc, master, map, step) {
-            return false;
-        }
-    }
-    true
-}
-
 /// The entries of a segment's bytes.
 fn entries_of(alloc: Global, bytes: &[u8]) -> Option<Vec<Entry>> {
     let Ok(segment) = SegmentRef::read(bytes) else {
@@ -119,47 +84,34 @@ fn entries_of(alloc: Global, bytes: &[u8]) -> Option<Vec<Entry>> {
     Some(entries)
 }
 
-/// Whether the image of the head means these objects.
-fn means(alloc: Global, master: &Master<MemoryFleet>, want: &[Object]) -> bool {
+/// What the image of the head means.
+fn meant(alloc: Global, master: &Master<MemoryFleet>) -> Result<Vec<String>, Fail> {
     let Ok(Shown::Image(Some(image))) = master.look(Look::Image(1)) else {
-        return false;
+        return Err("no image")?;
     };
-    let Some(entries) = entries_of(alloc, image.as_slice()) else {
-        return false;
-    };
-    match meaning(alloc, entries.as_slice()) {
-        Ok(objects) => are_same_objects(objects.as_slice(), want),
-        Err(_) => false,
-    }
-}
-
-/// Opens the head, asks both, and tells whether they answered alike and mean the same.
-fn agree(alloc: Global, master: &mut Master<MemoryFleet>, map: &mut VersionedMap) -> bool {
-    push(master, 2);
-    let are_alike = answer_alike(alloc, master, map, ASKS);
-    are_alike && map.safe().get() == 5 && means(alloc, master, map.objects())
-}
-
-/// Whether these objects are recovered once all is pushed.
-fn is_recovered(alloc: Global, mut master: Master<MemoryFleet>, want: &[Object]) -> bool {
-    push(&mut master, 2 * ASKS.len());
-    match rebuilt(alloc, &master.crash()) {
-        Some(rebuilt) => are_same_objects(rebuilt.objects.as_slice(), want),
-        None => false,
-    }
-}
-
-/// Whether a new master does what the plain map does, and so does its recovery.
-fn is_plain_map(alloc: Global, mut master: Master<MemoryFleet>) -> bool {
-    let mut map = VersionedMap::new(alloc);
-    let agree = agree(alloc, &mut master, &mut map);
-    let is_recovered = is_recovered(alloc, master, map.objects());
-    agree && is_recovered
+    let entries = entries_of(alloc, image.as_slice()).ok_or("no entries")?;
+    texts(alloc, meaning(alloc, entries.as_slice())?.as_slice())
 }
 
 #[test]
 fn a_master_is_the_plain_map(rt: HostRuntime) -> Result<(), Fail> {
-    let master = new_master(rt.alloc())?;
-    assert!(rt; is_plain_map(rt.alloc(), master));
+    let mut master = new_master(rt.alloc())?;
+    let mut map = VersionedMap::new(rt.alloc());
+    push(&mut master, 2);
+    for ask in ASKS {
+        let step = step_of(rt.alloc(), ask).ok_or("no step")?;
+        let want = plain_reply(rt.alloc(), &mut map, &step).ok_or("no reply")?;
+        let reply = reply(rt.alloc(), &mut master, step).ok_or("refused")?;
+        assert_eq!(rt; reply.as_str(), want.as_str());
+    }
+    assert_eq!(rt; map.safe().get(), 5);
+    let want = texts(rt.alloc(), map.objects())?;
+    assert_eq!(rt; meant(rt.alloc(), &master)?.as_slice(), want.as_slice());
+    push(&mut master, 2 * ASKS.len());
+    let rebuilt = rebuilt(rt.alloc(), &master.crash()).ok_or("nothing recovered")?;
+    assert_eq!(rt;
+        texts(rt.alloc(), rebuilt.objects.as_slice())?.as_slice(),
+        want.as_slice()
+    );
     Ok(())
 }

@@ -48,11 +48,12 @@ fn drill(alloc: Global, steps: &[Step], kept: &[u64]) -> Result<Drill<MemoryFlee
     }
 }
 
-/// Whether a drill that keeps these backups recovers this.
-fn is_recovered(alloc: Global, steps: &[Step], kept: &[u64], want: &str) -> Result<bool, Fail> {
+/// What a drill that keeps these backups recovers.
+fn recovered(alloc: Global, steps: &[Step], kept: &[u64]) -> Result<String, Fail> {
     let drill = drill(alloc, steps, kept)?;
     let mut text = String::new(alloc);
-    Ok(write_recovered(&mut text, &drill).is_ok() && text.as_str() == want)
+    write_recovered(&mut text, &drill)?;
+    Ok(text)
 }
 
 /// Backups that are kept, and what is recovered from them.
@@ -66,10 +67,8 @@ const KEPT: &[(&[u64], &str)] = &[
 fn a_drill_recovers_what_is_left(rt: HostRuntime) -> Result<(), Fail> {
     let steps = steps_of(rt.alloc(), ASKS).ok_or("no steps")?;
     for (kept, want) in KEPT {
-        assert!(rt;
-            is_recovered(rt.alloc(), steps.as_slice(), kept, want)?,
-            "{want}"
-        );
+        let recovered = recovered(rt.alloc(), steps.as_slice(), kept)?;
+        assert_eq!(rt; recovered.as_str(), *want, "{kept:?}");
     }
     Ok(())
 }

@@ -1,29 +1,74 @@
-//! The vectors of the format, read and written.
+//! The vectors of entries, read and written, and the places of keys.
 
+use crate::vectors::{GREATEST, OBJECT, SAFE, SURVIVOR, TOMBSTONE, bytes_of};
 use entry::*;
 use std::alloc::Global;
+use std::test::Fail;
 
 /// Bytes, and how many of them the entry at their front takes or why there is none.
-type Row<'a> = (&'a [u8], Result<usize, EntryFault>);
+type Row<'a> = (&'a str, Result<usize, EntryFault>);
 
 const ENTRIES: &[Row<'static>] = &[
-    (b"\x01\0\0\0\0\0\0\0\x01\0\0\0\0\0\0\0\x01\0", Ok(18)),
-    (b"\x02\0\0\0\x01\0\0\0\0\0\0\0\x01", Ok(13)),
-    (b"\x02\0\0\0\0", Ok(5)),
-    (b"\x03\0\0\0\0\0\0\0\x01", Ok(9)),
-    (b"\x03\0\0\0\0\0\0\0\x01\xff", Ok(9)),
-    (b"\x03\x40\0\0\0\0\0\0\x01", Ok(9)),
+    ("01 0000000000000001 0000000000000001 00", Ok(18)),
+    (SURVIVOR, Ok(18)),
+    ("02 00000001 0000000000000001", Ok(13)),
+    ("02 00000000", Ok(5)),
+    ("03 0000000000000001", Ok(9)),
+    ("03 0000000000000001 ff", Ok(9)),
+    (SAFE, Ok(9)),
+    (OBJECT, Ok(25)),
+    (TOMBSTONE, Ok(28)),
+    (GREATEST, Ok(24)),
+];
+
+/// Bytes that are no entry, and why.
+const FAULTS: &[Row<'static>] = &[
+    ("", Err(EntryFault::Short)),
+    ("06", Err(EntryFault::UnknownKind)),
+    ("00 ff ff", Err(EntryFault::UnknownKind)),
+    ("03", Err(EntryFault::Short)),
+    ("03 0000000000000000", Err(EntryFault::BadField)),
+    ("03 4000000000000002", Err(EntryFault::BadField)),
     (
-        b"\x04\0\0\0\0\0\0\0\x01\0\0\0\0\0\0\0\x01\0\x01\0\0\0\x01ax",
-        Ok(25),
+        "01 0000000000000001 0000000000000001 02",
+        Err(EntryFault::BadField),
+    ),
+    ("02 00000002 0000000000000002", Err(EntryFault::Short)),
+    (
+        "02 00000002 0000000000000002 0000000000000001",
+        Err(EntryFault::BadField),
     ),
     (
-        b"\x05\0\0\0\0\0\0\0\x01\0\0\0\0\0\0\0\x01\0\0\0\0\0\0\0\x01\0\x01a",
-        Ok(28),
+        "02 00000002 0000000000000002 0000000000000002",
+        Err(EntryFault::BadField),
     ),
     (
-        b"\x04\0\0\0\0\0\0\0\x01\x40\0\0\0\0\0\0\0\0\x01\0\0\0\0a",
-        Ok(24),
+        "04 0000000000000001 0000000000000000",
+        Err(EntryFault::Short),
+    ),
+    (
+        "04 0000000000000001 0000000000000000 0001 00000001",
+        Err(EntryFault::BadField),
+    ),
+    (
+        "04 0000000000000001 0000000000000001 0000 00000001 78",
+        Err(EntryFault::BadField),
+    ),
+    (
+        "04 0000000000000001 0000000000000001 0401 00000000",
+        Err(EntryFault::BadField),
+    ),
+    (
+        "04 0000000000000001 0000000000000001 0001 00000001 61",
+        Err(EntryFault::Short),
+    ),
+    (
+        "04 0000000000000001 4000000000000001 0001 00000000 61",
+        Err(EntryFault::BadField),
+    ),
+    (
+        "05 0000000000000001 0000000000000001 0000000000000001 0000 61",
+        Err(EntryFault::BadField),
     ),
 ];
 
@@ -36,102 +81,64 @@ fn copy_entry(alloc: Global, bytes: &[u8], out: &mut Vec<u8>) -> Result<usize, E
     }
 }
 
-/// Whether the bytes are read so, and the entry is written as it is spelled there.
-fn is_read(alloc: Global, row: &Row<'_>) -> bool {
-    let (bytes, want) = row;
-    let mut out = Vec::new(alloc);
-    copy_entry(alloc, bytes, &mut out) == *want
-        && bytes.get(..want.unwrap_or(0)) == Some(out.as_slice())
+#[test]
+fn entries_are_read_and_written(rt: HostRuntime) -> Result<(), Fail> {
+    for (text, want) in ENTRIES {
+        let bytes = bytes_of(rt.alloc(), &[text])?;
+        let mut out = Vec::new(rt.alloc());
+        assert_eq!(rt;
+            copy_entry(rt.alloc(), bytes.as_slice(), &mut out),
+            *want,
+            "{text}"
+        );
+        assert!(rt;
+            bytes.as_slice().starts_with(out.as_slice()),
+            "{text}: {:?}",
+            out.as_slice()
+        );
+    }
+    Ok(())
 }
 
 #[test]
-fn entries_are_read_and_written(rt: HostRuntime) {
-    for row in ENTRIES {
-        assert!(rt; is_read(rt.alloc(), row), "{:?}", row.0);
+fn faults_are_the_first_that_a_test_names(rt: HostRuntime) -> Result<(), Fail> {
+    for (text, want) in FAULTS {
+        let bytes = bytes_of(rt.alloc(), &[text])?;
+        let mut out = Vec::new(rt.alloc());
+        assert_eq!(rt;
+            copy_entry(rt.alloc(), bytes.as_slice(), &mut out),
+            *want,
+            "{text}"
+        );
+        assert!(rt; out.as_slice().is_empty(), "{text}: {:?}", out.as_slice());
     }
+    Ok(())
 }
 
-/// Bytes that are no entry, and why.
-const FAULTS: &[Row<'static>] = &[
-    (b"", Err(EntryFault::Short)),
-    (b"\x06", Err(EntryFault::UnknownKind)),
-    (b"\0\xff\xff", Err(EntryFault::UnknownKind)),
-    (b"\x03", Err(EntryFault::Short)),
-    (b"\x03\0\0\0\0\0\0\0\0", Err(EntryFault::BadField)),
-    (b"\x03\x40\0\0\0\0\0\0\x02", Err(EntryFault::BadField)),
-    (
-        b"\x01\0\0\0\0\0\0\0\x01\0\0\0\0\0\0\0\x01\x02",
-        Err(EntryFault::BadField),
-    ),
-    (
-        b"\x02\0\0\0\x02\0\0\0\0\0\0\0\x02\0\0\0\0\0\0\0\x01",
-        Err(EntryFault::BadField),
-    ),
-    (b"\x02\0\0\0\x02\0\0\0\0\0\0\0\x02", Err(EntryFault::Short)),
-    (
-        b"\x04\0\0\0\0\0\0\0\x01\0\0\0\0\0\0\0\0",
-        Err(EntryFault::Short),
-    ),
-    (
-        b"\x04\0\0\0\0\0\0\0\x01\0\0\0\0\0\0\0\0\0\x01\0\0\0\x01",
-        Err(EntryFault::BadField),
-    ),
-    (
-        b"\x04\0\0\0\0\0\0\0\x01\0\0\0\0\0\0\0\x01\0\0\0\0\0\x01x",
-        Err(EntryFault::BadField),
-    ),
-    (
-        b"\x04\0\0\0\0\0\0\0\x01\0\0\0\0\0\0\0\x01\x04\x01\0\0\0\0",
-        Err(EntryFault::BadField),
-    ),
-    (
-        b"\x04\0\0\0\0\0\0\0\x01\0\0\0\0\0\0\0\x01\0\x01\0\0\0\x01a",
-        Err(EntryFault::Short),
-    ),
-    (
-        b"\x04\0\0\0\0\0\0\0\x01\x40\0\0\0\0\0\0\x01\0\x01\0\0\0\0a",
-        Err(EntryFault::BadField),
-    ),
-    (
-        b"\x02\0\0\0\x02\0\0\0\0\0\0\0\x02\0\0\0\0\0\0\0\x02",
-        Err(EntryFault::BadField),
-    ),
-    (
-        b"\x05\0\0\0\0\0\0\0\x01\0\0\0\0\0\0\0\x01\0\0\0\0\0\0\0\x01\0\0a",
-        Err(EntryFault::BadField),
-    ),
-];
-
-#[test]
-fn faults_are_the_first_that_a_test_names(rt: HostRuntime) {
-    for row in FAULTS {
-        assert!(rt; is_read(rt.alloc(), row), "{:?}", row.0);
-    }
-}
-
-/// Whether this is the object of table 1, key `a`, version 1 and value `x`.
-fn is_first_object(entry: &Entry) -> bool {
-    match entry {
-        Entry::Object(object) => {
-            object.key.table == 1
-                && object.key.bytes.as_slice() == b"a".as_slice()
-                && object.version.get() == 1
-                && object.value.as_slice() == b"x".as_slice()
-        }
-        _ => false,
-    }
-}
-
-fn is_first_object_read(alloc: Global, bytes: &[u8]) -> bool {
-    match &read_entry(alloc, bytes) {
-        Ok((entry, _)) => is_first_object(entry),
-        Err(_) => false,
-    }
+/// The fields of an object, or another kind of entry.
+fn fields(alloc: Global, entry: &Entry) -> Result<String, Fail> {
+    let Entry::Object(object) = entry else {
+        return Ok(format!(in alloc; "no object")?);
+    };
+    let Object {
+        key,
+        version,
+        value,
+    } = object;
+    let (table, version) = (key.table, version.get());
+    Ok(format!(in alloc;
+        "{table} {:?} {version} {:?}",
+        key.bytes.as_slice(),
+        value.as_slice()
+    )?)
 }
 
 #[test]
-fn an_object_has_its_fields(rt: HostRuntime) {
-    assert!(rt; is_first_object_read(rt.alloc(), ENTRIES[6].0));
+fn an_object_has_its_fields(rt: HostRuntime) -> Result<(), Fail> {
+    let bytes = bytes_of(rt.alloc(), &[OBJECT])?;
+    let (entry, _) = read_entry(rt.alloc(), bytes.as_slice())?;
+    assert_eq!(rt; fields(rt.alloc(), &entry)?.as_str(), "1 [97] 1 [120]");
+    Ok(())
 }
 
 /// Keys and their places.
@@ -151,7 +158,7 @@ fn place_of(alloc: Global, bytes: &[u8]) -> Result<u64, KeyFault> {
 #[test]
 fn places(rt: HostRuntime) {
     for (bytes, want) in PLACES {
-        assert!(rt; place_of(rt.alloc(), bytes) == *want, "{bytes:?}");
+        assert_eq!(rt; place_of(rt.alloc(), bytes), *want, "{bytes:?}");
     }
 }
 
@@ -175,6 +182,6 @@ fn have(alloc: Global, bytes: &[u8]) -> Result<bool, KeyFault> {
 #[test]
 fn tablets_have_keys(rt: HostRuntime) {
     for (bytes, want) in HAVE {
-        assert!(rt; have(rt.alloc(), bytes) == Ok(*want), "{bytes:?}");
+        assert_eq!(rt; have(rt.alloc(), bytes), Ok(*want), "{bytes:?}");
     }
 }

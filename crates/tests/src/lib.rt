@@ -26,3 +26,5 @@ mod runs;
 mod scripts;
 #[cfg(test)]
 mod segments;
+#[cfg(test)]
+mod vectors;

@@ -1,8 +1,8 @@
 //! Lines read and parsed.
 
 use lines::*;
-use std::alloc::Global;
 use std::io::{self, BufRead, BufReader, ErrorKind, Read};
+use std::test::Fail;
 
 /// Lines, and what each says.
 const GOOD: &[(&str, &str)] = &[
@@ -67,55 +67,56 @@ const BAD: &[&[u8]] = &[
     b"g\xfft 1 a",
 ];
 
-/// Whether this is what a line shows that it says.
-fn says(alloc: Global, text: &[u8], want: &str) -> bool {
-    match format!(in alloc; "{:?}", parse_line(text)) {
-        Ok(said) => said.as_str() == want,
-        Err(_) => false,
-    }
-}
-
 #[test]
-fn good_lines_are_parsed(rt: HostRuntime) {
+fn good_lines_are_parsed(rt: HostRuntime) -> Result<(), Fail> {
     for (text, want) in GOOD {
-        assert!(rt; says(rt.alloc(), text.as_bytes(), want), "{text}");
+        let said = format!(in rt.alloc(); "{:?}", parse_line(text.as_bytes()))?;
+        assert_eq!(rt; said.as_str(), *want, "{text}");
     }
+    Ok(())
 }
 
 #[test]
-fn bad_lines_are_none(rt: HostRuntime) {
+fn bad_lines_are_none(rt: HostRuntime) -> Result<(), Fail> {
     for text in BAD {
-        assert!(rt; parse_line(text).is_none(), "{text:?}");
+        let said = format!(in rt.alloc(); "{:?}", parse_line(text))?;
+        assert_eq!(rt; said.as_str(), "None", "{text:?}");
     }
+    Ok(())
 }
 
 /// What a call took, and the bytes of the line.
-type Row<'a> = (Result<Taken, ReadFault>, &'a str);
+type Row<'a> = (&'a str, &'a str);
 
-/// Whether a reader is read so, call by call.
-fn is_read<R: BufRead>(alloc: Global, reader: &mut R, rows: &[Row<'_>]) -> bool {
-    let mut line = Vec::new(alloc);
-    for (taken, text) in rows {
-        if next_line(reader, &mut line) != *taken || line.as_slice() != text.as_bytes() {
-            return false;
-        }
+/// What a call took of the reader, in a word.
+fn taken<R: BufRead>(reader: &mut R, line: &mut Vec<u8>) -> &'static str {
+    match next_line(reader, line) {
+        Ok(Taken::Ended) => "ended",
+        Ok(Taken::Last) => "last",
+        Ok(Taken::Nothing) => "nothing",
+        Ok(Taken::TooLong) => "too long",
+        Err(ReadFault::Failed) => "failed",
+        Err(ReadFault::NoMemory) => "no memory",
     }
-    true
 }
 
 const LINES: &[Row<'static>] = &[
-    (Ok(Taken::Ended), "crash"),
-    (Ok(Taken::Ended), ""),
-    (Ok(Taken::Ended), "# x\r"),
-    (Ok(Taken::Last), "last"),
-    (Ok(Taken::Nothing), ""),
-    (Ok(Taken::Nothing), ""),
+    ("ended", "crash"),
+    ("ended", ""),
+    ("ended", "# x\r"),
+    ("last", "last"),
+    ("nothing", ""),
+    ("nothing", ""),
 ];
 
 #[test]
 fn lines_are_read(rt: HostRuntime) {
     let mut reader: &[u8] = b"crash\n\n# x\r\nlast";
-    assert!(rt; is_read(rt.alloc(), &mut reader, LINES));
+    let mut line = Vec::new(rt.alloc());
+    for (want, text) in LINES {
+        assert_eq!(rt; taken(&mut reader, &mut line), *want, "{text}");
+        assert_eq!(rt; line.as_slice(), text.as_bytes());
+    }
 }
 
 /// A reader that is interrupted before each byte, and fails after its bytes.
@@ -145,25 +146,19 @@ impl<'a> Read for Failing<'a> {
     }
 }
 
-const FAULTS: &[Row<'static>] = &[
-    (Ok(Taken::Ended), "crash"),
-    (Err(ReadFault::Failed), "rec"),
-    (Err(ReadFault::Failed), ""),
-];
+const FAULTS: &[Row<'static>] = &[("ended", "crash"), ("failed", "rec"), ("failed", "")];
 
-/// Whether faults are told of a reader that fails.
-fn tells_faults(alloc: Global) -> bool {
+#[test]
+fn faults_are_told(rt: HostRuntime) -> Result<(), Fail> {
     let failing = Failing {
         bytes: b"crash\nrec",
         interrupts: false,
     };
-    match BufReader::new(alloc, failing) {
-        Ok(mut reader) => is_read(alloc, &mut reader, FAULTS),
-        Err(_) => false,
+    let mut reader = BufReader::new(rt.alloc(), failing)?;
+    let mut line = Vec::new(rt.alloc());
+    for (want, text) in FAULTS {
+        assert_eq!(rt; taken(&mut reader, &mut line), *want, "{text}");
+        assert_eq!(rt; line.as_slice(), text.as_bytes());
     }
-}
-
-#[test]
-fn faults_are_told(rt: HostRuntime) {
-    assert!(rt; tells_faults(rt.alloc()));
+    Ok(())
 }

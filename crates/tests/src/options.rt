@@ -1,51 +1,62 @@
 //! Command lines that clap takes and refuses, and the text of the help.
+
 use script::{Options, options};
 use std::alloc::Global;
 use std::test::Fail;
 
-const DEFAULTS: Options = Options {
-    backups: 3,
-    replicas: 2,
-    step: 1,
-    segment: 512,
-    seglet: 64,
-    seglets: 64,
-    tables: 4,
-    history: 1048576,
-    bytes: 1048576,
-    objects: 1000000,
-};
+/// The numbers of the options, in the order of the help.
+fn numbers(options: &Options) -> [u64; 10] {
+    let Options {
+        backups,
+        replicas,
+        step,
+        segment,
+        seglet,
+        ..
+    } = *options;
+    let Options {
+        seglets,
+        tables,
+        history,
+        bytes,
+        objects,
+        ..
+    } = *options;
+    [
+        backups, replicas, step, segment, seglet, seglets, tables, history, bytes, objects,
+    ]
+}
 
-const WORDS: &[&str] = &[
-    "ramlog",
-    "--seglets",
-    "32",
-    "--segment=8388608",
-    "--backups=64",
-    "--step",
-    "3",
-    "--objects=4294967296",
-    "--history",
-    "1",
-    "--tables=+7",
+/// Command lines, and what they set.
+const GOOD: &[(&[&str], [u64; 10])] = &[
+    (
+        &["ramlog"],
+        [3, 2, 1, 512, 64, 64, 4, 1048576, 1048576, 1000000],
+    ),
+    (
+        &[
+            "ramlog",
+            "--seglets",
+            "32",
+            "--segment=8388608",
+            "--backups=64",
+            "--step",
+            "3",
+            "--objects=4294967296",
+            "--history",
+            "1",
+            "--tables=+7",
+        ],
+        [64, 2, 3, 8388608, 64, 32, 7, 1, 1048576, 4294967296],
+    ),
 ];
-
-/// What these words set.
-const SET: Options = Options {
-    backups: 64,
-    step: 3,
-    segment: 8388608,
-    seglets: 32,
-    tables: 7,
-    history: 1,
-    objects: 4294967296,
-    ..DEFAULTS
-};
 
 #[test]
 fn words_set_the_options(rt: HostRuntime) -> Result<(), Fail> {
-    assert!(rt; options(rt.alloc(), &["ramlog"])? == DEFAULTS);
-    assert!(rt; options(rt.alloc(), WORDS)? == SET);
+    for (words, want) in GOOD {
+        let options = options(rt.alloc(), words)?;
+        assert_eq!(rt; numbers(&options), *want, "{words:?}");
+    }
     Ok(())
 }
 
@@ -71,8 +82,8 @@ fn refusal(alloc: Global, words: &[&str]) -> i32 {
 
 #[test]
 fn mistakes_end_with_two(rt: HostRuntime) {
-    for (place, words) in MISTAKES.iter().enumerate() {
-        assert!(rt; refusal(rt.alloc(), words) == 2, "{place}");
+    for words in MISTAKES {
+        assert_eq!(rt; refusal(rt.alloc(), words), 2, "{words:?}");
     }
 }
 
@@ -103,7 +114,7 @@ fn help(alloc: Global) -> Option<String> {
 fn help_shows_each_option(rt: HostRuntime) -> Result<(), Fail> {
     let text = help(rt.alloc()).ok_or("no help")?;
     for part in USES {
-        assert!(rt; text.contains(*part), "{part}");
+        assert!(rt; text.contains(*part), "no {part} in {text}");
     }
     Ok(())
 }

@@ -1,43 +1,31 @@
 //! Plans of damaged inventories, and which replicas they take.
 
+use crate::vectors::{FIRST, OBJECT, SURVIVOR, bytes_of};
 use recovery_plan::*;
 use replica::{Bytes, Holding, Inventory};
 use std::alloc::{AllocError, Global};
 use std::fmt::Write;
+use std::test::Fail;
 
-/// Head 1 of master 1: its header, the digest of id 1, safe version 1.
-const HEAD: &[u8] = &[
-    1, 0, 0, 0, 0, 0, 0, 0, 1, 0, 0, 0, 0, 0, 0, 0, 1, 0, 2, 0, 0, 0, 1, 0, 0, 0, 0, 0, 0, 0, 1, 3,
-    0, 0, 0, 0, 0, 0, 0, 1,
-];
-
-/// The same with an object: table 1, version 1, key `a`, value `x`.
-const FULL: &[u8] = &[
-    1, 0, 0, 0, 0, 0, 0, 0, 1, 0, 0, 0, 0, 0, 0, 0, 1, 0, 2, 0, 0, 0, 1, 0, 0, 0, 0, 0, 0, 0, 1, 3,
-    0, 0, 0, 0, 0, 0, 0, 1, 4, 0, 0, 0, 0, 0, 0, 0, 1, 0, 0, 0, 0, 0, 0, 0, 1, 0, 1, 0, 0, 0, 1,
-    97, 120,
-];
+/// The first head of master 1 with an object.
+const FULL: &[&str] = &[FIRST, OBJECT];
 
 /// Head 2 of master 1, whose digest lists 1 and 2.
-const NEXT: &[u8] = &[
-    1, 0, 0, 0, 0, 0, 0, 0, 1, 0, 0, 0, 0, 0, 0, 0, 2, 0, 2, 0, 0, 0, 2, 0, 0, 0, 0, 0, 0, 0, 1, 0,
-    0, 0, 0, 0, 0, 0, 2, 3, 0, 0, 0, 0, 0, 0, 0, 1,
-];
+const NEXT: &str =
+    "01 0000000000000001 0000000000000002 00 02 00000002 0000000000000001 0000000000000002 \
+    03 0000000000000001";
 
-/// Survivor 3 of master 1.
-const SURVIVOR: &[u8] = &[1, 0, 0, 0, 0, 0, 0, 0, 1, 0, 0, 0, 0, 0, 0, 0, 3, 1];
+/// Backup, master, segment, vectors, and whether the replica is open.
+type Row<'a> = (u64, u64, u64, &'a [&'a str], bool);
 
-/// Backup, master, segment, bytes, and whether the replica is open.
-type Row<'a> = (u64, u64, u64, &'a [u8], bool);
-
-fn inventory_of(alloc: Global, rows: &[Row<'_>]) -> Result<Inventory, AllocError> {
+fn inventory_of(alloc: Global, rows: &[Row<'_>]) -> Result<Inventory, Fail> {
     let mut holdings = Vec::new(alloc);
-    for (backup, owner, segment, bytes, is_open) in rows {
+    for (backup, owner, segment, vectors, is_open) in rows {
         holdings.push(Holding {
             backup: *backup,
             master: *owner,
             segment: *segment,
-            bytes: Bytes::new(Vec::from_slice(alloc, bytes)?),
+            bytes: Bytes::new(bytes_of(alloc, vectors)?),
             is_open: *is_open,
         })?;
     }
@@ -64,57 +52,80 @@ fn write_plan(
     }
 }
 
-/// Whether the plan for a master, or the fault, is this.
-fn is_planned(alloc: Global, rows: &[Row<'_>], master: u64, want: &str) -> bool {
-    let Ok(inventory) = inventory_of(alloc, rows) else {
-        return false;
-    };
+/// How long the segments of the plan for a master are, or the fault.
+fn planned(alloc: Global, inventory: &Inventory, master: u64) -> Result<String, Fail> {
     let mut text = String::new(alloc);
-    write_plan(alloc, &inventory, master, &mut text).is_ok() && text.as_str() == want
+    write_plan(alloc, inventory, master, &mut text)?;
+    Ok(text)
+}
+
+/// One open replica of the first head, cut to a length.
+fn front_of(alloc: Global, len: usize) -> Result<Inventory, Fail> {
+    let mut bytes = bytes_of(alloc, FULL)?;
+    bytes.truncate(len);
+    let mut holdings = Vec::new(alloc);
+    holdings.push(Holding {
+        backup: 1,
+        master: 1,
+        segment: 1,
+        bytes: Bytes::new(bytes),
+        is_open: true,
+    })?;
+    Ok(Inventory::new(holdings))
 }
 
 #[test]
-fn a_front_of_a_head_is_a_plan_or_bad(rt: HostRuntime) {
-    for len in 0..FULL.len() + 1 {
+fn a_front_of_a_head_is_a_plan_or_bad(rt: HostRuntime) -> Result<(), Fail> {
+    for len in 0..66 {
         let want = match len {
             40 => "40 ",
             65 => "65 ",
             _ => "BadReplica 1 1",
         };
-        let rows = &[(1, 1, 1, &FULL[..len], true)];
-        assert!(rt; is_planned(rt.alloc(), rows, 1, want), "{len}");
+        let inventory = front_of(rt.alloc(), len)?;
+        assert_eq!(rt; planned(rt.alloc(), &inventory, 1)?.as_str(), want, "{len}");
     }
+    Ok(())
 }
 
 /// Replicas, the master that is recovered, and why there is no plan.
 const DAMAGES: &[(&[Row<'static>], u64, &str)] = &[
-    (&[(1, 1, 2, HEAD, true)], 1, "BadReplica 1 2"),
-    (&[(1, 1, 1, HEAD, false)], 1, "HeadClosed 1"),
-    (&[(0, 1, 3, SURVIVOR, false)], 1, "NoHead"),
-    (&[(0, 7, 1, &[255], true)], 1, "NoHead"),
-    (&[(1, 2, 1, HEAD, true)], 2, "BadReplica 1 1"),
-    (&[(1, 1, 2, NEXT, true)], 1, "Missing 1"),
+    (&[(1, 1, 2, &[FIRST], true)], 1, "BadReplica 1 2"),
+    (&[(1, 1, 1, &[FIRST], false)], 1, "HeadClosed 1"),
+    (&[(0, 1, 3, &[SURVIVOR], false)], 1, "NoHead"),
+    (&[(0, 7, 1, &["ff"], true)], 1, "NoHead"),
+    (&[(1, 2, 1, &[FIRST], true)], 2, "BadReplica 1 1"),
+    (&[(1, 1, 2, &[NEXT], true)], 1, "Missing 1"),
 ];
 
 #[test]
-fn damage_is_named(rt: HostRuntime) {
+fn damage_is_named(rt: HostRuntime) -> Result<(), Fail> {
     for (rows, master, want) in DAMAGES {
-        assert!(rt; is_planned(rt.alloc(), rows, *master, want), "{want}");
+        let inventory = inventory_of(rt.alloc(), rows)?;
+        assert_eq!(rt;
+            planned(rt.alloc(), &inventory, *master)?.as_str(),
+            *want,
+            "{rows:?}"
+        );
     }
+    Ok(())
 }
 
 /// Replicas, and how long those are that the plan takes.
 const CHOICES: &[(&[Row<'static>], &str)] = &[
     // the longest of the head
-    (&[(1, 1, 1, HEAD, true), (2, 1, 1, FULL, true)], "65 "),
+    (&[(1, 1, 1, &[FIRST], true), (2, 1, 1, FULL, true)], "65 "),
     // each once
-    (&[(1, 1, 1, HEAD, true), (1, 1, 1, HEAD, true)], "40 "),
+    (
+        &[(1, 1, 1, &[FIRST], true), (1, 1, 1, &[FIRST], true)],
+        "40 ",
+    ),
     // a closed one of another segment
     (
         &[
             (0, 1, 1, FULL, true),
-            (1, 1, 1, HEAD, false),
-            (1, 1, 2, NEXT, true),
+            (1, 1, 1, &[FIRST], false),
+            (1, 1, 2, &[NEXT], true),
         ],
         "40 48 ",
     ),
@@ -122,18 +133,27 @@ const CHOICES: &[(&[Row<'static>], &str)] = &[
     (
         &[
             (2, 1, 1, FULL, false),
-            (1, 1, 1, HEAD, false),
-            (1, 1, 2, NEXT, true),
+            (1, 1, 1, &[FIRST], false),
+            (1, 1, 2, &[NEXT], true),
         ],
         "40 48 ",
     ),
     // none that the digest doesn't list
-    (&[(0, 1, 3, SURVIVOR, false), (1, 1, 1, HEAD, true)], "40 "),
+    (
+        &[(0, 1, 3, &[SURVIVOR], false), (1, 1, 1, &[FIRST], true)],
+        "40 ",
+    ),
 ];
 
 #[test]
-fn replicas_are_taken_by_preference(rt: HostRuntime) {
+fn replicas_are_taken_by_preference(rt: HostRuntime) -> Result<(), Fail> {
     for (rows, want) in CHOICES {
-        assert!(rt; is_planned(rt.alloc(), rows, 1, want), "{want}");
+        let inventory = inventory_of(rt.alloc(), rows)?;
+        assert_eq!(rt;
+            planned(rt.alloc(), &inventory, 1)?.as_str(),
+            *want,
+            "{rows:?}"
+        );
     }
+    Ok(())
 }

@@ -1,5 +1,6 @@
 //! What short logs stand for.
 
+use crate::vectors::bytes_of;
 use entry::{Key, NoMemory, Object, ObjectRef, TombstoneRef, Version};
 use recovery_plan::{Plan, Segments};
 use replay::*;
@@ -7,6 +8,7 @@ use segment::{Segment, read_segment};
 use std::alloc::{AllocError, Global};
 use std::fmt::Write;
 use std::str;
+use std::test::Fail;
 
 /// A table, a key in it, a version, and a value of one byte; a tombstone has none.
 type Line<'a> = (u64, &'a str, u64, Option<u8>);
@@ -38,42 +40,36 @@ fn write_entry(
     }
 }
 
-/// Writes a line, and tells whether it could.
-fn write_line(alloc: Global, line: &Line<'_>, bytes: &mut Vec<u8>) -> bool {
+fn write_line(alloc: Global, line: &Line<'_>, bytes: &mut Vec<u8>) -> Result<(), Fail> {
     let (table, text, number, value) = line;
-    let Some(version) = Version::new(*number) else {
-        return false;
-    };
-    match Key::new(alloc, *table, text.as_bytes()) {
-        Ok(key) => write_entry(&key, version, *value, bytes).is_ok(),
-        Err(_) => false,
-    }
+    let version = Version::new(*number).ok_or("no version")?;
+    let key = Key::new(alloc, *table, text.as_bytes())?;
+    Ok(write_entry(&key, version, *value, bytes)?)
 }
 
 /// The headers of survivors 1 and 2 of master 7.
-const FIRST: &[u8] = &[1, 0, 0, 0, 0, 0, 0, 0, 7, 0, 0, 0, 0, 0, 0, 0, 1, 1];
+const ONE: &str = "01 0000000000000007 0000000000000001 01";
 
-const SECOND: &[u8] = &[1, 0, 0, 0, 0, 0, 0, 0, 7, 0, 0, 0, 0, 0, 0, 0, 2, 1];
+const TWO: &str = "01 0000000000000007 0000000000000002 01";
 
 /// The header of a segment, and its lines.
-type Log<'a> = (&'a [u8], &'a [Line<'a>]);
+type Log<'a> = (&'a str, &'a [Line<'a>]);
 
-fn segment_of(alloc: Global, log: &Log<'_>) -> Option<Segment> {
-    let mut bytes = Vec::from_slice(alloc, log.0).ok()?;
-    for line in log.1 {
-        if !write_line(alloc, line, &mut bytes) {
-            return None;
-        }
+fn segment_of(alloc: Global, log: &Log<'_>) -> Result<Segment, Fail> {
+    let (header, lines) = log;
+    let mut bytes = bytes_of(alloc, &[header])?;
+    for line in *lines {
+        write_line(alloc, line, &mut bytes)?;
     }
-    read_segment(alloc, bytes.as_slice()).ok()
+    Ok(read_segment(alloc, bytes.as_slice())?)
 }
 
-fn segments_of(alloc: Global, logs: &[Log<'_>]) -> Option<Segments> {
+fn segments_of(alloc: Global, logs: &[Log<'_>]) -> Result<Segments, Fail> {
     let mut segments = Vec::new(alloc);
     for log in logs {
-        segments.push(segment_of(alloc, log)?).ok()?;
+        segments.push(segment_of(alloc, log)?)?;
     }
-    Some(Segments::new(segments))
+    Ok(Segments::new(segments))
 }
 
 fn write_object(text: &mut String, object: &Object) -> Result<(), AllocError> {
@@ -109,68 +105,60 @@ const NEXT: Line<'static> = (1, "a", 2, Some(b'y'));
 /// The greatest version that the recorded safe version lies above, the segments, and what they are rebuilt to.
 type Row<'a> = (u64, &'a [Log<'a>], &'a str);
 
-/// In any order the entry of greatest rank counts; two values of one version clash, also where a later version covers them;
-/// objects are sorted by table and key.
+/// In any order the entry of greatest rank counts; two values of one version clash, also if a later version covers
+/// them; objects are sorted by table and key.
 const ROWS: &[Row<'static>] = &[
     (
         1,
-        &[(FIRST, &[OBJECT]), (SECOND, &[TOMBSTONE, NEXT])],
+        &[(ONE, &[OBJECT]), (TWO, &[TOMBSTONE, NEXT])],
         "1 a 2 y, safe 3",
     ),
     (
         1,
-        &[(FIRST, &[TOMBSTONE, NEXT]), (SECOND, &[OBJECT])],
+        &[(ONE, &[TOMBSTONE, NEXT]), (TWO, &[OBJECT])],
         "1 a 2 y, safe 3",
     ),
+    (1, &[(ONE, &[OBJECT]), (TWO, &[OBJECT])], "1 a 1 x, safe 2"),
+    (1, &[(ONE, &[OBJECT]), (TWO, &[TOMBSTONE])], "safe 2"),
+    (1, &[(ONE, &[TOMBSTONE]), (TWO, &[OBJECT])], "safe 2"),
+    (8, &[(ONE, &[TOMBSTONE]), (TWO, &[])], "safe 9"),
     (
         1,
-        &[(FIRST, &[OBJECT]), (SECOND, &[OBJECT])],
-        "1 a 1 x, safe 2",
+        &[(ONE, &[OBJECT]), (TWO, &[(1, "a", 1, Some(b'y'))])],
+        "Clash",
     ),
-    (1, &[(FIRST, &[OBJECT]), (SECOND, &[TOMBSTONE])], "safe 2"),
-    (1, &[(FIRST, &[TOMBSTONE]), (SECOND, &[OBJECT])], "safe 2"),
-    (8, &[(FIRST, &[TOMBSTONE]), (SECOND, &[])], "safe 9"),
     (
         1,
-        &[(FIRST, &[OBJECT]), (SECOND, &[(1, "a", 1, Some(b'y'))])],
+        &[(ONE, &[OBJECT]), (TWO, &[(1, "a", 1, Some(b'y')), NEXT])],
         "Clash",
     ),
     (
         1,
         &[
-            (FIRST, &[OBJECT]),
-            (SECOND, &[(1, "a", 1, Some(b'y')), NEXT]),
-        ],
-        "Clash",
-    ),
-    (
-        1,
-        &[
-            (FIRST, &[(2, "a", 1, Some(b'p')), (1, "b", 2, Some(b'q'))]),
-            (SECOND, &[(1, "aa", 3, Some(b'r')), (1, "a", 4, Some(b's'))]),
+            (ONE, &[(2, "a", 1, Some(b'p')), (1, "b", 2, Some(b'q'))]),
+            (TWO, &[(1, "aa", 3, Some(b'r')), (1, "a", 4, Some(b's'))]),
         ],
         "1 a 4 s, 1 aa 3 r, 1 b 2 q, 2 a 1 p, safe 5",
     ),
 ];
 
-fn plan_of(alloc: Global, used: u64, logs: &[Log<'_>]) -> Option<Plan> {
-    let safe = Version::new(used)?.safe_above();
+/// What a row is rebuilt to.
+fn rebuilt(alloc: Global, used: u64, logs: &[Log<'_>]) -> Result<String, Fail> {
+    let safe = Version::new(used).ok_or("no version")?.safe_above();
     let segments = segments_of(alloc, logs)?;
-    Some(Plan { segments, safe })
-}
-
-fn is_row(alloc: Global, row: &Row<'_>) -> bool {
-    let (used, logs, want) = row;
-    let Some(plan) = plan_of(alloc, *used, logs) else {
-        return false;
-    };
     let mut text = String::new(alloc);
-    write_rebuilt(alloc, &plan, &mut text).is_ok() && text.as_str() == *want
+    write_rebuilt(alloc, &Plan { segments, safe }, &mut text)?;
+    Ok(text)
 }
 
 #[test]
-fn logs_are_rebuilt(rt: HostRuntime) {
-    for row in ROWS {
-        assert!(rt; is_row(rt.alloc(), row), "{}", row.2);
+fn logs_are_rebuilt(rt: HostRuntime) -> Result<(), Fail> {
+    for (used, logs, want) in ROWS {
+        assert_eq!(rt;
+            rebuilt(rt.alloc(), *used, logs)?.as_str(),
+            *want,
+            "{logs:?}"
+        );
     }
+    Ok(())
 }

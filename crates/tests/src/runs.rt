@@ -58,57 +58,27 @@ const KINDS: &[Kind] = &[
     ("nothing", 0, 0),
 ];
 
-fn are_kinds(answers: &[Result<StepAnswer, Refusal>], kinds: &[Kind]) -> bool {
-    if answers.len() != kinds.len() {
-        return false;
-    }
-    for (place, answer) in answers.iter().enumerate() {
-        if kind(answer) != kinds[place] {
-            return false;
-        }
-    }
-    true
-}
-
-/// Whether the steps are answered so.
-fn runs(master: &mut Master<MemoryFleet>, steps: &[Step]) -> bool {
-    match master.run(steps) {
-        Ok(answers) => are_kinds(answers.as_slice(), KINDS),
-        Err(_) => false,
-    }
-}
-
-/// Whether two records are there, both durable, and no image of segment 2.
-fn has_run(master: &Master<MemoryFleet>) -> bool {
-    let has_no_image = matches!(&master.look(Look::Image(2)), Ok(Shown::Image(None)));
-    has_no_image && master.durable() == 2 && master.history().len() == 2
-}
-
 /// What a fleet is rebuilt to.
 pub fn rebuilt(alloc: Global, fleet: &MemoryFleet) -> Option<Rebuilt> {
     let inventory = fleet.inventory(alloc).ok()?;
     recover(alloc, &inventory, 1).ok()
 }
 
-/// Whether one object is recovered, and safe version 2.
-fn is_recovered(alloc: Global, master: Master<MemoryFleet>) -> bool {
-    match rebuilt(alloc, &master.crash()) {
-        Some(rebuilt) => rebuilt.objects.as_slice().len() == 1 && rebuilt.safe.get() == 2,
-        None => false,
-    }
-}
-
-/// Whether all of this holds of a new master that takes the steps.
-fn is_run(alloc: Global, mut master: Master<MemoryFleet>, steps: &[Step]) -> bool {
-    let has_run = runs(&mut master, steps) && has_run(&master);
-    let is_recovered = is_recovered(alloc, master);
-    has_run && is_recovered
-}
-
 #[test]
 fn a_run_answers_step_by_step(rt: HostRuntime) -> Result<(), Fail> {
     let steps = steps_of(rt.alloc(), ASKS).ok_or("no steps")?;
-    let master = new_master(rt.alloc())?;
-    assert!(rt; is_run(rt.alloc(), master, steps.as_slice()));
+    let mut master = new_master(rt.alloc())?;
+    let answers = master.run(steps.as_slice())?;
+    assert_eq!(rt; answers.as_slice().len(), KINDS.len());
+    for (place, answer) in answers.as_slice().iter().enumerate() {
+        assert_eq!(rt; kind(answer), KINDS[place], "{place}");
+    }
+    assert_eq!(rt; (master.durable(), master.history().len()), (2, 2));
+    assert!(rt; matches!(&master.look(Look::Image(2)), Ok(Shown::Image(None))));
+    let rebuilt = rebuilt(rt.alloc(), &master.crash()).ok_or("nothing recovered")?;
+    assert_eq!(rt;
+        (rebuilt.objects.as_slice().len(), rebuilt.safe.get()),
+        (1, 2)
+    );
     Ok(())
 }

@@ -1,58 +1,56 @@
-//! The vectors of the format, and a head that is made and grows.
+//! The vectors of segments, and a head that is made and grows.
 
 ghost use Rattle.std.specs.Prelude.{◌≤◌};
 
+use crate::vectors::{FIRST, OBJECT, SAFE, SURVIVOR, bytes_of};
 use entry::{EntryRef, Ids, SafeVersion};
 use segment::*;
 use std::alloc::Global;
 use std::test::Fail;
 
-const HEAD: &[u8] =
-    b"\x01\0\0\0\0\0\0\0\x01\0\0\0\0\0\0\0\x01\0\x02\0\0\0\x01\0\0\0\0\0\0\0\x01\x03\0\0\0\0\0\0\0\x01";
-
-const OBJECT: &[u8] = b"\x04\0\0\0\0\0\0\0\x01\0\0\0\0\0\0\0\x01\0\x01\0\0\0\x01ax";
-
-const HEAD_WITH_OBJECT: &[u8] =
-    b"\x01\0\0\0\0\0\0\0\x01\0\0\0\0\0\0\0\x01\0\x02\0\0\0\x01\0\0\0\0\0\0\0\x01\x03\0\0\0\0\0\0\0\x01\x04\0\0\0\0\0\0\0\x01\0\0\0\0\0\0\0\x01\0\x01\0\0\0\x01ax";
-
-/// Bytes, and how many entries the segment has or why they are none.
-const SEGMENTS: &[(&[u8], Result<usize, SegmentFault>)] = &[
-    (HEAD, Ok(3)),
-    (HEAD_WITH_OBJECT, Ok(4)),
-    (b"\x01\0\0\0\0\0\0\0\x01\0\0\0\0\0\0\0\x03\x01", Ok(1)),
-    (b"", Err(SegmentFault::BadOrder(0))),
+/// Vectors, and how many entries the segment has or why they are none.
+const SEGMENTS: &[(&[&str], Result<usize, SegmentFault>)] = &[
+    (&[FIRST], Ok(3)),
+    (&[FIRST, OBJECT], Ok(4)),
+    (&[SURVIVOR], Ok(1)),
+    (&[], Err(SegmentFault::BadOrder(0))),
+    (&[OBJECT], Err(SegmentFault::BadOrder(0))),
+    (&[FIRST, SURVIVOR], Err(SegmentFault::BadOrder(40))),
+    (&[SURVIVOR, SAFE], Err(SegmentFault::BadOrder(18))),
     (
-        b"\x01\0\0\0\0\0\0\0\x01\0\0\0\0\0\0\0\x01\0",
-        Err(SegmentFault::BadOrder(18)),
-    ),
-    (
-        b"\x01\0\0\0\0\0\0\0\x01\0\0\0\0\0\0\0\x01\0\x02\0\0\0\x01\0\0\0\0\0\0\0\x01\x03\0\0\0\0\0\0\0",
-        Err(SegmentFault::BadEntry(31)),
-    ),
-    (OBJECT, Err(SegmentFault::BadOrder(0))),
-    (
-        b"\x01\0\0\0\0\0\0\0\x01\0\0\0\0\0\0\0\x01\0\x02\0\0\0\x01\0\0\0\0\0\0\0\x01\x03\0\0\0\0\0\0\0\x01\x01\0\0\0\0\0\0\0\x01\0\0\0\0\0\0\0\x03\x01",
-        Err(SegmentFault::BadOrder(40)),
-    ),
-    (
-        b"\x01\0\0\0\0\0\0\0\x01\0\0\0\0\0\0\0\x03\x01\x03\x40\0\0\0\0\0\0\x01",
-        Err(SegmentFault::BadOrder(18)),
-    ),
-    (
-        b"\x01\0\0\0\0\0\0\0\x01\0\0\0\0\0\0\0\x01\0\x02\0\0\0\0\x03\0\0\0\0\0\0\0\x01",
+        &["01 0000000000000001 0000000000000001 00 02 00000000 03 0000000000000001"],
         Err(SegmentFault::BadOrder(18)),
     ),
 ];
 
+/// How many of the first bytes of the first head are read, and why they are no segment.
+const FRONTS: &[(usize, SegmentFault)] = &[
+    (18, SegmentFault::BadOrder(18)),
+    (39, SegmentFault::BadEntry(31)),
+];
+
+/// How many entries the segment of these bytes has.
 fn count(alloc: Global, bytes: &[u8]) -> Result<usize, SegmentFault> {
     Ok(read_segment(alloc, bytes)?.entries().count())
 }
 
 #[test]
-fn segments_are_read(rt: HostRuntime) {
-    for (bytes, want) in SEGMENTS {
-        assert!(rt; count(rt.alloc(), bytes) == *want, "{bytes:?}");
+fn segments_are_read(rt: HostRuntime) -> Result<(), Fail> {
+    for (vectors, want) in SEGMENTS {
+        let bytes = bytes_of(rt.alloc(), vectors)?;
+        assert_eq!(rt; count(rt.alloc(), bytes.as_slice()), *want, "{vectors:?}");
     }
+    Ok(())
+}
+
+#[test]
+fn fronts_of_a_head_are_no_segments(rt: HostRuntime) -> Result<(), Fail> {
+    let first = bytes_of(rt.alloc(), &[FIRST])?;
+    for (len, want) in FRONTS {
+        let front = first.as_slice().get(..*len).ok_or("too short")?;
+        assert_eq!(rt; count(rt.alloc(), front), Err(*want), "{len}");
+    }
+    Ok(())
 }
 
 /// The head of master 1 whose id is 1.
@@ -61,32 +59,31 @@ fn new_head(alloc: Global) -> Result<Segment, Fail> {
     Ok(Segment::begin_head(alloc, 1, 1, &ids, SafeVersion::first())?)
 }
 
-/// Whether an append of the object to a segment, within a limit, is answered so, and these are the bytes then.
-fn is_appended(
+/// Appends the object of these bytes to a segment, within a limit.
+fn append(
     segment: &mut Segment,
+    object: &[u8],
     limit: usize,
-    want: Result<usize, AppendFault>,
-    bytes: &[u8],
-) -> bool
+) -> Result<Result<usize, AppendFault>, Fail>
     requires { limit ≤ 8388608 }
 {
-    match EntryRef::read(OBJECT) {
-        Ok((EntryRef::Object(object), _)) => {
-            segment.append(&[EntryRef::Object(object)], limit) == want && segment.bytes() == bytes
-        }
-        _ => false,
+    match EntryRef::read(object) {
+        Ok((entry, _)) => Ok(segment.append(&[entry], limit)),
+        Err(_) => Err("no entry")?,
     }
-}
-
-/// Whether a head takes the object where the limit leaves room for it, and not before.
-fn grows(segment: &mut Segment) -> bool {
-    is_appended(segment, 64, Err(AppendFault::Full), HEAD)
-        && is_appended(segment, 65, Ok(40), HEAD_WITH_OBJECT)
 }
 
 #[test]
 fn a_head_begins_and_grows(rt: HostRuntime) -> Result<(), Fail> {
+    let object = bytes_of(rt.alloc(), &[OBJECT])?;
     let mut segment = new_head(rt.alloc())?;
-    assert!(rt; grows(&mut segment));
+    let full = append(&mut segment, object.as_slice(), 64)?;
+    assert_eq!(rt; full, Err(AppendFault::Full));
+    let first = bytes_of(rt.alloc(), &[FIRST])?;
+    assert_eq!(rt; segment.bytes(), first.as_slice());
+    let place = append(&mut segment, object.as_slice(), 65)?;
+    assert_eq!(rt; place, Ok(40));
+    let grown = bytes_of(rt.alloc(), &[FIRST, OBJECT])?;
+    assert_eq!(rt; segment.bytes(), grown.as_slice());
     Ok(())
 }
