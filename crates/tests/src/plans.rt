@@ -105,7 +105,7 @@ fn damage_is_named(rt: HostRuntime) -> Result<(), Fail> {
         assert_eq!(rt;
             planned(rt.alloc(), &inventory, *master)?.as_str(),
             *want,
-            "{rows:?}"
+            "{want}"
         );
     }
     Ok(())
@@ -152,7 +152,7 @@ fn replicas_are_taken_by_preference(rt: HostRuntime) -> Result<(), Fail> {
         assert_eq!(rt;
             planned(rt.alloc(), &inventory, 1)?.as_str(),
             *want,
-            "{rows:?}"
+            "{want}"
         );
     }
     Ok(())

@@ -154,11 +154,7 @@ fn rebuilt(alloc: Global, used: u64, logs: &[Log<'_>]) -> Result<String, Fail> {
 #[test]
 fn logs_are_rebuilt(rt: HostRuntime) -> Result<(), Fail> {
     for (used, logs, want) in ROWS {
-        assert_eq!(rt;
-            rebuilt(rt.alloc(), *used, logs)?.as_str(),
-            *want,
-            "{logs:?}"
-        );
+        assert_eq!(rt; rebuilt(rt.alloc(), *used, logs)?.as_str(), *want, "{want}");
     }
     Ok(())
 }

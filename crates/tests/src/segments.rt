@@ -68,8 +68,10 @@ fn append(
     requires { limit ≤ 8388608 }
 {
     match EntryRef::read(object) {
-        Ok((entry, _)) => Ok(segment.append(&[entry], limit)),
-        Err(_) => Err("no entry")?,
+        Ok((EntryRef::Object(object), _)) => {
+            Ok(segment.append(&[EntryRef::Object(object)], limit))
+        }
+        _ => Err("no object")?,
     }
 }
 
