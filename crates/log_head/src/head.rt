@@ -222,6 +222,7 @@ impl Head {
         requires data { are_data (map shown unit.now) ≡ true }
         requires limit { limit ≤ 8388608 }
         ensures ok { OnOk result (self.new ≡ with_unit self.old number (map shown unit.now)) }
+        ensures limit { OnOk result (length (text_of self.old.image) + length (text_of (map shown unit.now)) ≤ limit) }
         ensures full { IsErrOf result AppendFault.Full → (limit < length (text_of self.old.image) + length (text_of (map shown unit.now))) }
         ensures err { OnErr result (self.new ≡ self.old) }
         ensures valid { OnOk result (IsHead self.new) }
