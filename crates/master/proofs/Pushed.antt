@@ -1,11 +1,9 @@
 -- The op that comes next, taken or not, keeps what holds of a master.
-use Rattle.std.proofs.Common.{◌≡◌, ℕ, ◌+◌, ◌<◌, ◌≤◌, inl, inr, true, false, List, Some, refl, sym, ap, subst, ◌∙◌, arith}
-use Rattle.std.specs.Prelude.{Option, None, nat_lt}
-use Rattle.std.specs.Option.{option_map}
-use Rattle.std.proofs.lemmas.Bool.Decides.{nat_tests}
+use Rattle.std.proofs.Common.{◌≡◌, ℕ, ◌<◌, ◌≤◌, inl, inr, false, List, Some, refl, sym, ap, subst, ◌∙◌, arith}
+use Rattle.std.specs.Prelude.{None}
 use Rattle.std.proofs.lemmas.Option.{same_Some}
-use Rattle.replica.specs.Picture.{Replica, Picture, FleetState, with_replica}
-use Rattle.replica.specs.Take.{Refuses, taken as fleet_taken, with_effect, effect}
+use Rattle.replica.specs.Picture.{Picture, FleetState}
+use Rattle.replica.specs.Take.{Refuses, taken as fleet_taken}
 use Rattle.replica.specs.declared.op.TakeFault.{TakeFault}
 use Rattle.replica.specs.declared.op.TakeFault.TheVariants as take_fault
 use Rattle.log_model.specs.Kept.{IsKept as IsLogKept}

@@ -1,9 +1,11 @@
 -- Changes: what they append to the head, and which one a command makes.
-use Rattle.std.specs.Prelude.{◌≡◌, ℕ, ◌+◌, ◌*◌, ◌/◌, max, List, [], ◌∷◌, length, Bool, true, false, nat_lt, Option, Some, None}
+use Rattle.std.specs.Prelude.{◌≡◌, ℕ, ◌+◌, ◌*◌, ◌/◌, max, List, [], ◌∷◌, ◌++◌, length, Bool, true, false, nat_lt, Option, Some, None}
 use Rattle.std.specs.Borrow.{Bor}
 use Rattle.std.specs.Option.{option_map, option_copied}
 use Rattle.entry.specs.declared.key.Key.{Key}
+use Rattle.entry.specs.declared.entry.Object.{Object}
 use Rattle.entry.specs.declared.entry.Entry.{Entry}
+use Rattle.entry.specs.declared.entry.Entry.TheVariants as entry
 use Rattle.entry.specs.Meaning.{Versioned, versioned}
 use Rattle.entry.specs.declared.view.ObjectRef.{ObjectRef}
 use Rattle.entry.specs.View.{shown_object}
@@ -11,7 +13,7 @@ use Rattle.master_core.specs.declared.change.Change.{Change}
 use Rattle.master_core.specs.declared.change.Change.TheVariants as change
 use Rattle.versioned_map.specs.declared.command.Command.{Command}
 use Rattle.versioned_map.specs.declared.command.Command.TheVariants.{Get, Put, Delete}
-use Rattle.log_head.specs.Head.{HeadValue}
+use Rattle.log_head.specs.Head.{HeadValue, len_with}
 use Rattle.log_head.specs.Steps.{with_unit}
 use Rattle.versioned_map.specs.declared.command.If.{If}
 use Rattle.versioned_map.specs.declared.command.Reply.{Reply}
@@ -25,6 +27,11 @@ unit_of_change segment (Put k value when) (change.Replace dead version) =
     tombstone_entry k dead segment ∷ object_entry k version value ∷ []
 unit_of_change segment (Delete k) (change.Delete dead) = tombstone_entry k dead segment ∷ []
 unit_of_change segment _ _ = []
+
+-- the object that the change makes, if it makes one, begins at this offset where its unit goes behind the image
+abbrev pub BeginsAt : List Entry → Command → Change → ℕ → Type 0
+BeginsAt image command change at = (segment : ℕ) (front : List Entry) (o : Object)
+    → unit_of_change segment command change ≡ front ++ entry.Object o ∷ [] → at ≡ len_with image front
 
 -- the head with a record's unit, where there is one
 abbrev pub appended : HeadValue → ℕ → List Entry → HeadValue

@@ -1,5 +1,5 @@
 -- Where entries stand in an image, and what an index of places finds.
-use Rattle.std.specs.Prelude.{◌≡◌, ℕ, suc, true, false, List, [], ◌∷◌, ◌++◌, length, Option, Some, None, slice_set, if◌then◌else◌}
+use Rattle.std.specs.Prelude.{◌≡◌, ℕ, suc, true, false, List, [], ◌∷◌, ◌++◌, length, Option, Some, None, IsSomeAnd, slice_set, if◌then◌else◌}
 use Rattle.std.specs.List.{remove}
 use Rattle.std.specs.Option.{option_map}
 use Rattle.entry.specs.declared.key.Key.{Key}
@@ -63,3 +63,17 @@ object_found found = option_map (λ (f : ℕ × ObjectRef). versioned (shown_obj
 abbrev pub FindsSlot : List Object → Key → Option (ℕ × ObjectRef) → Type 0
 FindsSlot os k result =
     (slot_found result ≡ slot_in os k) × (object_found result ≡ contents_of os k)
+
+-- ---- what is found in an image
+
+-- the object that stands at this offset, where one does, was found
+abbrev pub SeesObject : List Entry → ℕ → Option ObjectRef → Type 0
+SeesObject image at found = (o : Object) → Stands image at (entry.Object o) → IsSomeAnd found (λ f. shown_object f ≡ o)
+
+-- the object that stands at this offset was found where it is the key's
+abbrev pub SeesObjectOf : List Entry → ℕ → Key → Option ObjectRef → Type 0
+SeesObjectOf image at k found = (o : Object) → Stands image at (entry.Object o) → IsOfKey k o found
+
+-- the key's slot was found, and its object, among the objects that stand at these places
+abbrev pub FindsAmong : List Entry → List ℕ → Key → Option (ℕ × ObjectRef) → Type 0
+FindsAmong image places k result = (os : List Object) → AreAt image places os → FindsSlot os k result
