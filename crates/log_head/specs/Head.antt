@@ -1,8 +1,9 @@
 -- The head of the log.
-use Rattle.std.specs.Prelude.{◌≡◌, ℕ, zero, suc, ◌<◌, ◌≤◌, List, [], ◌∷◌, length, take, Option, Some, None, slice_get, nat_lt, if◌then◌else◌}
+use Rattle.std.specs.Prelude.{◌≡◌, ℕ, zero, suc, ◌+◌, ◌<◌, ◌≤◌, List, [], ◌∷◌, length, take, Option, Some, None, slice_get, nat_lt, if◌then◌else◌}
 use Rattle.entry.specs.declared.entry.Entry.{Entry}
 use Rattle.entry.specs.Text.{text_of, IsSegment}
 use Rattle.std.specs.List.{AllByRecursion}
+use Rattle.std.specs.Option.{option_map}
 use Rattle.log_model.specs.Data.{fewest}
 use Rattle.log_head.specs.declared.head.UnitEnd.{UnitEnd}
 
@@ -24,6 +25,14 @@ end_of from us zero = from
 end_of from [] (suc n) = from
 end_of from (u ∷ us) (suc n) = end_of u.end us n
 
+-- the record of the unit at this place
+abbrev pub number_at : List UnitEnd → ℕ → Option ℕ
+number_at us place = option_map (λ (u : UnitEnd). u.number) (slice_get us place)
+
+-- the length of an image with a unit at its end
+abbrev pub len_with : List Entry → List Entry → ℕ
+len_with image unit = length (text_of image) + length (text_of unit)
+
 -- each unit ends no earlier than the one before it, and the last where the image does
 abbrev pub EndAt : ℕ → List UnitEnd → ℕ → Type 0
 EndAt from [] len = from ≡ len
@@ -43,7 +52,8 @@ pub record IsHead (h : HeadValue) : Type 0 where
 abbrev pub IsLagging : ℕ → List ℕ → Option ℕ → Type 0
 IsLagging units ns None = AllByRecursion (λ m. units ≤ m) ns
 IsLagging units ns (Some j) =
-    (n : ℕ) × (slice_get ns j ≡ Some n) × (n < units) × AllByRecursion (λ m. n ≤ m) ns × AllByRecursion (λ m. n < m) (take j ns)
+    (n : ℕ) × (slice_get ns j ≡ Some n) × (n < units) × AllByRecursion (λ m. n ≤ m) ns
+    × AllByRecursion (λ m. n < m) (take j ns)
 
 -- how many units every replica has
 abbrev pub everywhere : HeadValue → ℕ

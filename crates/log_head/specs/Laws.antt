@@ -25,17 +25,20 @@ FrontsAreTexts = (master : ℕ) (h : HeadValue) (l : Head) (n : ℕ) → IsImage
 -- What lies in the image between two ends is whole units, those between them.
 abbrev pub PartsAreUnits : Type 0
 PartsAreUnits = (master : ℕ) (h : HeadValue) (l : Head) (m n : ℕ) → IsImageOf master h l → m ≤ n
-    → take (end_of h.opening h.units n - end_of h.opening h.units m) (drop (end_of h.opening h.units m) (text_of h.image))
+    → take (end_of h.opening h.units n - end_of h.opening h.units m)
+    (drop (end_of h.opening h.units m) (text_of h.image))
     ≡ text_of (entries_of (units_between l.units m n))
 
 -- A head that begins has no units, and each unit that is appended is one more.
 abbrev pub FreshIsImage : Type 0
 FreshIsImage = (master replicas : ℕ) (start : Start)
-    → IsImageOf master (fresh_head master replicas start) (record { start = start; loaded = []; units = []; taken = [] })
+    → IsImageOf master (fresh_head master replicas start)
+    (record { start = start; loaded = []; units = []; taken = [] })
 
 abbrev pub UnitIsImage : Type 0
 UnitIsImage = (master : ℕ) (h : HeadValue) (l : Head) (number : ℕ) (unit : List Entry) → IsImageOf master h l
-    → IsImageOf master (with_unit h number unit) (record l { units = l.units ++ record { number = number; entries = unit } ∷ [] })
+    → IsImageOf master (with_unit h number unit)
+    (record l { units = l.units ++ record { number = number; entries = unit } ∷ [] })
 
 -- What replicas have changes nothing else.
 abbrev pub CountsAreImage : Type 0

@@ -39,7 +39,8 @@ head_of h = record {
 -- the ends are those of the units, the first of which begins at the offset
 abbrev pub AreEnds : ℕ → List UnitEnd → List LogUnit → Type 0
 AreEnds from [] [] = Unit {0}
-AreEnds from (e ∷ es) (u ∷ us) = (e.number ≡ u.number) × (e.end ≡ from + length (text_of u.entries)) × AreEnds e.end es us
+AreEnds from (e ∷ es) (u ∷ us) =
+    (e.number ≡ u.number) × (e.end ≡ from + length (text_of u.entries)) × AreEnds e.end es us
 AreEnds from [] (u ∷ us) = ⊥
 AreEnds from (e ∷ es) [] = ⊥
 

@@ -5,6 +5,10 @@ use Rattle.entry.specs.Text.{text_of}
 use Rattle.log_head.specs.Head.{HeadValue}
 use Rattle.log_model.specs.Data.{Start, start_entries}
 
+-- what the first head of a master begins with: its digest lists itself alone
+abbrev pub lone_start : ℕ → Start
+lone_start safe = record { id = 1; others = []; safe = safe }
+
 -- a head of this many replicas, none of which was opened
 abbrev pub fresh_head : ℕ → ℕ → Start → HeadValue
 fresh_head master replicas start = record {

@@ -42,15 +42,30 @@ impl Model for Head {
 
     ghost Value = { HeadValue };
 
-    ghost view = { λ h. record { id = h.id; replicas = h.replicas; image = h.image; opening = h.opening; units = h.units.items; taken = h.taken.items } };
+    ghost view = { λ h. record {
+      id = h.id;
+      replicas = h.replicas;
+      image = h.image;
+      opening = h.opening;
+      units = h.units.items;
+      taken = h.taken.items;
+    } };
 
-    ghost invariant = { λ h. (h.replicas ≤ vec_capacity h.taken) × IsHead (record { id = h.id; replicas = h.replicas; image = h.image; opening = h.opening; units = h.units.items; taken = h.taken.items }) };
+    // there is room for each replica to be counted
+    ghost invariant = { λ h. (h.replicas ≤ vec_capacity h.taken) × IsHead (record {
+      id = h.id;
+      replicas = h.replicas;
+      image = h.image;
+      opening = h.opening;
+      units = h.units.items;
+      taken = h.taken.items;
+    }) };
 }
 
 impl Head {
     ghost use Rattle.log_head.specs.declared.head.UnitEnd.{UnitEnd as UnitValue};
-    ghost use Rattle.log_head.specs.Head.{HeadValue, IsHead, end_of, everywhere, IsLagging};
-    ghost use Rattle.log_head.specs.Steps.{fresh_head, with_unit, with_replica, with_taken};
+    ghost use Rattle.log_head.specs.Head.{HeadValue, IsHead, end_of, number_at, len_with, everywhere, IsLagging};
+    ghost use Rattle.log_head.specs.Steps.{lone_start, fresh_head, with_unit, with_replica, with_taken};
     ghost use Rattle.log_model.specs.Data.{Start};
 
     /// The first head of a master. Its opening alone is in its image, and no replica was opened.
@@ -61,7 +76,7 @@ impl Head {
         safe: SafeVersion,
     ) -> Result<Head, NoMemory>
         requires { replicas ≤ 64 }
-        ensures begun { IfOk result (λ head. head ≡ fresh_head master replicas (record { id = 1; others = []; safe = safe })) }
+        ensures begun { IfOk result (λ head. head ≡ fresh_head master replicas (lone_start safe)) }
         ensures valid { IfOk result (λ head. IsHead head) }
     {
         let taken = Vec::with_capacity(alloc, replicas)?;
@@ -170,7 +185,7 @@ impl Head {
     /// The record of the first unit that some replica lacks; `None` where each has all of them.
     pub fn first_missing(&self) -> Option<usize>
         ensures valid { IsHead self.now }
-        ensures missing { result ≡ option_map (λ (u : UnitValue). u.number) (slice_get self.now.units (everywhere self.now)) }
+        ensures missing { result ≡ number_at self.now.units (everywhere self.now) }
     {
         match self.units.get(self.everywhere()) {
             None => None,
@@ -222,7 +237,8 @@ impl Head {
         requires data { are_data (map shown unit.now) ≡ true }
         requires limit { limit ≤ 8388608 }
         ensures ok { OnOk result (self.new ≡ with_unit self.old number (map shown unit.now)) }
-        ensures full { IsErrOf result AppendFault.Full → (limit < length (text_of self.old.image) + length (text_of (map shown unit.now))) }
+        ensures limit { OnOk result (len_with self.old.image (map shown unit.now) ≤ limit) }
+        ensures full { IsErrOf result AppendFault.Full → limit < len_with self.old.image (map shown unit.now) }
         ensures err { OnErr result (self.new ≡ self.old) }
         ensures valid { OnOk result (IsHead self.new) }
     {
@@ -237,11 +253,12 @@ impl Head {
 }
 
 ghost use Rattle.log_head.specs.Head.{IsLagging};
+ghost use Rattle.log_head.specs.Steps.{lone_start};
 ghost use Rattle.log_model.specs.Data.{start_entries};
 
 /// The opening of a master's first head, whose digest lists that head alone.
 fn first_image(alloc: Global, master: u64, safe: SafeVersion) -> Result<Segment, NoMemory>
-    ensures { IfOk result (λ image. image ≡ start_entries master (record { id = 1; others = []; safe = safe })) }
+    ensures { IfOk result (λ image. image ≡ start_entries master (lone_start safe)) }
 {
     let mut ids = Vec::with_capacity(alloc, 1)?;
     ids.push(1)?;

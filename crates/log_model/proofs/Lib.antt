@@ -19,6 +19,7 @@ pub mod HeadOps
 pub mod Opening
 pub mod Closing
 pub mod NextOp
+pub mod Fleets
 pub mod DurableCount
 pub mod DurableSteps
 pub mod Faults

@@ -1,10 +1,12 @@
 -- What holds through every step.
-use Rattle.std.specs.Prelude.{◌≡◌, ℕ, ◌≤◌, ◌⊎◌, List, length, Some}
+use Rattle.std.specs.Prelude.{◌≡◌, ℕ, ◌+◌, ◌<◌, ◌≤◌, ◌⊎◌, List, length, Some}
 use Rattle.entry.specs.declared.entry.Entry.{Entry}
 use Rattle.entry.specs.Bag.{IsAmong}
 use Rattle.entry.specs.Meaning.{among}
 use Rattle.entry.specs.Text.{text_of, data_in}
-use Rattle.replica.specs.Picture.{Replica, Picture}
+use Rattle.replica.specs.Picture.{Replica, Picture, FleetState}
+use Rattle.replica.specs.Take.{taken as fleet_taken, Refuses}
+use Rattle.replica.specs.declared.op.TakeFault.TheVariants as take_fault
 use Rattle.versioned_map.specs.declared.command.Record.{Record}
 use Rattle.versioned_map.specs.Represents.{Represents}
 use Rattle.versioned_map.specs.Versioned.{State}
@@ -13,7 +15,7 @@ use Rattle.log_model.specs.Data.{LogConfig, Start, Head, LogData, ids_of, head_e
 use Rattle.log_model.specs.Durable.{heads_of, IsDurable, IsReplicated}
 use Rattle.log_model.specs.Kept.{IsLogHeld, IsPast, IsKept}
 use Rattle.log_model.specs.Log.{Texts, base_of, IsSegmentOf, IsStanding}
-use Rattle.log_model.specs.Ops.{LogOp, taken}
+use Rattle.log_model.specs.Ops.{LogOp, op_of, taken}
 use Rattle.log_model.specs.Sound.{IsSound}
 use Rattle.log_model.specs.Spares.{Seals, texts_sealed, Frees}
 use Rattle.log_model.specs.Steps.{fresh, MayBegin, with_appended, applied, MayAppend, MayApply, texts_appended}
@@ -158,6 +160,20 @@ NextIsPast = (d e : LogData) (texts : Texts) (p : Picture) (past : List Head) (o
 abbrev pub NextIsKept : Type 0
 NextIsKept = (d e : LogData) (p : Picture) (o : LogOp) → IsKept d p → IsNext d o e
     → (q : Picture) × (taken p d.config.master o ≡ Some q) × IsKept e q
+
+-- the fleet with one op more, after which its backups hold this
+abbrev pub with_taken : FleetState → Picture → FleetState
+with_taken f q = record f { picture = q; takes = f.takes + 1 }
+
+-- Where the backups of a fleet hold a log, its next op fits: the fleet has a state with it taken, which keeps the log.
+abbrev pub NextFits : Type 0
+NextFits = (d e : LogData) (f : FleetState) (o : LogOp) → IsKept d f.picture → IsNext d o e → o.backup < f.backups
+    → (q : Picture) × (fleet_taken f o.backup (op_of d.config.master o) ≡ Some (with_taken f q)) × IsKept e q
+
+-- So the fleet never answers Wrong to it.
+abbrev pub NextIsNeverWrong : Type 0
+NextIsNeverWrong = (d e : LogData) (f g : FleetState) (o : LogOp) → IsKept d f.picture → IsNext d o e
+    → o.backup < f.backups → Refuses f o.backup (op_of d.config.master o) take_fault.Wrong g → ⊥
 
 -- Where nobody knows that an op was taken, the picture is sound for what the master knew.
 abbrev pub NextIsSound : Type 0

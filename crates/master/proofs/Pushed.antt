@@ -1,15 +1,16 @@
 -- The op that comes next, taken or not, keeps what holds of a master.
-use Rattle.std.proofs.Common.{◌≡◌, ℕ, ◌+◌, ◌<◌, ◌≤◌, inl, inr, true, false, List, Some, refl, sym, ap, subst, ◌∙◌, arith}
-use Rattle.std.specs.Prelude.{Option, None, nat_lt}
-use Rattle.std.specs.Option.{option_map}
-use Rattle.std.proofs.lemmas.Bool.Decides.{nat_tests}
+use Rattle.std.proofs.Common.{◌≡◌, ℕ, ◌<◌, ◌≤◌, inl, inr, false, List, Some, refl, sym, ap, subst, ◌∙◌, arith}
+use Rattle.std.specs.Prelude.{None}
 use Rattle.std.proofs.lemmas.Option.{same_Some}
-use Rattle.replica.specs.Picture.{Replica, Picture, FleetState, with_replica}
-use Rattle.replica.specs.Take.{Refuses, taken as fleet_taken, with_effect, effect}
+use Rattle.replica.specs.Picture.{Picture, FleetState}
+use Rattle.replica.specs.Take.{Refuses, taken as fleet_taken}
 use Rattle.replica.specs.declared.op.TakeFault.{TakeFault}
 use Rattle.replica.specs.declared.op.TakeFault.TheVariants as take_fault
+use Rattle.log_model.specs.Kept.{IsKept as IsLogKept}
+use Rattle.log_model.specs.Laws.{with_taken}
 use Rattle.log_model.specs.Ops.{LogOp, op_of, taken}
 use Rattle.log_model.specs.Steps.{IsNext}
+use Rattle.log_model.proofs.Fleets.{fleet_takes, next_is_never_wrong}
 use Rattle.clean_model.specs.Intact.{IsIntact}
 use Rattle.clean_model.specs.Steps.{IsFault}
 use Rattle.clean_model.proofs.Taking.{take_keeps}
@@ -24,23 +25,6 @@ use Rattle.master_core.proofs.Beginning.{halted_core}
 use Rattle.master.specs.Invariant.{IsKept}
 use Rattle.master.specs.Pushes.{IsNextOp}
 use Rattle.master.specs.Steps.{Declines}
-
--- ---- the fleet and the picture
-
--- a fleet that has the backup takes what its picture takes
-fleet_takes : (f : FleetState) (o : LogOp) (master : ℕ) (q : Picture) → o.backup < f.backups → taken f.picture master o ≡ Some q
-    → fleet_taken f o.backup (op_of master o) ≡ Some (record f { picture = q; takes = f.takes + 1 })
-fleet_takes f o master q lt is =
-    let within : nat_lt o.backup f.backups ≡ true = grind (arith, nat_tests) in
-    rw within (go (effect o.act (f.picture o.backup master o.segment)) is)
-  where
-    go : (x : Option (Option Replica)) → option_map (λ (r : Option Replica). with_replica f.picture o.backup master o.segment r) x ≡ Some q
-        → with_effect f o.backup (op_of master o) x ≡ Some (record f { picture = q; takes = f.takes + 1 })
-    go None e = absurd (cc)
-    go (Some r) e = ap (λ (p : Picture). Some (record f { picture = p; takes = f.takes + 1 })) (same_Some _ q e)
-
-none_some : (f : FleetState) (o : Option FleetState) → o ≡ Some f → o ≡ None → ⊥
-none_some f o a b = let both = sym a ∙ b in cc
 
 -- ---- an op
 
@@ -61,16 +45,21 @@ module _ (d : MasterData) (ks : List ℕ) (f : FleetState) (o : LogOp) (kept : I
   took : taken f.picture d.config.master o ≡ Some then_is.0
   took = ap (λ (p : Picture). taken p d.config.master o) here ∙ then_is.1
 
-  fits : fleet_taken f o.backup (op_of d.config.master o) ≡ Some (record f { picture = then_is.0; takes = f.takes + 1 })
-  fits = let le = kept.backups in fleet_takes f o d.config.master then_is.0 (omega arith) took
+  within : o.backup < f.backups
+  within = let le = kept.backups in omega arith
 
-  pub right : fleet_taken f o.backup (op_of d.config.master o) ≡ None → ⊥
-  right none = none_some _ _ fits none
+  fits : fleet_taken f o.backup (op_of d.config.master o) ≡ Some (with_taken f then_is.0)
+  fits = fleet_takes f o d.config.master then_is.0 within took
+
+  -- a fleet that holds the log never answers Wrong
+  pub never_wrong : (g : FleetState) → Refuses f o.backup (op_of d.config.master o) take_fault.Wrong g → ⊥
+  never_wrong g refused =
+      next_is_never_wrong (log_of d) (log_of e) f g o (subst (IsLogKept (log_of d)) (sym here) kept.intact.log) next within refused
 
   -- the fleet is the one that took the op
   picture_is : (g : FleetState) → fleet_taken f o.backup (op_of d.config.master o) ≡ Some g → (then_is.0 ≡ g.picture) × (g.backups ≡ f.backups)
   picture_is g is =
-      let same = same_Some (record f { picture = then_is.0; takes = f.takes + 1 }) g (sym fits ∙ is) in
+      let same = same_Some (with_taken f then_is.0) g (sym fits ∙ is) in
       (ap (λ (h : FleetState). h.picture) same, sym (ap (λ (h : FleetState). h.backups) same))
 
   pub taken_kept : (g : FleetState) → IsCore e → fleet_taken f o.backup (op_of d.config.master o) ≡ Some g → IsKept e g
@@ -121,18 +110,18 @@ module _ (d : MasterData) (ks : List ℕ) (f : FleetState) (o : LogOp) (kept : I
 
   pub failed_kept : (g : FleetState) (fault : TakeFault) → Refuses f o.backup (op_of d.config.master o) fault g → IsKept (failed_data d fault) g
   failed_kept g take_fault.NoMemory refused = subst (IsKept d) (sym refused) kept
-  failed_kept g take_fault.Wrong refused = absurd (right refused.0)
+  failed_kept g take_fault.Wrong refused = absurd (never_wrong g refused)
   failed_kept g take_fault.Fault refused = fault_kept g refused
   failed_kept g take_fault.Spent refused = subst (IsKept d) (sym refused.1) kept
 
   pub not_wrong : (g : FleetState) (x : TakeFault) → Refuses f o.backup (op_of d.config.master o) x g → x ≡ take_fault.Wrong → ⊥
-  not_wrong g x refused is = right ((rw is at refused).0)
+  not_wrong g x refused is = never_wrong g (rw is at refused)
 
   pub failed_declines : (g : FleetState) (fault : TakeFault) (answer : StepAnswer) → IsNextOp (log_of d) o answer (log_of e) → push_refusal d ≡ None
       → Refuses f o.backup (op_of d.config.master o) fault g
       → Declines (record { knows = d; fleet = f }) Push (refusal_of fault) (record { knows = failed_data d fault; fleet = g })
   failed_declines g take_fault.NoMemory answer is passed refused = inr (passed, ap (λ (h : FleetState). record { knows = d; fleet = h }) refused)
-  failed_declines g take_fault.Wrong answer is passed refused = absurd (right refused.0)
+  failed_declines g take_fault.Wrong answer is passed refused = absurd (never_wrong g refused)
   failed_declines g take_fault.Fault answer is passed refused = inr (passed, (refl, (o, answer, e, is, refused)))
   failed_declines g take_fault.Spent answer is passed refused =
       inr (passed, (refused.0, ap (λ (h : FleetState). record { knows = d; fleet = h }) refused.1))

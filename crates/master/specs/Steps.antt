@@ -39,7 +39,8 @@ FailsTake old _ new = ⊥
 -- nothing, but for a fault's: then the master stays halted.
 abbrev pub Declines : World → Step → Refusal → World → Type 0
 Declines old (Apply seat command) r new = (new ≡ old)
-    × ((command_refusal old.knows command ≡ Some r) ⊎ ((command_refusal old.knows command ≡ None) × (r ≡ refusal.NoMemory)))
+    × ((command_refusal old.knows command ≡ Some r)
+    ⊎ ((command_refusal old.knows command ≡ None) × (r ≡ refusal.NoMemory)))
 Declines old Push r new =
     ((push_refusal old.knows ≡ Some r) × (new ≡ old)) ⊎ ((push_refusal old.knows ≡ None) × FailsTake old r new)
 

@@ -67,7 +67,8 @@ impl<F: Fleet> Master<F> {
 
     /// What holds of every master, at each stop. Whichever backups are left, what they hold of it stands for the first
     /// commands of its history, each durable one among them; where the head and the segments survive there is a log to
-    /// choose. Memory and the replicas of the log stand for the map after the history, whose replies are the versioned map's.
+    /// choose. Memory and the replicas of the log stand for the map after the history, whose replies are the versioned
+    /// map's.
     pub fn show_valid(&self)
         ensures { IsValid self.now.knows (F.state self.now.fleet) }
     {
@@ -88,8 +89,8 @@ impl<F: Fleet> Master<F> {
         self.core.master()
     }
 
-    /// How many of the first records are durable: each unit of theirs was taken whole, by takes that answered Ok, by every
-    /// replica of its segment.
+    /// How many of the first records are durable: each unit of theirs was taken whole, by takes that answered Ok, by
+    /// every replica of its segment.
     pub fn durable(&self) -> u64
         ensures count { result ≡ durable_of (log_of self.now.knows) }
         ensures valid { IsValid self.now.knows (F.state self.now.fleet) }
@@ -147,8 +148,10 @@ impl<F: Fleet> Master<F> {
 
     /// One command.
     fn apply(&mut self, seat: u64, command: Command) -> Result<StepAnswer, Refusal>
-        ensures accepted { IfOk result (λ a. Accepts (world F.state self.old) (Step.Apply seat command) a (world F.state self.new)) }
-        ensures refused { IfErr result (λ r. Declines (world F.state self.old) (Step.Apply seat command) r (world F.state self.new)) }
+        ensures accepted { IfOk result (λ a.
+            Accepts (world F.state self.old) (Step.Apply seat command) a (world F.state self.new)) }
+        ensures refused { IfErr result (λ r.
+            Declines (world F.state self.old) (Step.Apply seat command) r (world F.state self.new)) }
     {
         self.core.apply(seat, command)
     }
@@ -224,7 +227,8 @@ impl<F: Fleet> Master<F> {
 
     /// Steps in order, with their answers. Memory for the steps and the answers is taken before the first step.
     pub fn run(&mut self, steps: &[Step]) -> Result<Vec<Result<StepAnswer, Refusal>>, NoMemory>
-        ensures ran { IfOk result (λ answers. IsRun (world F.state self.old) steps.now answers.items (world F.state self.new)) }
+        ensures ran { IfOk result (λ answers.
+            IsRun (world F.state self.old) steps.now answers.items (world F.state self.new)) }
         ensures keeps { Keeps (length steps.now) (world F.state self.old) (world F.state self.new) }
         ensures valid { IsValid self.new.knows (F.state self.new.fleet) }
         ensures refused { OnErr result (world F.state self.new ≡ world F.state self.old) }
@@ -240,7 +244,8 @@ impl<F: Fleet> Master<F> {
         Ok(answers)
     }
 
-    /// Drops the master. The fleet comes back as it was left: what any backups hold stands for a prefix of the commands.
+    /// Drops the master. The fleet comes back as it was left: what any backups hold stands for a prefix of the
+    /// commands.
     pub fn crash(self) -> F
         ensures fleet { result ≡ self.fleet }
         ensures valid { IsValid self.knows (F.state result) }

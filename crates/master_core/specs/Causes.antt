@@ -39,7 +39,7 @@ has_room d unit = nat_le (length (text_of d.head.image) + length (text_of unit))
 abbrev pub may_roll : MasterData → Bool
 may_roll d = false
 
--- why the unit of a command is not appended: it doesn't fit the open head and no other may begin, or one has to begin first
+-- why the unit of a command is not appended: it doesn't fit the open head and no other may begin, or one has to
 abbrev pub unit_refusal : MasterData → List Entry → Option Refusal
 unit_refusal d unit =
     if is_empty unit then None

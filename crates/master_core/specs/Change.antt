@@ -1,8 +1,11 @@
 -- Changes: what they append to the head, and which one a command makes.
-use Rattle.std.specs.Prelude.{◌≡◌, ℕ, ◌+◌, ◌*◌, ◌/◌, max, List, [], ◌∷◌, length, Bool, true, false, nat_lt, Option}
+use Rattle.std.specs.Prelude.{◌≡◌, ℕ, ◌+◌, ◌*◌, ◌/◌, max, List, [], ◌∷◌, ◌++◌, length, Bool, true, false, nat_lt, Option, Some, None}
 use Rattle.std.specs.Borrow.{Bor}
 use Rattle.std.specs.Option.{option_map, option_copied}
+use Rattle.entry.specs.declared.key.Key.{Key}
+use Rattle.entry.specs.declared.entry.Object.{Object}
 use Rattle.entry.specs.declared.entry.Entry.{Entry}
+use Rattle.entry.specs.declared.entry.Entry.TheVariants as entry
 use Rattle.entry.specs.Meaning.{Versioned, versioned}
 use Rattle.entry.specs.declared.view.ObjectRef.{ObjectRef}
 use Rattle.entry.specs.View.{shown_object}
@@ -10,9 +13,11 @@ use Rattle.master_core.specs.declared.change.Change.{Change}
 use Rattle.master_core.specs.declared.change.Change.TheVariants as change
 use Rattle.versioned_map.specs.declared.command.Command.{Command}
 use Rattle.versioned_map.specs.declared.command.Command.TheVariants.{Get, Put, Delete}
-use Rattle.log_head.specs.Head.{HeadValue}
+use Rattle.log_head.specs.Head.{HeadValue, len_with}
 use Rattle.log_head.specs.Steps.{with_unit}
-use Rattle.versioned_map.specs.Versioned.{is_spent}
+use Rattle.versioned_map.specs.declared.command.If.{If}
+use Rattle.versioned_map.specs.declared.command.Reply.{Reply}
+use Rattle.versioned_map.specs.Versioned.{is_spent, reply_given}
 use Rattle.versioned_map.specs.Units.{object_entry, tombstone_entry, unit_given, safe_given}
 
 -- what a command appends whose change this is, where the dead object lies in this segment
@@ -22,6 +27,11 @@ unit_of_change segment (Put k value when) (change.Replace dead version) =
     tombstone_entry k dead segment ∷ object_entry k version value ∷ []
 unit_of_change segment (Delete k) (change.Delete dead) = tombstone_entry k dead segment ∷ []
 unit_of_change segment _ _ = []
+
+-- the object that the change makes, if it makes one, begins at this offset where its unit goes behind the image
+abbrev pub BeginsAt : List Entry → Command → Change → ℕ → Type 0
+BeginsAt image command change at = (segment : ℕ) (front : List Entry) (o : Object)
+    → unit_of_change segment command change ≡ front ++ entry.Object o ∷ [] → at ≡ len_with image front
 
 -- the head with a record's unit, where there is one
 abbrev pub appended : HeadValue → ℕ → List Entry → HeadValue
@@ -63,6 +73,36 @@ pub record IsChangeOf (safe : ℕ) (x : Option Versioned) (command : Command) (c
   -- it is none just where the command appends nothing
   pub nothing : (segment : ℕ) → is_nothing change ≡ is_empty (unit_given safe segment x command)
   pub not_spent : is_spent safe x command ≡ false
+
+-- the change is that of a put under this condition, whatever key it is of that is absent
+abbrev pub Creates : ℕ → If → Change → Type 0
+Creates safe when change = (k : Key) (value : List ℕ) → IsChangeOf safe None (Put k value when) change
+
+-- no version is left for such a put
+abbrev pub CreatesSpent : ℕ → If → Type 0
+CreatesSpent safe when = (k : Key) (value : List ℕ) → is_spent safe None (Put k value when) ≡ true
+
+-- the change is that of a put under this condition, whatever key it is of whose object has this version
+abbrev pub Replaces : ℕ → If → Change → Type 0
+Replaces dead when change = (safe : ℕ) (x : Versioned) (k : Key) (value : List ℕ) → x.version ≡ dead
+    → IsChangeOf safe (Some x) (Put k value when) change
+
+-- no version is left for such a put
+abbrev pub ReplacesSpent : ℕ → If → Type 0
+ReplacesSpent dead when = (safe : ℕ) (x : Versioned) (k : Key) (value : List ℕ) → x.version ≡ dead
+    → is_spent safe (Some x) (Put k value when) ≡ true
+
+-- the change is the command's, whatever its key has of this version
+abbrev pub IsChangeFrom : ℕ → Option ℕ → Command → Change → Type 0
+IsChangeFrom safe version command change = (x : Option Versioned) → version_in x ≡ version → IsChangeOf safe x command change
+
+-- no version is left for the command, whatever its key has of this version
+abbrev pub IsSpentFrom : ℕ → Option ℕ → Command → Type 0
+IsSpentFrom safe version command = (x : Option Versioned) → version_in x ≡ version → is_spent safe x command ≡ true
+
+-- the reply is the map's to a command whose change this is, from what its key has
+abbrev pub RepliesTo : Option Versioned → Command → Change → Reply → Type 0
+RepliesTo x command change reply = (safe : ℕ) → IsChangeOf safe x command change → reply ≡ reply_given safe x command
 
 -- a put whose tombstone and object are longer than a quarter of a segment of this many bytes
 abbrev pub is_too_big : Command → ℕ → Bool

@@ -1,5 +1,5 @@
 -- Where entries stand in an image, and what an index of places finds.
-use Rattle.std.specs.Prelude.{◌≡◌, ℕ, suc, true, false, List, [], ◌∷◌, ◌++◌, length, Option, Some, None, slice_set, if◌then◌else◌}
+use Rattle.std.specs.Prelude.{◌≡◌, ℕ, suc, true, false, List, [], ◌∷◌, ◌++◌, length, Option, Some, None, IsSomeAnd, slice_set, if◌then◌else◌}
 use Rattle.std.specs.List.{remove}
 use Rattle.std.specs.Option.{option_map}
 use Rattle.entry.specs.declared.key.Key.{Key}
@@ -7,7 +7,7 @@ use Rattle.entry.specs.declared.entry.Object.{Object}
 use Rattle.entry.specs.declared.entry.Entry.{Entry}
 use Rattle.entry.specs.declared.entry.Entry.TheVariants as entry
 use Rattle.entry.specs.declared.view.ObjectRef.{ObjectRef}
-use Rattle.entry.specs.Meaning.{versioned, contents_of}
+use Rattle.entry.specs.Meaning.{Versioned, versioned, contents_of}
 use Rattle.entry.specs.Order.{key_eq}
 use Rattle.entry.specs.Text.{text_of}
 use Rattle.entry.specs.View.{shown_object}
@@ -33,7 +33,7 @@ abbrev pub slot_in : List Object → Key → Option ℕ
 slot_in [] k = None
 slot_in (o ∷ os) k = if key_eq k o.key then Some 0 else option_map (λ n. suc n) (slot_in os k)
 
--- the places once a change was done to the object of this slot, and its new object, if it makes one, stands at this offset
+-- the places once a change was done to the object of this slot, whose new object, if any, stands at this offset
 abbrev pub placed : List ℕ → Change → Option ℕ → ℕ → List ℕ
 placed places change.Nothing slot at = places
 placed places (change.Create version) slot at = places ++ at ∷ []
@@ -52,8 +52,28 @@ abbrev pub IsOfKey : Key → Object → Option ObjectRef → Type 0
 IsOfKey k o None = key_eq k o.key ≡ false
 IsOfKey k o (Some found) = (key_eq k o.key ≡ true) × (shown_object found ≡ o)
 
+-- the slot that was found, and what the key has by the object that was found
+abbrev pub slot_found : Option (ℕ × ObjectRef) → Option ℕ
+slot_found found = option_map (λ (f : ℕ × ObjectRef). f.0) found
+
+abbrev pub object_found : Option (ℕ × ObjectRef) → Option Versioned
+object_found found = option_map (λ (f : ℕ × ObjectRef). versioned (shown_object f.1)) found
+
 -- the slot and the object that were found are the key's among these objects
 abbrev pub FindsSlot : List Object → Key → Option (ℕ × ObjectRef) → Type 0
 FindsSlot os k result =
-    (option_map (λ (f : ℕ × ObjectRef). f.0) result ≡ slot_in os k)
-    × (option_map (λ (f : ℕ × ObjectRef). versioned (shown_object f.1)) result ≡ contents_of os k)
+    (slot_found result ≡ slot_in os k) × (object_found result ≡ contents_of os k)
+
+-- ---- what is found in an image
+
+-- the object that stands at this offset, where one does, was found
+abbrev pub SeesObject : List Entry → ℕ → Option ObjectRef → Type 0
+SeesObject image at found = (o : Object) → Stands image at (entry.Object o) → IsSomeAnd found (λ f. shown_object f ≡ o)
+
+-- the object that stands at this offset was found where it is the key's
+abbrev pub SeesObjectOf : List Entry → ℕ → Key → Option ObjectRef → Type 0
+SeesObjectOf image at k found = (o : Object) → Stands image at (entry.Object o) → IsOfKey k o found
+
+-- the key's slot was found, and its object, among the objects that stand at these places
+abbrev pub FindsAmong : List Entry → List ℕ → Key → Option (ℕ × ObjectRef) → Type 0
+FindsAmong image places k result = (os : List Object) → AreAt image places os → FindsSlot os k result

@@ -12,7 +12,7 @@ use Rattle.master_core.specs.Change.{IsChangeOf}
 use Rattle.master_core.specs.Config.{config_fault}
 use Rattle.master_core.specs.Data.{MasterData}
 use Rattle.master_core.specs.Index.{AreAt, AreDistinct, slot_in}
-use Rattle.master_core.specs.Log.{opening_of, state_now}
+use Rattle.master_core.specs.Log.{opening_of, state_now, held_now}
 
 -- The places are those of the objects that the versioned map has.
 pub record IsIndex (d : MasterData) (os : List Object) : Type 0 where
@@ -36,8 +36,12 @@ pub record IsCore (d : MasterData) : Type 0 where
 abbrev pub IsSlotOf : MasterData → Command → Option ℕ → Type 0
 IsSlotOf d command slot = (os : List Object) → AreAt d.head.image d.places os → slot ≡ slot_in os (command_key command)
 
+-- the change is the command's, in the state after the history
+abbrev pub IsChangeNow : MasterData → Command → Change → Type 0
+IsChangeNow d command change = IsChangeOf (state_now d).safe (held_now d command) command change
+
 -- the change is the command's, and the slot that of its key
 pub record IsJudged (d : MasterData) (command : Command) (change : Change) (slot : Option ℕ) : Type 0 where
   pub within : IfSome slot (λ (s : ℕ). s < length d.places)
   pub slot_of : IsSlotOf d command slot
-  pub change_of : IsChangeOf (state_now d).safe ((state_now d).contents (command_key command)) command change
+  pub change_of : IsChangeNow d command change

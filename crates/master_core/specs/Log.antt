@@ -8,10 +8,12 @@ use Rattle.entry.specs.Meaning.{Versioned, object_at}
 use Rattle.entry.specs.Order.{key_eq}
 use Rattle.entry.specs.Text.{text_of, entries_in}
 use Rattle.segment.specs.Bytes.{standing_at}
+use Rattle.versioned_map.specs.declared.command.Command.{Command}
+use Rattle.versioned_map.specs.Command.{command_key}
 use Rattle.versioned_map.specs.Represents.{empty_state}
 use Rattle.versioned_map.specs.Versioned.{State}
 use Rattle.log_model.specs.Data.{LogConfig, Ready, LogData, state_of}
-use Rattle.clean_model.specs.Memory.{Memory, no_pass}
+use Rattle.clean_model.specs.Memory.{Memory, Place as EntryPlace, no_pass}
 use Rattle.log_head.specs.Log.{head_of}
 use Rattle.master_core.specs.declared.config.Config.{Config}
 use Rattle.master_core.specs.Data.{MasterData}
@@ -55,6 +57,10 @@ log_of d = record {
 -- the versioned map's state after the history
 abbrev pub state_now : MasterData → State
 state_now d = state_of (log_of d)
+
+-- what the command's key has now
+abbrev pub held_now : MasterData → Command → Option Versioned
+held_now d command = (state_now d).contents (command_key command)
 
 -- ---- images
 
@@ -109,11 +115,15 @@ IsIndexed d = (k : Key) → Finds (images_of d) k (find d k) ((state_now d).cont
 abbrev pub position_of : List Entry → ℕ → ℕ
 position_of image at = length (entries_in (take at (text_of image)))
 
+-- a place as the models of memory count it: by entries
+abbrev pub entry_place : MasterData → Place → EntryPlace
+entry_place d p = record { segment = p.segment; position = position_of (images_of d p.segment) p.at }
+
 -- memory as compaction and cleaning see it: no pass is open, and nothing waits to be freed
 abbrev pub memory_of : MasterData → Memory
 memory_of d = record {
   images = images_of d;
-  index = λ k. option_map (λ (p : Place). record { segment = p.segment; position = position_of (images_of d p.segment) p.at }) (find d k);
+  index = λ k. option_map (entry_place d) (find d k);
   pass = no_pass;
   rest = [];
   sealed = λ s. 0;

@@ -1,7 +1,7 @@
 -- What a master's core becomes: a command is applied, an op was taken, a take failed.
 use Rattle.std.specs.Prelude.{◌≡◌, ℕ, length, Bool, false, true, None, if◌then◌else◌}
 use Rattle.log_head.specs.Steps.{with_replica, with_taken}
-use Rattle.log_model.specs.Steps.{applied}
+use Rattle.log_model.specs.Steps.{applied, MayApply}
 use Rattle.replica.specs.declared.op.TakeFault.{TakeFault}
 use Rattle.replica.specs.declared.op.TakeFault.TheVariants as take_fault
 use Rattle.versioned_map.specs.declared.command.Command.{Command}
@@ -30,6 +30,14 @@ pub record Applies (d : MasterData) (seat : ℕ) (command : Command) (answer : S
   pub config : e.config ≡ d.config
   pub running : e.is_halted ≡ false
   pub log : log_of e ≡ applied (log_of d) (dead_segment d command) (record_now d seat command)
+
+-- The command of a record is applied, and told with its place and its reply.
+abbrev pub AppliesAs : MasterData → Record → ℕ → MasterData → Type 0
+AppliesAs d r place e = Applies d r.seat r.command (Applied place r.reply) e
+
+-- the laws of the log let the command be applied
+abbrev pub MayApplyNow : MasterData → ℕ → Command → Type 0
+MayApplyNow d seat command = MayApply (log_of d) (dead_segment d command) (record_now d seat command)
 
 -- one more replica of the head was opened
 abbrev pub opened_data : MasterData → MasterData

@@ -5,7 +5,8 @@ ghost use Rattle.entry.specs.declared.key.Key.{Key};
 ghost use Rattle.entry.specs.Meaning.{Versioned};
 ghost use Rattle.versioned_map.specs.Versioned.{reply_given};
 ghost use Rattle.versioned_map.specs.Versioned.{is_spent};
-ghost use Rattle.master_core.specs.Change.{version_in, versioned_in, is_nothing, safe_of_change, IsChangeOf, is_too_big};
+ghost use Rattle.master_core.specs.Change.{versioned_in, is_nothing, safe_of_change, is_too_big};
+ghost use Rattle.master_core.specs.Change.{Creates, CreatesSpent, Replaces, ReplacesSpent, IsChangeFrom, IsSpentFrom, RepliesTo};
 
 use entry::{ObjectRef, SafeVersion, Value, Version};
 use std::alloc::{AllocError, Global};
@@ -30,8 +31,8 @@ pub struct VersionsSpent;
 
 /// What a put of an absent key does.
 fn create(when: &If, safe: SafeVersion) -> Result<Change, VersionsSpent>
-    ensures done { IfOk result (λ change. (k : Key) (value : List ℕ) → IsChangeOf safe None (Command.Put k value when.now) change) }
-    ensures spent { IfErr result (λ _. (k : Key) (value : List ℕ) → is_spent safe None (Command.Put k value when.now) ≡ true) }
+    ensures done { IfOk result (λ change. Creates safe when.now change) }
+    ensures spent { IfErr result (λ _. CreatesSpent safe when.now) }
 {
     match when {
         If::Any | If::Absent => match safe.version() {
@@ -44,8 +45,8 @@ fn create(when: &If, safe: SafeVersion) -> Result<Change, VersionsSpent>
 
 /// What a put of a key of this version does.
 fn replace(when: &If, dead: Version) -> Result<Change, VersionsSpent>
-    ensures done { IfOk result (λ change. (safe : ℕ) (x : Versioned) (k : Key) (value : List ℕ) → x.version ≡ dead → IsChangeOf safe (Some x) (Command.Put k value when.now) change) }
-    ensures spent { IfErr result (λ _. (safe : ℕ) (x : Versioned) (k : Key) (value : List ℕ) → x.version ≡ dead → is_spent safe (Some x) (Command.Put k value when.now) ≡ true) }
+    ensures done { IfOk result (λ change. Replaces dead when.now change) }
+    ensures spent { IfErr result (λ _. ReplacesSpent dead when.now) }
 {
     let is_met = match when {
         If::Any => true,
@@ -67,8 +68,8 @@ pub fn change_of(
     safe: SafeVersion,
     present: Option<Version>,
 ) -> Result<Change, VersionsSpent>
-    ensures done { IfOk result (λ change. (x : Option Versioned) → version_in x ≡ present → IsChangeOf safe x command.now change) }
-    ensures spent { IfErr result (λ _. (x : Option Versioned) → version_in x ≡ present → is_spent safe x command.now ≡ true) }
+    ensures done { IfOk result (λ change. IsChangeFrom safe present command.now change) }
+    ensures spent { IfErr result (λ _. IsSpentFrom safe present command.now) }
 {
     match present {
         None => match command {
@@ -108,8 +109,7 @@ impl Change {
         command: &Command,
         present: Option<&ObjectRef<'_>>,
     ) -> Result<Reply, AllocError>
-        ensures { let x = versioned_in present.entry in
-            IfOk result (λ reply. (safe : ℕ) → IsChangeOf safe x command.now self.now → reply ≡ reply_given safe x command.now) }
+        ensures { IfOk result (λ reply. RepliesTo (versioned_in present.entry) command.now self.now reply) }
     {
         match self {
             Change::Nothing => unchanged_reply(alloc, command, present),
@@ -126,8 +126,7 @@ fn unchanged_reply(
     command: &Command,
     present: Option<&ObjectRef<'_>>,
 ) -> Result<Reply, AllocError>
-    ensures { let x = versioned_in present.entry in
-        IfOk result (λ reply. (safe : ℕ) → IsChangeOf safe x command.now Change.Nothing → reply ≡ reply_given safe x command.now) }
+    ensures { IfOk result (λ reply. RepliesTo (versioned_in present.entry) command.now Change.Nothing reply) }
 {
     match command {
         Command::Get(_) => match present {

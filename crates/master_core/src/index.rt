@@ -1,10 +1,8 @@
 //! Where the live objects of an image lie: a list that is walked.
 
-ghost use Rattle.std.specs.Prelude.{◌≡◌, ◌<◌, IfSome, IsSomeAnd, List, length, vec_len, vec_capacity};
-ghost use Rattle.entry.specs.declared.entry.Entry.TheVariants as entry_variant;
-ghost use Rattle.entry.specs.declared.entry.Object.{Object as ObjectValue};
-ghost use Rattle.entry.specs.View.{shown_key, shown_object};
-ghost use Rattle.master_core.specs.Index.{Stands, AreAt, placed, IsOfKey, FindsSlot};
+ghost use Rattle.std.specs.Prelude.{◌≡◌, ◌<◌, IfSome, length, vec_len, vec_capacity};
+ghost use Rattle.entry.specs.View.{shown_key};
+ghost use Rattle.master_core.specs.Index.{placed, SeesObject, SeesObjectOf, FindsAmong};
 
 use crate::change::Change;
 use entry::{EntryRef, KeyRef, ObjectRef};
@@ -12,7 +10,7 @@ use segment::Segment;
 
 /// The object that begins at an offset of the image.
 fn object_at(image: &Segment, at: usize) -> Option<ObjectRef<'_>>
-    ensures { (o : ObjectValue) → Stands image.entry.now at (entry_variant.Object o) → IsSomeAnd result (λ found. shown_object found ≡ o) }
+    ensures { SeesObject image.entry.now at result }
 {
     match image.entry_at(at) {
         Some(EntryRef::Object(object)) => Some(object),
@@ -22,7 +20,7 @@ fn object_at(image: &Segment, at: usize) -> Option<ObjectRef<'_>>
 
 /// The object that begins at an offset of the image, if it is the key's.
 fn object_of<'a>(image: &'a Segment, at: usize, key: &KeyRef) -> Option<ObjectRef<'a>>
-    ensures { (o : ObjectValue) → Stands image.entry.now at (entry_variant.Object o) → IsOfKey (shown_key key.now) o result }
+    ensures { SeesObjectOf image.entry.now at (shown_key key.now) result }
 {
     match object_at(image, at) {
         Some(object) if *key == object.key => Some(object),
@@ -37,7 +35,7 @@ pub fn find<'a>(
     key: &KeyRef,
 ) -> Option<(usize, ObjectRef<'a>)>
     ensures within { IfSome result (λ found. found.0 < length places.now) }
-    ensures found { (os : List ObjectValue) → AreAt image.entry.now places.now os → FindsSlot os (shown_key key.now) result }
+    ensures found { FindsAmong image.entry.now places.now (shown_key key.now) result }
 {
     for (slot, at) in places.iter().enumerate() {
         if let Some(object) = object_of(image, *at, key) {

@@ -4,21 +4,17 @@ ghost use Rattle.std.specs.Prelude.{List, ◌⊎◌, ◌≡◌, ◌≤◌, ◌<�
 ghost use Rattle.std.specs.Prelude.{Option, ◌==◌, if◌then◌else◌, slice_get};
 ghost use Rattle.std.specs.Option.{option_map};
 ghost use Rattle.std.specs.Result.{result_err};
-ghost use Rattle.entry.specs.Meaning.{versioned};
-ghost use Rattle.entry.specs.View.{shown_object, shown_key};
 ghost use Rattle.entry.specs.Text.{text_of};
 ghost use Rattle.log_head.specs.Head.{IsHead};
 ghost use Rattle.log_model.specs.Data.{durable_of};
-ghost use Rattle.log_model.specs.Steps.{MayApply};
-ghost use Rattle.versioned_map.specs.Command.{command_key};
-ghost use Rattle.master_core.specs.Causes.{early_refusal, unit_refusal, command_refusal, dead_segment, unit_now};
-ghost use Rattle.master_core.specs.Change.{IsChangeOf};
+ghost use Rattle.master_core.specs.Causes.{early_refusal, unit_refusal, command_refusal, unit_now};
 ghost use Rattle.master_core.specs.Config.{config_fault};
 ghost use Rattle.master_core.specs.Data.{fresh_data};
-ghost use Rattle.master_core.specs.Invariant.{IsCore, IsJudged, IsSlotOf};
-ghost use Rattle.master_core.specs.Log.{log_of, state_now, image_of, home};
+ghost use Rattle.master_core.specs.Index.{slot_found, object_found};
+ghost use Rattle.master_core.specs.Invariant.{IsCore, IsChangeNow, IsJudged, IsSlotOf};
+ghost use Rattle.master_core.specs.Log.{log_of, held_now, image_of, home};
 ghost use Rattle.master_core.specs.Shown.{IsShown};
-ghost use Rattle.master_core.specs.Steps.{Applies, reply_now, record_now, opened_data, extended_data, failed_data, refusal_of};
+ghost use Rattle.master_core.specs.Steps.{Applies, AppliesAs, MayApplyNow, reply_now, opened_data, extended_data, failed_data, refusal_of};
 
 use crate::change::{Change, change_of, is_too_big};
 use crate::config::Config;
@@ -170,7 +166,7 @@ impl Core {
 
     /// Whether the unit of a change, if it makes one, can be appended.
     fn fit(&self, command: &Command, change: &Change) -> Result<(), Refusal>
-        ensures { IsChangeOf (state_now self.now).safe ((state_now self.now).contents (command_key command.now)) command.now change.now →
+        ensures { IsChangeNow self.now command.now change.now →
             result_err result ≡ unit_refusal self.now (unit_now self.now command.now) }
     {
         if change.is_nothing() {
@@ -189,8 +185,8 @@ impl Core {
     /// The object of the command's key, and which of the places it has.
     fn find(&self, command: &Command) -> Option<(usize, ObjectRef<'_>)>
         ensures within { IfSome result (λ found. found.0 < length self.entry.now.places) }
-        ensures slot { IsSlotOf self.entry.now command.now (option_map (λ found. found.0) result) }
-        ensures object { option_map (λ found. versioned (shown_object found.1)) result ≡ (state_now self.entry.now).contents (command_key command.now) }
+        ensures slot { IsSlotOf self.entry.now command.now (slot_found result) }
+        ensures object { object_found result ≡ held_now self.entry.now command.now }
     {
         find(
             self.places.as_slice(),
@@ -202,8 +198,8 @@ impl Core {
     /// What a command does, and which of the places has its key: all tests, in order.
     fn judge(&self, command: &Command) -> Result<(Change, Option<(usize, ObjectRef<'_>)>), Refusal>
         ensures passed { IfOk result (λ _. command_refusal self.entry.now command.now ≡ None) }
-        ensures judged { IfOk result (λ judged. IsJudged self.entry.now command.now judged.0 (option_map (λ found. found.0) judged.1)) }
-        ensures object { IfOk result (λ judged. option_map (λ found. versioned (shown_object found.1)) judged.1 ≡ (state_now self.entry.now).contents (command_key command.now)) }
+        ensures judged { IfOk result (λ judged. IsJudged self.entry.now command.now judged.0 (slot_found judged.1)) }
+        ensures object { IfOk result (λ judged. object_found judged.1 ≡ held_now self.entry.now command.now) }
         ensures refused { IfErr result (λ r. command_refusal self.entry.now command.now ≡ Some r) }
     {
         self.admit(command)?;
@@ -270,7 +266,7 @@ impl Core {
     /// One command: it is answered, and its record and its unit are added; or it is refused, and nothing changes.
     pub fn apply(&mut self, seat: u64, command: Command) -> Result<StepAnswer, Refusal>
         ensures applied { IfOk result (λ answer. Applies self.old seat command answer self.new) }
-        ensures may { OnOk result (MayApply (log_of self.old) (dead_segment self.old command) (record_now self.old seat command)) }
+        ensures may { OnOk result (MayApplyNow self.old seat command) }
         ensures valid { OnOk result (IsCore self.new) }
         ensures refused { IfErr result (λ r. (command_refusal self.old command ≡ Some r)
             ⊎ ((command_refusal self.old command ≡ None) × (r ≡ Refusal.NoMemory))) }
@@ -296,8 +292,8 @@ impl Core {
         requires passed { command_refusal self.old accepted.command ≡ None }
         requires judged { IsJudged self.old accepted.command change.now slot }
         requires reply { accepted.reply ≡ reply_now self.old accepted.command }
-        ensures added { IfOk result (λ place. Applies self.old accepted.seat accepted.command (StepAnswer.Applied place accepted.reply) self.new) }
-        ensures may { OnOk result (MayApply (log_of self.old) (dead_segment self.old accepted.command) (record_now self.old accepted.seat accepted.command)) }
+        ensures added { IfOk result (λ place. AppliesAs self.old accepted place self.new) }
+        ensures may { OnOk result (MayApplyNow self.old accepted.seat accepted.command) }
         ensures valid { OnOk result (IsCore self.new) }
         ensures refused { OnErr result (self.new ≡ self.old) }
     {

@@ -6,10 +6,10 @@ ghost use Rattle.entry.specs.declared.entry.Entry.{Entry};
 ghost use Rattle.entry.specs.declared.entry.Entry.TheVariants as entry;
 ghost use Rattle.entry.specs.Text.{text_of};
 ghost use Rattle.entry.specs.View.{shown};
-ghost use Rattle.log_head.specs.Head.{IsHead};
+ghost use Rattle.log_head.specs.Head.{IsHead, len_with};
 ghost use Rattle.master_core.specs.Index.{placed};
 ghost use Rattle.versioned_map.specs.Units.{object_entry, tombstone_entry};
-ghost use Rattle.master_core.specs.Change.{unit_of_change, is_empty, appended};
+ghost use Rattle.master_core.specs.Change.{unit_of_change, is_empty, appended, BeginsAt};
 
 use crate::change::Change;
 use crate::index::place_change;
@@ -90,7 +90,7 @@ fn append_change(
     requires { limit ≤ 8388608 }
     ensures ok { OnOk result (head.new ≡ appended head.old number (unit_of_change head.old.id command.now change.now)) }
     ensures full { let unit = unit_of_change head.old.id command.now change.now in
-        IsErrOf result AppendFault.Full → (is_empty unit ≡ false) × (limit < length (text_of head.old.image) + length (text_of unit)) }
+        IsErrOf result AppendFault.Full → (is_empty unit ≡ false) × (limit < len_with head.old.image unit) }
     ensures err { OnErr result (head.new ≡ head.old) }
     ensures valid { OnOk result (IsHead head.new) }
 {
@@ -117,7 +117,8 @@ fn append_change(
     }
 }
 
-/// Appends the unit of a change, which fits, and keeps the places of the live objects. The history gets room for its record.
+/// Appends the unit of a change, which fits, and keeps the places of the live objects. The history gets room for its
+/// record.
 pub fn enact(
     head: &mut Head,
     places: &mut Vec<usize>,
@@ -130,11 +131,11 @@ pub fn enact(
     requires slot { IfSome slot (λ slot. slot < vec_len places.old) }
     requires limit { limit ≤ 8388608 }
     requires fits { let unit = unit_of_change head.old.id command.now change.now in
-        is_empty unit ≡ false → length (text_of head.old.image) + length (text_of unit) ≤ limit }
+        is_empty unit ≡ false → len_with head.old.image unit ≤ limit }
     ensures valid { OnOk result (IsHead head.new) }
-    ensures head { OnOk result (head.new ≡ appended head.old (length history.old.items) (unit_of_change head.old.id command.now change.now)) }
-    ensures places { OnOk result ((at : ℕ) × ((segment : ℕ) (front : List Entry) (o : Object) →
-        unit_of_change segment command.now change.now ≡ front ++ entry.Object o ∷ [] → at ≡ length (text_of head.old.image) + length (text_of front))
+    ensures head { let unit = unit_of_change head.old.id command.now change.now in
+        OnOk result (head.new ≡ appended head.old (length history.old.items) unit) }
+    ensures places { OnOk result ((at : ℕ) × BeginsAt head.old.image command.now change.now at
         × (places.new.items ≡ placed places.old.items change.now slot at)) }
     ensures history { history.new.items ≡ history.old.items }
     ensures room { OnOk result (vec_len history.new < vec_capacity history.new) }
