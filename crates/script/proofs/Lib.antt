@@ -1,4 +1,7 @@
 pub mod Printed
-pub mod Serving
+pub mod MasterSteps
+pub mod Standing
+pub mod Commands
+pub mod WhatIsLeft
 pub mod Turning
 pub mod Fronts

@@ -8,7 +8,9 @@ use Rattle.std.specs.Io.KnownBytes.{Appends, Consumes, IsAtEnd, Keeps}
 use Rattle.std.proofs.KnownBytes.{Appends-nil, Appends-trans, Appends-kept, Consumes-nil, Consumes-trans, Keeps-refl}
 use Rattle.std.specs.List.{All}
 use Rattle.lines.specs.Grammar.{LineValue}
-use Rattle.lines.specs.Reading.{IsLineText}
+use Rattle.lines.specs.Reading.{IsLineText, StopsIn, TakesLine}
+use Rattle.lines.specs.declared.reading.ReadFault.{ReadFault}
+use Rattle.lines.specs.declared.reading.Taken.{Taken}
 use Rattle.versioned_map.specs.declared.command.Command.{Command}
 use Rattle.versioned_map.specs.declared.command.Record.{Record}
 use Rattle.master_core.specs.declared.config.Config.{Config}
@@ -168,6 +170,16 @@ pub answer_printed : (old new : Session) (text : List ℕ) (number : ℕ) (held 
 answer_printed old new text number held holds answer (Ok done) runs printed = (answer, runs, printed)
 answer_printed old new text number held holds answer (Err e) runs failed =
     subst (λ (f : ScriptFault). PrintsText old new text number held holds (Err f)) (sym failed) (answer, runs)
+
+-- ---- what was taken for a line
+
+pub taken_as : (had left : Option (List ℕ)) (text bytes : List ℕ) (was is : Taken) → was ≡ is → text ≡ bytes → TakesLine had left text was
+    → TakesLine had left bytes is
+taken_as had left text bytes was is same whole there =
+    subst (λ (l : List ℕ). TakesLine had left l is) whole (subst (λ (t : Taken). TakesLine had left text t) same there)
+
+pub stopped_as : (had left : Option (List ℕ)) (text : List ℕ) (was is : ReadFault) → was ≡ is → StopsIn had left text was → StopsIn had left text is
+stopped_as had left text was is same there = subst (λ (f : ReadFault). StopsIn had left text f) same there
 
 -- ---- a turn that failed
 
@@ -332,7 +344,7 @@ module _ (config : Config) (old : Session) (had mid left held wrote holds : Opti
   fails new fault.NoMemory t = closes t.0 (Err fault.NoMemory) t.1 (t.0, refl, t.2) (kept_answers t.3)
 
   none_left : (new : Session) → TakesTurn old new number mid left wrote holds (Ok false) → RunsScript config had left held holds (Ok tt)
-  none_left new (inl t) = runs_last new t.0 t.5 t.6 t.1 t.2 t.3 t.4 t.7
+  none_left new (inl t) = runs_last new t.0 t.5.0 t.5.1 t.1 t.2 t.3 t.4 t.5.2
   none_left new (inr t) = runs_out t.0 t.1 t.2
 
   pub none_ran : (new : Session) (more : Bool) → more ≡ false → TakesTurn old new number mid left wrote holds (Ok more) → RunsScript config had left held holds (Ok tt)
@@ -342,7 +354,7 @@ module _ (config : Config) (old : Session) (had mid left held wrote holds : Opti
       → Running config new had left held holds (number + 1)
   more_ran new more is t =
       let ran : TakesTurn old new number mid left wrote holds (Ok true) = subst (λ (b : Bool). TakesTurn old new number mid left wrote holds (Ok b)) is t in
-      runs_on new ran.0 ran.3 ran.4 ran.1 ran.2 ran.5
+      runs_on new ran.0 ran.3.0 ran.3.1 ran.1 ran.2 ran.3.2
 
 -- ---- behind the last number, and behind the last line
 

@@ -37,7 +37,8 @@ answers_of told = flat_map (λ (t : Told). answer_text t.answer) told
 -- the bytes are those of the lines; the last may lack its line feed where it has a byte
 abbrev pub AreLines : List Told → List ℕ → Type 0
 AreLines told bytes = (bytes ≡ texts_of told)
-    ⊎ ((before : List Told) × (last : Told) × (told ≡ before ++ last ∷ []) × (bytes ≡ texts_of before ++ last.text) × (0 < length last.text))
+    ⊎ ((before : List Told) × (last : Told) × (told ≡ before ++ last ∷ []) × (bytes ≡ texts_of before ++ last.text)
+    × (0 < length last.text))
 
 -- ---- bad lines
 
@@ -54,6 +55,10 @@ IsBadLine backups number taken left =
 
 -- ---- a run
 
+-- how a run ends
+abbrev pub RunResult : Type 0
+RunResult = Result (Unit {0}) ScriptFault
+
 -- The lines tell of one life of a master of this configuration. It begins with no keys, its replies are the versioned
 -- map's, and it has no records but those of the lines.
 abbrev pub TellOneLife : Config → List Told → Type 0
@@ -68,16 +73,17 @@ EndsWith backups told taken left (Err (BadLine number)) =
     (number ≡ suc (length told)) × (bad : List ℕ) × (taken ≡ texts_of told ++ bad) × IsBadLine backups number bad left
 EndsWith backups told taken left (Err ReadFailed) = (part : List ℕ) × (taken ≡ texts_of told ++ part) × IsLineText part
 EndsWith backups told taken left (Err WriteFailed) = AreLines told taken
-EndsWith backups told taken left (Err NoMemory) = (part : List ℕ) × (taken ≡ texts_of told ++ part) × (length part ≤ 4097)
+EndsWith backups told taken left (Err NoMemory) =
+    (part : List ℕ) × (taken ≡ texts_of told ++ part) × (length part ≤ 4097)
 
 -- what was written: the answers and nothing else, unless the writer failed
 abbrev pub Prints : Option (List ℕ) → Option (List ℕ) → List Told → Result (Unit {0}) ScriptFault → Type 0
 Prints old new told (Err WriteFailed) = Unit {0}
 Prints old new told result = Appends old new (answers_of told)
 
--- A run of a script under a configuration: what the reader had and has left, what the writer held and holds, and how the run
--- ended.
-pub record RunsScript (config : Config) (had left held holds : Option (List ℕ)) (result : Result (Unit {0}) ScriptFault) : Type 0 where
+-- A run of a script under a configuration: what the reader had and has left, what the writer held and holds, and how the
+-- run ended.
+pub record RunsScript (config : Config) (had left held holds : Option (List ℕ)) (result : RunResult) : Type 0 where
   pub told : List Told
   pub taken : List ℕ
   pub consumed : Consumes had left taken

@@ -36,10 +36,11 @@ IsSpent f = f.takes ≡ f.end
 
 -- the command was served: its record is added, and durable
 abbrev pub IsServed : MasterData → MasterData → Command → Reply → Type 0
-IsServed old new command reply = GoesOn old new (record_of command reply) × (length old.history < durable_of (log_of new))
+IsServed old new command reply =
+    GoesOn old new (record_of command reply) × (length old.history < durable_of (log_of new))
 
--- The command was not answered. It was refused by a test or for want of memory, and no record was added; or its record was
--- added, and a push was refused.
+-- The command was not answered. It was refused by a test or for want of memory, and no record was added; or its record
+-- was added, and a push was refused.
 abbrev pub IsUnserved : MasterData → MasterData → Command → Refusal → Type 0
 IsUnserved old new command r =
     (GoesOn old new [] × ((r ≡ NoMemory) ⊎ (command_refusal old command ≡ Some r)))
@@ -87,8 +88,8 @@ life_of d = record { opening = opening_of d; history = d.history }
 -- What a line answers is told of the life of whatever the node stands for, and the node that is left goes on with it.
 abbrev pub AnswersLine : Node → Config → LineValue → Node → Answer → Type 0
 AnswersLine old config line new answer = (d : MasterData) (at : Position) → Stands old config d at →
-    (e : MasterData) × (next : Position) × Stands new config e next × ((more : List Record) × (e.history ≡ d.history ++ more))
-    × Tells config (life_of e) at line answer next
+    (e : MasterData) × (next : Position) × Stands new config e next
+    × ((more : List Record) × (e.history ≡ d.history ++ more)) × Tells config (life_of e) at line answer next
 
 -- the same of a session, whose master has this number
 pub record SessionAnswers (old : Session) (line : LineValue) (new : Session) (answer : Answer) : Type 0 where

@@ -9,9 +9,13 @@ use Rattle.script.specs.declared.fault.ScriptFault.TheVariants as fault
 use Rattle.script.specs.declared.session.LineFault.{LineFault}
 use Rattle.script.specs.declared.session.LineFault.TheVariants as line_fault
 use Rattle.script.specs.declared.session.Session.{Session}
-use Rattle.script.specs.Runs.{IsOfFleet, IsTakenLine, IsBadLine}
+use Rattle.script.specs.Runs.{IsOfFleet, IsTakenLine, IsBadLine, RunResult}
 use Rattle.script.specs.Served.{SessionAnswers}
 use Rattle.script.specs.Texts.{answer_text}
+
+-- what a reader has left, or a writer holds, where it is known
+abbrev pub Known : Type 0
+Known = Option (List ℕ)
 
 -- the value of a line is one that an object may have
 abbrev pub HasValue : LineValue → Type 0
@@ -30,14 +34,19 @@ pub record RunsText (old : Session) (text : List ℕ) (new : Session) (answer : 
   pub of_fleet : IsOfFleet old.backups line
   pub answers : SessionAnswers old line new answer
 
+-- the line of a text was run, and its answer was written
+abbrev pub AnswersText : Session → List ℕ → Session → Known → Known → Type 0
+AnswersText old text new held holds =
+    (answer : Answer) × RunsText old text new answer × Appends held holds (answer_text answer)
+
 -- an answer was written, or the writer failed
-abbrev pub IsPrinted : Option (List ℕ) → Option (List ℕ) → Answer → Result (Unit {0}) ScriptFault → Type 0
+abbrev pub IsPrinted : Known → Known → Answer → RunResult → Type 0
 IsPrinted held holds answer (Ok done) = Appends held holds (answer_text answer)
 IsPrinted held holds answer (Err e) = e ≡ fault.WriteFailed
 
 -- its answer was written, where the writer didn't fail
-abbrev pub PrintsText : Session → Session → List ℕ → ℕ → Option (List ℕ) → Option (List ℕ) → Result (Unit {0}) ScriptFault → Type 0
-PrintsText old new text number held holds (Ok done) = (answer : Answer) × RunsText old text new answer × Appends held holds (answer_text answer)
+abbrev pub PrintsText : Session → Session → List ℕ → ℕ → Known → Known → RunResult → Type 0
+PrintsText old new text number held holds (Ok done) = AnswersText old text new held holds
 PrintsText old new text number held holds (Err (fault.BadLine n)) =
     (n ≡ number) × ((line : LineValue) → Says text line → IsOfFleet old.backups line → ⊥) × Keeps held holds
 PrintsText old new text number held holds (Err fault.ReadFailed) = ⊥
@@ -45,17 +54,18 @@ PrintsText old new text number held holds (Err fault.WriteFailed) = (answer : An
 PrintsText old new text number held holds (Err fault.NoMemory) = Keeps held holds
 
 -- What the line of this number came to: it was run and more may come; or it was the last, or there was none.
-abbrev pub TakesTurn : Session → Session → ℕ → Option (List ℕ) → Option (List ℕ) → Option (List ℕ) → Option (List ℕ) → Result Bool ScriptFault → Type 0
+abbrev pub TakesTurn : Session → Session → ℕ → Known → Known → Known → Known → Result Bool ScriptFault → Type 0
 TakesTurn old new number had left held holds (Ok true) =
     (text : List ℕ) × IsLineText text × Consumes had left (text ++ 10 ∷ [])
-    × (answer : Answer) × RunsText old text new answer × Appends held holds (answer_text answer)
+    × AnswersText old text new held holds
 TakesTurn old new number had left held holds (Ok false) =
     ((text : List ℕ) × IsLineText text × Consumes had left text × IsAtEnd left × (0 < length text)
-    × (answer : Answer) × RunsText old text new answer × Appends held holds (answer_text answer))
+    × AnswersText old text new held holds)
     ⊎ (Consumes had left [] × IsAtEnd left × Keeps held holds)
 TakesTurn old new number had left held holds (Err (fault.BadLine n)) =
     (n ≡ number) × (bad : List ℕ) × Consumes had left bad × IsBadLine old.backups number bad left × Keeps held holds
-TakesTurn old new number had left held holds (Err fault.ReadFailed) = (part : List ℕ) × Consumes had left part × IsLineText part × Keeps held holds
+TakesTurn old new number had left held holds (Err fault.ReadFailed) =
+    (part : List ℕ) × Consumes had left part × IsLineText part × Keeps held holds
 TakesTurn old new number had left held holds (Err fault.WriteFailed) =
     (text : List ℕ) × (taken : List ℕ) × IsLineText text × Consumes had left taken × IsTakenLine text taken left
     × (answer : Answer) × RunsText old text new answer
@@ -63,7 +73,7 @@ TakesTurn old new number had left held holds (Err fault.NoMemory) =
     (part : List ℕ) × Consumes had left part × (length part ≤ 4097) × Keeps held holds
 
 -- What stood behind the last line that can have a number.
-abbrev pub IsNoMore : Option (List ℕ) → Option (List ℕ) → Result (Unit {0}) ScriptFault → Type 0
+abbrev pub IsNoMore : Known → Known → RunResult → Type 0
 IsNoMore had left (Ok done) = Consumes had left [] × IsAtEnd left
 IsNoMore had left (Err (fault.BadLine n)) =
     (n ≡ 2 ^ 64 - 1) × (bad : List ℕ) × Consumes had left bad × ((backups : ℕ) → IsBadLine backups n bad left)

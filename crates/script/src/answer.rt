@@ -92,7 +92,8 @@ fn write_number<W: Write>(writer: &mut W, words: &[u8], number: u64, last: u8) -
 /// The end of a line that shows a value at its version.
 #[inline(always)]
 fn write_versioned<W: Write>(writer: &mut W, version: Version, value: &Value) -> io::Result<()>
-    ensures { OnOk result (Appends (W.contents writer.old) (W.contents writer.new) (decimal version ++ 32 ∷ value.now ++ 10 ∷ [])) }
+    ensures { OnOk result (Appends (W.contents writer.old) (W.contents writer.new)
+        (decimal version ++ 32 ∷ value.now ++ 10 ∷ [])) }
 {
     write_number(writer, b"", version.get(), b' ')?;
     writer.write_all(value.as_slice())?;

@@ -44,6 +44,7 @@ pub fn push_all<F: Fleet>(master: &mut Master<F>) -> Refusal
 }
 
 /// Pushes until the record at this place is durable, or a push is refused.
+#[inline(always)]
 fn push_until<F: Fleet>(master: &mut Master<F>, place: u64) -> Result<(), Refusal>
     ensures goes_on { GoesOn master.old.knows master.new.knows [] }
     ensures durable { IfOk result (λ _. place < durable_of (log_of master.new.knows)) }
@@ -62,6 +63,7 @@ fn push_until<F: Fleet>(master: &mut Master<F>, place: u64) -> Result<(), Refusa
 }
 
 /// Applies a command of seat 0, and pushes until its record is durable.
+#[inline(always)]
 fn serve<F: Fleet>(master: &mut Master<F>, command: Command) -> Result<Reply, Refusal>
     ensures served { IfOk result (λ reply. IsServed master.old.knows master.new.knows command reply) }
     ensures unserved { IfErr result (IsUnserved master.old.knows master.new.knows command) }
@@ -82,8 +84,10 @@ impl Node {
 
     /// One command, pushed until it is durable. Where the fleet takes no more ops, the master is dropped, and
     /// the limit lifted.
+    #[inline(always)]
     pub fn serve(&mut self, command: Command) -> Answer
-        ensures { (config : Config) (line : LineValue) → command_of line ≡ Some command → AnswersLine self.old config line self.new result }
+        ensures { (config : Config) (line : LineValue) → command_of line ≡ Some command →
+            AnswersLine self.old config line self.new result }
     {
         let Node::Up(up) = self else {
             return Answer::Down;
@@ -106,7 +110,8 @@ impl Node {
     /// Drops the master of a node that is up. The fleet stays as it is.
     fn drop_master(&mut self)
         requires { is_up self.old ≡ true }
-        ensures left { (d : MasterData) (f : FleetState) → IsOf self.old None d → fleet_of self.old ≡ Some f → IsOf self.new (Some (left_now f)) d }
+        ensures left { (d : MasterData) (f : FleetState) → IsOf self.old None d → fleet_of self.old ≡ Some f →
+            IsOf self.new (Some (left_now f)) d }
         ensures fleet { fleet_of self.new ≡ fleet_of self.old }
         ensures down { is_up self.new ≡ false }
     {
@@ -160,7 +165,8 @@ impl Node {
     /// A backup loses all that it holds.
     pub fn lose(&mut self, backup: u64) -> Answer
         ensures told { (config : Config) → AnswersLine self.old config (Lose backup) self.new result }
-        ensures lost { is_up self.old ≡ false → fleet_of self.new ≡ option_map (λ f. lost f backup) (fleet_of self.old) }
+        ensures lost { is_up self.old ≡ false →
+            fleet_of self.new ≡ option_map (λ f. lost f backup) (fleet_of self.old) }
     {
         let Node::Down(fleet) = self else {
             return Answer::Up;

@@ -26,7 +26,8 @@ pub fn run_script<R: BufRead, W: Write>(
 ) -> Result<(), ScriptFault>
     requires { config_fault (config_of options 1) ≡ None }
     // The lines tell of one legal history; what was written is their answers; a bad line is named.
-    ensures { RunsScript (config_of options 1) (R.remaining reader.old) (R.remaining reader.new) (W.contents writer.old) (W.contents writer.new) result }
+    ensures { RunsScript (config_of options 1) (R.remaining reader.old) (R.remaining reader.new)
+        (W.contents writer.old) (W.contents writer.new) result }
 {
     let Ok(mut session) = Session::start(alloc, &options) else {
         return Err(ScriptFault::NoMemory);
@@ -41,7 +42,9 @@ fn run_and_flush<R: BufRead, W: Write>(
     writer: &mut W,
     session: &mut Session,
 ) -> Result<(), ScriptFault>
-    ensures { (config : Config) → Begins config session.old → RunsScript config (R.remaining reader.old) (R.remaining reader.new) (W.contents writer.old) (W.contents writer.new) result }
+    ensures { (config : Config) → Begins config session.old →
+        RunsScript config (R.remaining reader.old) (R.remaining reader.new)
+        (W.contents writer.old) (W.contents writer.new) result }
 {
     let ran = run_lines(alloc, reader, writer, session);
     let flushed = writer.flush();
@@ -58,7 +61,9 @@ fn run_lines<R: BufRead, W: Write>(
     writer: &mut W,
     session: &mut Session,
 ) -> Result<(), ScriptFault>
-    ensures { (config : Config) → Begins config session.old → RunsScript config (R.remaining reader.old) (R.remaining reader.new) (W.contents writer.old) (W.contents writer.new) result }
+    ensures { (config : Config) → Begins config session.old →
+        RunsScript config (R.remaining reader.old) (R.remaining reader.new)
+        (W.contents writer.old) (W.contents writer.new) result }
 {
     let mut text = Vec::new(alloc);
     for number in 1..u64::MAX {
@@ -79,7 +84,8 @@ fn run_next<R: BufRead, W: Write>(
     session: &mut Session,
     number: u64,
 ) -> Result<bool, ScriptFault>
-    ensures { TakesTurn session.old session.new number (R.remaining reader.old) (R.remaining reader.new) (W.contents writer.old) (W.contents writer.new) result }
+    ensures { TakesTurn session.old session.new number (R.remaining reader.old) (R.remaining reader.new)
+        (W.contents writer.old) (W.contents writer.new) result }
 {
     match next_line(reader, text) {
         Ok(Taken::Ended) => match run_text(writer, session, text.as_slice(), number) {
@@ -105,7 +111,8 @@ fn run_text<W: Write>(
     number: u64,
 ) -> Result<(), ScriptFault>
     requires { IsLineText text.now }
-    ensures { PrintsText session.old session.new text.now number (W.contents writer.old) (W.contents writer.new) result }
+    ensures { PrintsText session.old session.new text.now number
+        (W.contents writer.old) (W.contents writer.new) result }
 {
     let Some(line) = parse_line(text) else {
         return Err(ScriptFault::BadLine(number));

@@ -75,6 +75,7 @@ impl Session {
     }
 
     /// Runs one line.
+    #[inline(always)]
     pub fn run_line(&mut self, line: Line<'_>) -> Result<Answer, LineFault>
         requires line { IsLine (shown line) }
         requires value { HasValue (shown line) }
@@ -118,7 +119,8 @@ fn make_key(alloc: Global, table: u64, bytes: &[u8]) -> Result<Key, NoMemory>
 fn put_command(alloc: Global, table: u64, key: &[u8], value: &[u8]) -> Result<Command, NoMemory>
     requires key { IsKey key.now }
     requires value { length value.now ≤ MAX_VALUE_LEN }
-    ensures { IfOk result (λ command. command ≡ Command.Put (record { table = table; bytes = key.now }) value.now If.Any) }
+    ensures { IfOk result (λ command.
+        command ≡ Command.Put (record { table = table; bytes = key.now }) value.now If.Any) }
 {
     let key = make_key(alloc, table, key)?;
     let value = Vec::from_slice(alloc, value)?;

@@ -1,4 +1,4 @@
-use Rattle.script.proofs.Serving.{push_goes_on}
+use Rattle.script.proofs.MasterSteps.{push_goes_on}
 use Rattle.script.proofs.node.push_all.Goals as goal
 
 pub returns-in-Err : goal.returns-in-Err

@@ -1,5 +1,5 @@
 use Rattle.std.proofs.Common.{◌<◌, subst}
-use Rattle.script.proofs.Serving.{push_goes_on, refused_push, spent_push}
+use Rattle.script.proofs.MasterSteps.{push_goes_on, refused_push, spent_push}
 use Rattle.script.proofs.node.push_until.Goals as goal
 
 pub returns-then-place-durable-clause-durable : goal.returns-then-place-durable-clause-durable

@@ -1,4 +1,4 @@
-use Rattle.script.proofs.Serving.{spent_command}
+use Rattle.script.proofs.MasterSteps.{spent_command}
 use Rattle.script.proofs.node.serve.Goals as goal
 
 pub returns-in-Err-clause-spent : goal.returns-in-Err-clause-spent

@@ -5,7 +5,7 @@ use Rattle.lines.specs.Grammar.{Crash}
 use Rattle.script.specs.declared.node.Node.{Node}
 use Rattle.script.specs.declared.node.Node.TheVariants.{Up}
 use Rattle.script.specs.Served.{IsOf, fleet_of, is_up}
-use Rattle.script.proofs.Serving.{crashed_told}
+use Rattle.script.proofs.WhatIsLeft.{crashed_told}
 use Rattle.script.proofs.node.Node.crash.Goals as goal
 
 pub returns-in-Up-clause-told : goal.returns-in-Up-clause-told

@@ -1,4 +1,4 @@
-use Rattle.script.proofs.Serving.{lost_told}
+use Rattle.script.proofs.WhatIsLeft.{lost_told}
 use Rattle.script.proofs.node.Node.lose.Goals as goal
 
 pub returns-clause-told : goal.returns-clause-told

@@ -2,7 +2,8 @@ use Rattle.lines.specs.Grammar.{Recover}
 use Rattle.recovery.specs.declared.recovery.RecoveryFault.TheVariants as fault
 use Rattle.recovery_plan.specs.declared.fault.PlanFault.TheVariants as plan_fault
 use Rattle.script.specs.declared.answer.Answer.TheVariants as answer
-use Rattle.script.proofs.Serving.{stays_told, rebuilt_told, loss_told, want_told}
+use Rattle.script.proofs.Standing.{stays_told}
+use Rattle.script.proofs.WhatIsLeft.{rebuilt_told, loss_told, want_told}
 use Rattle.script.proofs.node.Node.recover.Goals as goal
 
 pub returns-in-Ok-recover : goal.returns-in-Ok-recover

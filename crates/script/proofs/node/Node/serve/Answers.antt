@@ -8,7 +8,8 @@ use Rattle.replica.specs.Picture.{Picture}
 use Rattle.script.specs.declared.node.Node.{Node}
 use Rattle.script.specs.declared.node.Node.TheVariants.{Up}
 use Rattle.script.specs.Served.{IsOf, IsUnserved, is_up}
-use Rattle.script.proofs.Serving.{is_up_none, stopped_told, refused_told}
+use Rattle.script.proofs.Commands.{stopped_told, refused_told}
+use Rattle.script.proofs.Standing.{is_up_none}
 use Rattle.script.proofs.node.Node.serve.Goals as goal
 
 pub returns-in-Spent : goal.returns-in-Spent

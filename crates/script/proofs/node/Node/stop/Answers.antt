@@ -9,7 +9,8 @@ use Rattle.script.specs.declared.answer.Answer.TheVariants as answer
 use Rattle.script.specs.declared.node.Node.{Node}
 use Rattle.script.specs.declared.node.Node.TheVariants.{Down, Up}
 use Rattle.script.specs.Served.{AnswersLine, IsOf}
-use Rattle.script.proofs.Serving.{same_picture, same_told}
+use Rattle.script.proofs.Standing.{same_told}
+use Rattle.script.proofs.WhatIsLeft.{same_picture}
 use Rattle.script.proofs.node.Node.stop.Goals.{in-Up, in-Down, in-Changing}
 use Rattle.script.proofs.node.Node.stop.Goals as goal
 

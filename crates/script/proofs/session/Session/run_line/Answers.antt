@@ -2,7 +2,7 @@ use Rattle.std.proofs.Common.{refl, sym, ap, Some}
 use Rattle.lines.specs.Grammar.{Idle}
 use Rattle.versioned_map.specs.declared.command.Command.TheVariants as command
 use Rattle.script.specs.declared.answer.Answer.TheVariants.{Silent}
-use Rattle.script.proofs.Serving.{stays_told}
+use Rattle.script.proofs.Standing.{stays_told}
 use Rattle.script.proofs.session.Session.run_line.Goals as goal
 
 pub returns-in-Idle-clause-ran : goal.returns-in-Idle-clause-ran

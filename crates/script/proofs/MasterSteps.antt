@@ -1,0 +1,158 @@
+-- What a step adds to a master.
+use Rattle.std.proofs.Common.{◌≡◌, ℕ, suc, ◌≤◌, Bool, true, false, cond, List, [], ◌∷◌, ◌++◌, length, take, refl, sym, ap, subst, inl, inr, ◌∙◌, arith}
+use Rattle.std.proofs.lemmas.List.{append-nil, length-append}
+use Rattle.std.proofs.Math.Seq.{take-length}
+use lib.Seq.{take-append_seam}
+use Rattle.std.specs.Prelude.{Option, Some, None, Result, Ok, Err, slice_get, not, is_none, ◌==◌, ◌||◌, ◌↔◌, if◌then◌else◌, unwrap_or}
+use Rattle.backup.specs.State.{state_of, lost}
+use Rattle.backup.specs.declared.fleet.MemoryFleet.{MemoryFleet}
+use Rattle.lines.specs.Grammar.{LineValue, Put, Get, Crash, Lose, Recover}
+use Rattle.entry.specs.declared.entry.Entry.{Entry}
+use Rattle.entry.specs.Bag.{IsAmong}
+use Rattle.entry.specs.Meaning.{IsMeaning, among, contents_of}
+use Rattle.replay.specs.declared.rebuilt.Rebuilt.{Rebuilt}
+use Rattle.replica.specs.declared.holding.Holding.{Holding}
+use Rattle.replica.specs.Picture.{Replica, Picture, FleetState, IsHeld}
+use Rattle.replica.specs.Survival.{BothSurvive}
+use Rattle.recovery_plan.specs.declared.fault.PlanFault.TheVariants as plan_fault
+use Rattle.versioned_map.specs.declared.command.Command.{Command}
+use Rattle.versioned_map.specs.declared.command.Record.{Record}
+use Rattle.versioned_map.specs.declared.command.Reply.{Reply}
+use Rattle.log_model.specs.Data.{LogData, durable_of}
+use Rattle.log_model.specs.Sound.{IsSound}
+use Rattle.master_core.specs.declared.config.Config.{Config}
+use Rattle.master_core.specs.declared.step.Refusal.{Refusal}
+use Rattle.master_core.specs.declared.step.Refusal.TheVariants as refusal
+use Rattle.master_core.specs.declared.step.Step.TheVariants.{Apply, Push}
+use Rattle.master_core.specs.declared.step.StepAnswer.{StepAnswer}
+use Rattle.master_core.specs.declared.step.StepAnswer.TheVariants.{Applied}
+use Rattle.master_core.specs.Causes.{is_pushed, command_refusal, early_refusal, late_refusal}
+use Rattle.master_core.specs.Data.{MasterData}
+use Rattle.master_core.specs.Log.{log_of}
+use Rattle.master.specs.Keeps.{Keeps}
+use Rattle.master.specs.Steps.{Steps, Declines, FailsTake}
+use Rattle.master.specs.Valid.{IsValid}
+use Rattle.master.specs.World.{World}
+use Rattle.recovery.specs.Kept.{is_kept}
+use Rattle.recovery.specs.Recovered.{Shows, IsRecovered, IsRebuiltFrom}
+use Rattle.recovery.specs.declared.recovery.RecoveryFault.{RecoveryFault}
+use Rattle.recovery.specs.declared.recovery.RecoveryFault.TheVariants as fault
+use Rattle.recovery.proofs.Choices.{bag-of-plan, surviving-choice}
+use Rattle.recovery.proofs.Recoveries.{IsSomePrefix, IsSomeLoss}
+use Rattle.script.specs.declared.answer.Answer.{Answer}
+use Rattle.script.specs.declared.answer.Answer.TheVariants as answer
+use Rattle.script.specs.declared.node.Node.{Node}
+use Rattle.script.specs.declared.node.Node.TheVariants.{Up, Down, Changing}
+use Rattle.script.specs.Lives.{life_to, HasLived, Left, is_left, IsHomeBy}
+use Rattle.script.specs.Served.{GoesOn, IsServed, IsUnserved, IsSpent, IsLeftOf, IsOf, Stands, AnswersLine, is_up, left_now, life_of, record_of}
+use Rattle.script.specs.Told.{Position, command_of, is_for_master, is_for_none, is_of_push, IsRecoveredAt, Tells}
+
+-- ---- a master goes on
+
+pub goes_nowhere : (d : MasterData) → GoesOn d d []
+goes_nowhere d = record { config = refl; durable = omega arith; history = sym (append-nil d.history) }
+
+-- ---- a push
+
+refused_history : (old new : World) (r : Refusal) → FailsTake old r new → new.knows.history ≡ old.knows.history
+refused_history old new refusal.NoMemory h = ap (λ (w : World). w.knows.history) h
+refused_history old new refusal.Spent h = ap (λ (w : World). w.knows.history) h.1
+refused_history old new refusal.Halted h = ap (λ (d : MasterData). d.history) h.0
+refused_history old new r h = absurd h
+
+pushed_history : (old new : World) (r : Result StepAnswer Refusal) → Steps old Push r new → new.knows.history ≡ old.knows.history
+pushed_history old new (Ok a) h = ap (λ (d : MasterData). d.history) h.rest
+pushed_history old new (Err r) (inl h) = ap (λ (w : World). w.knows.history) h.1
+pushed_history old new (Err r) (inr h) = refused_history old new r h.1
+
+pub push_goes_on : (from : MasterData) (old new : World) (r : Result StepAnswer Refusal) → GoesOn from old.knows [] → Steps old Push r new
+    → Keeps 1 old new → GoesOn from new.knows []
+push_goes_on from old new r before push kept =
+    let was = before.durable in
+    let is = kept.durable in
+    record {
+      config = kept.config ∙ before.config;
+      durable = omega arith;
+      history = pushed_history old new r push ∙ before.history;
+    }
+
+-- why it was refused
+pub refused_push : (old new : World) (r : Refusal) → Declines old Push r new → is_of_push r ≡ true
+refused_push old new r (inl h) = tested old.knows.is_halted (is_pushed old.knows.head) h.0
+  where
+    tested : (halted pushed : Bool) → (if halted then Some refusal.Halted else if pushed then Some refusal.Nothing else None) ≡ Some r → is_of_push r ≡ true
+    tested true pushed e = ap (λ (x : Option Refusal). is_of_push (unwrap_or x r)) (sym e)
+    tested false true e = ap (λ (x : Option Refusal). is_of_push (unwrap_or x r)) (sym e)
+    tested false false e = absurd (cc)
+refused_push old new refusal.NoMemory (inr h) = refl
+refused_push old new refusal.Spent (inr h) = refl
+refused_push old new refusal.Halted (inr h) = refl
+refused_push old new r (inr h) = absurd h.1
+
+-- a push is refused as spent by a fleet that is
+pub spent_push : (old new : World) (r : Refusal) → Declines old Push r new → r ≡ refusal.Spent → IsSpent new.fleet
+spent_push old new r h is = go (subst (λ (x : Refusal). Declines old Push x new) is h)
+  where
+    tested : (halted pushed : Bool) → (if halted then Some refusal.Halted else if pushed then Some refusal.Nothing else None) ≡ Some refusal.Spent → ⊥
+    tested true pushed e = cc
+    tested false true e = cc
+    tested false false e = cc
+
+    go : Declines old Push refusal.Spent new → IsSpent new.fleet
+    go (inl h) = absurd (tested old.knows.is_halted (is_pushed old.knows.head) h.0)
+    go (inr h) = subst (λ (w : World). IsSpent w.fleet) (sym h.1.1) h.1.0
+
+-- ---- a command
+
+abbrev reply_in : Reply → StepAnswer → Reply
+reply_in other (Applied p r) = r
+reply_in other _ = other
+
+abbrev place_in : StepAnswer → ℕ
+place_in (Applied p r) = p
+place_in _ = 0
+
+-- the record that was added
+pub applied_goes_on : (old new : World) (command : Command) (place : ℕ) (reply : Reply) → Steps old (Apply 0 command) (Ok (Applied place reply)) new
+    → Keeps 1 old new → GoesOn old.knows new.knows (record_of command reply) × (place ≡ length old.knows.history)
+applied_goes_on old new command place reply is kept =
+    let same = ap (reply_in reply) is.0.told in (
+      record {
+        config = kept.config;
+        durable = kept.durable;
+        history = ap (λ (l : LogData). l.history) is.0.log ∙ ap (λ (x : Reply). old.knows.history ++ record_of command x) (sym same);
+      },
+      ap place_in is.0.told,
+    )
+
+-- no test refuses a command as spent
+early_unspent : (h t k f : Bool) → (if h then Some refusal.Halted else if t then Some refusal.TooBig else if k then Some refusal.NoTablet
+    else if f then Some refusal.HistoryFull else None) ≡ Some refusal.Spent → ⊥
+early_unspent true t k f e = cc
+early_unspent false true k f e = cc
+early_unspent false false true f e = cc
+early_unspent false false false true e = cc
+early_unspent false false false false e = cc
+
+late_unspent : (v e f r : Bool) → (if v then Some refusal.VersionsSpent else if e then None else if f then Some refusal.Full
+    else if r then Some refusal.Rolling else None) ≡ Some refusal.Spent → ⊥
+late_unspent true e f r is = cc
+late_unspent false true f r is = cc
+late_unspent false false true r is = cc
+late_unspent false false false true is = cc
+late_unspent false false false false is = cc
+
+unspent : (d : MasterData) (command : Command) → command_refusal d command ≡ Some refusal.Spent → ⊥
+unspent d command is = go (is_none (early_refusal d command)) is
+  where
+    go : (b : Bool) → (if b then late_refusal d command else early_refusal d command) ≡ Some refusal.Spent → ⊥
+    go true e = late_unspent _ _ _ _ e
+    go false e = early_unspent _ _ _ _ e
+
+-- a command is refused as spent by a fleet that is: by none
+pub spent_command : (old new : World) (command : Command) (r : Refusal) → Declines old (Apply 0 command) r new → r ≡ refusal.Spent → ⊥
+spent_command old new command r h is = go (subst (λ (x : Refusal). Declines old (Apply 0 command) x new) is h)
+  where
+    go : Declines old (Apply 0 command) refusal.Spent new → ⊥
+    go (same, inl test) = unspent old.knows command test
+    go (same, inr memory) = let none = memory.1 in cc

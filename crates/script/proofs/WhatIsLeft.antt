@@ -1,0 +1,198 @@
+-- Crashes, losses and recoveries, told of what is left of a master.
+use Rattle.std.proofs.Common.{◌≡◌, ℕ, suc, ◌≤◌, Bool, true, false, cond, List, [], ◌∷◌, ◌++◌, length, take, refl, sym, ap, subst, inl, inr, ◌∙◌, arith}
+use Rattle.std.proofs.lemmas.List.{append-nil, length-append}
+use Rattle.std.proofs.Math.Seq.{take-length}
+use lib.Seq.{take-append_seam}
+use Rattle.std.specs.Prelude.{Option, Some, None, Result, Ok, Err, slice_get, not, is_none, ◌==◌, ◌||◌, ◌↔◌, if◌then◌else◌, unwrap_or}
+use Rattle.backup.specs.State.{state_of, lost}
+use Rattle.backup.specs.declared.fleet.MemoryFleet.{MemoryFleet}
+use Rattle.lines.specs.Grammar.{LineValue, Put, Get, Crash, Lose, Recover}
+use Rattle.entry.specs.declared.entry.Entry.{Entry}
+use Rattle.entry.specs.Bag.{IsAmong}
+use Rattle.entry.specs.Meaning.{IsMeaning, among, contents_of}
+use Rattle.replay.specs.declared.rebuilt.Rebuilt.{Rebuilt}
+use Rattle.replica.specs.declared.holding.Holding.{Holding}
+use Rattle.replica.specs.Picture.{Replica, Picture, FleetState, left_on, shown_by, survivors, IsHeld, AreHeld}
+use Rattle.replica.specs.Choice.{IsShownChoice}
+use Rattle.replica.specs.Survival.{BothSurvive}
+use Rattle.recovery_plan.specs.declared.fault.PlanFault.TheVariants as plan_fault
+use Rattle.versioned_map.specs.declared.command.Command.{Command}
+use Rattle.versioned_map.specs.declared.command.Record.{Record}
+use Rattle.versioned_map.specs.declared.command.Reply.{Reply}
+use Rattle.log_model.specs.Data.{LogData, durable_of}
+use Rattle.log_model.specs.Sound.{IsSound}
+use Rattle.master_core.specs.declared.config.Config.{Config}
+use Rattle.master_core.specs.declared.step.Refusal.{Refusal}
+use Rattle.master_core.specs.declared.step.Refusal.TheVariants as refusal
+use Rattle.master_core.specs.declared.step.Step.TheVariants.{Apply, Push}
+use Rattle.master_core.specs.declared.step.StepAnswer.{StepAnswer}
+use Rattle.master_core.specs.declared.step.StepAnswer.TheVariants.{Applied}
+use Rattle.master_core.specs.Causes.{is_pushed, command_refusal, early_refusal, late_refusal}
+use Rattle.master_core.specs.Data.{MasterData}
+use Rattle.master_core.specs.Log.{log_of}
+use Rattle.master.specs.Keeps.{Keeps}
+use Rattle.master.specs.Steps.{Steps, Declines, FailsTake}
+use Rattle.master.specs.Valid.{IsValid}
+use Rattle.master.specs.World.{World}
+use Rattle.recovery.specs.Kept.{is_kept}
+use Rattle.recovery.specs.Recovered.{Shows, IsRecovered, IsRebuiltFrom}
+use Rattle.recovery.specs.declared.recovery.RecoveryFault.{RecoveryFault}
+use Rattle.recovery.specs.declared.recovery.RecoveryFault.TheVariants as fault
+use Rattle.recovery.proofs.Choices.{bag-of-plan, surviving-choice}
+use Rattle.recovery.proofs.Recoveries.{IsSomePrefix, IsSomeLoss}
+use Rattle.script.specs.declared.answer.Answer.{Answer}
+use Rattle.script.specs.declared.answer.Answer.TheVariants as answer
+use Rattle.script.specs.declared.node.Node.{Node}
+use Rattle.script.specs.declared.node.Node.TheVariants.{Up, Down, Changing}
+use Rattle.script.specs.Lives.{life_to, HasLived, Left, is_left, IsHomeBy}
+use Rattle.script.specs.Served.{GoesOn, IsServed, IsUnserved, IsSpent, IsLeftOf, IsOf, Stands, AnswersLine, is_up, left_now, life_of, record_of}
+use Rattle.script.specs.Told.{Position, command_of, is_for_master, is_for_none, is_of_push, IsRecoveredAt, Tells}
+use Rattle.script.proofs.Standing.{Answered, still_stands, stands_longer, record_there, lived, lived_longer, is_up_none, is_down_some, stays_told}
+use Rattle.script.proofs.MasterSteps.{goes_nowhere}
+
+-- ---- crashes and losses
+
+-- a master that stops leaves the whole of what its fleet holds
+pub left_of : (d : MasterData) (fleet : MemoryFleet) → IsValid d (state_of fleet) → IsOf (Down fleet) (Some (left_now (state_of fleet))) d
+left_of d fleet valid = (
+  left_now (state_of fleet),
+  refl,
+  record { crashed = state_of fleet; valid = valid; picture = refl; shown = λ b s. refl },
+)
+
+pub crashed_told : (old new : Node) (config : Config) (line : LineValue) (f : FleetState) → is_up old ≡ true
+    → ((d : MasterData) → IsOf old None d → IsValid d f × IsOf new (Some (left_now f)) d) → line ≡ Crash
+    → AnswersLine old config line new answer.Crashed
+crashed_told old new config line f up leaves is d at s =
+    let none = is_up_none old d at.left up s.node_of in
+    let left = leaves d (subst (λ (l : Option Left). IsOf old l d) none s.node_of) in
+    let stands = still_stands d d old new config at (Some (left_now f)) left.1 s (goes_nowhere d) in (
+      d,
+      record { made = at.made; acknowledged = at.acknowledged; left = Some (left_now f) },
+      stands,
+      ([], sym (append-nil d.history)),
+      (
+        none,
+        is,
+        left_now f,
+        (d, f, lived_longer d d old new config at (Some (left_now f)) left.1 s f left.0 at.made s.configured s.made, refl),
+        refl,
+      ),
+    )
+
+cut_twice : (lose gone : Bool) (r : Option Replica) → cond (not lose) (cond (not gone) r None) None ≡ cond (not (lose || gone)) r None
+cut_twice true gone r = refl
+cut_twice false gone r = refl
+
+-- what is left, less a backup
+pub lost_of : (d : MasterData) (l : Left) (old new : FleetState) (backup : ℕ) → new ≡ lost old backup → IsLeftOf d l old
+    → IsLeftOf d (record { picture = l.picture; lost = backup ∷ l.lost }) new
+lost_of d l old new backup is of = record {
+  crashed = of.crashed;
+  valid = of.valid;
+  picture = of.picture;
+  shown = λ b s. (λ i. (is i).picture b d.config.master s)
+      ∙ ap (λ (r : Option Replica). cond (not (backup == b)) r None) (of.shown b s)
+      ∙ cut_twice (backup == b) (is_kept l.lost b) (l.picture b d.config.master s);
+}
+
+-- a fleet with the same picture
+pub same_picture : (d : MasterData) (l : Left) (old new : FleetState) → new.picture ≡ old.picture → IsLeftOf d l old → IsLeftOf d l new
+same_picture d l old new is of = record {
+  crashed = of.crashed;
+  valid = of.valid;
+  picture = of.picture;
+  shown = λ b s. (λ i. is i b d.config.master s) ∙ of.shown b s;
+}
+
+-- ---- recovery
+
+-- the inventory of what is left of a picture shows it
+pub shows_left : (hs : List Holding) (d : MasterData) (l : Left) (f : FleetState) (master : ℕ) → d.config.master ≡ master
+    → IsLeftOf d l f → AreHeld hs f.picture → Shows hs (survivors (is_left l.lost) (shown_by l.picture)) master
+shows_left hs d l f master number of shown h of_master =
+    let at : d.config.master ≡ h.master = number ∙ sym of_master in
+    let eq : f.picture h.backup h.master h.segment ≡ left_on (is_left l.lost) l.picture h.backup h.master h.segment =
+    subst (λ (m : ℕ). f.picture h.backup m h.segment ≡ left_on (is_left l.lost) l.picture h.backup m h.segment) at
+    (of.shown h.backup h.segment) in
+    (λ among. sym eq ∙ (shown h).0 among, λ held. (shown h).1 (eq ∙ held))
+
+pub table_told : (d : MasterData) (node : Node) (config : Config) (at : Position) (r : Rebuilt) → Stands node config d at
+    → ((count : ℕ) × IsRecovered (log_of d) count r) → IsRecoveredAt (life_of d) at r
+table_told d node config at r s found =
+    let kept = s.acknowledged in
+    let made = s.made in
+    let durable = found.1.durable in
+    let within = found.1.within in
+    (found.0, omega arith, omega arith, record { within = found.1.within; exactly = found.1.exactly; order = found.1.order })
+
+-- a down node's line on what is left
+module _ (node : Node) (fleet : MemoryFleet) (config : Config) (d : MasterData) (at : Position) (down : node ≡ Down fleet) (s : Stands node config d at) where
+  pub left_at : (l : Left) × (at.left ≡ Some l) × IsLeftOf d l (state_of fleet)
+  left_at = subst (λ (n : Node). IsOf n at.left d) down s.node_of
+
+  pub lost_told : (backup : ℕ) (new : MemoryFleet) → state_of new ≡ lost (state_of fleet) backup
+      → Answered d (Down new) config at (Lose backup) (answer.Lost backup)
+  lost_told backup new is =
+      let l = left_at.0 in
+      let less : Left = record { picture = l.picture; lost = backup ∷ l.lost } in (
+        d,
+        record { made = at.made; acknowledged = at.acknowledged; left = Some less },
+        record {
+          node_of = (less, refl, lost_of d l (state_of fleet) (state_of new) backup is left_at.2);
+          configured = s.configured;
+          made = s.made;
+          acknowledged = s.acknowledged;
+        },
+        ([], sym (append-nil d.history)),
+        (refl, l, left_at.1, refl),
+      )
+
+  module _ (hs : List Holding) (master : ℕ) (number : config.master ≡ master) (shown : (h : Holding) → IsAmong h hs ↔ IsHeld (state_of fleet).picture h) where
+    of_master : d.config.master ≡ master
+    of_master = ap (λ (c : Config). c.master) s.configured ∙ number
+
+    shows : Shows hs (survivors (is_left left_at.0.lost) (shown_by left_at.0.picture)) master
+    shows = shows_left hs d left_at.0 (state_of fleet) master of_master left_at.2 shown
+
+    sound : IsSound (log_of d) left_at.0.picture
+    sound = subst (λ (p : Picture). IsSound (log_of d) p) (sym left_at.2.picture) left_at.2.valid.sound
+
+    -- a table of the choice that the plan has
+    pub rebuilt_told : (r : Rebuilt) → IsSomePrefix hs master r → IsRebuiltFrom hs master r → Tells config (life_of d) at Recover (answer.Recovered r) at
+    rebuilt_told r recovers from =
+        let found = recovers (log_of d) left_at.0.picture (is_left left_at.0.lost) sound of_master shows in
+        let c = from.1.0 in
+        let choice = surviving-choice hs master (log_of d) left_at.0.picture (is_left left_at.0.lost) of_master shows c from.1.1.choice in
+        let bag = bag-of-plan hs master c from.0 from.1.1 in (
+          refl,
+          left_at.0,
+          left_at.1,
+          table_told d node config at r s found,
+          (
+            c,
+            subst (λ (n : ℕ). IsShownChoice (survivors (is_left left_at.0.lost) (shown_by left_at.0.picture)) n c)
+                (ap (λ (k : Config). k.master) s.configured) choice,
+            subst (λ (es : List Entry). IsMeaning (among es) (contents_of r.objects)) bag from.2.meaning,
+          ),
+          refl,
+        )
+
+    pub loss_told : (e : RecoveryFault) → IsSomeLoss hs master e → Tells config (life_of d) at Recover (answer.NotRecovered e) at
+    loss_told e refuses =
+        let loss = refuses (log_of d) left_at.0.picture (is_left left_at.0.lost) sound of_master shows in (
+          refl,
+          left_at.0,
+          left_at.1,
+          (
+            loss.0,
+            λ both. loss.1 (subst
+                (λ (k : Config). BothSurvive (IsHomeBy k) (shown_by left_at.0.picture) k.master (is_left left_at.0.lost))
+                (sym s.configured) both),
+          ),
+          refl,
+        )
+
+  -- a refusal for memory names no loss
+  pub want_told : Tells config (life_of d) at Recover (answer.NotRecovered (fault.Plan plan_fault.NoMemory)) at
+  want_told = (refl, left_at.0, left_at.1, (tt, λ both. tt), refl)
