@@ -101,13 +101,23 @@ def sweep(tally, program, words, script, wanted, fits):
             tally.stopped += run.status == -6
 
 
+def words_of(example):
+    """The options that an example is run with: those of the file NAME.args, one a line, if there is one."""
+    name = example.removesuffix(".txt") + ".args"
+    if not os.path.exists(name):
+        return []
+    with open(name, encoding="ascii") as file:
+        return file.read().split()
+
+
 def sweep_scripts(program, names, titles, words):
-    options = options_of(words)
     for name, title in zip(names, titles):
+        words_here = words + words_of(name)
+        options = options_of(words_here)
         with open(name, "rb") as file:
             script = file.read()
         tally = Tally(title)
-        sweep(tally, program, words, script, undisturbed(script, options),
+        sweep(tally, program, words_here, script, undisturbed(script, options),
               lambda run, most: explain(script, options, run, most) is not None)
         print(f"{title}: {tally.requests} requests for memory, {tally.runs} runs; {tally.ended} ended in 'no memory', "
               f"{tally.answers} answers were refused, {tally.same} changed nothing, {tally.failed} failed")
