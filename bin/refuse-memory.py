@@ -38,7 +38,7 @@ class Program:
     folder: str
 
     def run(self, words, script, first=0, last=0):
-        """How a run ends where the requests from `first` to `last` are refused, and how many were made and refused."""
+        """How a run ends if the requests from `first` to `last` are refused, and how many were made and refused."""
         report = os.path.join(self.folder, "report")
         if os.path.exists(report):
             os.remove(report)
