@@ -1,4 +1,4 @@
-"""Runs programs with requests for memory refused, and checks what they print. bin/refuse-memory calls it, and says more."""
+"""Runs programs with requests for memory refused, and checks what they print. bin/refuse-memory calls it; its --help says more."""
 
 import glob
 import os
@@ -38,7 +38,7 @@ class Program:
     folder: str
 
     def run(self, words, script, first=0, last=0):
-        """How a run ends where the requests from `first` to `last` are refused, and how many were made and refused."""
+        """How a run ends if the requests from `first` to `last` are refused, and how many were made and refused."""
         report = os.path.join(self.folder, "report")
         if os.path.exists(report):
             os.remove(report)
@@ -80,7 +80,7 @@ class Tally:
 
 def sweep(tally, program, words, script, wanted, fits):
     """Runs a script undisturbed; for each request with that one refused; and for each with it and all after it refused.
-    `fits` tells whether a run that isn't the wanted one may be so, with at most so many refusals."""
+    `fits` is whether a run that isn't the wanted one may be so, with at most so many refusals."""
     plain, requests, refused = program.run(words, script)
     tally.requests += requests
     tally.runs += 1
@@ -101,13 +101,23 @@ def sweep(tally, program, words, script, wanted, fits):
             tally.stopped += run.status == -6
 
 
+def words_of(example):
+    """The options that an example is run with: those of the file NAME.args, one a line, if there is one."""
+    name = example.removesuffix(".txt") + ".args"
+    if not os.path.exists(name):
+        return []
+    with open(name, encoding="ascii") as file:
+        return file.read().split()
+
+
 def sweep_scripts(program, names, titles, words):
-    options = options_of(words)
     for name, title in zip(names, titles):
+        all_words = words + words_of(name)
+        options = options_of(all_words)
         with open(name, "rb") as file:
             script = file.read()
         tally = Tally(title)
-        sweep(tally, program, words, script, undisturbed(script, options),
+        sweep(tally, program, all_words, script, undisturbed(script, options),
               lambda run, most: explain(script, options, run, most) is not None)
         print(f"{title}: {tally.requests} requests for memory, {tally.runs} runs; {tally.ended} ended in 'no memory', "
               f"{tally.answers} answers were refused, {tally.same} changed nothing, {tally.failed} failed")
@@ -153,7 +163,7 @@ def main():
     names = [word for word in rest if not word.startswith("--")]
     program = Program(f"{top}/crates/ramlog/out/ramlog", folder)
     if program.run(["--help"], b"")[1] == 0:
-        sys.exit("refuse-memory: the program asks for no memory by a way that is counted")
+        sys.exit("refuse-memory: the program's requests for memory can't be counted here: it needs glibc")
     if names:
         tallies = list(sweep_scripts(program, names, names, words))
     else:
@@ -164,7 +174,7 @@ def main():
         if os.path.exists(tests):
             tallies.append(sweep_tests(Program(tests, folder)))
         else:
-            print("the tests: not run, since 'rt test' in crates/tests has not left their program")
+            print("the tests: not run, since neither bin/test nor 'rt test' in crates/tests has left their program")
     failed = sum(tally.failed for tally in tallies)
     print(f"{sum(tally.runs for tally in tallies)} runs, {failed} failed")
     sys.exit(failed > 0)

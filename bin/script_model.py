@@ -1,6 +1,6 @@
 """What a script may print: a small model of the program, after docs/SPECIFICATION.md. It shares no code with it.
 
-`Store.outcomes` tells what a line may answer, and the store after each answer. Where no memory is refused there is one
+`Store.outcomes` gives what a line may answer, and the store after each answer. If no memory is refused there is one
 answer. With a refusal there are more: a command that was not done, one that was done and then not pushed to all of its
 replicas, a recovery that may be run again.
 
@@ -12,7 +12,7 @@ import re
 from dataclasses import dataclass, replace
 
 NO_LIMIT = 2**64 - 1
-# What an answer says, and what is written to standard error, where memory was refused.
+# What a line prints, and what is written to standard error, if memory was refused.
 REFUSED = "refused NoMemory\n"
 NO_MEMORY = "ramlog: no memory\n"
 
@@ -56,7 +56,7 @@ def lines_of(text):
 
 
 def parse(line, backups):
-    """A line's name and its parts, or None where it is a bad line."""
+    """A line's name and its parts, or None if it is a bad line."""
     if len(line) > 4096:
         return None
     if line[:1] in (b"", b"#"):
@@ -108,7 +108,7 @@ class Unit:
 
 @dataclass(frozen=True)
 class Store:
-    """A master over its fleet, or, where it is down, the fleet alone."""
+    """A master over its fleet, or, if it is down, the fleet alone."""
 
     options: dict
     up: bool
@@ -261,7 +261,7 @@ class Run:
 
 
 def undisturbed(script, options):
-    """How the run of a script ends where no memory is refused."""
+    """How the run of a script ends if no memory is refused."""
     store, output = Store.new(options), ""
     for place, line in enumerate(lines_of(script), 1):
         parsed = parse(line, options["backups"])
@@ -276,7 +276,7 @@ def undisturbed(script, options):
 
 
 def explain(script, options, run, most):
-    """How many refusals of memory explain this run of the script, with at most so many; None where nothing does."""
+    """How many refusals of memory explain this run of the script, with at most so many; None if nothing does."""
     found = []
     # Stores that fit the output so far, each with the length of that and the refusals that it takes.
     fitting = {(Store.new(options), 0, 0)}
