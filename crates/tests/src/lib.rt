@@ -19,6 +19,8 @@ mod options;
 #[cfg(test)]
 mod plans;
 #[cfg(test)]
+mod questions;
+#[cfg(test)]
 mod rebuilds;
 #[cfg(test)]
 mod runs;

@@ -1,0 +1,88 @@
+//! What a master is asked before it does anything: whether it would refuse a command, and its reply.
+
+use crate::asks::{Ask, step_of, steps_of};
+use crate::runs::new_master;
+use backup::MemoryFleet;
+use master::{Command, If, Master, Reply, Step};
+use std::alloc::{AllocError, Global};
+use std::fmt::Write;
+use std::test::Fail;
+
+fn write_reply(text: &mut String, reply: &Reply) -> Result<(), AllocError> {
+    match reply {
+        Reply::None => write!(text, "none"),
+        Reply::Found(version, _) => write!(text, "found {}", version.get()),
+        Reply::Ok(version) => write!(text, "ok {}", version.get()),
+        Reply::Mismatch(_) => write!(text, "mismatch"),
+    }
+}
+
+/// Writes the test that would refuse the command, or the reply that it would get.
+fn write_told(
+    text: &mut String,
+    master: &Master<MemoryFleet>,
+    command: &Command,
+) -> Result<(), AllocError> {
+    match master.would(0, command) {
+        Err(refusal) => write!(text, "{refusal}"),
+        Ok(()) => write_reply(text, &master.answer_to(command)?),
+    }
+}
+
+/// Whether that is told of the command of an ask.
+fn is_told(alloc: Global, master: &Master<MemoryFleet>, ask: &Ask, want: &str) -> bool {
+    let mut text = String::new(alloc);
+    match &step_of(alloc, ask) {
+        Some(Step::Apply(_, command)) => {
+            write_told(&mut text, master, command).is_ok() && text.as_str() == want
+        }
+        _ => false,
+    }
+}
+
+/// A command, and what is told of it.
+type Row = (Ask, &'static str);
+
+/// While no replica is open, only what appends nothing passes.
+const BEFORE: &[Row] = &[
+    (Ask::Get("a"), "none"),
+    (Ask::Put("a", b'x', If::Any), "Rolling"),
+    (Ask::Put("a", b'x', If::Version(1)), "mismatch"),
+];
+
+/// Opens the head, and puts `a`.
+const ASKS: &[Ask] = &[Ask::Push, Ask::Push, Ask::Put("a", b'x', If::Any)];
+
+const AFTER: &[Row] = &[
+    (Ask::Get("a"), "found 1"),
+    (Ask::Put("a", b'y', If::Any), "ok 2"),
+    (Ask::Put("a", b'y', If::Absent), "mismatch"),
+    (Ask::Delete("a"), "ok 1"),
+    (Ask::Delete("b"), "none"),
+    (Ask::Get("a"), "found 1"),
+];
+
+fn are_told(alloc: Global, master: &Master<MemoryFleet>, rows: &[Row]) -> bool {
+    for (ask, want) in rows {
+        if !is_told(alloc, master, ask, want) {
+            return false;
+        }
+    }
+    true
+}
+
+/// Whether all of this is told, and the history has the one record of the steps.
+fn tells(alloc: Global, mut master: Master<MemoryFleet>, steps: &[Step]) -> bool {
+    let before = are_told(alloc, &master, BEFORE);
+    let ran = master.run(steps).is_ok();
+    let after = are_told(alloc, &master, AFTER);
+    before && ran && after && master.history().len() == 1
+}
+
+#[test]
+fn a_master_tells_what_it_would_answer(rt: HostRuntime) -> Result<(), Fail> {
+    let steps = steps_of(rt.alloc(), ASKS).ok_or("no steps")?;
+    let master = new_master(rt.alloc())?;
+    assert!(rt; tells(rt.alloc(), master, steps.as_slice()));
+    Ok(())
+}
