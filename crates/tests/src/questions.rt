@@ -29,15 +29,14 @@ fn write_told(
     }
 }
 
-/// Whether that is told of the command of an ask.
-fn is_told(alloc: Global, master: &Master<MemoryFleet>, ask: &Ask, want: &str) -> bool {
+/// What a master tells of the command of an ask.
+fn told(alloc: Global, master: &Master<MemoryFleet>, ask: &Ask) -> Result<String, Fail> {
     let mut text = String::new(alloc);
     match &step_of(alloc, ask) {
-        Some(Step::Apply(_, command)) => {
-            write_told(&mut text, master, command).is_ok() && text.as_str() == want
-        }
-        _ => false,
+        Some(Step::Apply(_, command)) => write_told(&mut text, master, command)?,
+        _ => Err("no command")?,
     }
+    Ok(text)
 }
 
 /// A command, and what is told of it.
@@ -62,27 +61,17 @@ const AFTER: &[Row] = &[
     (Ask::Get("a"), "found 1"),
 ];
 
-fn are_told(alloc: Global, master: &Master<MemoryFleet>, rows: &[Row]) -> bool {
-    for (ask, want) in rows {
-        if !is_told(alloc, master, ask, want) {
-            return false;
-        }
-    }
-    true
-}
-
-/// Whether all of this is told, and the history has the one record of the steps.
-fn tells(alloc: Global, mut master: Master<MemoryFleet>, steps: &[Step]) -> bool {
-    let before = are_told(alloc, &master, BEFORE);
-    let ran = master.run(steps).is_ok();
-    let after = are_told(alloc, &master, AFTER);
-    before && ran && after && master.history().len() == 1
-}
-
 #[test]
 fn a_master_tells_what_it_would_answer(rt: HostRuntime) -> Result<(), Fail> {
+    let mut master = new_master(rt.alloc())?;
+    for (ask, want) in BEFORE {
+        assert_eq!(rt; told(rt.alloc(), &master, ask)?.as_str(), *want);
+    }
     let steps = steps_of(rt.alloc(), ASKS).ok_or("no steps")?;
-    let master = new_master(rt.alloc())?;
-    assert!(rt; tells(rt.alloc(), master, steps.as_slice()));
+    let _answers = master.run(steps.as_slice())?;
+    for (ask, want) in AFTER {
+        assert_eq!(rt; told(rt.alloc(), &master, ask)?.as_str(), *want);
+    }
+    assert_eq!(rt; master.history().len(), 1);
     Ok(())
 }
