@@ -3,7 +3,7 @@ use Rattle.std.proofs.Common.{◌≡◌, ℕ, suc, ◌≤◌, Bool, true, false,
 use Rattle.std.proofs.lemmas.List.{append-nil, length-append}
 use Rattle.std.proofs.Math.Seq.{take-length}
 use lib.Seq.{take-append_seam}
-use Rattle.std.specs.Prelude.{Option, Some, None, Result, Ok, Err, slice_get, not, is_none, ◌==◌, ◌||◌, ◌↔◌, if◌then◌else◌, unwrap_or}
+use Rattle.std.specs.Prelude.{Option, Some, None, Result, Ok, Err, slice_get, not, is_none, ◌==◌, ◌||◌, ◌&&◌, ◌↔◌, if◌then◌else◌, unwrap_or}
 use Rattle.backup.specs.State.{state_of, lost}
 use Rattle.backup.specs.declared.fleet.MemoryFleet.{MemoryFleet}
 use Rattle.lines.specs.Grammar.{LineValue, Put, Get, Crash, Lose, Recover}
@@ -27,7 +27,7 @@ use Rattle.master_core.specs.declared.step.Refusal.TheVariants as refusal
 use Rattle.master_core.specs.declared.step.Step.TheVariants.{Apply, Push}
 use Rattle.master_core.specs.declared.step.StepAnswer.{StepAnswer}
 use Rattle.master_core.specs.declared.step.StepAnswer.TheVariants.{Applied}
-use Rattle.master_core.specs.Causes.{is_pushed, command_refusal, early_refusal, late_refusal}
+use Rattle.master_core.specs.Causes.{is_open, is_pushed, command_refusal, early_refusal, late_refusal}
 use Rattle.master_core.specs.Data.{MasterData}
 use Rattle.master_core.specs.Log.{log_of}
 use Rattle.master.specs.Keeps.{Keeps}
@@ -89,6 +89,20 @@ refused_push old new refusal.NoMemory (inr h) = refl
 refused_push old new refusal.Spent (inr h) = refl
 refused_push old new refusal.Halted (inr h) = refl
 refused_push old new r (inr h) = absurd h.1
+
+-- nothing waits only where the head is open
+pub open_push : (old new : World) (r : Refusal) → Declines old Push r new → r ≡ refusal.Nothing → is_open new.knows.head ≡ true
+open_push old new r h is = go (subst (λ (x : Refusal). Declines old Push x new) is h)
+  where
+    tested : (halted opened rest : Bool)
+        → (if halted then Some refusal.Halted else if opened && rest then Some refusal.Nothing else None) ≡ Some refusal.Nothing → opened ≡ true
+    tested true opened rest e = absurd (cc)
+    tested false true rest e = refl
+    tested false false rest e = absurd (cc)
+
+    go : Declines old Push refusal.Nothing new → is_open new.knows.head ≡ true
+    go (inl h) = ap (λ (w : World). is_open w.knows.head) h.1 ∙ tested old.knows.is_halted (is_open old.knows.head) _ h.0
+    go (inr h) = absurd h.1
 
 -- a push is refused as spent by a fleet that is
 pub spent_push : (old new : World) (r : Refusal) → Declines old Push r new → r ≡ refusal.Spent → IsSpent new.fleet
