@@ -1,7 +1,7 @@
 -- What a step adds to a master.
 use Rattle.std.proofs.Common.{◌≡◌, ℕ, Bool, true, false, [], ◌++◌, length, refl, sym, ap, subst, inl, inr, ◌∙◌, arith}
 use Rattle.std.proofs.lemmas.List.{append-nil}
-use Rattle.std.specs.Prelude.{Option, Some, None, Result, Ok, Err, is_none, if◌then◌else◌, unwrap_or}
+use Rattle.std.specs.Prelude.{Option, Some, None, Result, Ok, Err, is_none, ◌&&◌, if◌then◌else◌, unwrap_or}
 use Rattle.versioned_map.specs.declared.command.Command.{Command}
 use Rattle.versioned_map.specs.declared.command.Reply.{Reply}
 use Rattle.log_model.specs.Data.{LogData}
@@ -10,7 +10,7 @@ use Rattle.master_core.specs.declared.step.Refusal.TheVariants as refusal
 use Rattle.master_core.specs.declared.step.Step.TheVariants.{Apply, Push}
 use Rattle.master_core.specs.declared.step.StepAnswer.{StepAnswer}
 use Rattle.master_core.specs.declared.step.StepAnswer.TheVariants.{Applied}
-use Rattle.master_core.specs.Causes.{is_pushed, command_refusal, early_refusal, late_refusal}
+use Rattle.master_core.specs.Causes.{is_open, is_pushed, command_refusal, early_refusal, late_refusal}
 use Rattle.master_core.specs.Data.{MasterData}
 use Rattle.master.specs.Keeps.{Keeps}
 use Rattle.master.specs.Steps.{Steps, Declines, FailsTake}
@@ -59,6 +59,20 @@ refused_push old new refusal.NoMemory (inr h) = refl
 refused_push old new refusal.Spent (inr h) = refl
 refused_push old new refusal.Halted (inr h) = refl
 refused_push old new r (inr h) = absurd h.1
+
+-- nothing waits only where the head is open
+pub open_push : (old new : World) (r : Refusal) → Declines old Push r new → r ≡ refusal.Nothing → is_open new.knows.head ≡ true
+open_push old new r h is = go (subst (λ (x : Refusal). Declines old Push x new) is h)
+  where
+    tested : (halted opened rest : Bool)
+        → (if halted then Some refusal.Halted else if opened && rest then Some refusal.Nothing else None) ≡ Some refusal.Nothing → opened ≡ true
+    tested true opened rest e = absurd (cc)
+    tested false true rest e = refl
+    tested false false rest e = absurd (cc)
+
+    go : Declines old Push refusal.Nothing new → is_open new.knows.head ≡ true
+    go (inl h) = ap (λ (w : World). is_open w.knows.head) h.1 ∙ tested old.knows.is_halted (is_open old.knows.head) _ h.0
+    go (inr h) = absurd h.1
 
 -- a push is refused as spent by a fleet that is
 pub spent_push : (old new : World) (r : Refusal) → Declines old Push r new → r ≡ refusal.Spent → IsSpent new.fleet

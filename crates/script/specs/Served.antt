@@ -10,7 +10,7 @@ use Rattle.log_model.specs.Data.{durable_of}
 use Rattle.master_core.specs.declared.config.Config.{Config}
 use Rattle.master_core.specs.declared.step.Refusal.{Refusal}
 use Rattle.master_core.specs.declared.step.Refusal.TheVariants.{NoMemory}
-use Rattle.master_core.specs.Causes.{command_refusal}
+use Rattle.master_core.specs.Causes.{command_refusal, is_open}
 use Rattle.master_core.specs.Data.{MasterData}
 use Rattle.master_core.specs.Log.{opening_of, log_of}
 use Rattle.master.specs.Valid.{IsValid}
@@ -97,8 +97,8 @@ pub record SessionAnswers (old : Session) (line : LineValue) (new : Session) (an
   pub backups : new.backups ≡ old.backups
   pub answers : (config : Config) → config.master ≡ old.master → AnswersLine old.node config line new.node answer
 
--- a session at its start: a master of this configuration, of which nothing is told yet
+-- a session at its start: a master of this configuration whose head is open, and of which nothing is told yet
 pub record Begins (config : Config) (s : Session) : Type 0 where
-  pub stands : (d : MasterData) × Stands s.node config d at_start
+  pub stands : (d : MasterData) × Stands s.node config d at_start × (is_open d.head ≡ true)
   pub number : s.master ≡ config.master
   pub backups : s.backups ≡ config.backups

@@ -1,11 +1,12 @@
 //! A fleet, and the master over it where there is one.
 
-ghost use Rattle.std.specs.Prelude.{◌≡◌, ◌<◌, [], true, false, None, Some, IfOk, IfErr};
+ghost use Rattle.std.specs.Prelude.{◌≡◌, ◌<◌, [], true, false, None, Some, IfOk, IfErr, IsTrue};
 ghost use Rattle.std.specs.Option.{option_map};
 ghost use Rattle.backup.specs.State.{lost};
 ghost use Rattle.lines.specs.Grammar.{LineValue};
 ghost use Rattle.master_core.specs.declared.config.Config.{Config};
 ghost use Rattle.log_model.specs.Data.{durable_of};
+ghost use Rattle.master_core.specs.Causes.{is_open};
 ghost use Rattle.master_core.specs.Data.{MasterData};
 ghost use Rattle.master_core.specs.Log.{log_of};
 ghost use Rattle.replica.specs.Picture.{FleetState};
@@ -31,16 +32,20 @@ pub enum Node {
     Changing,
 }
 
-/// Pushes until a push is refused, and answers why; `Nothing` where nothing waits.
-pub fn push_all<F: Fleet>(master: &mut Master<F>) -> Refusal
-    ensures { GoesOn master.old.knows master.new.knows [] }
+/// Pushes until a push is refused, and answers whether that was because nothing waits.
+pub fn push_all<F: Fleet>(master: &mut Master<F>) -> bool
+    ensures goes_on { GoesOn master.old.knows master.new.knows [] }
+    ensures open { IsTrue result → is_open master.new.knows.head ≡ true }
 {
     for _ in 0..u64::MAX {
         if let Err(refusal) = master.step(Step::Push) {
-            return refusal;
+            return match refusal {
+                Refusal::Nothing => true,
+                _ => false,
+            };
         }
     }
-    Refusal::Nothing
+    false
 }
 
 /// Pushes until the record at this place is durable, or a push is refused.

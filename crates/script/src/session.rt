@@ -17,7 +17,7 @@ use backup::MemoryFleet;
 use command_line::Options;
 use entry::{Key, KeyFault, MAX_VALUE_LEN, NoMemory, Value};
 use lines::Line;
-use master::{Command, If, Master, Refusal};
+use master::{Command, If, Master};
 use std::alloc::Global;
 
 /// Why a line was not run.
@@ -61,17 +61,17 @@ impl Session {
             Ok(master) => master,
             Err((fault, _)) => return Err(fault),
         };
-        let pushed = push_all(&mut master);
-        master.show_valid();
-        match pushed {
-            Refusal::NoMemory => Err(NoMemory),
-            _ => Ok(Session {
-                alloc,
-                backups: options.backups,
-                master: FIRST_MASTER,
-                node: Node::Up(master),
-            }),
+        // A new fleet takes ops without a limit or a fault: a push is refused for want of memory alone.
+        if !push_all(&mut master) {
+            return Err(NoMemory);
         }
+        master.show_valid();
+        Ok(Session {
+            alloc,
+            backups: options.backups,
+            master: FIRST_MASTER,
+            node: Node::Up(master),
+        })
     }
 
     /// Runs one line.
