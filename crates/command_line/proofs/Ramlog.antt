@@ -18,17 +18,38 @@ use Rattle.clap.specs.declared.parser.matches.ArgMatches.{ArgMatches}
 use Rattle.clap.proofs.CallerLemmas.{added_plain}
 use Rattle.clap.proofs.OnLiterals.{clap_on_literals}
 use Rattle.clap.proofs.WalkLemmas.{one_text-rows}
-use Rattle.command_line.specs.CommandLine.{HasNumber, HasOptions, IsCommand, IsDefault, IsNumberIn, NumberOption, ReadsNumber, default_options, number_rule, ramlog, ramlog_faults, ramlog_matches}
+use Rattle.command_line.specs.CommandLine.{HasNumber, HasOptions, IsCommand, IsDefault, IsNumberIn, NumberOption, ReadsNumber, default_options, number_rule, ramlog, versioned, ramlog_faults, ramlog_matches}
 use Rattle.command_line.specs.CommandLine.{backups, replicas, step, segment, seglet, seglets, tables, history, bytes, objects}
 use Rattle.command_line.specs.declared.number_option.NumberOption as code
 use Rattle.command_line.specs.declared.settings.Options.{Options}
 use Rattle.command_line.proofs.Numbers.{IsOptionOf, text_number}
 
--- a command with a description
-described : (old new : Command) (app : App) (text : Option (Bor Text)) → IsCommand app old
-    → out-Command new ≡ record (out-Command old) { about = text } → IsCommand app new
-described old new app text is same = record {
-  shape = ap app_of_fields same ∙ is.shape;
+-- the texts of a command's help, and its version
+pub record Texts : Type 0 where
+  pub about : Option (Bor Text)
+  pub after_help : Option (Bor Text)
+  pub usage : Option (Bor Text)
+  pub version : Bor Text
+
+-- a command's fields with these texts
+abbrev pub with_texts : Command-F Command → Texts → Command-F Command
+with_texts f t =
+    record f { about = t.about; after_help = t.after_help; usage_str = t.usage; version = Some t.version }
+
+-- texts that are given one after another
+pub texts_given : (f about after usage version : Command-F Command) (t : Texts) → about ≡ record f { about = t.about }
+    → after ≡ record about { after_help = t.after_help } → usage ≡ record after { usage_str = t.usage }
+    → version ≡ record usage { version = Some t.version } → version ≡ with_texts f t
+texts_given f about after usage version t first second third last =
+    last ∙ ap (λ (g : Command-F Command). record g { version = Some t.version })
+    (third ∙ ap (λ (g : Command-F Command). record g { usage_str = t.usage })
+    (second ∙ ap (λ (g : Command-F Command). record g { after_help = t.after_help }) first))
+
+-- a command that was given its texts
+described : (old new : Command) (app : App) (t : Texts) → IsCommand app old
+    → out-Command new ≡ with_texts (out-Command old) t → IsCommand (versioned app) new
+described old new app t is same = record {
+  shape = ap app_of_fields same ∙ ap versioned is.shape;
   plain = subst (λ (f : Command-F Command). All IsPlainArg f.args.items × (f.groups.items ≡ [])) (sym same) is.plain;
   local = ap (λ (f : Command-F Command). f.has_globals) same ∙ is.local;
 }
@@ -67,18 +88,18 @@ grown c options i is over =
     }
 
 -- the command before its options
-pub opening : (new old : Command) (text : Option (Bor Text)) (options : List code.NumberOption)
+pub opening : (new old : Command) (t : Texts) (options : List code.NumberOption)
     → app_of old ≡ new_app (codes "ramlog") → (args_of old ≡ []) × (groups_of old ≡ []) → (out-Command old).has_globals ≡ false
-    → out-Command new ≡ record (out-Command old) { about = text }
-    → fold with_listed (new_app (codes "ramlog")) options ≡ ramlog → Growing new options
-opening new old text options app empty local same whole = record {
+    → out-Command new ≡ with_texts (out-Command old) t
+    → fold with_listed (versioned (new_app (codes "ramlog"))) options ≡ ramlog → Growing new options
+opening new old t options app empty local same whole = record {
   shape = ap (λ app. fold with_listed app options) is.shape ∙ whole;
   plain = is.plain;
   local = is.local;
 }
   where
-    is : IsCommand (new_app (codes "ramlog")) new
-    is = described old new _ text record {
+    is : IsCommand (versioned (new_app (codes "ramlog"))) new
+    is = described old new _ t record {
       shape = app;
       plain = (subst (All IsPlainArg) (sym empty.0) (All-nil IsPlainArg), empty.1);
       local = local;

@@ -1,5 +1,5 @@
 -- The command line: which options there are, what number each one has, and which words are refused.
-use Rattle.std.specs.Prelude.{◌≡◌, ◌<◌, ◌≤◌, ◌^◌, ℕ, List, [], ◌∷◌, Option, Some, None, Result, MatchResult, codes, false}
+use Rattle.std.specs.Prelude.{◌≡◌, ◌<◌, ◌≤◌, ◌^◌, ℕ, List, [], ◌∷◌, Option, Some, None, Result, MatchResult, codes, true, false}
 use Rattle.std.specs.List.{fold}
 use Rattle.std.specs.Str.Parse.{IsNumeral, digits_value, without_leading_plus}
 use Rattle.clap.specs.declared.builder.command.Command.{Command}
@@ -61,9 +61,13 @@ number_rule name least most = record (new_rule name) {
 abbrev pub with_option : App → NumberOption → App
 with_option app option = with_rule app (number_rule option.name option.least option.most)
 
--- the program's command: the ten options, and nothing else
+-- the app with a version
+abbrev pub versioned : App → App
+versioned app = record app { top = record app.top { has_version = true } }
+
+-- the program's command: the ten options, a version, and nothing else
 unfoldable pub ramlog : App
-ramlog = fold with_option (new_app (codes "ramlog"))
+ramlog = fold with_option (versioned (new_app (codes "ramlog")))
     (backups ∷ replicas ∷ step ∷ segment ∷ seglet ∷ seglets ∷ tables ∷ history ∷ bytes ∷ objects ∷ [])
 
 -- clap's exact matches of the words

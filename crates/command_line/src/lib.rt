@@ -1,8 +1,8 @@
-//! The command line of the program: ten options that each take a number. `options` reads them
-//! from the words, and its contract says which numbers they have and when the words are refused.
-//! It stands on `clap` alone.
+//! The command line of the program: ten options that each take a number. `options` reads them from the words, and its
+//! contract says which numbers they have and when the words are refused. The crate uses `clap` alone.
 #![tactic(auto)]
 
+mod help;
 mod number_option;
 mod reading;
 mod settings;

@@ -54,7 +54,7 @@ pub(crate) const SEGLET: NumberOption = NumberOption {
     least: 64,
     most: 65536,
     default: 64,
-    help: "Bytes of a seglet: 64 to 65536 [default: 64]",
+    help: "Bytes of a seglet: 64 to 65536 [default: 64]; only checked yet",
 };
 
 pub(crate) const SEGLETS: NumberOption = NumberOption {
@@ -62,7 +62,7 @@ pub(crate) const SEGLETS: NumberOption = NumberOption {
     least: 4,
     most: 4294967296,
     default: 64,
-    help: "Seglets of the master's memory: 4 to 4294967296 [default: 64]",
+    help: "Seglets of the master's memory: 4 to 4294967296 [default: 64]; only checked yet",
 };
 
 pub(crate) const TABLES: NumberOption = NumberOption {
@@ -86,7 +86,7 @@ pub(crate) const BYTES: NumberOption = NumberOption {
     least: 1,
     most: 4294967296,
     default: 1048576,
-    help: "Bytes of a partition of a will: 1 to 4294967296 [default: 1048576]",
+    help: "Bytes of a partition of a will: 1 to 4294967296 [default: 1048576]; sets nothing yet",
 };
 
 pub(crate) const OBJECTS: NumberOption = NumberOption {
@@ -94,7 +94,7 @@ pub(crate) const OBJECTS: NumberOption = NumberOption {
     least: 1,
     most: 4294967296,
     default: 1000000,
-    help: "Objects of a partition of a will: 1 to 4294967296 [default: 1000000]",
+    help: "Objects of a partition of a will: 1 to 4294967296 [default: 1000000]; sets nothing yet",
 };
 
 /// All options, in the order of the help.

@@ -5,6 +5,7 @@ ghost use Rattle.clap.specs.Walk.{texts};
 ghost use Rattle.command_line.specs.CommandLine.{HasOptions, IsCommand, IsDefault, ReadsOptions};
 ghost use Rattle.command_line.specs.CommandLine.{ramlog, ramlog_faults, ramlog_matches};
 
+use crate::help::{ABOUT, AFTER_HELP, USAGE, VERSION};
 use crate::number_option::{
     BACKUPS, BYTES, HISTORY, OBJECTS, OPTIONS, REPLICAS, SEGLET, SEGLETS, SEGMENT, STEP, TABLES,
 };
@@ -16,9 +17,11 @@ use std::alloc::{AllocError, Global};
 fn command<'a>(alloc: Global) -> Result<Command<'a>, AllocError>
     ensures { IfOk result (IsCommand ramlog) }
 {
-    let mut command = Command::new(alloc, "ramlog").about(
-        "A log-structured key-value store, driven by a script on standard input",
-    );
+    let mut command = Command::new(alloc, "ramlog")
+        .about(ABOUT)
+        .after_help(AFTER_HELP)
+        .override_usage(USAGE)
+        .version(VERSION);
     for option in OPTIONS {
         command = command.arg(option.argument(alloc))?;
     }
@@ -27,8 +30,8 @@ fn command<'a>(alloc: Global) -> Result<Command<'a>, AllocError>
 
 /// Reads the words of the command line, of which the first is the program's name and isn't read.
 ///
-/// The error is clap's: its text is what the program prints, and its exit code is 2, or 0 where
-/// `--help` was asked for.
+/// The error is clap's: its text is what the program prints, and its exit code is 2, or 0 if `--help` or `--version` was
+/// asked for.
 pub fn options<'a>(alloc: Global, words: &'a [&'a str]) -> Result<Options, Error>
     // each field is the number of its option's entry in clap's matches, or the default without one
     ensures reads { IfOk result (HasOptions (ramlog_matches (texts words.entry.now))) }

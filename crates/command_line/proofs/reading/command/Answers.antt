@@ -1,13 +1,16 @@
 use Rattle.std.proofs.Common.{refl}
+use Rattle.clap.specs.declared.builder.command.Command.TheViews.{out-Command}
 use Rattle.command_line.specs.CommandLine.{ramlog}
-use Rattle.command_line.proofs.Ramlog.{grown, growing, opening}
+use Rattle.command_line.proofs.Ramlog.{grown, growing, opening, texts_given}
 use Rattle.command_line.proofs.reading.command.Goals as goal
 
 pub loop-option-init : goal.loop-option-init
 unfolding ramlog
 loop-option-init c =
     let new = c.new.ensures in
-    opening _ _ _ _ new.app (new.empty.0, new.empty.1) new.local c.about-command.ensures refl
+    let same = texts_given (out-Command c.new.result) _ _ _ _ (record { about = _; after_help = _; usage = _; version = _ })
+    c.about.ensures c.after_help.ensures c.override_usage.ensures c.version-command.ensures in
+    opening _ _ _ _ new.app (new.empty.0, new.empty.1) new.local same refl
 
 pub loop-option-preserved : goal.loop-option-preserved
 loop-option-preserved c =

@@ -1,0 +1,22 @@
+//! What the help says beside the options.
+
+/// The version that `--version` prints.
+pub(crate) const VERSION: &str = "0.1.0";
+
+pub(crate) const ABOUT: &str = "A log-structured key-value store in memory, driven by a script.";
+
+pub(crate) const USAGE: &str = "ramlog [OPTIONS] < SCRIPT";
+
+/// The lines of a script, and an example.
+pub(crate) const AFTER_HELP: &str = "Lines of a script:
+  put T K V  Puts the value V at the key K of table T: 'ok VERSION'
+  get T K    Shows the object of a key: 'VERSION VALUE', or 'none'
+  hex ID     Shows the bytes of segment ID in the master's memory, in hexadecimal
+  stop N     Lets the backups take N more pieces of the log, and then no more
+  crash      Drops the master; the backups keep what they hold
+  lose B     Makes backup B lose all that it holds, once the master is gone; backups count from 0
+  recover    Shows the table that is rebuilt from what the backups hold
+  # TEXT     Does nothing, like an empty line
+
+Example:
+  printf 'put 1 a x\\nput 1 b y\\ncrash\\nrecover\\n' | ramlog";
