@@ -1,27 +1,10 @@
 -- What a step adds to a master.
-use Rattle.std.proofs.Common.{◌≡◌, ℕ, suc, ◌≤◌, Bool, true, false, cond, List, [], ◌∷◌, ◌++◌, length, take, refl, sym, ap, subst, inl, inr, ◌∙◌, arith}
-use Rattle.std.proofs.lemmas.List.{append-nil, length-append}
-use Rattle.std.proofs.Math.Seq.{take-length}
-use lib.Seq.{take-append_seam}
-use Rattle.std.specs.Prelude.{Option, Some, None, Result, Ok, Err, slice_get, not, is_none, ◌==◌, ◌||◌, ◌&&◌, ◌↔◌, if◌then◌else◌, unwrap_or}
-use Rattle.backup.specs.State.{state_of, lost}
-use Rattle.backup.specs.declared.fleet.MemoryFleet.{MemoryFleet}
-use Rattle.lines.specs.Grammar.{LineValue, Put, Get, Crash, Lose, Recover}
-use Rattle.entry.specs.declared.entry.Entry.{Entry}
-use Rattle.entry.specs.Bag.{IsAmong}
-use Rattle.entry.specs.Meaning.{IsMeaning, among, contents_of}
-use Rattle.replay.specs.declared.rebuilt.Rebuilt.{Rebuilt}
-use Rattle.replica.specs.declared.holding.Holding.{Holding}
-use Rattle.replica.specs.Picture.{Replica, Picture, FleetState, survivors, IsHeld}
-use Rattle.replica.specs.Choice.{IsChoice}
-use Rattle.replica.specs.Survival.{BothSurvive}
-use Rattle.recovery_plan.specs.declared.fault.PlanFault.TheVariants as plan_fault
+use Rattle.std.proofs.Common.{◌≡◌, ℕ, Bool, true, false, [], ◌++◌, length, refl, sym, ap, subst, inl, inr, ◌∙◌, arith}
+use Rattle.std.proofs.lemmas.List.{append-nil}
+use Rattle.std.specs.Prelude.{Option, Some, None, Result, Ok, Err, is_none, ◌&&◌, if◌then◌else◌, unwrap_or}
 use Rattle.versioned_map.specs.declared.command.Command.{Command}
-use Rattle.versioned_map.specs.declared.command.Record.{Record}
 use Rattle.versioned_map.specs.declared.command.Reply.{Reply}
-use Rattle.log_model.specs.Data.{LogData, durable_of}
-use Rattle.log_model.specs.Sound.{IsSound}
-use Rattle.master_core.specs.declared.config.Config.{Config}
+use Rattle.log_model.specs.Data.{LogData}
 use Rattle.master_core.specs.declared.step.Refusal.{Refusal}
 use Rattle.master_core.specs.declared.step.Refusal.TheVariants as refusal
 use Rattle.master_core.specs.declared.step.Step.TheVariants.{Apply, Push}
@@ -29,24 +12,11 @@ use Rattle.master_core.specs.declared.step.StepAnswer.{StepAnswer}
 use Rattle.master_core.specs.declared.step.StepAnswer.TheVariants.{Applied}
 use Rattle.master_core.specs.Causes.{is_open, is_pushed, command_refusal, early_refusal, late_refusal}
 use Rattle.master_core.specs.Data.{MasterData}
-use Rattle.master_core.specs.Log.{log_of}
 use Rattle.master.specs.Keeps.{Keeps}
 use Rattle.master.specs.Steps.{Steps, Declines, FailsTake}
-use Rattle.master.specs.Valid.{IsValid}
 use Rattle.master.specs.World.{World}
-use Rattle.recovery.specs.Kept.{is_kept}
-use Rattle.recovery.specs.Recovered.{Shows, IsRecovered, IsRebuiltFrom}
-use Rattle.recovery.specs.declared.recovery.RecoveryFault.{RecoveryFault}
-use Rattle.recovery.specs.declared.recovery.RecoveryFault.TheVariants as fault
-use Rattle.recovery.proofs.Choices.{bag-of-plan, surviving-choice}
-use Rattle.recovery.proofs.Recoveries.{IsSomePrefix, IsSomeLoss}
-use Rattle.script.specs.declared.answer.Answer.{Answer}
-use Rattle.script.specs.declared.answer.Answer.TheVariants as answer
-use Rattle.script.specs.declared.node.Node.{Node}
-use Rattle.script.specs.declared.node.Node.TheVariants.{Up, Down, Changing}
-use Rattle.script.specs.Lives.{life_to, HasLived, Left, is_left, IsHomeBy}
-use Rattle.script.specs.Served.{GoesOn, IsServed, IsUnserved, IsSpent, IsLeftOf, IsOf, Stands, AnswersLine, is_up, left_now, life_of, record_of}
-use Rattle.script.specs.Told.{Position, command_of, is_for_master, is_for_none, is_of_push, IsRecoveredAt, Tells}
+use Rattle.script.specs.Served.{GoesOn, IsSpent, record_of}
+use Rattle.script.specs.Told.{is_of_push}
 
 -- ---- a master goes on
 
