@@ -34,7 +34,7 @@ pub record IsNewestOpened (IsHome : ℕ → ℕ → Type 0) (shown : Shown) (mas
 abbrev pub HeadSurvives : (ℕ → ℕ → Type 0) → Shown → ℕ → (ℕ → Bool) → Type 0
 HeadSurvives IsHome shown master keep =
     ((s : ℕ) × IsNewestOpened IsHome shown master s
-        × (IsHomeLeft IsHome keep s ⊎ ((t : ℕ) × (s < t) × IsHeadLeft shown master keep t)))
+    × (IsHomeLeft IsHome keep s ⊎ ((t : ℕ) × (s < t) × IsHeadLeft shown master keep t)))
     ⊎ (((s : ℕ) → IsOpened IsHome shown master s → ⊥) × ((t : ℕ) × IsHeadLeft shown master keep t))
 
 -- a digest of the newest head that is left
