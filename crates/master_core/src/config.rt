@@ -51,7 +51,16 @@ impl fmt::Display for ConfigFault {
     ghost output = { λ fault. Some (config_fault_name fault) };
 
     fn fmt<W: fmt::Write>(&self, f: &mut fmt::Formatter<W>) -> fmt::Result {
-        f.write_str(match self {
+        f.write_str(self.name())
+    }
+}
+
+impl ConfigFault {
+    /// The name that is printed.
+    pub fn name(&self) -> &'static str
+        ensures { result.now ≡ config_fault_name self.now }
+    {
+        match self {
             ConfigFault::BadBackups => "BadBackups",
             ConfigFault::BadStep => "BadStep",
             ConfigFault::BadSegment => "BadSegment",
@@ -59,7 +68,7 @@ impl fmt::Display for ConfigFault {
             ConfigFault::BadBudget => "BadBudget",
             ConfigFault::BadTablets => "BadTablets",
             ConfigFault::BadHistory => "BadHistory",
-        })
+        }
     }
 }
 

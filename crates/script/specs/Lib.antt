@@ -5,3 +5,4 @@ pub mod Told
 pub mod Served
 pub mod Runs
 pub mod Turns
+pub mod Program

@@ -9,7 +9,8 @@ use Rattle.replay.specs.declared.rebuilt.Rebuilt.{Rebuilt}
 use Rattle.recovery.specs.Texts.{recovery_fault_text}
 use Rattle.versioned_map.specs.declared.command.Reply.{Reply}
 use Rattle.versioned_map.specs.declared.command.Reply.TheVariants as reply
-use Rattle.master_core.specs.Names.{refusal_name}
+use Rattle.master_core.specs.declared.config.ConfigFault.{ConfigFault}
+use Rattle.master_core.specs.Names.{refusal_name, config_fault_name}
 use Rattle.script.specs.declared.answer.Answer.{Answer}
 use Rattle.script.specs.declared.answer.Answer.TheVariants as answer
 use Rattle.script.specs.declared.fault.ScriptFault.{ScriptFault}
@@ -72,6 +73,10 @@ number_text (Some number) = decimal number
 -- the line of a fault
 abbrev pub fault_line : ScriptFault → List ℕ
 fault_line fault = codes "ramlog: " ++ script_fault_text fault ++ 10 ∷ []
+
+-- the line of a bad configuration
+abbrev pub config_line : ConfigFault → List ℕ
+config_line fault = codes "ramlog: bad configuration " ++ config_fault_name fault ++ 10 ∷ []
 
 -- the exit status of a fault
 abbrev pub exit_status : ScriptFault → ℕ

@@ -2,8 +2,9 @@
 
 ghost use Rattle.std.specs.Prelude.{◌≡◌, ◌++◌, ◌∷◌, [], Some, IsTrue};
 ghost use Rattle.std.specs.Io.KnownBytes.{Appends};
-ghost use Rattle.script.specs.Texts.{AppendsFront, exit_status, fault_line, number_text, script_fault_text};
+ghost use Rattle.script.specs.Texts.{AppendsFront, config_line, exit_status, fault_line, number_text, script_fault_text};
 
+use master::ConfigFault;
 use std::error::Error;
 use std::fmt;
 use std::io::{ErrorKind, Write};
@@ -74,6 +75,30 @@ fn write_fault<W: Write>(writer: &mut W, fault: &ScriptFault)
         return;
     }
     write_end(writer, number);
+}
+
+/// Writes the line of a bad configuration, as far as the writer takes it, and answers the program's exit status. It takes
+/// no memory.
+pub fn report_config<W: Write>(fault: &ConfigFault, writer: &mut W) -> u8
+    ensures line { AppendsFront (W.contents writer.old) (W.contents writer.new) (config_line fault.now) }
+    ensures status { result ≡ 2 }
+{
+    write_config_fault(writer, fault);
+    let _ = writer.flush();
+    2
+}
+
+/// Writes the line of a bad configuration, piece by piece, until one is cut.
+fn write_config_fault<W: Write>(writer: &mut W, fault: &ConfigFault)
+    ensures { AppendsFront (W.contents writer.old) (W.contents writer.new) (config_line fault.now) }
+{
+    if !write_front(writer, b"ramlog: bad configuration ") {
+        return;
+    }
+    if !write_front(writer, fault.name().as_bytes()) {
+        return;
+    }
+    write_front(writer, b"\n");
 }
 
 /// Writes the number, if there is one, and a line feed.

@@ -4,6 +4,7 @@
 mod answer;
 mod fault;
 mod node;
+mod program;
 mod running;
 mod session;
 mod setup;
@@ -11,7 +12,8 @@ mod setup;
 pub use answer::{Answer, write_answer};
 pub use backup::{MemoryBackup, MemoryFleet};
 pub use command_line::{Options, options};
-pub use fault::{ScriptFault, report};
+pub use fault::{ScriptFault, report, report_config};
+pub use program::{run_options, run_program};
 pub use recovery::{
     Drill, Plan, PlanFault, Rebuilt, RecoveryFault, ReplayFault, acknowledged_recovered,
     inventory_of, plan, rebuild_plain, recover, run_drill,

@@ -1,0 +1,48 @@
+-- What the program does, from its words to its exit status.
+use Rattle.std.specs.Prelude.{◌≡◌, ◌⊎◌, ℕ, List, Option, Some, None, Ok, Err}
+use Rattle.clap.specs.Words.{Row}
+use Rattle.command_line.specs.CommandLine.{HasOptions}
+use Rattle.command_line.specs.declared.settings.Options.{Options}
+use Rattle.master_core.specs.declared.config.Config.{Config}
+use Rattle.master_core.specs.declared.config.ConfigFault.{ConfigFault}
+use Rattle.master_core.specs.Config.{config_fault}
+use Rattle.script.specs.declared.fault.ScriptFault.TheVariants.{NoMemory}
+use Rattle.script.specs.Configuration.{config_of}
+use Rattle.script.specs.Runs.{RunResult, RunsScript}
+use Rattle.script.specs.Texts.{AppendsFront, config_line, exit_status, fault_line}
+
+-- what is left to read of the input, and what the output and the error output hold
+pub record Streams : Type 0 where
+  pub input : Option (List ℕ)
+  pub output : Option (List ℕ)
+  pub errors : Option (List ℕ)
+
+-- how a run is reported: by status 0, or by the line of its fault and the status of that
+abbrev pub IsReported : RunResult → Option (List ℕ) → Option (List ℕ) → ℕ → Type 0
+IsReported (Ok done) held holds status = (holds ≡ held) × (status ≡ 0)
+IsReported (Err fault) held holds status = AppendsFront held holds (fault_line fault) × (status ≡ exit_status fault)
+
+-- A configuration that fails its check is named before anything is read or written.
+pub record IsMisuse (config : Config) (old new : Streams) (status : ℕ) : Type 0 where
+  pub fault : ConfigFault
+  pub found : config_fault config ≡ Some fault
+  pub line : AppendsFront old.errors new.errors (config_line fault)
+  pub unread : new.input ≡ old.input
+  pub unwritten : new.output ≡ old.output
+  pub ends_with : status ≡ 2
+
+-- The script was run under a configuration that passes its check, or memory ran out; how the run ended is reported.
+pub record IsRunOf (config : Config) (old new : Streams) (status : ℕ) : Type 0 where
+  pub result : RunResult
+  pub checked : (config_fault config ≡ None) ⊎ (result ≡ Err NoMemory)
+  pub run : RunsScript config old.input new.input old.output new.output result
+  pub reported : IsReported result old.errors new.errors status
+
+-- what the program does with its options
+abbrev pub RunsOptions : Options → Streams → Streams → ℕ → Type 0
+RunsOptions options old new status =
+    IsMisuse (config_of options 1) old new status ⊎ IsRunOf (config_of options 1) old new status
+
+-- what it does with the options that these matches of its words have
+abbrev pub RunsMatches : List Row → Streams → Streams → ℕ → Type 0
+RunsMatches rows old new status = (options : Options) × HasOptions rows options × RunsOptions options old new status

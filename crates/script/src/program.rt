@@ -1,0 +1,66 @@
+//! The program, from its words to its exit status.
+
+ghost use Rattle.std.specs.Prelude.{◌≡◌, IfOk, IfErr};
+ghost use Rattle.clap.specs.Walk.{texts};
+ghost use Rattle.clap.specs.Words.{FailsBy};
+ghost use Rattle.command_line.specs.CommandLine.{ramlog_faults, ramlog_matches};
+ghost use Rattle.script.specs.Program.{RunsMatches, RunsOptions, Streams};
+
+use crate::fault::{ScriptFault, report, report_config};
+use crate::running::run_script;
+use crate::setup::configuration;
+use clap::Error;
+use command_line::{Options, options};
+use std::alloc::Global;
+use std::io::{BufRead, Write};
+
+/// Runs the program: reads the options from its words, of which the first is its name, and does what they say. Answers the
+/// exit status.
+///
+/// The error is clap's, and nothing was read or written then: its text is what the program prints, and its exit code is 2,
+/// or 0 if `--help` or `--version` was asked for.
+pub fn run_program<'a, R: BufRead, W: Write, E: Write>(
+    alloc: Global,
+    words: &'a [&'a str],
+    reader: &mut R,
+    writer: &mut W,
+    errors: &mut E,
+) -> Result<u8, Error>
+    // What is done is what the options of clap's matches of the words say.
+    ensures ran { IfOk result (RunsMatches (ramlog_matches (texts words.entry.now))
+        (record { input = R.remaining reader.old; output = W.contents writer.old; errors = E.contents errors.old })
+        (record { input = R.remaining reader.new; output = W.contents writer.new; errors = E.contents errors.new })) }
+    // The words are refused only for a fault that clap finds in them, or because memory ran out.
+    ensures refused { FailsBy (ramlog_faults (texts words.entry.now)) result }
+    ensures unread { IfErr result (λ _. R.remaining reader.new ≡ R.remaining reader.old) }
+    ensures unwritten { IfErr result (λ _. W.contents writer.new ≡ W.contents writer.old) }
+{
+    match options(alloc, words) {
+        Ok(options) => Ok(run_options(alloc, options, reader, writer, errors)),
+        Err(error) => Err(error),
+    }
+}
+
+/// Checks the configuration of the options, runs the script, and reports how the run ended. Answers the exit status.
+pub fn run_options<R: BufRead, W: Write, E: Write>(
+    alloc: Global,
+    options: Options,
+    reader: &mut R,
+    writer: &mut W,
+    errors: &mut E,
+) -> u8
+    ensures { RunsOptions options
+        (record { input = R.remaining reader.old; output = W.contents writer.old; errors = E.contents errors.old })
+        (record { input = R.remaining reader.new; output = W.contents writer.new; errors = E.contents errors.new }) result }
+{
+    let Ok(config) = configuration(alloc, &options, 1) else {
+        return report(&ScriptFault::NoMemory, errors);
+    };
+    match config.check() {
+        Err(fault) => report_config(&fault, errors),
+        Ok(()) => match run_script(alloc, reader, writer, options) {
+            Ok(()) => 0,
+            Err(fault) => report(&fault, errors),
+        },
+    }
+}
