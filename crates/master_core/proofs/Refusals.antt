@@ -113,11 +113,11 @@ refused_not d u some opened room = rw (some, opened, room) refl
 
 -- ---- a push
 
-is_open-false : (h : HeadValue) → length h.taken < h.replicas → is_open h ≡ false
-is_open-false h lt = grind (arith, nat_tests)
+is_open_false : (h : HeadValue) → length h.taken < h.replicas → is_open h ≡ false
+is_open_false h lt = grind (arith, nat_tests)
 
 pub push_waits : (d : MasterData) → d.is_halted ≡ false → length d.head.taken < d.head.replicas → push_refusal d ≡ None
-push_waits d running lt = let closed = is_open-false d.head lt in rw (running, closed) refl
+push_waits d running lt = let closed = is_open_false d.head lt in rw (running, closed) refl
 
 pub push_lags : (d : MasterData) (j : ℕ) → d.is_halted ≡ false → IsLagging (length d.head.units) d.head.taken (Some j) → push_refusal d ≡ None
 push_lags d j running lagging =
