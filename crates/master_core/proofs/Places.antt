@@ -2,7 +2,7 @@
 use Rattle.std.proofs.Common.{◌≡◌, ℕ, zero, suc, ◌+◌, ◌<◌, ◌≤◌, Bool, true, false, List, [], ◌∷◌, length, drop, get_or, Option, Some, None, refl, sym}
 use Rattle.std.proofs.Common.{ap, subst, ◌∙◌, add-one, arith}
 use Rattle.std.specs.Option.{option_map}
-use Rattle.std.proofs.lemmas.Option.{same_Some}
+use Rattle.std.proofs.lemmas.Option.{none-some, same_Some}
 use Rattle.entry.specs.declared.key.Key.{Key}
 use Rattle.entry.specs.declared.entry.Object.{Object}
 use Rattle.entry.specs.declared.entry.Entry.{Entry}
@@ -55,9 +55,6 @@ pub record IsFound (image : List Entry) (places : List ℕ) (os : List Object) (
   pub stands : (d : ℕ) → Stands image (get_or places j d) (entry.Object o)
   pub has : contents_of os k ≡ Some (versioned o)
 
-some_none : (n : ℕ) → Some n ≡ None → ⊥
-some_none n e = cc
-
 -- a slot that is one further
 abbrev pub next_slot : Option ℕ → Option ℕ
 next_slot slot = option_map (λ (n : ℕ). suc n) slot
@@ -73,7 +70,7 @@ some_before (Some i) j e = (i, refl, sym (same_Some (suc i) j e))
 no_slot_step : (b : Bool) (o : Object) (os : List Object) (k : Key) → key_eq k o.key ≡ b → slot_in (o ∷ os) k ≡ None
     → (slot_in os k ≡ None → contents_of os k ≡ None)
     → contents_of (o ∷ os) k ≡ None
-no_slot_step true o os k is e later = let here : slot_in (o ∷ os) k ≡ Some 0 = rw is refl in let none = sym here ∙ e in absurd (some_none 0 none)
+no_slot_step true o os k is e later = let here : slot_in (o ∷ os) k ≡ Some 0 = rw is refl in absurd (none-some 0 (sym e ∙ here))
 no_slot_step false o os k is e later =
     let further_on : slot_in (o ∷ os) k ≡ next_slot (slot_in os k) = rw is refl in rw is (later (none_before (slot_in os k) (sym further_on ∙ e)))
 

@@ -4,7 +4,6 @@ use Rattle.versioned_map.specs.declared.command.Record.{Record}
 use Rattle.versioned_map.specs.declared.command.Reply.{Reply}
 use Rattle.master_core.specs.declared.change.Change.{Change}
 use Rattle.log_head.specs.Head.{HeadValue, IsHead}
-use Rattle.master_core.specs.declared.step.StepAnswer.{StepAnswer}
 use Rattle.master_core.specs.declared.step.StepAnswer.TheVariants.{Applied}
 use Rattle.log_model.specs.Steps.{MayApply}
 use Rattle.master_core.specs.Causes.{command_refusal, dead_segment}
