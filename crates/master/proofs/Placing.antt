@@ -1,6 +1,7 @@
 -- The homes of a configuration: as many as replicas, no two alike, each a backup.
 use Rattle.std.proofs.Common.{◌≡◌, ℕ, zero, suc, ◌+◌, ◌*◌, ◌<◌, inl, inr, length, Some, refl, sym, ap, ◌∙◌, arith}
-use Rattle.std.specs.Prelude.{◌⊎◌, None, slice_get}
+use Rattle.std.specs.Prelude.{None, slice_get}
+use Rattle.std.proofs.lemmas.Bool.{cases_eq}
 use Rattle.std.proofs.lemmas.Nat.{mod_below}
 use Rattle.std.proofs.lemmas.Option.{same_Some}
 use Rattle.log_model.specs.Log.{IsPlaced}
@@ -9,9 +10,6 @@ use Rattle.master_core.specs.Config.{config_fault}
 use Rattle.master_core.specs.Log.{home, homes_from, log_config}
 use Rattle.master_core.proofs.Homes.{homes_apart}
 use Rattle.master_core.proofs.Refusals.{has_homes}
-
-is_same : (i j : ℕ) → (i ≡ j) ⊎ (i ≡ j → ⊥)
-is_same i j = grind arith
 
 homes_length : (c : Config) (s j n : ℕ) → length (homes_from c s j n) ≡ n
 homes_length c s j zero = refl
@@ -55,7 +53,7 @@ module _ (c : Config) (ok : config_fault c ≡ None) where
         let a : 0 + i ≡ i = omega arith in
         let d : 0 + j ≡ j = omega arith in
         let same : home c s i ≡ home c s j = sym (ap (home c s) a) ∙ sym here.0 ∙ there.0 ∙ ap (home c s) d in
-        elim (is_same i j) as (λ _. i ≡ j) [
+        elim (cases_eq i j) as (λ _. i ≡ j) [
           | inl e ↦ e
           | inr other ↦ absurd (homes_apart c s i j (omega arith) (omega arith) other same)
         ]

@@ -26,28 +26,28 @@ use Rattle.master_core.specs.Change.{unit_of_change, version_in, is_empty, IsCha
 
 -- ---- lengths of units
 
-length-one : (e : Entry) → length (text_of (e ∷ [])) ≡ length (spelling e)
-length-one e = simp length-append (omega arith)
+length_one : (e : Entry) → length (text_of (e ∷ [])) ≡ length (spelling e)
+length_one e = simp length-append (omega arith)
 
-length-two : (d e : Entry) → length (text_of (d ∷ e ∷ [])) ≡ length (spelling d) + length (spelling e)
-length-two d e = simp length-append (omega arith)
+length_two : (d e : Entry) → length (text_of (d ∷ e ∷ [])) ≡ length (spelling d) + length (spelling e)
+length_two d e = simp length-append (omega arith)
 
-pub length-object_entry : (k : Key) (version : ℕ) (value : List ℕ)
+pub length_object_entry : (k : Key) (version : ℕ) (value : List ℕ)
     → length (text_of (object_entry k version value ∷ [])) ≡ 23 + length k.bytes + length value
-length-object_entry k version value = length-one (object_entry k version value) ∙ length-object (record { key = k; version = version; value = value })
+length_object_entry k version value = length_one (object_entry k version value) ∙ length-object (record { key = k; version = version; value = value })
 
-pub length-tombstone_entry : (k : Key) (version segment : ℕ) → length (text_of (tombstone_entry k version segment ∷ [])) ≡ 27 + length k.bytes
-length-tombstone_entry k version segment =
-    length-one (tombstone_entry k version segment) ∙ length-tombstone (record { key = k; version = version; segment = segment })
+pub length_tombstone_entry : (k : Key) (version segment : ℕ) → length (text_of (tombstone_entry k version segment ∷ [])) ≡ 27 + length k.bytes
+length_tombstone_entry k version segment =
+    length_one (tombstone_entry k version segment) ∙ length-tombstone (record { key = k; version = version; segment = segment })
 
-pub length-replacing : (k : Key) (dead version segment : ℕ) (value : List ℕ) →
+pub length_replacing : (k : Key) (dead version segment : ℕ) (value : List ℕ) →
     length (text_of (tombstone_entry k dead segment ∷ object_entry k version value ∷ [])) ≡ 27 + length k.bytes + (23 + length k.bytes + length value)
-length-replacing k dead version segment value =
-    length-two (tombstone_entry k dead segment) (object_entry k version value)
+length_replacing k dead version segment value =
+    length_two (tombstone_entry k dead segment) (object_entry k version value)
     ∙ ap (λ n. n + length (spelling (object_entry k version value))) (length-tombstone (record { key = k; version = dead; segment = segment }))
     ∙ ap (λ n. 27 + length k.bytes + n) (length-object (record { key = k; version = version; value = value }))
 
-pub ruleset unit_lengths = (length-object_entry, length-tombstone_entry, length-replacing)
+pub ruleset unit_lengths = (length_object_entry, length_tombstone_entry, length_replacing)
 
 -- the front of a unit that ends in an object
 front_of_two : (k : Key) (dead segment : ℕ) (e : Entry) (front : List Entry) (o : Object)
@@ -56,7 +56,7 @@ front_of_two : (k : Key) (dead segment : ℕ) (e : Entry) (front : List Entry) (
 front_of_two k dead segment e [] o is = cc
 front_of_two k dead segment e (t ∷ []) o is =
     let first : t ≡ tombstone_entry k dead segment = cc in
-    rw first (length-tombstone_entry k dead segment)
+    rw first (length_tombstone_entry k dead segment)
 front_of_two k dead segment e (t ∷ u ∷ []) o is = cc
 front_of_two k dead segment e (t ∷ u ∷ v ∷ front) o is = cc
 

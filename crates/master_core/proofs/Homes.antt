@@ -32,10 +32,10 @@ homes_apart c s i j a b other same = by_order (nat_lt i j) refl
   where
     by_order : (t : Bool) → nat_lt i j ≡ t → ⊥
     by_order true t = home_once c s i j (grind (arith, nat_tests)) b same
-    by_order false t = let ge : j ≤ i = grind (arith, nat_tests) in home_once c s j i (ne-lt ge) a (sym same)
+    by_order false t = let ge : j ≤ i = grind (arith, nat_tests) in home_once c s j i (ne_lt ge) a (sym same)
       where
-        ne-lt : j ≤ i → j < i
-        ne-lt le = by_equal (nat_lt j i) refl
+        ne_lt : j ≤ i → j < i
+        ne_lt le = by_equal (nat_lt j i) refl
           where
             by_equal : (u : Bool) → nat_lt j i ≡ u → j < i
             by_equal true u = grind (arith, nat_tests)

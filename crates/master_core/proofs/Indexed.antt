@@ -19,9 +19,9 @@ use Rattle.versioned_map.specs.Units.{object_entry, tombstone_entry, put_unit, s
 use Rattle.versioned_map.specs.Versioned.{State, is_met, put_version, with_contents, after_command, after_put, after_delete}
 use Rattle.master_core.proofs.Changes.{unmet, undeleted, clashes}
 use Rattle.versioned_map.proofs.Keys.{key_eq-tells}
-use Rattle.master_core.proofs.Places.{contents_of-no_slot, found-at}
-use Rattle.master_core.proofs.Indexing.{AreAt-more, AreAt-push, AreAt-set, AreAt-remove, distinct-push, distinct-set, distinct-remove, contents-push}
-use Rattle.master_core.proofs.Indexing.{contents-set, contents-remove}
+use Rattle.master_core.proofs.Places.{contents_of_no_slot, found_at}
+use Rattle.master_core.proofs.Indexing.{are_at_more, are_at_push, are_at_set, are_at_remove, distinct_push, distinct_set, distinct_remove, contents_push}
+use Rattle.master_core.proofs.Indexing.{contents_set, contents_remove}
 
 -- ---- the state after a command, by what it leaves its key
 
@@ -121,7 +121,7 @@ module _ (image : List Entry) (segment at : ℕ) (places : List ℕ) (os : List 
   kept_index : (more : List Entry) (k : Key) (x : Option Versioned) → contents_of os k ≡ x
       → Indexes (image ++ more) places (with_contents (contents_of os) k x)
   kept_index more k x has =
-      record { os = os; at = AreAt-more image more places os all; distinct = distinct; same = same_contents (contents_of os) k x has }
+      record { os = os; at = are_at_more image more places os all; distinct = distinct; same = same_contents (contents_of os) k x has }
 
   put_stands : (front : List Entry) (o : Object) → at ≡ length (text_of (image ++ front))
       → Stands (image ++ (front ++ entry.Object o ∷ [])) at (entry.Object o)
@@ -133,10 +133,10 @@ module _ (image : List Entry) (segment at : ℕ) (places : List ℕ) (os : List 
       let absent : slot_in os o.key ≡ None = sym is ∙ none in
       record {
         os = os ++ o ∷ [];
-        at = AreAt-push (image ++ (front ++ entry.Object o ∷ [])) at o (put_stands front o e) places os
-            (AreAt-more image (front ++ entry.Object o ∷ []) places os all);
-        distinct = distinct-push os o distinct absent;
-        same = contents-push os o absent;
+        at = are_at_push (image ++ (front ++ entry.Object o ∷ [])) at o (put_stands front o e) places os
+            (are_at_more image (front ++ entry.Object o ∷ []) places os all);
+        distinct = distinct_push os o distinct absent;
+        same = contents_push os o absent;
       }
 
   set_to : (front : List Entry) (o : Object) → at ≡ length (text_of (image ++ front)) → (j : ℕ) → slot_in os o.key ≡ Some j
@@ -144,39 +144,39 @@ module _ (image : List Entry) (segment at : ℕ) (places : List ℕ) (os : List 
       (with_contents (contents_of os) o.key (Some (versioned o)))
   set_to front o e j there = record {
     os = _;
-    at = AreAt-set (image ++ (front ++ entry.Object o ∷ [])) at o (put_stands front o e) places os j
-        (AreAt-more image (front ++ entry.Object o ∷ []) places os all);
-    distinct = distinct-set os j o distinct there;
-    same = contents-set os j o there;
+    at = are_at_set (image ++ (front ++ entry.Object o ∷ [])) at o (put_stands front o e) places os j
+        (are_at_more image (front ++ entry.Object o ∷ []) places os all);
+    distinct = distinct_set os j o distinct there;
+    same = contents_set os j o there;
   }
 
   taken_out : (more : List Entry) (k : Key) (j : ℕ) → slot_in os k ≡ Some j
       → Indexes (image ++ more) (placed places (change.Delete 0) (Some j) at) (with_contents (contents_of os) k None)
   taken_out more k j there = record {
     os = _;
-    at = AreAt-remove (image ++ more) places os j (AreAt-more image more places os all);
-    distinct = distinct-remove os j distinct;
-    same = contents-remove os k j distinct there;
+    at = are_at_remove (image ++ more) places os j (are_at_more image more places os all);
+    distinct = distinct_remove os j distinct;
+    same = contents_remove os k j distinct there;
   }
 
   -- an absent key has no slot
   no_slot : (k : Key) (slot : Option ℕ) → slot ≡ slot_in os k → contents_of os k ≡ None → slot ≡ None
   no_slot k None is none = refl
   no_slot k (Some j) is none =
-      let there = found-at image places os k j all (sym is) in let both : Some (versioned there.o) ≡ None = sym there.has ∙ none in absurd (cc)
+      let there = found_at image places os k j all (sym is) in let both : Some (versioned there.o) ≡ None = sym there.has ∙ none in absurd (cc)
 
   replaced_index : (k : Key) (value : List ℕ) (when : If) (dead version : ℕ) (slot : Option ℕ) → slot ≡ slot_in os k
       → (x : Option Versioned) → contents_of os k ≡ x → (x ≡ None → ⊥) → at ≡ length (text_of (image ++ tombstone_entry k dead segment ∷ []))
       → Indexes (image ++ unit_of_change segment (Put k value when) (change.Replace dead version))
       (placed places (change.Replace dead version) slot at) (with_contents (contents_of os) k (now version value))
-  replaced_index k value when dead version None is x has some e = absurd (some (sym has ∙ contents_of-no_slot os k (sym is)))
+  replaced_index k value when dead version None is x has some e = absurd (some (sym has ∙ contents_of_no_slot os k (sym is)))
   replaced_index k value when dead version (Some j) is x has some e =
       set_to (tombstone_entry k dead segment ∷ []) (record { key = k; version = version; value = value }) e j (sym is)
 
   deleted_index : (k : Key) (dead : ℕ) (slot : Option ℕ) → slot ≡ slot_in os k
       → Indexes (image ++ unit_of_change segment (Delete k) (change.Delete dead)) (placed places (change.Delete dead) slot at)
       (with_contents (contents_of os) k None)
-  deleted_index k dead None is = kept_index (tombstone_entry k dead segment ∷ []) k None (contents_of-no_slot os k (sym is))
+  deleted_index k dead None is = kept_index (tombstone_entry k dead segment ∷ []) k None (contents_of_no_slot os k (sym is))
   deleted_index k dead (Some j) is = taken_out (tombstone_entry k dead segment ∷ []) k j (sym is)
 
   abbrev held : Key → Option Versioned

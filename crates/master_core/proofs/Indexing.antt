@@ -11,59 +11,59 @@ use Rattle.entry.specs.Meaning.{Versioned, versioned, contents_of}
 use Rattle.master_core.specs.Index.{Stands, AreAt, slot_in, AreDistinct}
 use Rattle.versioned_map.specs.Versioned.{with_contents}
 use Rattle.versioned_map.proofs.Keys.{key_eq-same, key_eq-true, key_eq-tells, at_key, at_other}
-use Rattle.master_core.proofs.Places.{next_slot, none_before, some_before, contents_of-no_slot}
+use Rattle.master_core.proofs.Places.{next_slot, none_before, some_before, contents_of_no_slot}
 
 -- ---- places
 
-Stands-more : (image more : List Entry) (at : ℕ) (e : Entry) → Stands image at e → Stands (image ++ more) at e
-Stands-more image more at e s = record {
+stands_more : (image more : List Entry) (at : ℕ) (e : Entry) → Stands image at e → Stands (image ++ more) at e
+stands_more image more at e s = record {
   before = s.before;
   after = s.after ++ more;
   split = rw s.split (append_assoc s.before (e ∷ s.after) more);
   offset = s.offset;
 }
 
-pub AreAt-more : (image more : List Entry) (places : List ℕ) (os : List Object) → AreAt image places os → AreAt (image ++ more) places os
-AreAt-more image more [] [] all = tt
-AreAt-more image more [] (o ∷ os) all = absurd all
-AreAt-more image more (at ∷ places) [] all = absurd all
-AreAt-more image more (at ∷ places) (o ∷ os) all = (Stands-more image more at (entry.Object o) all.0, AreAt-more image more places os all.1)
+pub are_at_more : (image more : List Entry) (places : List ℕ) (os : List Object) → AreAt image places os → AreAt (image ++ more) places os
+are_at_more image more [] [] all = tt
+are_at_more image more [] (o ∷ os) all = absurd all
+are_at_more image more (at ∷ places) [] all = absurd all
+are_at_more image more (at ∷ places) (o ∷ os) all = (stands_more image more at (entry.Object o) all.0, are_at_more image more places os all.1)
 
 module _ (image : List Entry) (at : ℕ) (o : Object) (here : Stands image at (entry.Object o)) where
-  pub AreAt-push : (places : List ℕ) (os : List Object) → AreAt image places os → AreAt image (places ++ at ∷ []) (os ++ o ∷ [])
-  AreAt-push [] [] all = (here, tt)
-  AreAt-push [] (p ∷ os) all = absurd all
-  AreAt-push (x ∷ places) [] all = absurd all
-  AreAt-push (x ∷ places) (p ∷ os) all = (all.0, AreAt-push places os all.1)
+  pub are_at_push : (places : List ℕ) (os : List Object) → AreAt image places os → AreAt image (places ++ at ∷ []) (os ++ o ∷ [])
+  are_at_push [] [] all = (here, tt)
+  are_at_push [] (p ∷ os) all = absurd all
+  are_at_push (x ∷ places) [] all = absurd all
+  are_at_push (x ∷ places) (p ∷ os) all = (all.0, are_at_push places os all.1)
 
-  pub AreAt-set : (places : List ℕ) (os : List Object) (j : ℕ) → AreAt image places os → AreAt image (slice_set places j at) (slice_set os j o)
-  AreAt-set [] [] j all = tt
-  AreAt-set [] (p ∷ os) j all = absurd all
-  AreAt-set (x ∷ places) [] j all = absurd all
-  AreAt-set (x ∷ places) (p ∷ os) zero all = (here, all.1)
-  AreAt-set (x ∷ places) (p ∷ os) (suc j) all = (all.0, AreAt-set places os j all.1)
+  pub are_at_set : (places : List ℕ) (os : List Object) (j : ℕ) → AreAt image places os → AreAt image (slice_set places j at) (slice_set os j o)
+  are_at_set [] [] j all = tt
+  are_at_set [] (p ∷ os) j all = absurd all
+  are_at_set (x ∷ places) [] j all = absurd all
+  are_at_set (x ∷ places) (p ∷ os) zero all = (here, all.1)
+  are_at_set (x ∷ places) (p ∷ os) (suc j) all = (all.0, are_at_set places os j all.1)
 
-pub AreAt-remove : (image : List Entry) (places : List ℕ) (os : List Object) (j : ℕ) → AreAt image places os
+pub are_at_remove : (image : List Entry) (places : List ℕ) (os : List Object) (j : ℕ) → AreAt image places os
     → AreAt image (remove places j) (remove os j)
-AreAt-remove image [] [] zero all = tt
-AreAt-remove image [] [] (suc j) all = tt
-AreAt-remove image [] (p ∷ os) j all = absurd all
-AreAt-remove image (x ∷ places) [] j all = absurd all
-AreAt-remove image (x ∷ places) (p ∷ os) zero all = all.1
-AreAt-remove image (x ∷ places) (p ∷ os) (suc j) all = (all.0, AreAt-remove image places os j all.1)
+are_at_remove image [] [] zero all = tt
+are_at_remove image [] [] (suc j) all = tt
+are_at_remove image [] (p ∷ os) j all = absurd all
+are_at_remove image (x ∷ places) [] j all = absurd all
+are_at_remove image (x ∷ places) (p ∷ os) zero all = all.1
+are_at_remove image (x ∷ places) (p ∷ os) (suc j) all = (all.0, are_at_remove image places os j all.1)
 
 -- ---- slots
 
 -- the first object isn't the key's, nor is a later one
-no_slot-tells : (p : Object) (os : List Object) (k : Key) → slot_in (p ∷ os) k ≡ None → (key_eq k p.key ≡ false) × (slot_in os k ≡ None)
-no_slot-tells p os k e = told (key_eq k p.key) refl
+no_slot_tells : (p : Object) (os : List Object) (k : Key) → slot_in (p ∷ os) k ≡ None → (key_eq k p.key ≡ false) × (slot_in os k ≡ None)
+no_slot_tells p os k e = told (key_eq k p.key) refl
   where
     told : (b : Bool) → key_eq k p.key ≡ b → (key_eq k p.key ≡ false) × (slot_in os k ≡ None)
     told true is = let here : slot_in (p ∷ os) k ≡ Some 0 = rw is refl in absurd (let none : Some 0 ≡ None = sym here ∙ e in cc)
     told false is = let later : slot_in (p ∷ os) k ≡ next_slot (slot_in os k) = rw is refl in (is, none_before (slot_in os k) (sym later ∙ e))
 
-no_slot-from : (p : Object) (os : List Object) (k : Key) → key_eq k p.key ≡ false → slot_in os k ≡ None → slot_in (p ∷ os) k ≡ None
-no_slot-from p os k other none = rw (other, none) refl
+no_slot_from : (p : Object) (os : List Object) (k : Key) → key_eq k p.key ≡ false → slot_in os k ≡ None → slot_in (p ∷ os) k ≡ None
+no_slot_from p os k other none = rw (other, none) refl
 
 -- the first object is the key's, or a later one
 pub record IsLater (os : List Object) (k : Key) (j : ℕ) : Type 0 where
@@ -71,9 +71,9 @@ pub record IsLater (os : List Object) (k : Key) (j : ℕ) : Type 0 where
   pub found : slot_in os k ≡ Some i
   pub next : j ≡ suc i
 
-slot-tells : (p : Object) (os : List Object) (k : Key) (j : ℕ) → slot_in (p ∷ os) k ≡ Some j
+slot_tells : (p : Object) (os : List Object) (k : Key) (j : ℕ) → slot_in (p ∷ os) k ≡ Some j
     → ((key_eq k p.key ≡ true) × (j ≡ 0)) ⊎ ((key_eq k p.key ≡ false) × IsLater os k j)
-slot-tells p os k j e = told (key_eq k p.key) refl
+slot_tells p os k j e = told (key_eq k p.key) refl
   where
     told : (b : Bool) → key_eq k p.key ≡ b → ((key_eq k p.key ≡ true) × (j ≡ 0)) ⊎ ((key_eq k p.key ≡ false) × IsLater os k j)
     told true is =
@@ -90,23 +90,23 @@ slot-tells p os k j e = told (key_eq k p.key) refl
 
 -- no object of the key among those with one more, with one replaced, with one removed
 module _ (k : Key) where
-  no_slot-push : (os : List Object) (o : Object) → slot_in os k ≡ None → key_eq k o.key ≡ false → slot_in (os ++ o ∷ []) k ≡ None
-  no_slot-push [] o none other = no_slot-from o [] k other refl
-  no_slot-push (p ∷ os) o none other =
-      let t = no_slot-tells p os k none in no_slot-from p (os ++ o ∷ []) k t.0 (no_slot-push os o t.1 other)
+  no_slot_push : (os : List Object) (o : Object) → slot_in os k ≡ None → key_eq k o.key ≡ false → slot_in (os ++ o ∷ []) k ≡ None
+  no_slot_push [] o none other = no_slot_from o [] k other refl
+  no_slot_push (p ∷ os) o none other =
+      let t = no_slot_tells p os k none in no_slot_from p (os ++ o ∷ []) k t.0 (no_slot_push os o t.1 other)
 
-  no_slot-set : (os : List Object) (j : ℕ) (o : Object) → slot_in os k ≡ None → key_eq k o.key ≡ false → slot_in (slice_set os j o) k ≡ None
-  no_slot-set [] j o none other = refl
-  no_slot-set (p ∷ os) zero o none other = let t = no_slot-tells p os k none in no_slot-from o os k other t.1
-  no_slot-set (p ∷ os) (suc j) o none other =
-      let t = no_slot-tells p os k none in no_slot-from p (slice_set os j o) k t.0 (no_slot-set os j o t.1 other)
+  no_slot_set : (os : List Object) (j : ℕ) (o : Object) → slot_in os k ≡ None → key_eq k o.key ≡ false → slot_in (slice_set os j o) k ≡ None
+  no_slot_set [] j o none other = refl
+  no_slot_set (p ∷ os) zero o none other = let t = no_slot_tells p os k none in no_slot_from o os k other t.1
+  no_slot_set (p ∷ os) (suc j) o none other =
+      let t = no_slot_tells p os k none in no_slot_from p (slice_set os j o) k t.0 (no_slot_set os j o t.1 other)
 
-  no_slot-remove : (os : List Object) (j : ℕ) → slot_in os k ≡ None → slot_in (remove os j) k ≡ None
-  no_slot-remove [] zero none = refl
-  no_slot-remove [] (suc j) none = refl
-  no_slot-remove (p ∷ os) zero none = (no_slot-tells p os k none).1
-  no_slot-remove (p ∷ os) (suc j) none =
-      let t = no_slot-tells p os k none in no_slot-from p (remove os j) k t.0 (no_slot-remove os j t.1)
+  no_slot_remove : (os : List Object) (j : ℕ) → slot_in os k ≡ None → slot_in (remove os j) k ≡ None
+  no_slot_remove [] zero none = refl
+  no_slot_remove [] (suc j) none = refl
+  no_slot_remove (p ∷ os) zero none = (no_slot_tells p os k none).1
+  no_slot_remove (p ∷ os) (suc j) none =
+      let t = no_slot_tells p os k none in no_slot_from p (remove os j) k t.0 (no_slot_remove os j t.1)
 
 not_same : (k q : Key) → key_eq k q ≡ false → k ≡ q → ⊥
 not_same k q other same = let t = key_eq-true k q same in cc
@@ -114,25 +114,25 @@ not_same k q other same = let t = key_eq-true k q same in cc
 turned : (k q : Key) → key_eq k q ≡ false → key_eq q k ≡ false
 turned k q other = elim (key_eq-tells q k) as (λ _. key_eq q k ≡ false) [ inl t ↦ absurd (not_same k q other (sym t.1)) | inr f ↦ f.0 ]
 
-pub distinct-push : (os : List Object) (o : Object) → AreDistinct os → slot_in os o.key ≡ None → AreDistinct (os ++ o ∷ [])
-distinct-push [] o all none = (refl, tt)
-distinct-push (p ∷ os) o all none =
-    let t = no_slot-tells p os o.key none in
-    (no_slot-push p.key os o all.0 (turned o.key p.key t.0), distinct-push os o all.1 t.1)
+pub distinct_push : (os : List Object) (o : Object) → AreDistinct os → slot_in os o.key ≡ None → AreDistinct (os ++ o ∷ [])
+distinct_push [] o all none = (refl, tt)
+distinct_push (p ∷ os) o all none =
+    let t = no_slot_tells p os o.key none in
+    (no_slot_push p.key os o all.0 (turned o.key p.key t.0), distinct_push os o all.1 t.1)
 
-pub distinct-set : (os : List Object) (j : ℕ) (o : Object) → AreDistinct os → slot_in os o.key ≡ Some j → AreDistinct (slice_set os j o)
-distinct-set [] j o all found = absurd (cc)
-distinct-set (p ∷ os) j o all found = elim (slot-tells p os o.key j found) as (λ _. AreDistinct (slice_set (p ∷ os) j o)) [
+pub distinct_set : (os : List Object) (j : ℕ) (o : Object) → AreDistinct os → slot_in os o.key ≡ Some j → AreDistinct (slice_set os j o)
+distinct_set [] j o all found = absurd (cc)
+distinct_set (p ∷ os) j o all found = elim (slot_tells p os o.key j found) as (λ _. AreDistinct (slice_set (p ∷ os) j o)) [
   | inl t ↦ (let first = t.1 in rw first (subst (λ (q : Key). slot_in os q ≡ None) (sym (key_eq-same o.key p.key t.0)) all.0, all.1))
   | inr t ↦ (let later = t.1 in let next = later.next in
-      rw next (no_slot-set p.key os later.i o all.0 (turned o.key p.key t.0), distinct-set os later.i o all.1 later.found))
+      rw next (no_slot_set p.key os later.i o all.0 (turned o.key p.key t.0), distinct_set os later.i o all.1 later.found))
 ]
 
-pub distinct-remove : (os : List Object) (j : ℕ) → AreDistinct os → AreDistinct (remove os j)
-distinct-remove [] zero all = tt
-distinct-remove [] (suc j) all = tt
-distinct-remove (p ∷ os) zero all = all.1
-distinct-remove (p ∷ os) (suc j) all = (no_slot-remove p.key os j all.0, distinct-remove os j all.1)
+pub distinct_remove : (os : List Object) (j : ℕ) → AreDistinct os → AreDistinct (remove os j)
+distinct_remove [] zero all = tt
+distinct_remove [] (suc j) all = tt
+distinct_remove (p ∷ os) zero all = all.1
+distinct_remove (p ∷ os) (suc j) all = (no_slot_remove p.key os j all.0, distinct_remove os j all.1)
 
 -- ---- contents
 
@@ -148,26 +148,26 @@ module _ (o : Object) where
   abbrev has : Option Versioned
   has = Some (versioned o)
 
-  push-at : (os : List Object) → slot_in os o.key ≡ None → (q : Key) → contents_of (os ++ o ∷ []) q ≡ with_contents (contents_of os) o.key has q
-  push-at [] none q = refl
-  push-at (p ∷ os) none q =
-      let t = no_slot-tells p os o.key none in
+  push_at : (os : List Object) → slot_in os o.key ≡ None → (q : Key) → contents_of (os ++ o ∷ []) q ≡ with_contents (contents_of os) o.key has q
+  push_at [] none q = refl
+  push_at (p ∷ os) none q =
+      let t = no_slot_tells p os o.key none in
       elim (key_eq-tells q p.key) as (λ _. contents_of (p ∷ os ++ o ∷ []) q ≡ with_contents (contents_of (p ∷ os)) o.key has q) [
         | inl s ↦ first_has p (os ++ o ∷ []) q s.0 ∙ sym (first_has p os q s.0)
             ∙ sym (at_other (contents_of (p ∷ os)) o.key has q (λ same. not_same o.key p.key t.0 (sym same ∙ s.1)))
-        | inr s ↦ others_have p (os ++ o ∷ []) q s.0 ∙ push-at os t.1 q ∙ passed s.0
+        | inr s ↦ others_have p (os ++ o ∷ []) q s.0 ∙ push_at os t.1 q ∙ passed s.0
       ]
     where
       passed : key_eq q p.key ≡ false → with_contents (contents_of os) o.key has q ≡ with_contents (contents_of (p ∷ os)) o.key has q
       passed other = rw other refl
 
-  set-at : (os : List Object) (j : ℕ) → slot_in os o.key ≡ Some j → (q : Key)
+  set_at : (os : List Object) (j : ℕ) → slot_in os o.key ≡ Some j → (q : Key)
       → contents_of (slice_set os j o) q ≡ with_contents (contents_of os) o.key has q
-  set-at [] j found q = absurd (cc)
-  set-at (p ∷ os) j found q =
-      elim (slot-tells p os o.key j found) as (λ _. contents_of (slice_set (p ∷ os) j o) q ≡ with_contents (contents_of (p ∷ os)) o.key has q) [
+  set_at [] j found q = absurd (cc)
+  set_at (p ∷ os) j found q =
+      elim (slot_tells p os o.key j found) as (λ _. contents_of (slice_set (p ∷ os) j o) q ≡ with_contents (contents_of (p ∷ os)) o.key has q) [
         | inl t ↦ (let first = t.1 in rw first (replaced t.0))
-        | inr t ↦ (let later = t.1 in let next = later.next in rw next (behind t.0 later.i (set-at os later.i later.found q)))
+        | inr t ↦ (let later = t.1 in let next = later.next in rw next (behind t.0 later.i (set_at os later.i later.found q)))
       ]
     where
       replaced : key_eq o.key p.key ≡ true → contents_of (o ∷ os) q ≡ with_contents (contents_of (p ∷ os)) o.key has q
@@ -189,18 +189,18 @@ module _ (o : Object) where
           passed : key_eq q p.key ≡ false → with_contents (contents_of os) o.key has q ≡ with_contents (contents_of (p ∷ os)) o.key has q
           passed beside = rw beside refl
 
-remove-at : (os : List Object) (k : Key) (j : ℕ) → AreDistinct os → slot_in os k ≡ Some j → (q : Key)
+remove_at : (os : List Object) (k : Key) (j : ℕ) → AreDistinct os → slot_in os k ≡ Some j → (q : Key)
     → contents_of (remove os j) q ≡ with_contents (contents_of os) k None q
-remove-at [] k j all found q = absurd (cc)
-remove-at (p ∷ os) k j all found q =
-    elim (slot-tells p os k j found) as (λ _. contents_of (remove (p ∷ os) j) q ≡ with_contents (contents_of (p ∷ os)) k None q) [
+remove_at [] k j all found q = absurd (cc)
+remove_at (p ∷ os) k j all found q =
+    elim (slot_tells p os k j found) as (λ _. contents_of (remove (p ∷ os) j) q ≡ with_contents (contents_of (p ∷ os)) k None q) [
       | inl t ↦ (let first = t.1 in rw first (gone t.0))
-      | inr t ↦ (let later = t.1 in let next = later.next in rw next (behind t.0 later.i (remove-at os k later.i all.1 later.found q)))
+      | inr t ↦ (let later = t.1 in let next = later.next in rw next (behind t.0 later.i (remove_at os k later.i all.1 later.found q)))
     ]
   where
     gone : key_eq k p.key ≡ true → contents_of os q ≡ with_contents (contents_of (p ∷ os)) k None q
     gone same = elim (key_eq-tells q k) as (λ _. contents_of os q ≡ with_contents (contents_of (p ∷ os)) k None q) [
-      | inl s ↦ contents_of-no_slot os q (subst (λ (x : Key). slot_in os x ≡ None) (sym (s.1 ∙ key_eq-same k p.key same)) all.0)
+      | inl s ↦ contents_of_no_slot os q (subst (λ (x : Key). slot_in os x ≡ None) (sym (s.1 ∙ key_eq-same k p.key same)) all.0)
           ∙ sym (at_key (contents_of (p ∷ os)) k None q s.1)
       | inr s ↦ (let other : key_eq q p.key ≡ false = subst (λ (x : Key). key_eq q x ≡ false) (key_eq-same k p.key same) s.0 in
           sym (others_have p os q other) ∙ sym (at_other (contents_of (p ∷ os)) k None q s.1))
@@ -217,14 +217,14 @@ remove-at (p ∷ os) k j all found q =
         passed : key_eq q p.key ≡ false → with_contents (contents_of os) k None q ≡ with_contents (contents_of (p ∷ os)) k None q
         passed beside = rw beside refl
 
-pub contents-push : (os : List Object) (o : Object) → slot_in os o.key ≡ None
+pub contents_push : (os : List Object) (o : Object) → slot_in os o.key ≡ None
     → contents_of (os ++ o ∷ []) ≡ with_contents (contents_of os) o.key (Some (versioned o))
-contents-push os o none = λ i q. push-at o os none q i
+contents_push os o none = λ i q. push_at o os none q i
 
-pub contents-set : (os : List Object) (j : ℕ) (o : Object) → slot_in os o.key ≡ Some j
+pub contents_set : (os : List Object) (j : ℕ) (o : Object) → slot_in os o.key ≡ Some j
     → contents_of (slice_set os j o) ≡ with_contents (contents_of os) o.key (Some (versioned o))
-contents-set os j o found = λ i q. set-at o os j found q i
+contents_set os j o found = λ i q. set_at o os j found q i
 
-pub contents-remove : (os : List Object) (k : Key) (j : ℕ) → AreDistinct os → slot_in os k ≡ Some j
+pub contents_remove : (os : List Object) (k : Key) (j : ℕ) → AreDistinct os → slot_in os k ≡ Some j
     → contents_of (remove os j) ≡ with_contents (contents_of os) k None
-contents-remove os k j all found = λ i q. remove-at os k j all found q i
+contents_remove os k j all found = λ i q. remove_at os k j all found q i

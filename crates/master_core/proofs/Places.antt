@@ -2,7 +2,7 @@
 use Rattle.std.proofs.Common.{◌≡◌, ℕ, zero, suc, ◌+◌, ◌<◌, ◌≤◌, Bool, true, false, List, [], ◌∷◌, length, drop, get_or, Option, Some, None, refl, sym}
 use Rattle.std.proofs.Common.{ap, subst, ◌∙◌, add-one, arith}
 use Rattle.std.specs.Option.{option_map}
-use Rattle.std.proofs.lemmas.Option.{same_Some}
+use Rattle.std.proofs.lemmas.Option.{none-some, same_Some}
 use Rattle.entry.specs.declared.key.Key.{Key}
 use Rattle.entry.specs.declared.entry.Object.{Object}
 use Rattle.entry.specs.declared.entry.Entry.{Entry}
@@ -17,22 +17,22 @@ pub record IsAt (image : List Entry) (places : List ℕ) (os : List Object) (i :
   pub next : drop i os ≡ o ∷ drop (suc i) os
   pub stands : Stands image (get_or places i 0) (entry.Object o)
 
-pub IsAt-from : (image : List Entry) (places : List ℕ) (os : List Object) (i : ℕ) → AreAt image places os → i < length places → IsAt image places os i
-IsAt-from image [] [] i all lt = absurd (omega arith)
-IsAt-from image [] (o ∷ os) i all lt = absurd all
-IsAt-from image (at ∷ places) [] i all lt = absurd all
-IsAt-from image (at ∷ places) (o ∷ os) zero all lt = record { o = o; next = refl; stands = all.0 }
-IsAt-from image (at ∷ places) (o ∷ os) (suc i) all lt =
-    let there = IsAt-from image places os i all.1 (omega arith) in
+pub is_at_from : (image : List Entry) (places : List ℕ) (os : List Object) (i : ℕ) → AreAt image places os → i < length places → IsAt image places os i
+is_at_from image [] [] i all lt = absurd (omega arith)
+is_at_from image [] (o ∷ os) i all lt = absurd all
+is_at_from image (at ∷ places) [] i all lt = absurd all
+is_at_from image (at ∷ places) (o ∷ os) zero all lt = record { o = o; next = refl; stands = all.0 }
+is_at_from image (at ∷ places) (o ∷ os) (suc i) all lt =
+    let there = is_at_from image places os i all.1 (omega arith) in
     record { o = there.o; next = there.next; stands = there.stands }
 
-pub drop-places : (image : List Entry) (places : List ℕ) (os : List Object) (i : ℕ) → AreAt image places os → length places ≤ i → drop i os ≡ []
-drop-places image [] [] zero all le = refl
-drop-places image [] [] (suc i) all le = refl
-drop-places image [] (o ∷ os) i all le = absurd all
-drop-places image (at ∷ places) [] i all le = absurd all
-drop-places image (at ∷ places) (o ∷ os) zero all le = absurd (omega arith)
-drop-places image (at ∷ places) (o ∷ os) (suc i) all le = drop-places image places os i all.1 (omega arith)
+pub drop_places : (image : List Entry) (places : List ℕ) (os : List Object) (i : ℕ) → AreAt image places os → length places ≤ i → drop i os ≡ []
+drop_places image [] [] zero all le = refl
+drop_places image [] [] (suc i) all le = refl
+drop_places image [] (o ∷ os) i all le = absurd all
+drop_places image (at ∷ places) [] i all le = absurd all
+drop_places image (at ∷ places) (o ∷ os) zero all le = absurd (omega arith)
+drop_places image (at ∷ places) (o ∷ os) (suc i) all le = drop_places image places os i all.1 (omega arith)
 
 -- so many places further
 abbrev pub further : ℕ → Option ℕ → Option ℕ
@@ -42,21 +42,18 @@ shifted : (i : ℕ) (slot : Option ℕ) → further i (option_map (λ (n : ℕ).
 shifted i None = refl
 shifted i (Some n) = let e : suc n + i ≡ n + (i + 1) = omega arith in ap (λ (m : ℕ). Some m) e
 
-pub slot_in-here : (i : ℕ) (os rest : List Object) (o : Object) (k : Key) → os ≡ o ∷ rest → key_eq k o.key ≡ true → further i (slot_in os k) ≡ Some i
-slot_in-here i os rest o k is same = let e : 0 + i ≡ i = omega arith in rw (is, same) (ap (λ (m : ℕ). Some m) e)
+pub slot_in_here : (i : ℕ) (os rest : List Object) (o : Object) (k : Key) → os ≡ o ∷ rest → key_eq k o.key ≡ true → further i (slot_in os k) ≡ Some i
+slot_in_here i os rest o k is same = let e : 0 + i ≡ i = omega arith in rw (is, same) (ap (λ (m : ℕ). Some m) e)
 
-pub slot_in-later : (i : ℕ) (os rest : List Object) (o : Object) (k : Key) → os ≡ o ∷ rest → key_eq k o.key ≡ false
+pub slot_in_later : (i : ℕ) (os rest : List Object) (o : Object) (k : Key) → os ≡ o ∷ rest → key_eq k o.key ≡ false
     → further i (slot_in os k) ≡ further (i + 1) (slot_in rest k)
-slot_in-later i os rest o k is other = rw (is, other) (shifted i (slot_in rest k))
+slot_in_later i os rest o k is other = rw (is, other) (shifted i (slot_in rest k))
 
 -- the object that a slot names, and what the key has
 pub record IsFound (image : List Entry) (places : List ℕ) (os : List Object) (k : Key) (j : ℕ) : Type 0 where
   pub o : Object
   pub stands : (d : ℕ) → Stands image (get_or places j d) (entry.Object o)
   pub has : contents_of os k ≡ Some (versioned o)
-
-some-none : (n : ℕ) → Some n ≡ None → ⊥
-some-none n e = cc
 
 -- a slot that is one further
 abbrev pub next_slot : Option ℕ → Option ℕ
@@ -70,28 +67,28 @@ pub some_before : (slot : Option ℕ) (j : ℕ) → next_slot slot ≡ Some j �
 some_before None j e = absurd (cc)
 some_before (Some i) j e = (i, refl, sym (same_Some (suc i) j e))
 
-no_slot-step : (b : Bool) (o : Object) (os : List Object) (k : Key) → key_eq k o.key ≡ b → slot_in (o ∷ os) k ≡ None
+no_slot_step : (b : Bool) (o : Object) (os : List Object) (k : Key) → key_eq k o.key ≡ b → slot_in (o ∷ os) k ≡ None
     → (slot_in os k ≡ None → contents_of os k ≡ None)
     → contents_of (o ∷ os) k ≡ None
-no_slot-step true o os k is e later = let here : slot_in (o ∷ os) k ≡ Some 0 = rw is refl in let none = sym here ∙ e in absurd (some-none 0 none)
-no_slot-step false o os k is e later =
+no_slot_step true o os k is e later = let here : slot_in (o ∷ os) k ≡ Some 0 = rw is refl in absurd (none-some 0 (sym e ∙ here))
+no_slot_step false o os k is e later =
     let further_on : slot_in (o ∷ os) k ≡ next_slot (slot_in os k) = rw is refl in rw is (later (none_before (slot_in os k) (sym further_on ∙ e)))
 
-pub contents_of-no_slot : (os : List Object) (k : Key) → slot_in os k ≡ None → contents_of os k ≡ None
-contents_of-no_slot [] k e = refl
-contents_of-no_slot (o ∷ os) k e = no_slot-step (key_eq k o.key) o os k refl e (contents_of-no_slot os k)
+pub contents_of_no_slot : (os : List Object) (k : Key) → slot_in os k ≡ None → contents_of os k ≡ None
+contents_of_no_slot [] k e = refl
+contents_of_no_slot (o ∷ os) k e = no_slot_step (key_eq k o.key) o os k refl e (contents_of_no_slot os k)
 
 passed_over : (o : Object) (os : List Object) (k : Key) → key_eq k o.key ≡ false → contents_of (o ∷ os) k ≡ contents_of os k
 passed_over o os k other = rw other refl
 
-found-step : (b : Bool) (image : List Entry) (at : ℕ) (places : List ℕ) (o : Object) (os : List Object) (k : Key) (j : ℕ) → key_eq k o.key ≡ b
+found_step : (b : Bool) (image : List Entry) (at : ℕ) (places : List ℕ) (o : Object) (os : List Object) (k : Key) (j : ℕ) → key_eq k o.key ≡ b
     → Stands image at (entry.Object o)
     → slot_in (o ∷ os) k ≡ Some j → ((i : ℕ) → slot_in os k ≡ Some i → IsFound image places os k i) → IsFound image (at ∷ places) (o ∷ os) k j
-found-step true image at places o os k j is stands e later =
+found_step true image at places o os k j is stands e later =
     let here : slot_in (o ∷ os) k ≡ Some 0 = rw is refl in
     let first : 0 ≡ j = same_Some 0 j (sym here ∙ e) in
     record { o = o; stands = λ d. subst (λ (i : ℕ). Stands image (get_or (at ∷ places) i d) (entry.Object o)) first stands; has = rw is refl }
-found-step false image at places o os k j is stands e later =
+found_step false image at places o os k j is stands e later =
     let further_on : slot_in (o ∷ os) k ≡ next_slot (slot_in os k) = rw is refl in
     let before = some_before (slot_in os k) j (sym further_on ∙ e) in
     let there = later before.0 before.1 in
@@ -102,13 +99,13 @@ found-step false image at places o os k j is stands e later =
     }
 
 -- the slot of a key names a place where its object stands
-pub found-at : (image : List Entry) (places : List ℕ) (os : List Object) (k : Key) (j : ℕ) → AreAt image places os → slot_in os k ≡ Some j
+pub found_at : (image : List Entry) (places : List ℕ) (os : List Object) (k : Key) (j : ℕ) → AreAt image places os → slot_in os k ≡ Some j
     → IsFound image places os k j
-found-at image [] [] k j all e = absurd (cc)
-found-at image [] (o ∷ os) k j all e = absurd all
-found-at image (at ∷ places) [] k j all e = absurd all
-found-at image (at ∷ places) (o ∷ os) k j all e =
-    found-step (key_eq k o.key) image at places o os k j refl all.0 e (λ i h. found-at image places os k i all.1 h)
+found_at image [] [] k j all e = absurd (cc)
+found_at image [] (o ∷ os) k j all e = absurd all
+found_at image (at ∷ places) [] k j all e = absurd all
+found_at image (at ∷ places) (o ∷ os) k j all e =
+    found_step (key_eq k o.key) image at places o os k j refl all.0 e (λ i h. found_at image places os k i all.1 h)
 
 -- ---- walking the places
 
@@ -128,10 +125,10 @@ module _ (image : List Entry) (places : List ℕ) (os : List Object) (k : Key) (
   pub walk_on : i < length places → ((o : Object) → Stands image (get_or places i 0) (entry.Object o) → key_eq k o.key ≡ false)
       → IsWalked os k i → IsWalked os k (i + 1)
   walk_on lt other walked =
-      let there = IsAt-from image places os i all lt in
+      let there = is_at_from image places os i all lt in
       let place : drop (suc i) os ≡ drop (i + 1) os = rw add-one refl in
       let not_key = other there.o there.stands in record {
-        slot = walked.slot ∙ slot_in-later i (drop i os) (drop (suc i) os) there.o k there.next not_key
+        slot = walked.slot ∙ slot_in_later i (drop i os) (drop (suc i) os) there.o k there.next not_key
             ∙ ap (λ (later : List Object). further (i + 1) (slot_in later k)) place;
         contents = walked.contents ∙ ap (λ (l : List Object). contents_of l k) there.next
             ∙ passed_over there.o (drop (suc i) os) k not_key ∙ ap (λ (later : List Object). contents_of later k) place;
@@ -142,11 +139,11 @@ module _ (image : List Entry) (places : List ℕ) (os : List Object) (k : Key) (
       → ((o : Object) → Stands image (get_or places i 0) (entry.Object o) → (key_eq k o.key ≡ true) × (found ≡ o))
       → IsWalked os k i → (Some i ≡ slot_in os k) × (Some (versioned found) ≡ contents_of os k)
   walk_finds found lt own walked =
-      let there = IsAt-from image places os i all lt in
+      let there = is_at_from image places os i all lt in
       let is = own there.o there.stands in
       let key = is.0 in
       let has : contents_of (there.o ∷ drop (suc i) os) k ≡ Some (versioned there.o) = rw key refl in (
-        sym (walked.slot ∙ slot_in-here i (drop i os) (drop (suc i) os) there.o k there.next is.0),
+        sym (walked.slot ∙ slot_in_here i (drop i os) (drop (suc i) os) there.o k there.next is.0),
         ap (λ (o : Object). Some (versioned o)) is.1
             ∙ sym (walked.contents ∙ ap (λ (l : List Object). contents_of l k) there.next ∙ has),
       )
@@ -154,7 +151,7 @@ module _ (image : List Entry) (places : List ℕ) (os : List Object) (k : Key) (
   -- none is
   pub walk_ends : length places ≤ i → IsWalked os k i → (None ≡ slot_in os k) × (None ≡ contents_of os k)
   walk_ends le walked =
-      let none = drop-places image places os i all le in (
+      let none = drop_places image places os i all le in (
         sym (walked.slot ∙ ap (λ (l : List Object). further i (slot_in l k)) none),
         sym (walked.contents ∙ ap (λ (l : List Object). contents_of l k) none),
       )

@@ -1,7 +1,7 @@
 -- Which test refuses a step.
 use Rattle.std.proofs.Common.{◌≡◌, ℕ, ◌+◌, ◌<◌, ◌≤◌, Bool, true, false, cond, List, length, refl, arith}
 use Rattle.std.specs.Prelude.{Option, Some, None, not, nat_le, ◌==◌, ◌&&◌, is_none}
-use Rattle.std.proofs.lemmas.Bool.{and_parts, leb-true, leb-false}
+use Rattle.std.proofs.lemmas.Bool.{and_parts, not-false, leb-true, leb-false}
 use Rattle.std.proofs.lemmas.Bool.Decides.{nat_tests}
 use Rattle.entry.specs.declared.entry.Entry.{Entry}
 use Rattle.entry.specs.Tablet.{have_key}
@@ -27,10 +27,6 @@ passes : {R : Type 0} (b : Bool) (r : R) (rest : Option R) → cond b (Some r) r
 passes true r rest e = absurd (cc)
 passes false r rest e = (refl, e)
 
-not_not : (b : Bool) → not b ≡ false → b ≡ true
-not_not true e = refl
-not_not false e = absurd (cc)
-
 -- ---- a configuration
 
 pub record HasHomes (c : Config) : Type 0 where
@@ -40,7 +36,7 @@ pub record HasHomes (c : Config) : Type 0 where
 
 pub has_homes : (c : Config) → config_fault c ≡ None → HasHomes c
 has_homes c ok =
-    let all = and_parts _ _ (not_not (has_backups c) (passes (not (has_backups c)) _ _ ok).0) in
+    let all = and_parts _ _ (not-false (has_backups c) (passes (not (has_backups c)) _ _ ok).0) in
     let front = and_parts _ _ all.0 in
     let one = leb-true 1 c.replicas front.0 in
     record { some = omega arith; many = leb-true c.replicas c.backups front.1; few = leb-true c.backups 64 all.1 }
@@ -59,7 +55,7 @@ is_admitted d command e =
     let b = passes (is_too_big command d.config.segment) TooBig _ a.1 in
     let t = passes (not (have_key d.config.tablets (command_key command))) NoTablet _ b.1 in
     let h = passes (nat_le d.config.history (length d.history)) HistoryFull None t.1 in
-    record { running = a.0; key = not_not _ t.0; room = leb-false d.config.history (length d.history) h.0 }
+    record { running = a.0; key = not-false _ t.0; room = leb-false d.config.history (length d.history) h.0 }
 
 early_first : (d : MasterData) (command : Command) (o late : Option Refusal) → cond (is_none o) late o ≡ None → (o ≡ None) × (late ≡ None)
 early_first d command None late e = (refl, e)
@@ -91,7 +87,7 @@ has_room_then d u some e =
     let rest : cond (is_open d.head && (not (has_room d u) && not false)) (Some Full) (cond (not (is_open d.head && has_room d u)) (Some Rolling) None) ≡ None =
     rw some at e in
     let a = passes (is_open d.head && (not (has_room d u) && not false)) Full _ rest in
-    (and_parts _ _ (not_not (is_open d.head && has_room d u) (passes (not (is_open d.head && has_room d u)) Rolling None a.1).0)).1
+    (and_parts _ _ (not-false (is_open d.head && has_room d u) (passes (not (is_open d.head && has_room d u)) Rolling None a.1).0)).1
 
 pub unit_fits : (d : MasterData) (command : Command) → command_refusal d command ≡ None → is_empty (unit_now d command) ≡ false
     → length (text_of d.head.image) + length (text_of (unit_now d command)) ≤ d.config.segment
@@ -113,11 +109,11 @@ refused_not d u some opened room = rw (some, opened, room) refl
 
 -- ---- a push
 
-is_open-false : (h : HeadValue) → length h.taken < h.replicas → is_open h ≡ false
-is_open-false h lt = grind (arith, nat_tests)
+is_open_false : (h : HeadValue) → length h.taken < h.replicas → is_open h ≡ false
+is_open_false h lt = grind (arith, nat_tests)
 
 pub push_waits : (d : MasterData) → d.is_halted ≡ false → length d.head.taken < d.head.replicas → push_refusal d ≡ None
-push_waits d running lt = let closed = is_open-false d.head lt in rw (running, closed) refl
+push_waits d running lt = let closed = is_open_false d.head lt in rw (running, closed) refl
 
 pub push_lags : (d : MasterData) (j : ℕ) → d.is_halted ≡ false → IsLagging (length d.head.units) d.head.taken (Some j) → push_refusal d ≡ None
 push_lags d j running lagging =

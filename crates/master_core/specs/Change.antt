@@ -94,15 +94,18 @@ ReplacesSpent dead when = (safe : ℕ) (x : Versioned) (k : Key) (value : List �
 
 -- the change is the command's, whatever its key has of this version
 abbrev pub IsChangeFrom : ℕ → Option ℕ → Command → Change → Type 0
-IsChangeFrom safe version command change = (x : Option Versioned) → version_in x ≡ version → IsChangeOf safe x command change
+IsChangeFrom safe version command change =
+    (x : Option Versioned) → version_in x ≡ version → IsChangeOf safe x command change
 
 -- no version is left for the command, whatever its key has of this version
 abbrev pub IsSpentFrom : ℕ → Option ℕ → Command → Type 0
-IsSpentFrom safe version command = (x : Option Versioned) → version_in x ≡ version → is_spent safe x command ≡ true
+IsSpentFrom safe version command =
+    (x : Option Versioned) → version_in x ≡ version → is_spent safe x command ≡ true
 
 -- the reply is the map's to a command whose change this is, from what its key has
 abbrev pub RepliesTo : Option Versioned → Command → Change → Reply → Type 0
-RepliesTo x command change reply = (safe : ℕ) → IsChangeOf safe x command change → reply ≡ reply_given safe x command
+RepliesTo x command change reply =
+    (safe : ℕ) → IsChangeOf safe x command change → reply ≡ reply_given safe x command
 
 -- a put whose tombstone and object are longer than a quarter of a segment of this many bytes
 abbrev pub is_too_big : Command → ℕ → Bool

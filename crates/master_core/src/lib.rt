@@ -1,10 +1,10 @@
-//! What a master knows, its fleet apart: its log in memory, its index and its history, and the steps that take nothing from the
-//! fleet.
+//! What a master knows, its fleet apart: its log in memory, its index and its history, and the steps that take nothing
+//! from the fleet.
 //!
-//! A command is applied here whole or not at all (`Core::apply`): it is answered as the versioned map does, its record and its
-//! unit go to the log, and each refusal has its cause (`specs/Causes.antt`). What is to be pushed is told, and counted once a
-//! backup took it, by the layer above. `specs/Log.antt` says what a master's data are to the laws of a log. It stands on
-//! `log_head`, `log_model` and `clean_model`.
+//! A command is applied here whole or not at all (`Core::apply`): it is answered as the versioned map does, its record
+//! and its unit go to the log, and each refusal has its cause (`specs/Causes.antt`). What is to be pushed is told, and
+//! counted once a backup took it, by the layer above. `specs/Log.antt` says what a master's data are to the laws of a
+//! log. It stands on `log_head`, `log_model` and `clean_model`.
 #![tactic(auto)]
 
 mod change;

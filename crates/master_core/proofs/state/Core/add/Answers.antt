@@ -1,7 +1,9 @@
-use Rattle.std.proofs.Common.{◌≡◌, ◌++◌, ◌∷◌, [], None, length, rules, refl, sym, ap, subst, ◌∙◌}
+use Rattle.std.proofs.Common.{◌≡◌, ℕ, List, ◌++◌, ◌∷◌, [], None, length, rules, refl, sym, ap, subst, ◌∙◌}
+use Rattle.versioned_map.specs.declared.command.Command.{Command}
+use Rattle.versioned_map.specs.declared.command.Record.{Record}
 use Rattle.versioned_map.specs.declared.command.Reply.{Reply}
+use Rattle.master_core.specs.declared.change.Change.{Change}
 use Rattle.log_head.specs.Head.{HeadValue, IsHead}
-use Rattle.master_core.specs.declared.step.StepAnswer.{StepAnswer}
 use Rattle.master_core.specs.declared.step.StepAnswer.TheVariants.{Applied}
 use Rattle.log_model.specs.Steps.{MayApply}
 use Rattle.master_core.specs.Causes.{command_refusal, dead_segment}
@@ -12,6 +14,7 @@ use Rattle.master_core.specs.Invariant.{IsCore, IsJudged}
 use Rattle.master_core.specs.Steps.{reply_now, record_now, Applies}
 use Rattle.master_core.proofs.Adding.{added, fits, may, added_core, added_applies}
 use Rattle.master_core.proofs.state.Core.add.Goals as goal
+use Rattle.master_core.proofs.state.Core.add.Goals.{After-push_reserved}
 
 pub enact-requires-clause-fits : goal.enact-requires-clause-fits
 enact-requires-clause-fits c =
@@ -28,147 +31,103 @@ enact-requires-clause-fits c =
     let judged : IsJudged d command c.args.change.now c.args.slot = rw (← c.self.view_is) at c.requires.judged in
     fits d c.self.invariant command c.args.change.now c.args.slot judged passed
 
+-- ---- the core with the record, where memory was given
+
+module _ (c : goal.After-push_reserved) where
+  abbrev d : MasterData
+  d = record {
+    config = c.self.inside.config;
+    head = c.self.inside.head;
+    places = c.self.inside.places.items;
+    safe = c.self.inside.safe;
+    history = c.self.inside.history.items;
+    is_halted = c.self.inside.is_halted;
+  }
+
+  abbrev command : Command
+  command = c.args.accepted.command
+
+  abbrev change : Change
+  change = c.args.change.now
+
+  passed : command_refusal d command ≡ None
+  passed = rw (← c.self.view_is) at c.requires.passed
+
+  judged : IsJudged d command change c.args.slot
+  judged = rw (← c.self.view_is) at c.requires.judged
+
+  reply : c.args.accepted.reply ≡ reply_now d command
+  reply = rw (← c.self.view_is) at c.requires.reply
+
+  head : IsHead (appended d.head (length d.history) (unit_of_change d.head.id command change))
+  head = subst (λ (h : HeadValue). IsHead h) c.in_ok-enact.ensures.head c.in_ok-enact.ensures.valid
+
+  items : c.push_reserved.new.self.items ≡ d.history ++ c.args.accepted ∷ []
+  items = rw (c.push_reserved.ensures.items, c.enact.ensures.history) refl
+
+  abbrev e : MasterData
+  e =
+      let there = c.in_ok-enact.ensures.places in
+      added d c.self.invariant command change c.args.slot judged c.args.accepted.seat there.0 passed there.1 head
+
+  abbrev left : MasterData
+  left = record {
+    config = d.config;
+    head = c.enact.new.head;
+    places = c.enact.new.places.items;
+    safe = c.safe_after-self-inside.result;
+    history = c.push_reserved.new.self.items;
+    is_halted = d.is_halted;
+  }
+
+  abbrev with_reply : Reply → List Record
+  with_reply r = d.history ++ record { seat = c.args.accepted.seat; command = command; reply = r } ∷ []
+
+  knows : e ≡ left
+  knows = λ i. record {
+    config = d.config;
+    head = sym c.in_ok-enact.ensures.head i;
+    places = sym c.in_ok-enact.ensures.places.2 i;
+    safe = sym c.safe_after-self-inside.ensures i;
+    history = sym (items ∙ ap with_reply reply) i;
+    is_halted = d.is_halted;
+  }
+
+  core : IsCore left
+  core =
+      let there = c.in_ok-enact.ensures.places in
+      subst IsCore knows
+      (added_core d c.self.invariant command change c.args.slot judged c.args.accepted.seat there.0 passed there.1 head)
+
+  applies : Applies d c.args.accepted.seat command (Applied (length d.history) c.args.accepted.reply) left
+  applies =
+      let there = c.in_ok-enact.ensures.places in
+      let seat = c.args.accepted.seat in
+      subst (λ (m : MasterData). Applies d seat command (Applied (length d.history) c.args.accepted.reply) m) knows
+      (subst (λ (r : Reply). Applies d seat command (Applied (length d.history) r) e) (sym reply)
+      (added_applies d c.self.invariant command change c.args.slot judged seat there.0 passed there.1 head))
+
+  may_apply : MayApply (log_of d) (dead_segment d command) (record_now d c.args.accepted.seat command)
+  may_apply =
+      let there = c.in_ok-enact.ensures.places in
+      may d c.self.invariant command change c.args.slot judged c.args.accepted.seat there.0 passed there.1 head
+
 pub invariant_of-self-2 : goal.invariant_of-self-2
-invariant_of-self-2 c =
-    let d : MasterData = record {
-      config = c.self.inside.config;
-      head = c.self.inside.head;
-      places = c.self.inside.places.items;
-      safe = c.self.inside.safe;
-      history = c.self.inside.history.items;
-      is_halted = c.self.inside.is_halted;
-    } in
-    let command = c.args.accepted.command in
-    let change = c.args.change.now in
-    let passed : command_refusal d command ≡ None = rw (← c.self.view_is) at c.requires.passed in
-    let judged : IsJudged d command change c.args.slot = rw (← c.self.view_is) at c.requires.judged in
-    let reply : c.args.accepted.reply ≡ reply_now d command = rw (← c.self.view_is) at c.requires.reply in
-    let there = c.in_ok-enact.ensures.places in
-    let head : IsHead (appended d.head (length d.history) (unit_of_change d.head.id command change)) =
-    subst (λ (h : HeadValue). IsHead h) c.in_ok-enact.ensures.head c.in_ok-enact.ensures.valid in
-    let items : c.push_reserved.new.self.items ≡ d.history ++ c.args.accepted ∷ [] =
-    rw (c.push_reserved.ensures.items, c.enact.ensures.history) refl in
-    let e : MasterData = added d c.self.invariant command change c.args.slot judged c.args.accepted.seat there.0 passed there.1 head in
-    let left : MasterData = record {
-      config = d.config;
-      head = c.enact.new.head;
-      places = c.enact.new.places.items;
-      safe = c.safe_after-self-inside.result;
-      history = c.push_reserved.new.self.items;
-      is_halted = d.is_halted;
-    } in
-    let knows : e ≡ left =
-    λ i. record {
-      config = d.config;
-      head = sym c.in_ok-enact.ensures.head i;
-      places = sym there.2 i;
-      safe = sym c.safe_after-self-inside.ensures i;
-      history = sym (items ∙ ap (λ (r : Reply). d.history ++ record { seat = c.args.accepted.seat; command = command; reply = r } ∷ []) reply) i;
-      is_halted = d.is_halted;
-    } in
-    subst IsCore knows (added_core d c.self.invariant command change c.args.slot judged c.args.accepted.seat there.0 passed there.1 head)
+invariant_of-self-2 c = core (goal.at.invariant_of-self-2 c).After-push_reserved
 
 pub returns-clause-added : goal.returns-clause-added
 returns-clause-added c =
-    let d : MasterData = record {
-      config = c.self.inside.config;
-      head = c.self.inside.head;
-      places = c.self.inside.places.items;
-      safe = c.self.inside.safe;
-      history = c.self.inside.history.items;
-      is_halted = c.self.inside.is_halted;
-    } in
-    let command = c.args.accepted.command in
-    let change = c.args.change.now in
-    let passed : command_refusal d command ≡ None = rw (← c.self.view_is) at c.requires.passed in
-    let judged : IsJudged d command change c.args.slot = rw (← c.self.view_is) at c.requires.judged in
-    let reply : c.args.accepted.reply ≡ reply_now d command = rw (← c.self.view_is) at c.requires.reply in
-    let there = c.in_ok-enact.ensures.places in
-    let head : IsHead (appended d.head (length d.history) (unit_of_change d.head.id command change)) =
-    subst (λ (h : HeadValue). IsHead h) c.in_ok-enact.ensures.head c.in_ok-enact.ensures.valid in
-    let items : c.push_reserved.new.self.items ≡ d.history ++ c.args.accepted ∷ [] =
-    rw (c.push_reserved.ensures.items, c.enact.ensures.history) refl in
-    let e : MasterData = added d c.self.invariant command change c.args.slot judged c.args.accepted.seat there.0 passed there.1 head in
-    let left : MasterData = record {
-      config = d.config;
-      head = c.enact.new.head;
-      places = c.enact.new.places.items;
-      safe = c.safe_after-self-inside.result;
-      history = c.push_reserved.new.self.items;
-      is_halted = d.is_halted;
-    } in
-    let knows : e ≡ left =
-    λ i. record {
-      config = d.config;
-      head = sym c.in_ok-enact.ensures.head i;
-      places = sym there.2 i;
-      safe = sym c.safe_after-self-inside.ensures i;
-      history = sym (items ∙ ap (λ (r : Reply). d.history ++ record { seat = c.args.accepted.seat; command = command; reply = r } ∷ []) reply) i;
-      is_halted = d.is_halted;
-    } in
-    let number : c.len-place.result ≡ length d.history = search rules in
+    let t = (goal.at.returns-clause-added c).After-push_reserved in
+    let number : c.len-place.result ≡ length (d t).history = search rules in
+    let seat = c.args.accepted.seat in
     rw (← c.self.view_is)
-    (subst (λ (m : MasterData). Applies d c.args.accepted.seat command (Applied c.len-place.result c.args.accepted.reply) m) knows
-    (subst (λ (answer : StepAnswer). Applies d c.args.accepted.seat command answer e) (λ i. Applied (sym number i) (sym reply i))
-    (added_applies d c.self.invariant command change c.args.slot judged c.args.accepted.seat there.0 passed there.1 head)))
+    (subst (λ (n : ℕ). Applies (d t) seat (command t) (Applied n c.args.accepted.reply) (left t)) (sym number) (applies t))
 
 pub returns-clause-may : goal.returns-clause-may
 returns-clause-may c =
-    let d : MasterData = record {
-      config = c.self.inside.config;
-      head = c.self.inside.head;
-      places = c.self.inside.places.items;
-      safe = c.self.inside.safe;
-      history = c.self.inside.history.items;
-      is_halted = c.self.inside.is_halted;
-    } in
-    let command = c.args.accepted.command in
-    let change = c.args.change.now in
-    let passed : command_refusal d command ≡ None = rw (← c.self.view_is) at c.requires.passed in
-    let judged : IsJudged d command change c.args.slot = rw (← c.self.view_is) at c.requires.judged in
-    let reply : c.args.accepted.reply ≡ reply_now d command = rw (← c.self.view_is) at c.requires.reply in
-    let there = c.in_ok-enact.ensures.places in
-    let head : IsHead (appended d.head (length d.history) (unit_of_change d.head.id command change)) =
-    subst (λ (h : HeadValue). IsHead h) c.in_ok-enact.ensures.head c.in_ok-enact.ensures.valid in
-    subst (λ (m : MasterData). MayApply (log_of m) (dead_segment m command) (record_now m c.args.accepted.seat command)) c.self.view_is
-    (may d c.self.invariant command change c.args.slot judged c.args.accepted.seat there.0 passed there.1 head)
+    let t = (goal.at.returns-clause-may c).After-push_reserved in
+    subst (λ (m : MasterData). MayApply (log_of m) (dead_segment m (command t)) (record_now m c.args.accepted.seat (command t)))
+    c.self.view_is (may_apply t)
 
 pub returns-clause-valid : goal.returns-clause-valid
-returns-clause-valid c =
-    let d : MasterData = record {
-      config = c.self.inside.config;
-      head = c.self.inside.head;
-      places = c.self.inside.places.items;
-      safe = c.self.inside.safe;
-      history = c.self.inside.history.items;
-      is_halted = c.self.inside.is_halted;
-    } in
-    let command = c.args.accepted.command in
-    let change = c.args.change.now in
-    let passed : command_refusal d command ≡ None = rw (← c.self.view_is) at c.requires.passed in
-    let judged : IsJudged d command change c.args.slot = rw (← c.self.view_is) at c.requires.judged in
-    let reply : c.args.accepted.reply ≡ reply_now d command = rw (← c.self.view_is) at c.requires.reply in
-    let there = c.in_ok-enact.ensures.places in
-    let head : IsHead (appended d.head (length d.history) (unit_of_change d.head.id command change)) =
-    subst (λ (h : HeadValue). IsHead h) c.in_ok-enact.ensures.head c.in_ok-enact.ensures.valid in
-    let items : c.push_reserved.new.self.items ≡ d.history ++ c.args.accepted ∷ [] =
-    rw (c.push_reserved.ensures.items, c.enact.ensures.history) refl in
-    let e : MasterData = added d c.self.invariant command change c.args.slot judged c.args.accepted.seat there.0 passed there.1 head in
-    let left : MasterData = record {
-      config = d.config;
-      head = c.enact.new.head;
-      places = c.enact.new.places.items;
-      safe = c.safe_after-self-inside.result;
-      history = c.push_reserved.new.self.items;
-      is_halted = d.is_halted;
-    } in
-    let knows : e ≡ left =
-    λ i. record {
-      config = d.config;
-      head = sym c.in_ok-enact.ensures.head i;
-      places = sym there.2 i;
-      safe = sym c.safe_after-self-inside.ensures i;
-      history = sym (items ∙ ap (λ (r : Reply). d.history ++ record { seat = c.args.accepted.seat; command = command; reply = r } ∷ []) reply) i;
-      is_halted = d.is_halted;
-    } in
-    subst IsCore knows (added_core d c.self.invariant command change c.args.slot judged c.args.accepted.seat there.0 passed there.1 head)
+returns-clause-valid c = core (goal.at.returns-clause-valid c).After-push_reserved
