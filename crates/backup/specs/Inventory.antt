@@ -7,7 +7,8 @@ use Rattle.replica.specs.declared.holding.Holding.{Holding}
 
 -- by backup, then by master, then by segment
 abbrev pub holding_cmp : Holding → Holding → Ordering
-holding_cmp h g = ordering_then (nat_cmp h.backup g.backup) (ordering_then (nat_cmp h.master g.master) (nat_cmp h.segment g.segment))
+holding_cmp h g =
+    ordering_then (nat_cmp h.backup g.backup) (ordering_then (nat_cmp h.master g.master) (nat_cmp h.segment g.segment))
 
 -- each is shown once, in this order
 abbrev pub IsRising : List Holding → Type 0

@@ -19,9 +19,8 @@ pub struct MemoryFleet {
 }
 
 impl MemoryFleet {
-    ghost use Rattle.std.specs.Prelude.{◌≡◌, ◌≤◌, ◌↔◌, IfOk};
-    ghost use Rattle.entry.specs.Bag.{IsAmong};
-    ghost use Rattle.replica.specs.Picture.{IsHeld};
+    ghost use Rattle.std.specs.Prelude.{◌≡◌, ◌≤◌, IfOk};
+    ghost use Rattle.replica.specs.Picture.{AreHeld};
     ghost use Rattle.backup.specs.Inventory.{IsRising};
     ghost use Rattle.backup.specs.State.{state_of, new_fleet, lost};
 
@@ -62,7 +61,7 @@ impl MemoryFleet {
 
     /// All replicas of all backups, by backup, then by master, then by segment.
     pub fn inventory(&self, alloc: Global) -> Result<Inventory, NoMemory>
-        ensures shown { IfOk result (λ hs. (h : Holding) → IsAmong h hs ↔ IsHeld (state_of self.now).picture h) }
+        ensures shown { IfOk result (λ hs. AreHeld hs (state_of self.now).picture) }
         ensures rising { IfOk result (λ hs. IsRising hs) }
     {
         let mut list = Vec::new(alloc);
@@ -74,11 +73,11 @@ impl MemoryFleet {
 }
 
 impl Fleet for MemoryFleet {
-    ghost use Rattle.std.specs.Prelude.{◌≡◌, ◌<◌, ◌≤◌, ◌↔◌, [], IfOk, None, Err};
-    ghost use Rattle.entry.specs.Bag.{IsAmong};
+    ghost use Rattle.std.specs.Prelude.{◌≡◌, ◌≤◌, ◌↔◌, [], IfOk, Err};
     ghost use Rattle.replica.specs.Op.{shown_op};
-    ghost use Rattle.replica.specs.Picture.{IsHeld, IsOnce};
-    ghost use Rattle.replica.specs.Take.{TakeGives, taken};
+    ghost use Rattle.replica.specs.Picture.{AreHeldBy, IsOnce};
+    ghost use Rattle.replica.specs.Take.{TakeGives};
+    ghost use Rattle.backup.specs.Acts.{IsWrongOp};
     ghost use Rattle.backup.specs.Inventory.{IsRising};
     ghost use Rattle.backup.specs.State.{state_of};
 
@@ -89,7 +88,7 @@ impl Fleet for MemoryFleet {
     fn take(&mut self, backup: u64, op: &Op<'_>) -> Result<(), TakeFault>
         ensures gives { TakeGives (state_of self.old) backup (shown_op op.now) result (state_of self.new) }
         ensures spent { (result ≡ Err TakeFault.Spent) ↔ ((state_of self.old).takes ≡ (state_of self.old).end) }
-        ensures wrong { (result ≡ Err TakeFault.Wrong) ↔ (((state_of self.old).takes < (state_of self.old).end) × (taken (state_of self.old) backup (shown_op op.now) ≡ None)) }
+        ensures wrong { (result ≡ Err TakeFault.Wrong) ↔ IsWrongOp (state_of self.old) backup (shown_op op.now) }
         ensures no_fault { ¬ (result ≡ Err TakeFault.Fault) }
     {
         if self.takes == self.end {
@@ -106,7 +105,7 @@ impl Fleet for MemoryFleet {
 
     /// All replicas of one backup, by master, then by segment.
     fn holdings(&self, alloc: Global, backup: u64) -> Result<Vec<Holding>, NoMemory>
-        ensures shown { IfOk result (λ hs. (h : Holding) → IsAmong h hs.items ↔ ((h.backup ≡ backup) × IsHeld (state_of self.now).picture h)) }
+        ensures shown { IfOk result (λ hs. AreHeldBy hs.items (state_of self.now).picture backup) }
         ensures once { IfOk result (λ hs. IsOnce hs.items) }
         ensures none { IfOk result (λ hs. (state_of self.now).backups ≤ backup → hs.items ≡ []) }
         ensures rising { IfOk result (λ hs. IsRising hs.items) }

@@ -1,9 +1,8 @@
 //! What one backup holds.
 
-ghost use Rattle.std.specs.Prelude.{◌≡◌, ℕ, ◌==◌, ◌&&◌, ◌++◌, OnOk, false, Some, None};
+ghost use Rattle.std.specs.Prelude.{◌≡◌, ℕ, ◌++◌, OnOk, Some, None};
 ghost use Rattle.replica.specs.Op.{shown_act, Open, Extend};
-ghost use Rattle.backup.specs.Acts.{Acts};
-ghost use Rattle.backup.specs.Shelf.{replica_at, holdings_of, IsInOrder};
+ghost use Rattle.backup.specs.Shelf.{replica_at, holdings_of, ActsAt, KeepsOthers, IsInOrder};
 
 use crate::stored::Stored;
 use entry::NoMemory;
@@ -29,8 +28,8 @@ impl MemoryBackup {
 
     /// Does what an op asks. It is refused as Wrong where it doesn't fit, else as NoMemory.
     pub fn take(&mut self, alloc: Global, op: &Op<'_>) -> Result<(), TakeFault>
-        ensures named { Acts (shown_act op.now.act) (replica_at self.old op.now.master op.now.segment) result (replica_at self.new op.now.master op.now.segment) }
-        ensures others { (m s : ℕ) → ((op.now.master == m) && (op.now.segment == s)) ≡ false → replica_at self.new m s ≡ replica_at self.old m s }
+        ensures named { ActsAt (shown_act op.now.act) op.now.master op.now.segment self.old result self.new }
+        ensures others { KeepsOthers op.now.master op.now.segment self.old self.new }
     {
         let place = (op.master, op.segment);
         match op.act {
@@ -40,8 +39,8 @@ impl MemoryBackup {
     }
 
     fn open(&mut self, alloc: Global, place: (u64, u64), bytes: &[u8]) -> Result<(), TakeFault>
-        ensures named { Acts (Open bytes.now) (replica_at self.old place.0 place.1) result (replica_at self.new place.0 place.1) }
-        ensures others { (m s : ℕ) → ((place.0 == m) && (place.1 == s)) ≡ false → replica_at self.new m s ≡ replica_at self.old m s }
+        ensures named { ActsAt (Open bytes.now) place.0 place.1 self.old result self.new }
+        ensures others { KeepsOthers place.0 place.1 self.old self.new }
     {
         if self.replicas.contains_key(&place) {
             return Err(TakeFault::Wrong);
@@ -56,8 +55,8 @@ impl MemoryBackup {
     }
 
     fn extend(&mut self, place: (u64, u64), at: usize, bytes: &[u8]) -> Result<(), TakeFault>
-        ensures named { Acts (Extend at bytes.now) (replica_at self.old place.0 place.1) result (replica_at self.new place.0 place.1) }
-        ensures others { (m s : ℕ) → ((place.0 == m) && (place.1 == s)) ≡ false → replica_at self.new m s ≡ replica_at self.old m s }
+        ensures named { ActsAt (Extend at bytes.now) place.0 place.1 self.old result self.new }
+        ensures others { KeepsOthers place.0 place.1 self.old self.new }
     {
         match self.replicas.get_mut(&place) {
             Some(stored) => stored.extend(at, bytes),
@@ -72,8 +71,8 @@ impl MemoryBackup {
         self.replicas.clear();
     }
 
-    /// Appends all replicas to a list, by master, then by segment, as those of the backup of this number. After NoMemory
-    /// some have been appended.
+    /// Appends all replicas to a list, by master, then by segment, as those of the backup of this number. After
+    /// NoMemory some have been appended.
     pub fn show(&self, alloc: Global, backup: u64, list: &mut Vec<Holding>) -> Result<(), NoMemory>
         ensures shown { OnOk result (list.new.items ≡ list.old.items ++ holdings_of backup self.now) }
         ensures ordered { IsInOrder self.now }

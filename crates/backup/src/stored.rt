@@ -3,6 +3,7 @@
 ghost use Rattle.std.specs.Prelude.{◌≡◌, Some, IfOk, true};
 ghost use Rattle.replica.specs.Op.{Extend};
 ghost use Rattle.backup.specs.Acts.{Acts};
+ghost use Rattle.backup.specs.Shelf.{holding_of};
 
 use entry::NoMemory;
 use replica::{Bytes, Holding, TakeFault};
@@ -43,7 +44,7 @@ impl Stored {
         master: u64,
         segment: u64,
     ) -> Result<Holding, NoMemory>
-        ensures { IfOk result (λ h. h ≡ record { backup = backup; master = master; segment = segment; bytes = self.now.bytes; is_open = self.now.is_open }) }
+        ensures { IfOk result (λ h. h ≡ holding_of backup ((master, segment), self.now)) }
     {
         Ok(Holding {
             backup,

@@ -3,10 +3,10 @@ use Rattle.std.proofs.Common.{refl, ◌≡◌, ℕ, ◌⊎◌, inl, inr, List, �
 use Rattle.std.proofs.lemmas.Bool.{cases_eq}
 use Rattle.entry.specs.declared.entry.Entry.{Entry}
 use Rattle.entry.specs.Bag.{IsAmong}
+use Rattle.entry.proofs.BagLemmas.{among_left, among_right, among_either}
 use Rattle.replica.specs.Picture.{Picture}
 use Rattle.versioned_map.specs.declared.command.Record.{Record}
 use Rattle.versioned_map.specs.Versioned.{State, after_command}
-use Rattle.versioned_map.proofs.Tops.{among_left, among_right, among_either}
 use Rattle.log_model.specs.Data.{LogData, state_of}
 use Rattle.log_model.specs.Kept.{IsKept}
 use Rattle.log_model.specs.Log.{Texts}

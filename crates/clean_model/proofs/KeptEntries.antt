@@ -10,7 +10,7 @@ use Rattle.entry.specs.declared.entry.Entry.{Entry}
 use Rattle.entry.specs.declared.entry.Entry.TheVariants.{Tombstone}
 use Rattle.entry.specs.Bag.{IsAmong}
 use Rattle.entry.specs.Meaning.{object_at}
-use Rattle.versioned_map.proofs.Tops.{among_left, among_right}
+use Rattle.entry.proofs.BagLemmas.{among_left, among_right}
 use Rattle.clean_model.specs.Compaction.{has, is_place, kept, kept_from, kept_before, moved_place, moved_index}
 use Rattle.clean_model.specs.Compaction.{places_from, places}
 use Rattle.clean_model.specs.Memory.{Place, Index, Images, IsAt, StandsAt}

@@ -2,7 +2,7 @@
 use Rattle.std.proofs.Common.{◌≡◌, ℕ, ◌⊎◌, inl, inr, [], ◌∷◌, ◌++◌, refl, sym, subst}
 use Rattle.std.specs.Prelude.{Option, Some}
 use Rattle.entry.specs.Bag.{IsAmong}
-use Rattle.versioned_map.proofs.Tops.{among_left, among_right, among_either, among_last}
+use Rattle.entry.proofs.BagLemmas.{among_left, among_right, among_either, among_last}
 use Rattle.log_model.specs.Data.{Start, LogData, ids_of, new_of}
 use Rattle.clean_model.specs.Memory.{Memory, new_ids, log_ids}
 

@@ -6,9 +6,9 @@ use Rattle.entry.specs.declared.key.Key.{Key}
 use Rattle.entry.specs.declared.entry.Entry.{Entry}
 use Rattle.entry.specs.Bag.{IsAmong}
 use Rattle.entry.specs.Meaning.{IsOfKey}
+use Rattle.entry.proofs.BagLemmas.{among_push}
 use Rattle.replica.specs.Picture.{Replica, Picture}
 use Rattle.versioned_map.specs.Represents.{Represents}
-use Rattle.versioned_map.proofs.Tops.{among_push}
 use Rattle.log_model.specs.Data.{Start, Phase, LogData, IsHome, start_entries, new_of, state_of}
 use Rattle.log_model.specs.Kept.{IsKept}
 use Rattle.log_model.specs.Log.{base_of, AreBelow}

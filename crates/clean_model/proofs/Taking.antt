@@ -4,8 +4,8 @@ use Rattle.std.proofs.Common.{◌∙◌, arith}
 use Rattle.std.specs.Prelude.{Option, Some, None}
 use Rattle.std.proofs.lemmas.Bool.{cond_both}
 use Rattle.entry.specs.Bag.{IsAmong}
+use Rattle.entry.proofs.BagLemmas.{among_left, among_last, among_either, among_push}
 use Rattle.replica.specs.Picture.{Picture}
-use Rattle.versioned_map.proofs.Tops.{among_left, among_last, among_either, among_push}
 use Rattle.log_model.specs.Data.{Start, Head, Phase, Ready, LogData, ids_of, new_of, state_of}
 use Rattle.log_model.specs.Kept.{IsLogHeld, IsPast, IsKept}
 use Rattle.log_model.specs.Log.{IsStanding}

@@ -9,8 +9,8 @@ use Rattle.entry.specs.declared.entry.Entry.{Entry}
 use Rattle.entry.specs.Bag.{IsAmong}
 use Rattle.entry.specs.Text.{data_in, is_data}
 use Rattle.entry.specs.Meaning.{among}
+use Rattle.entry.proofs.BagLemmas.{among_last, among_push}
 use Rattle.replica.specs.Picture.{Picture}
-use Rattle.versioned_map.proofs.Tops.{among_last, among_push}
 use Rattle.log_model.specs.Data.{LogUnit, Head, LogData, IsHome, front_entries, closed_of, everywhere}
 use Rattle.log_model.specs.Data.{durable_of, fewest}
 use Rattle.log_model.specs.Durable.{HasUnit, HasTaken, AreTaken, IsReplicated}

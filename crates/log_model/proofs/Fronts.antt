@@ -8,12 +8,12 @@ use Rattle.std.proofs.lemmas.Grind.{flat_map-append}
 use Rattle.std.proofs.lemmas.Option.{same_Some}
 use Rattle.entry.specs.declared.entry.Entry.{Entry}
 use Rattle.entry.specs.Meaning.{among}
+use Rattle.entry.proofs.BagLemmas.{among_left, among_right, among_either}
 use Rattle.versioned_map.specs.declared.command.Command.{Command}
 use Rattle.versioned_map.specs.declared.command.Record.{Record}
 use Rattle.versioned_map.specs.History.{commands_of}
 use Rattle.versioned_map.specs.Represents.{Represents}
 use Rattle.versioned_map.specs.Versioned.{State, after, after_command}
-use Rattle.versioned_map.proofs.Tops.{among_left, among_right, among_either}
 use Rattle.versioned_map.proofs.Units.{states_pushed}
 use Rattle.log_model.specs.Data.{LogUnit, Head, LogData, entries_of, front_entries, records_before, state_of}
 use Rattle.log_model.specs.Data.{state_after}

@@ -6,11 +6,12 @@ use Rattle.entry.specs.declared.entry.Object.{Object}
 use Rattle.entry.specs.declared.entry.Entry.{Entry}
 use Rattle.entry.specs.declared.entry.Entry.TheVariants as entry
 use Rattle.entry.specs.Meaning.{Versioned, IsOfKey, version_of, rank_of, among, versioned}
+use Rattle.entry.proofs.BagLemmas.{among_push}
 use Rattle.versioned_map.specs.Represents.{Represents}
 use Rattle.versioned_map.specs.Versioned.{State, with_contents}
 use Rattle.versioned_map.proofs.Keys.{key_eq-tells, at_key, at_other}
 use Rattle.versioned_map.proofs.Represented.{bound-push}
-use Rattle.versioned_map.proofs.Tops.{among_push, one_key, raised, raised_clean, object_leaves}
+use Rattle.versioned_map.proofs.Tops.{one_key, raised, raised_clean, object_leaves}
 use Rattle.log_model.specs.Adopt.{with_loaded, LoadedIsRepresented}
 
 module _ (recorded : ℕ) (bag : List Entry) (st : State) (o : Object) (r : Represents recorded bag st)

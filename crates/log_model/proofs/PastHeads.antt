@@ -6,13 +6,13 @@ use Rattle.std.proofs.lemmas.Grind.{flat_map-append}
 use Rattle.entry.specs.declared.entry.Entry.{Entry}
 use Rattle.entry.specs.Bag.{IsAmong}
 use Rattle.entry.specs.Text.{opening_of}
+use Rattle.entry.proofs.BagLemmas.{among_push}
 use Rattle.replica.specs.Picture.{Picture}
 use Rattle.versioned_map.specs.declared.command.Command.{Command}
 use Rattle.versioned_map.specs.declared.command.Record.{Record}
 use Rattle.versioned_map.specs.History.{commands_of}
 use Rattle.versioned_map.specs.Represents.{unit_of}
 use Rattle.versioned_map.specs.Versioned.{State, after, after_command}
-use Rattle.versioned_map.proofs.Tops.{among_push}
 use Rattle.log_model.specs.Data.{Start, LogUnit, Head, Phase, Ready, LogData, head_entries, new_of, opened_of}
 use Rattle.log_model.specs.Durable.{heads_of, units_in, with_first, AreNumbered, HaveHistory}
 use Rattle.log_model.specs.Kept.{IsLogHeld, IsPast}

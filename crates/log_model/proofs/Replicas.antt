@@ -6,9 +6,9 @@ use Rattle.entry.specs.declared.entry.Entry.{Entry}
 use Rattle.entry.specs.Bag.{IsAmong}
 use Rattle.entry.specs.Meaning.{among}
 use Rattle.entry.specs.Text.{is_data, data_in, Opening, opening_in, opening_of}
+use Rattle.entry.proofs.BagLemmas.{among_right, among_push}
 use Rattle.replica.specs.Picture.{Replica, Picture, shown_by}
 use Rattle.replica.specs.Survival.{HoldsHead}
-use Rattle.versioned_map.proofs.Tops.{among_right, among_push}
 use Rattle.log_model.specs.Data.{Start, Phase, Ready, Opened, Closed, LogData, IsHome, ids_of, start_entries}
 use Rattle.log_model.specs.Data.{front_entries, head_entries, new_of, opened_of, closed_of}
 use Rattle.log_model.specs.Kept.{IsLogHeld}

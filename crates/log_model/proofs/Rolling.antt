@@ -8,10 +8,10 @@ use Rattle.std.proofs.lemmas.Option.{same_Some}
 use Rattle.entry.specs.declared.entry.Entry.{Entry}
 use Rattle.entry.specs.Bag.{IsAmong}
 use Rattle.entry.specs.Text.{is_data}
+use Rattle.entry.proofs.BagLemmas.{among_push}
 use Rattle.replica.specs.Picture.{Replica, Picture}
 use Rattle.versioned_map.specs.Represents.{Represents}
 use Rattle.versioned_map.specs.Versioned.{State}
-use Rattle.versioned_map.proofs.Tops.{among_push}
 use Rattle.log_model.specs.Data.{Start, LogData, IsHome, ids_of, start_entries, entries_of, front_entries, new_of}
 use Rattle.log_model.specs.Data.{closed_of, state_of}
 use Rattle.log_model.specs.Kept.{IsLogHeld}

@@ -15,8 +15,8 @@ use Rattle.entry.specs.Tablet.{have_key}
 use Rattle.entry.proofs.TextLemmas.{entries_in-text}
 use Rattle.entry.specs.Format.{IsEntry}
 use Rattle.entry.proofs.ListLemmas.{all_split}
+use Rattle.entry.proofs.BagLemmas.{among_left, among_either}
 use Rattle.segment.proofs.RowLemmas.{text_of-append}
-use Rattle.versioned_map.proofs.Tops.{among_left, among_either}
 use Rattle.log_model.specs.Data.{LogConfig, Start, LogUnit, Head, ids_of, start_entries, entries_of, front_entries}
 use Rattle.log_model.specs.Data.{head_entries}
 use Rattle.log_model.specs.Log.{AreOfTablets, IsSegmentOf}

@@ -8,11 +8,11 @@ use Rattle.std.proofs.lemmas.Bool.Decides.{nat_tests}
 use Rattle.std.proofs.lemmas.Option.{slice_get_within}
 use Rattle.entry.specs.Bag.{IsAmong}
 use Rattle.entry.specs.Text.{Opening, opening_in}
+use Rattle.entry.proofs.BagLemmas.{among_left}
 use Rattle.replica.specs.declared.holding.Holding.{Holding}
 use Rattle.replica.specs.Picture.{Replica, Picture, left_on, Shown, shown_by, IsHeld}
 use Rattle.replica.specs.Choice.{Choice, IsOther}
 use Rattle.replica.specs.Survival.{HoldsHead, IsOpened, IsHeadLeft, HeadSurvives, BothSurvive}
-use Rattle.versioned_map.proofs.Tops.{among_left}
 use Rattle.log_model.specs.Data.{Start, LogData, IsHome, new_of, opened_of, closed_of}
 use Rattle.log_model.specs.Kept.{IsLogHeld}
 use Rattle.log_model.specs.Log.{Texts, IsLogged}

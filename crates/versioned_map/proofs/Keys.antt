@@ -1,24 +1,17 @@
 -- Keys that compare alike are one, and a map changed at a key.
-use Rattle.std.proofs.Common.{◌≡◌, Bool, true, false, refl, ap, ◌⊎◌, inl, inr}
+use Rattle.std.proofs.Common.{◌≡◌, Bool, true, false, refl, ◌⊎◌, inl, inr}
 use Rattle.std.specs.Prelude.{Option}
-use Rattle.std.specs.Bool.{Decides}
-use Rattle.std.specs.Cmp.Lexicographic.{bytes_decides}
-use Rattle.std.proofs.lemmas.Bool.Decides.{Decides-eqb, Decides-and, Decides-like}
 use Rattle.entry.specs.declared.key.Key.{Key}
 use Rattle.entry.specs.Order.{key_eq}
 use Rattle.entry.specs.Meaning.{Versioned, Contents}
+use Rattle.entry.proofs.KeyOrder.{key_eq_decides, key_eq_tells}
 use Rattle.versioned_map.specs.Versioned.{with_contents}
 
-key_eq-decides : (a b : Key) → Decides (key_eq a b) (a ≡ b)
-key_eq-decides a b =
-    Decides-like (key_eq a b) (λ h. λ i. record { table = h.0 i; bytes = h.1 i }) (λ h. (ap (λ (k : Key). k.table) h, ap (λ (k : Key). k.bytes) h))
-    (Decides-and _ _ (Decides-eqb a.table b.table) (bytes_decides a.bytes b.bytes))
-
 pub key_eq-same : (a b : Key) → key_eq a b ≡ true → a ≡ b
-key_eq-same a b = (key_eq-decides a b).0
+key_eq-same a b = (key_eq_decides a b).0
 
 pub key_eq-true : (a b : Key) → a ≡ b → key_eq a b ≡ true
-key_eq-true a b = (key_eq-decides a b).1
+key_eq-true a b = (key_eq_decides a b).1
 
 -- either the one key or two
 pub key_eq-tells : (a b : Key) → ((key_eq a b ≡ true) × (a ≡ b)) ⊎ ((key_eq a b ≡ false) × (a ≡ b → ⊥))
@@ -34,11 +27,11 @@ module _ (contents : Contents) (k : Key) (x : Option Versioned) where
   at_key q same = let t : key_eq q k ≡ true = key_eq-true q k same in rw t refl
 
   pub at_other : (q : Key) → (q ≡ k → ⊥) → with_contents contents k x q ≡ contents q
-  at_other q other = elim (key_eq-tells q k) [ inl t ↦ absurd (other t.1) | inr f ↦ let e = f.0 in rw e refl ]
+  at_other q other = elim (key_eq_tells q k) [ inl t ↦ absurd (other t.1) | inr f ↦ let e = f.0 in rw e refl ]
 
   -- the later of two changes counts
   pub at_twice : (y : Option Versioned) → with_contents (with_contents contents k y) k x ≡ with_contents contents k x
-  at_twice y = λ i q. (elim (key_eq-tells q k) as (λ _. with_contents (with_contents contents k y) k x q ≡ with_contents contents k x q) [
+  at_twice y = λ i q. (elim (key_eq_tells q k) as (λ _. with_contents (with_contents contents k y) k x q ≡ with_contents contents k x q) [
     | inl t ↦ (let e = t.0 in rw e refl)
     | inr f ↦ (let e = f.0 in rw e refl)
   ]) i

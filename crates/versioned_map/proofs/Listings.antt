@@ -10,7 +10,8 @@ use Rattle.entry.specs.declared.entry.Entry.{Entry}
 use Rattle.entry.specs.declared.entry.Entry.TheVariants as entry
 use Rattle.entry.specs.Bag.{IsAmong}
 use Rattle.entry.specs.Meaning.{Versioned, IsOfKey, rank_of, IsTop, object_at, IsMeaning, IsClean, among, versioned, contents_of}
-use Rattle.versioned_map.proofs.Keys.{key_eq-tells, at_key, at_other}
+use Rattle.entry.proofs.KeyOrder.{key_eq_tells}
+use Rattle.versioned_map.proofs.Keys.{at_key, at_other}
 use Rattle.versioned_map.specs.Map.{AreOfDifferentKeys}
 use Rattle.versioned_map.proofs.ObjectLists.{contents_of-push, differ_push}
 
@@ -148,7 +149,7 @@ listing_takes bag count os o more held before highest new = record {
     earlier_listed k other = contents_of-push os o absent k ∙ at_other (contents_of os) o.key (Some (versioned o)) k other
 
     still_listed : (k : Key) → is_some (contents_of os k) ≡ true → is_some (contents_of (os ++ o ∷ []) k) ≡ true
-    still_listed k has = elim (key_eq-tells k o.key) [
+    still_listed k has = elim (key_eq_tells k o.key) [
       | inl t ↦ ap is_some (here_listed k (sym t.1))
       | inr f ↦ ap is_some (earlier_listed k f.1) ∙ has
     ]
@@ -157,7 +158,7 @@ listing_takes bag count os o more held before highest new = record {
     top = record { held = held; of_key = refl; highest = highest }
 
     tops : (k : Key) (x : Versioned) → contents_of (os ++ o ∷ []) k ≡ Some x → IsTop k (among bag) (object_at k x)
-    tops k x e = elim (key_eq-tells k o.key) [
+    tops k x e = elim (key_eq_tells k o.key) [
       | inl t ↦ (
           let found : Some (versioned o) ≡ Some x = sym (here_listed k (sym t.1)) ∙ e in
           let same : versioned o ≡ x = cc in

@@ -7,7 +7,7 @@ use Rattle.entry.specs.declared.entry.Entry.{Entry}
 use Rattle.entry.specs.declared.entry.Entry.TheVariants as entry
 use Rattle.entry.specs.Meaning.{Versioned, Contents, IsOfKey, rank_of, IsTop, object_at, IsMeaning, IsClean, among, versioned}
 use Rattle.versioned_map.specs.Membership.{IsOutranked, IsMeaningBy}
-use Rattle.versioned_map.proofs.Keys.{key_eq-tells}
+use Rattle.entry.proofs.KeyOrder.{key_eq_tells}
 
 -- ---- one meaning
 
@@ -43,8 +43,8 @@ of_key-tells : (k : Key) (e : Entry) → IsOfKey k e ⊎ (IsOfKey k e → ⊥)
 of_key-tells k (entry.Header h) = inr (λ a. a)
 of_key-tells k (entry.Digest ids) = inr (λ a. a)
 of_key-tells k (entry.Safe version) = inr (λ a. a)
-of_key-tells k (entry.Object o) = elim (key_eq-tells o.key k) [ inl t ↦ inl t.1 | inr t ↦ inr t.1 ]
-of_key-tells k (entry.Tombstone u) = elim (key_eq-tells u.key k) [ inl t ↦ inl t.1 | inr t ↦ inr t.1 ]
+of_key-tells k (entry.Object o) = elim (key_eq_tells o.key k) [ inl t ↦ inl t.1 | inr t ↦ inr t.1 ]
+of_key-tells k (entry.Tombstone u) = elim (key_eq_tells u.key k) [ inl t ↦ inl t.1 | inr t ↦ inr t.1 ]
 
 -- a list has a highest entry of the key, or none of the key
 abbrev Highest : Key → List Entry → Type 0

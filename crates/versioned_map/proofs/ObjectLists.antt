@@ -8,13 +8,14 @@ use Rattle.entry.specs.declared.entry.Object.{Object}
 use Rattle.entry.specs.Order.{key_eq}
 use Rattle.entry.specs.Meaning.{Versioned, versioned, contents_of}
 use Rattle.versioned_map.specs.Versioned.{with_contents}
-use Rattle.versioned_map.proofs.Keys.{key_eq-true, key_eq-tells}
+use Rattle.entry.proofs.KeyOrder.{key_eq_tells}
+use Rattle.versioned_map.proofs.Keys.{key_eq-true}
 use Rattle.versioned_map.specs.Map.{AreOfDifferentKeys}
 
 -- ---- keys
 
 pub key_eq-other : (a b : Key) → (a ≡ b → ⊥) → key_eq a b ≡ false
-key_eq-other a b other = elim (key_eq-tells a b) [ inl t ↦ absurd (other t.1) | inr f ↦ f.0 ]
+key_eq-other a b other = elim (key_eq_tells a b) [ inl t ↦ absurd (other t.1) | inr f ↦ f.0 ]
 
 -- ---- the front object and the others
 
@@ -48,7 +49,7 @@ contents_of-unmatched os k none =
 
 pub lacks_absent : (os : List Object) (k : Key) → contents_of os k ≡ None → Lacks os k
 lacks_absent [] k e = λ i d lt same. omega arith
-lacks_absent (o ∷ os) k e = elim (key_eq-tells k o.key) [
+lacks_absent (o ∷ os) k e = elim (key_eq_tells k o.key) [
   | inl t ↦ (let found = found_first o os k t.1 in λ i d lt same. cc)
   | inr f ↦ (let later = lacks_absent os k (sym (passed_over o os k f.1) ∙ e) in λ i d lt same. lacks_more i d lt same later f.1)
 ]
@@ -60,7 +61,7 @@ lacks_absent (o ∷ os) k e = elim (key_eq-tells k o.key) [
 -- the list has the key just where one of its objects does
 pub contents_of-any : (os : List Object) (k : Key) → list_any (λ (o : Object). key_eq o.key k) os ≡ is_some (contents_of os k)
 contents_of-any [] k = refl
-contents_of-any (o ∷ os) k = elim (key_eq-tells k o.key) [
+contents_of-any (o ∷ os) k = elim (key_eq_tells k o.key) [
   | inl t ↦ (let e = t.0 in let back : key_eq o.key k ≡ true = key_eq-true o.key k (sym t.1) in rw (e, back) refl)
   | inr f ↦ (let e = f.0 in let back : key_eq o.key k ≡ false = key_eq-other o.key k (λ same. f.1 (sym same)) in rw (e, back) (contents_of-any os k))
 ]
@@ -70,7 +71,7 @@ contents_of-any (o ∷ os) k = elim (key_eq-tells k o.key) [
 pub contents_of-push : (os : List Object) (o : Object) → contents_of os o.key ≡ None → (q : Key)
     → contents_of (os ++ o ∷ []) q ≡ with_contents (contents_of os) o.key (Some (versioned o)) q
 contents_of-push [] o absent q = refl
-contents_of-push (p ∷ os) o absent q = elim (key_eq-tells o.key p.key) [
+contents_of-push (p ∷ os) o absent q = elim (key_eq_tells o.key p.key) [
   | inl t ↦ (let found = found_first p os o.key t.1 in cc)
   | inr f ↦ (
       let later = contents_of-push os o (sym (passed_over p os o.key f.1) ∙ absent) q in
@@ -80,7 +81,7 @@ contents_of-push (p ∷ os) o absent q = elim (key_eq-tells o.key p.key) [
   where
     pushed_behind : contents_of (os ++ o ∷ []) q ≡ with_contents (contents_of os) o.key (Some (versioned o)) q → (o.key ≡ p.key → ⊥)
         → contents_of (p ∷ os ++ o ∷ []) q ≡ with_contents (contents_of (p ∷ os)) o.key (Some (versioned o)) q
-    pushed_behind later apart = elim (key_eq-tells q p.key) [
+    pushed_behind later apart = elim (key_eq_tells q p.key) [
       | inl t ↦ (let e = t.0 in let other : key_eq q o.key ≡ false = key_eq-other q o.key (λ same. apart (sym same ∙ t.1)) in rw (e, other) refl)
       | inr f ↦ (let e = f.0 in rw e later)
     ]
@@ -101,7 +102,7 @@ module _ (o : Object) (os : List Object) (k q : Key) (x : Option Versioned) wher
   -- a change behind the front object, which is of another key
   changed_behind : (rest : List Object) → (k ≡ o.key → ⊥) → contents_of rest q ≡ with_contents (contents_of os) k x q
       → contents_of (o ∷ rest) q ≡ with_contents (contents_of (o ∷ os)) k x q
-  changed_behind rest apart later = elim (key_eq-tells q o.key) [
+  changed_behind rest apart later = elim (key_eq_tells q o.key) [
     | inl t ↦ (let e = t.0 in let other : key_eq q k ≡ false = key_eq-other q k (λ same. apart (sym same ∙ t.1)) in rw (e, other) refl)
     | inr f ↦ (let e = f.0 in rw e later)
   ]
@@ -109,7 +110,7 @@ module _ (o : Object) (os : List Object) (k q : Key) (x : Option Versioned) wher
 pub contents_of-set : (os : List Object) (i : ℕ) (d o : Object) → AreOfDifferentKeys os → i < length os → (get_or os i d).key ≡ o.key → (q : Key)
     → contents_of (set os i o) q ≡ with_contents (contents_of os) o.key (Some (versioned o)) q
 contents_of-set [] i d o all lt at q = absurd (omega arith)
-contents_of-set (p ∷ os) zero d o all lt at q = elim (key_eq-tells q o.key) [
+contents_of-set (p ∷ os) zero d o all lt at q = elim (key_eq_tells q o.key) [
   | inl t ↦ (let e = t.0 in rw e refl)
   | inr f ↦ (let e = f.0 in let other : key_eq q p.key ≡ false = key_eq-other q p.key (λ same. f.1 (same ∙ at)) in rw (e, other) refl)
 ]
@@ -121,7 +122,7 @@ pub contents_of-remove : (os : List Object) (i : ℕ) (d : Object) (k : Key) →
     → (q : Key)
     → contents_of (remove os i) q ≡ with_contents (contents_of os) k None q
 contents_of-remove [] i d k all lt at q = absurd (omega arith)
-contents_of-remove (p ∷ os) zero d k all lt at q = elim (key_eq-tells q k) [
+contents_of-remove (p ∷ os) zero d k all lt at q = elim (key_eq_tells q k) [
   | inl t ↦ (
       let e = t.0 in
       rw e (contents_of-lacking os q (λ i d within same. all 0 (suc i) d (omega arith) (omega arith) (at ∙ sym t.1 ∙ sym same)))

@@ -6,14 +6,16 @@ use Rattle.std.specs.Prelude.{◌↔◌, Option, Some, None}
 use Rattle.entry.specs.declared.key.Key.{Key}
 use Rattle.entry.specs.declared.entry.Entry.{Entry}
 use Rattle.entry.specs.Meaning.{Versioned, Contents, IsOfKey, version_of, rank_of, IsMeaning, among, bound_of}
+use Rattle.entry.proofs.BagLemmas.{among_push}
 use Rattle.versioned_map.specs.declared.command.Command.{Command}
 use Rattle.versioned_map.specs.declared.command.Command.TheVariants.{Get, Put, Delete}
 use Rattle.versioned_map.specs.Versioned.{State, is_met, with_contents, after_command, after_put, after_delete, after}
 use Rattle.versioned_map.specs.Units.{put_unit, delete_unit, object_entry, tombstone_entry}
 use Rattle.versioned_map.specs.Represents.{Represents, unit_of, AreUnitsOf, joined, empty_state}
-use Rattle.versioned_map.proofs.Keys.{key_eq-tells, at_key, at_other, at_twice}
+use Rattle.entry.proofs.KeyOrder.{key_eq_tells}
+use Rattle.versioned_map.proofs.Keys.{at_key, at_other, at_twice}
 use Rattle.versioned_map.proofs.Meanings.{clean_carried, meaning_carried}
-use Rattle.versioned_map.proofs.Tops.{among_push, one_key, rank_bound, version_bound, Leaves, raised, raised_clean, object_leaves, tombstone_leaves}
+use Rattle.versioned_map.proofs.Tops.{one_key, rank_bound, version_bound, Leaves, raised, raised_clean, object_leaves, tombstone_leaves}
 
 pub bound-push : (bag : List Entry) (e : Entry) → bound_of (bag ++ e ∷ []) ≡ max (bound_of bag) (version_of e + 1)
 bound-push [] e = omega arith
@@ -45,7 +47,7 @@ record Grows (bag : List Entry) (st : State) (k : Key) (e : Entry) (x : Option V
 module _ (recorded : ℕ) (bag : List Entry) (st : State) (k : Key) (e : Entry) (x : Option Versioned) (safe : ℕ) (r : Represents recorded bag st)
     (leaves : Leaves k e x) (above : (f : Entry) → among bag f → IsOfKey k f → rank_of f < rank_of e) (grows : Grows bag st k e x safe) where
   below_more : (q : Key) (f : Entry) → with_contents st.contents k x q ≡ None → among (bag ++ e ∷ []) f → IsOfKey q f → version_of f < safe
-  below_more q f gone m at = elim (key_eq-tells q k) as (λ _. version_of f < safe) [
+  below_more q f gone m at = elim (key_eq_tells q k) as (λ _. version_of f < safe) [
     | inl t ↦ (let none : x ≡ None = sym (at_key st.contents k x q t.1) ∙ gone in
         elim (among_push f bag e m) as (λ _. version_of f < safe) [
           | inl l ↦ grows.others f l (subst (λ (z : Key). IsOfKey z f) t.1 at) none
@@ -126,7 +128,7 @@ module _ (recorded : ℕ) (bag : List Entry) (st : State) (k : Key) (x : Version
 
   renewed_below : (q : Key) (f : Entry) → with_contents st.contents k left q ≡ None → among (buried ++ fresh ∷ []) f → IsOfKey q f
       → version_of f < st.safe
-  renewed_below q f gone m at = elim (key_eq-tells q k) as (λ _. version_of f < st.safe) [
+  renewed_below q f gone m at = elim (key_eq_tells q k) as (λ _. version_of f < st.safe) [
     | inl t ↦ (let never : left ≡ None = sym (at_key st.contents k left q t.1) ∙ gone in absurd (cc))
     | inr t ↦ elim (among_push f buried fresh m) as (λ _. version_of f < st.safe) [
       | inl l ↦ elim (among_push f bag dead l) as (λ _. version_of f < st.safe) [

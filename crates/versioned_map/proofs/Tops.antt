@@ -1,39 +1,15 @@
 -- Entries of greatest rank, and what one entry above all others of its key does to a meaning.
-use Rattle.std.proofs.Common.{◌≡◌, ℕ, ◌*◌, ◌<◌, ◌≤◌, ◌⊎◌, inl, inr, List, [], ◌∷◌, ◌++◌, refl, sym, ap, subst, ◌∙◌, arith}
+use Rattle.std.proofs.Common.{◌≡◌, ℕ, ◌*◌, ◌<◌, ◌≤◌, inl, inr, List, [], ◌∷◌, ◌++◌, refl, sym, ap, subst, ◌∙◌, arith}
 use Rattle.std.specs.Prelude.{◌↔◌, Option, Some, None}
 use Rattle.entry.specs.declared.key.Key.{Key}
 use Rattle.entry.specs.declared.entry.Object.{Object}
 use Rattle.entry.specs.declared.entry.Entry.{Entry}
 use Rattle.entry.specs.declared.entry.Entry.TheVariants as entry
-use Rattle.entry.specs.Bag.{IsAmong}
 use Rattle.entry.specs.Meaning.{Versioned, Contents, IsOfKey, version_of, rank_of, IsTop, object_at, IsMeaning, IsClean, among, versioned}
+use Rattle.entry.proofs.BagLemmas.{among_left, among_last, among_push}
 use Rattle.versioned_map.specs.Versioned.{with_contents}
-use Rattle.versioned_map.proofs.Keys.{key_eq-tells, at_key, at_other}
-
--- ---- lists
-
-pub among_left : {X : Type 0} (x : X) (xs ys : List X) → IsAmong x xs → IsAmong x (xs ++ ys)
-among_left x [] ys h = absurd h
-among_left x (z ∷ xs) ys (inl p) = inl p
-among_left x (z ∷ xs) ys (inr h) = inr (among_left x xs ys h)
-
-pub among_right : {X : Type 0} (x : X) (xs ys : List X) → IsAmong x ys → IsAmong x (xs ++ ys)
-among_right x [] ys h = h
-among_right x (z ∷ xs) ys h = inr (among_right x xs ys h)
-
-pub among_either : {X : Type 0} (x : X) (xs ys : List X) → IsAmong x (xs ++ ys) → IsAmong x xs ⊎ IsAmong x ys
-among_either x [] ys h = inr h
-among_either x (z ∷ xs) ys (inl p) = inl (inl p)
-among_either x (z ∷ xs) ys (inr h) = elim (among_either x xs ys h) [ inl l ↦ inl (inr l) | inr r ↦ inr r ]
-
-pub among_last : {X : Type 0} (xs : List X) (x : X) → IsAmong x (xs ++ x ∷ [])
-among_last xs x = among_right x xs (x ∷ []) (inl refl)
-
-pub among_push : {X : Type 0} (x : X) (xs : List X) (y : X) → IsAmong x (xs ++ y ∷ []) → IsAmong x xs ⊎ (y ≡ x)
-among_push x xs y h = elim (among_either x xs (y ∷ []) h) [
-  | inl l ↦ inl l
-  | inr r ↦ elim r [ inl p ↦ inr p | inr never ↦ absurd never ]
-]
+use Rattle.entry.proofs.KeyOrder.{key_eq_tells}
+use Rattle.versioned_map.proofs.Keys.{at_key, at_other}
 
 -- ---- keys and ranks
 
@@ -118,7 +94,7 @@ module _ (bag : List Entry) (contents : Contents) (k : Key) (e : Entry) (x : Opt
   )
 
   pub raised : IsMeaning (among bag) contents → IsMeaning (among (bag ++ e ∷ [])) (with_contents contents k x)
-  raised is q y = elim (key_eq-tells q k) as (λ _. (with_contents contents k x q ≡ Some y) ↔ IsTop q (among (bag ++ e ∷ [])) (object_at q y)) [
+  raised is q y = elim (key_eq_tells q k) as (λ _. (with_contents contents k x q ≡ Some y) ↔ IsTop q (among (bag ++ e ∷ [])) (object_at q y)) [
     | inl t ↦ (let c = at_key contents k x q t.1 in
         let here = subst (λ (r : Key). (x ≡ Some y) ↔ IsTop r (among (bag ++ e ∷ [])) (object_at r y)) (sym t.1) (raised_here y) in
         (λ h. here.0 (sym c ∙ h), λ top. c ∙ here.1 top))

@@ -9,7 +9,8 @@ use Rattle.versioned_map.specs.declared.command.Command.{Command}
 use Rattle.versioned_map.specs.declared.command.Command.TheVariants.{Get, Put, Delete}
 use Rattle.versioned_map.specs.Versioned.{State, is_met, with_contents, after_command, after_put, after_delete, after, IsSafeAfter}
 use Rattle.versioned_map.specs.Represents.{Represents, IsBounded}
-use Rattle.versioned_map.proofs.Keys.{key_eq-tells, at_key, at_other}
+use Rattle.entry.proofs.KeyOrder.{key_eq_tells}
+use Rattle.versioned_map.proofs.Keys.{at_key, at_other}
 use Rattle.versioned_map.proofs.Tops.{version_bound}
 use Rattle.versioned_map.proofs.Represented.{bound_above}
 
@@ -27,7 +28,7 @@ module _ (k : Key) (version : ℕ) where
   module _ (st : State) (q : Key) (x : Option Versioned) (safe : ℕ) (le : st.safe ≤ safe) where
     changed : (k ≡ q → IsBounded st k version → (version < safe) ⊎ Reaches version x) → IsBounded st k version →
         IsBounded (record { contents = with_contents st.contents q x; safe = safe }) k version
-    changed here b = elim (key_eq-tells k q) as (λ _. IsBounded (record { contents = with_contents st.contents q x; safe = safe }) k version) [
+    changed here b = elim (key_eq_tells k q) as (λ _. IsBounded (record { contents = with_contents st.contents q x; safe = safe }) k version) [
       | inl t ↦ elim (here t.1 b) [
         | inl lt ↦ inl lt
         | inr up ↦ inr (subst (λ (o : Option Versioned). Reaches version o) (sym (at_key st.contents q x k t.1)) up)

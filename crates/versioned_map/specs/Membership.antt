@@ -18,12 +18,16 @@ pub record IsMeaningBy (bag : Entry → Type 0) (contents : Contents) : Type 0 w
 -- In a clean list that is the meaning.
 abbrev pub MembershipIsMeaning : Type 0
 MembershipIsMeaning =
-    (bag : List Entry) (contents : Contents) → IsClean (among bag) → IsMeaningBy (among bag) contents → IsMeaning (among bag) contents
+    (bag : List Entry) (contents : Contents) → IsClean (among bag) → IsMeaningBy (among bag) contents
+    → IsMeaning (among bag) contents
 
 -- The meaning of a list is so.
 abbrev pub MeaningIsMembership : Type 0
-MeaningIsMembership = (bag : List Entry) (contents : Contents) → IsMeaning (among bag) contents → IsMeaningBy (among bag) contents
+MeaningIsMembership =
+    (bag : List Entry) (contents : Contents) → IsMeaning (among bag) contents → IsMeaningBy (among bag) contents
 
 -- A list has one meaning.
 abbrev pub MeaningIsOne : Type 0
-MeaningIsOne = (bag : List Entry) (contents other : Contents) → IsMeaning (among bag) contents → IsMeaning (among bag) other → contents ≡ other
+MeaningIsOne =
+    (bag : List Entry) (contents other : Contents) → IsMeaning (among bag) contents
+    → IsMeaning (among bag) other → contents ≡ other

@@ -53,18 +53,21 @@ EmptyIsRepresented = Represents 1 [] empty_state
 
 -- With a command's unit the bag represents the state after the command.
 abbrev pub UnitIsRepresented : Type 0
-UnitIsRepresented = (recorded : ℕ) (bag : List Entry) (st : State) (segment : ℕ) (command : Command) → Represents recorded bag st
+UnitIsRepresented = (recorded : ℕ) (bag : List Entry) (st : State) (segment : ℕ) (command : Command)
+    → Represents recorded bag st
     → Represents recorded (bag ++ unit_of st segment command) (after_command st command)
 
 -- With the units of the first commands, however many, the bag represents the state after them.
 abbrev pub RunIsRepresented : Type 0
-RunIsRepresented = (recorded : ℕ) (bag : List Entry) (st : State) (commands : List Command) (units : List (List Entry)) (count : ℕ)
+RunIsRepresented =
+    (recorded : ℕ) (bag : List Entry) (st : State) (commands : List Command) (units : List (List Entry)) (count : ℕ)
     → Represents recorded bag st → AreUnitsOf st commands units
     → Represents recorded (bag ++ joined (take count units)) (after st (take count commands))
 
 -- One more command has one more unit.
 abbrev pub UnitsGoOn : Type 0
-UnitsGoOn = (st : State) (commands : List Command) (units : List (List Entry)) (segment : ℕ) (command : Command) → AreUnitsOf st commands units
+UnitsGoOn = (st : State) (commands : List Command) (units : List (List Entry)) (segment : ℕ) (command : Command)
+    → AreUnitsOf st commands units
     → AreUnitsOf st (commands ++ command ∷ []) (units ++ unit_of (after st commands) segment command ∷ [])
 
 -- Units hold objects and tombstones alone.
@@ -95,5 +98,6 @@ VersionsAreBounded = (opening : State) (commands : List Command) (count : ℕ) (
 
 -- Where a bag represents the state after commands, the recorded version or the bag's bound, the greater, is a safe one.
 abbrev pub RepresentedIsSafe : Type 0
-RepresentedIsSafe = (recorded : ℕ) (bag : List Entry) (opening : State) (commands : List Command) → Represents recorded bag (after opening commands)
+RepresentedIsSafe = (recorded : ℕ) (bag : List Entry) (opening : State) (commands : List Command)
+    → Represents recorded bag (after opening commands)
     → IsSafeAfter opening commands (max recorded (bound_of bag))

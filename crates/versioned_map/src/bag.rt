@@ -12,7 +12,8 @@ use std::alloc::Global;
 
 /// Whether the entry is of the object's key and ranks above it.
 fn outranks(entry: &Entry, object: &Object) -> bool
-    ensures { IsTrue result ↔ (IsOfKey object.now.key entry.now × (rank_of (Entry.Object object.now) < rank_of entry.now)) }
+    ensures { IsTrue result ↔
+        (IsOfKey object.now.key entry.now × (rank_of (Entry.Object object.now) < rank_of entry.now)) }
 {
     match entry {
         Entry::Object(other) => other.key == object.key && other.version > object.version,
@@ -24,7 +25,8 @@ fn outranks(entry: &Entry, object: &Object) -> bool
 
 /// Whether no entry of the bag outranks the object.
 fn is_top(bag: &[Entry], object: &Object) -> bool
-    ensures { IsTrue result ↔ ((e : EntryValue) → among bag.now e → IsOfKey object.now.key e → rank_of e ≤ rank_of (Entry.Object object.now)) }
+    ensures { IsTrue result ↔
+        ((e : EntryValue) → among bag.now e → IsOfKey object.now.key e → rank_of e ≤ rank_of (Entry.Object object.now)) }
 {
     !bag.iter().any(|entry| outranks(entry, object))
 }
@@ -37,7 +39,8 @@ fn is_listed(objects: &[Object], key: &Key) -> bool
 
 /// The objects that no entry of the bag outranks, each key once.
 pub fn meaning(alloc: Global, bag: &[Entry]) -> Result<Vec<Object>, NoMemory>
-    ensures meaning { IfOk result (λ objects. IsClean (among bag.now) → IsMeaning (among bag.now) (contents_of objects.items)) }
+    ensures meaning { IfOk result (λ objects.
+        IsClean (among bag.now) → IsMeaning (among bag.now) (contents_of objects.items)) }
     ensures once { IfOk result (λ objects. AreOfDifferentKeys objects.items) }
     // Memory is taken for objects alone.
     ensures refused { OnErr result ((o : ObjectValue) × among bag.now (Entry.Object o)) }

@@ -66,7 +66,8 @@ impl VersionedMap {
         ensures reply { IfOk result (λ reply. reply ≡ reply_to (map_state self.old) command.now) }
         ensures state { OnOk result (map_state self.new ≡ after_command (map_state self.old) command.now) }
         ensures err { OnErr result (self.new ≡ self.old) }
-        ensures refused { OnErr result (may_fail (contents_of self.old.objects (command_key command.now)) command.now ≡ true) }
+        ensures refused { OnErr result (
+            may_fail (contents_of self.old.objects (command_key command.now)) command.now ≡ true) }
         ensures spent { IfErr result (λ fault. fault ≡ ApplyFault.VersionsSpent →
             is_spent self.old.safe (contents_of self.old.objects (command_key command.now)) command.now ≡ true) }
     {
@@ -100,10 +101,13 @@ impl VersionedMap {
     }
 
     fn put(&mut self, key: &Key, value: &Value, when: If) -> Result<Reply, ApplyFault>
-        ensures reply { IfOk result (λ reply. reply ≡ reply_to (map_state self.old) (Command.Put key.now value.now when)) }
-        ensures state { OnOk result (map_state self.new ≡ after_command (map_state self.old) (Command.Put key.now value.now when)) }
+        ensures reply { IfOk result (λ reply.
+            reply ≡ reply_to (map_state self.old) (Command.Put key.now value.now when)) }
+        ensures state { OnOk result (
+            map_state self.new ≡ after_command (map_state self.old) (Command.Put key.now value.now when)) }
         ensures err { OnErr result (self.new ≡ self.old) }
-        ensures refused { OnErr result (may_fail (contents_of self.old.objects key.now) (Command.Put key.now value.now when) ≡ true) }
+        ensures refused { OnErr result (
+            may_fail (contents_of self.old.objects key.now) (Command.Put key.now value.now when) ≡ true) }
         ensures spent { IfErr result (λ fault. fault ≡ ApplyFault.VersionsSpent →
             is_spent self.old.safe (contents_of self.old.objects key.now) (Command.Put key.now value.now when) ≡ true) }
     {
@@ -116,8 +120,10 @@ impl VersionedMap {
     /// A put of an absent key.
     fn create(&mut self, key: &Key, value: &Value, when: If) -> Result<Reply, ApplyFault>
         requires { contents_of self.old.objects key.now ≡ None }
-        ensures reply { IfOk result (λ reply. reply ≡ reply_to (map_state self.old) (Command.Put key.now value.now when)) }
-        ensures state { OnOk result (map_state self.new ≡ after_command (map_state self.old) (Command.Put key.now value.now when)) }
+        ensures reply { IfOk result (λ reply.
+            reply ≡ reply_to (map_state self.old) (Command.Put key.now value.now when)) }
+        ensures state { OnOk result (
+            map_state self.new ≡ after_command (map_state self.old) (Command.Put key.now value.now when)) }
         ensures err { OnErr result (self.new ≡ self.old) }
         ensures refused { OnErr result (may_fail None (Command.Put key.now value.now when) ≡ true) }
         ensures spent { IfErr result (λ fault. fault ≡ ApplyFault.VersionsSpent →
@@ -147,7 +153,8 @@ impl VersionedMap {
         ensures err { OnErr result (self.new ≡ self.old) }
         ensures refused { OnErr result ((k : KeyValue) → IsAtSlot self.old.objects k slot →
             may_fail (contents_of self.old.objects k) (Command.Put k value.now when) ≡ true) }
-        ensures spent { IfErr result (λ fault. fault ≡ ApplyFault.VersionsSpent → (k : KeyValue) → IsAtSlot self.old.objects k slot →
+        ensures spent { IfErr result (λ fault. fault ≡ ApplyFault.VersionsSpent →
+            (k : KeyValue) → IsAtSlot self.old.objects k slot →
             is_spent self.old.safe (contents_of self.old.objects k) (Command.Put k value.now when) ≡ true) }
     {
         let old = self.objects[slot].version;
