@@ -89,6 +89,10 @@ fn mistakes_end_with_two(rt: HostRuntime) {
 
 /// What the help shows.
 const USES: &[&str] = &[
+    "Usage: ramlog [OPTIONS] < SCRIPT",
+    "put T K V",
+    "recover ",
+    "sets nothing yet",
     "--backups <N>",
     "--replicas <N>",
     "--step <N>",
@@ -102,9 +106,9 @@ const USES: &[&str] = &[
     "512 to 8388608 [default: 512]",
 ];
 
-/// The text of the help, which ends with 0.
-fn help(alloc: Global) -> Option<String> {
-    match options(alloc, &["ramlog", "--help"]) {
+/// The text that is asked for by this word, which ends with 0.
+fn shown(alloc: Global, word: &str) -> Option<String> {
+    match options(alloc, &["ramlog", word]) {
         Err(error) if error.exit_code() == 0 => format!(in alloc; "{error}").ok(),
         _ => None,
     }
@@ -112,9 +116,16 @@ fn help(alloc: Global) -> Option<String> {
 
 #[test]
 fn help_shows_each_option(rt: HostRuntime) -> Result<(), Fail> {
-    let text = help(rt.alloc()).ok_or("no help")?;
+    let text = shown(rt.alloc(), "--help").ok_or("no help")?;
     for part in USES {
         assert!(rt; text.contains(*part), "no {part} in {text}");
     }
+    Ok(())
+}
+
+#[test]
+fn version_shows_the_name(rt: HostRuntime) -> Result<(), Fail> {
+    let text = shown(rt.alloc(), "--version").ok_or("no version")?;
+    assert!(rt; text.starts_with("ramlog "), "{text}");
     Ok(())
 }

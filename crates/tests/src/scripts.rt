@@ -3,36 +3,19 @@
 use script::*;
 use std::alloc::Global;
 use std::io::{self, BufRead, BufReader, ErrorKind, Read, Write};
+use std::str;
+use std::test::Fail;
 
-/// Runs a script, and answers how the run ended, or none where the words are refused.
-fn run<R: BufRead, W: Write>(
-    alloc: Global,
-    words: &[&str],
-    reader: &mut R,
-    writer: &mut W,
-) -> Option<Result<(), ScriptFault>> {
-    let Ok(options) = options(alloc, words) else {
-        return None;
+/// What the program writes, what it writes of its fault, and its exit status, one after another.
+fn ran<R: BufRead>(alloc: Global, words: &[&str], reader: &mut R) -> Result<String, Fail> {
+    let mut output = Vec::new(alloc);
+    let mut errors = Vec::new(alloc);
+    let Ok(status) = run_program(alloc, words, reader, &mut output, &mut errors) else {
+        return Err("refused words")?;
     };
-    let Ok(config) = configuration(alloc, &options, 1) else {
-        return None;
-    };
-    let Ok(()) = config.check() else {
-        return None;
-    };
-    Some(run_script(alloc, reader, writer, options))
-}
-
-/// Whether a run writes this, and ends so.
-fn writes<R: BufRead>(
-    alloc: Global,
-    words: &[&str],
-    reader: &mut R,
-    output: &str,
-    end: Result<(), ScriptFault>,
-) -> bool {
-    let mut written = Vec::new(alloc);
-    run(alloc, words, reader, &mut written) == Some(end) && written.as_slice() == output.as_bytes()
+    let output = str::from_utf8(output.as_slice()).unwrap_or("?");
+    let errors = str::from_utf8(errors.as_slice()).unwrap_or("?");
+    Ok(format!(in alloc; "{output}{errors}{status}")?)
 }
 
 /// The command line of the default options.
@@ -100,13 +83,31 @@ const SCRIPTS: &[(&[&str], &str, &str)] = &[
 ];
 
 #[test]
-fn scripts_print_their_answers(rt: HostRuntime) {
+fn scripts_print_their_answers(rt: HostRuntime) -> Result<(), Fail> {
     for (words, script, output) in SCRIPTS {
-        assert!(rt;
-            writes(rt.alloc(), words, &mut script.as_bytes(), output, Ok(())),
-            "{script}"
-        );
+        let ran = ran(rt.alloc(), words, &mut script.as_bytes())?;
+        let want = format!(in rt.alloc(); "{output}0")?;
+        assert_eq!(rt; ran.as_str(), want.as_str(), "{script}");
     }
+    Ok(())
+}
+
+/// Command lines whose configuration is bad, and its name.
+const BAD_CONFIGURATIONS: &[(&[&str], &str)] = &[
+    (&["ramlog", "--replicas", "4"], "BadBackups"),
+    (&["ramlog", "--segment", "600"], "BadSegment"),
+    (&["ramlog", "--seglets", "31"], "BadBudget"),
+];
+
+#[test]
+fn a_bad_configuration_is_named(rt: HostRuntime) -> Result<(), Fail> {
+    for (words, name) in BAD_CONFIGURATIONS {
+        let mut script: &[u8] = b"put 1 a x\n";
+        let ran = ran(rt.alloc(), words, &mut script)?;
+        let want = format!(in rt.alloc(); "ramlog: bad configuration {name}\n2")?;
+        assert_eq!(rt; ran.as_str(), want.as_str());
+    }
+    Ok(())
 }
 
 /// A script, what is written of it, and the bad line.
@@ -121,66 +122,58 @@ const BAD_LINES: &[(&str, &str, u64)] = &[
 ];
 
 #[test]
-fn a_bad_line_ends_the_run(rt: HostRuntime) {
+fn a_bad_line_ends_the_run(rt: HostRuntime) -> Result<(), Fail> {
     for (script, output, number) in BAD_LINES {
-        let end = Err(ScriptFault::BadLine(*number));
-        assert!(rt;
-            writes(rt.alloc(), RAMLOG, &mut script.as_bytes(), output, end),
-            "{script}"
-        );
+        let ran = ran(rt.alloc(), RAMLOG, &mut script.as_bytes())?;
+        let want = format!(in rt.alloc(); "{output}ramlog: bad line {number}\n2")?;
+        assert_eq!(rt; ran.as_str(), want.as_str(), "{script}");
     }
+    Ok(())
 }
 
-/// Lengths of a key and of a value, and whether the run of their put fails.
-const LENGTHS: &[(usize, usize, bool)] = &[
-    (1024, 1, false),
-    (1025, 1, true),
-    (1, 4088, false),
-    (1, 4089, true),
+/// Lengths of a key and of a value, and what the run of their put prints.
+const LENGTHS: &[(usize, usize, &str)] = &[
+    (1024, 1, "ok 1\n0"),
+    (1025, 1, "ramlog: bad line 1\n2"),
+    (1, 4088, "ok 1\n0"),
+    (1, 4089, "ramlog: bad line 1\n2"),
 ];
 
 const LARGE: &[&str] = &["ramlog", "--segment", "65536", "--seglets", "4096"];
 
-/// Whether the run of such a put ends, by a fault or without one as is wanted.
-fn is_bad(alloc: Global, key_len: usize, value_len: usize, want: bool) -> bool {
-    let Ok(script) = format!(in alloc; "put 1 {:k<key_len$} {:v<value_len$}", "", "") else {
-        return false;
-    };
-    let mut written = Vec::new(alloc);
-    match run(alloc, LARGE, &mut script.as_bytes(), &mut written) {
-        Some(end) => end.is_err() == want,
-        None => false,
-    }
-}
-
 #[test]
-fn a_long_line_or_key_is_bad(rt: HostRuntime) {
+fn a_long_line_or_key_is_bad(rt: HostRuntime) -> Result<(), Fail> {
     for (key_len, value_len, want) in LENGTHS {
-        assert!(rt;
-            is_bad(rt.alloc(), *key_len, *value_len, *want),
-            "{key_len} {value_len}"
-        );
+        let (key_len, value_len) = (*key_len, *value_len);
+        let script = format!(in rt.alloc(); "put 1 {:k<key_len$} {:v<value_len$}", "", "")?;
+        let ran = ran(rt.alloc(), LARGE, &mut script.as_bytes())?;
+        assert_eq!(rt; ran.as_str(), *want, "{key_len} {value_len}");
     }
+    Ok(())
 }
 
 /// Faults, and the line and the exit status of each.
-const FAULTS: &[(ScriptFault, &str, u8)] = &[
-    (ScriptFault::BadLine(7), "ramlog: bad line 7\n", 2),
-    (ScriptFault::ReadFailed, "ramlog: cannot read\n", 1),
-    (ScriptFault::WriteFailed, "ramlog: cannot write\n", 1),
-    (ScriptFault::NoMemory, "ramlog: no memory\n", 1),
+const FAULTS: &[(ScriptFault, &str)] = &[
+    (ScriptFault::BadLine(7), "ramlog: bad line 7\n2"),
+    (ScriptFault::ReadFailed, "ramlog: cannot read\n1"),
+    (ScriptFault::WriteFailed, "ramlog: cannot write\n1"),
+    (ScriptFault::NoMemory, "ramlog: no memory\n1"),
 ];
 
-fn is_reported(alloc: Global, fault: &ScriptFault, line: &str, status: u8) -> bool {
+/// The line of a fault, and the status.
+fn reported(alloc: Global, fault: &ScriptFault) -> Result<String, Fail> {
     let mut written = Vec::new(alloc);
-    report(fault, &mut written) == status && written.as_slice() == line.as_bytes()
+    let status = report(fault, &mut written);
+    let line = str::from_utf8(written.as_slice()).unwrap_or("?");
+    Ok(format!(in alloc; "{line}{status}")?)
 }
 
 #[test]
-fn each_fault_has_its_line(rt: HostRuntime) {
-    for (fault, line, status) in FAULTS {
-        assert!(rt; is_reported(rt.alloc(), fault, line, *status), "{line}");
+fn each_fault_has_its_line(rt: HostRuntime) -> Result<(), Fail> {
+    for (fault, want) in FAULTS {
+        assert_eq!(rt; reported(rt.alloc(), fault)?.as_str(), *want);
     }
+    Ok(())
 }
 
 /// Some bytes, and then a fault.
@@ -225,27 +218,32 @@ impl Write for Full {
     }
 }
 
-/// Whether the output before the fault of a reader is written.
-fn writes_before_a_fault(alloc: Global) -> bool {
+#[test]
+fn a_reader_fails_in_mid_stream(rt: HostRuntime) -> Result<(), Fail> {
     let torn = Torn {
         bytes: b"put 1 a x\nput 1",
     };
-    let end = Err(ScriptFault::ReadFailed);
-    match BufReader::new(alloc, torn) {
-        Ok(mut reader) => writes(alloc, RAMLOG, &mut reader, "ok 1\n", end),
-        Err(_) => false,
-    }
+    let mut reader = BufReader::new(rt.alloc(), torn)?;
+    let ran = ran(rt.alloc(), RAMLOG, &mut reader)?;
+    assert_eq!(rt; ran.as_str(), "ok 1\nramlog: cannot read\n1");
+    Ok(())
+}
+
+/// How a run ends whose writer takes so many bytes.
+fn ran_into(alloc: Global, room: usize, script: &str) -> Result<String, Fail> {
+    let mut writer = Full { room };
+    let mut errors = Vec::new(alloc);
+    let mut reader = script.as_bytes();
+    let Ok(status) = run_program(alloc, RAMLOG, &mut reader, &mut writer, &mut errors) else {
+        return Err("refused words")?;
+    };
+    let errors = str::from_utf8(errors.as_slice()).unwrap_or("?");
+    Ok(format!(in alloc; "{errors}{status}")?)
 }
 
 #[test]
-fn a_reader_fails_in_mid_stream(rt: HostRuntime) {
-    assert!(rt; writes_before_a_fault(rt.alloc()));
-}
-
-#[test]
-fn a_writer_fails_in_mid_stream(rt: HostRuntime) {
-    let mut script: &[u8] = b"put 1 a x\nput 1 a y\n";
-    let mut writer = Full { room: 5 };
-    let ran = run(rt.alloc(), RAMLOG, &mut script, &mut writer);
-    assert!(rt; ran == Some(Err(ScriptFault::WriteFailed)));
+fn a_writer_fails_in_mid_stream(rt: HostRuntime) -> Result<(), Fail> {
+    let ran = ran_into(rt.alloc(), 5, "put 1 a x\nput 1 a y\n")?;
+    assert_eq!(rt; ran.as_str(), "ramlog: cannot write\n1");
+    Ok(())
 }
