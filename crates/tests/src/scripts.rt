@@ -79,6 +79,23 @@ const SCRIPTS: &[(&[&str], &str, &str)] = &[
         "stop 0\nget 1 a\nput 1 a x\nrecover\n",
         "stop 0\nnone\nstopped\nrecovered 0\n",
     ),
+    // three takes: both replicas have the first put, and one has the second
+    (
+        RAMLOG,
+        "stop 3\nput 1 a x\nput 1 b y\nlose 1\nrecover\n",
+        "stop 3\nok 1\nstopped\nlost 1\n1 a 1 x\nrecovered 1\n",
+    ),
+    (
+        RAMLOG,
+        "stop 3\nput 1 a x\nput 1 b y\nlose 2\nrecover\n",
+        "stop 3\nok 1\nstopped\nlost 2\n1 a 1 x\n1 b 2 y\nrecovered 2\n",
+    ),
+    // backup 0 has the second replica
+    (
+        &["ramlog", "--backups", "2"],
+        "put 1 a x\ncrash\nlose 1\nrecover\n",
+        "ok 1\ncrashed\nlost 1\n1 a 1 x\nrecovered 1\n",
+    ),
     (RAMLOG, "", ""),
 ];
 
