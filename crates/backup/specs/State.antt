@@ -17,8 +17,8 @@ abbrev pub picture_of : List MemoryBackup → Picture
 picture_of backups = λ b m s. replica_on (slice_get backups b) m s
 
 -- the fleet as the contract of a fleet sees it
-abbrev pub state_of : MemoryFleet → FleetState
-state_of fleet = record {
+abbrev pub fleet_state : MemoryFleet → FleetState
+fleet_state fleet = record {
   backups = length fleet.backups.items;
   picture = picture_of fleet.backups.items;
   takes = fleet.takes;

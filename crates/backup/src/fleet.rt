@@ -22,11 +22,11 @@ impl MemoryFleet {
     ghost use Rattle.std.specs.Prelude.{◌≡◌, ◌≤◌, IfOk};
     ghost use Rattle.replica.specs.Picture.{AreHeld};
     ghost use Rattle.backup.specs.Inventory.{IsRising};
-    ghost use Rattle.backup.specs.State.{state_of, new_fleet, lost};
+    ghost use Rattle.backup.specs.State.{fleet_state, new_fleet, lost};
 
     /// A fleet of so many backups, which hold nothing. It isn't limited.
     pub fn new(alloc: Global, backups: u64) -> Result<MemoryFleet, NoMemory>
-        ensures { IfOk result (λ fleet. state_of fleet ≡ new_fleet backups) }
+        ensures { IfOk result (λ fleet. fleet_state fleet ≡ new_fleet backups) }
     {
         let mut list = Vec::with_capacity(alloc, backups as usize)?;
         for _ in 0..backups {
@@ -43,7 +43,7 @@ impl MemoryFleet {
 
     /// How many backups there are.
     pub fn backups(&self) -> u64
-        ensures { result ≡ (state_of self.now).backups }
+        ensures { result ≡ (fleet_state self.now).backups }
     {
         self.backups.len() as u64
     }
@@ -51,8 +51,8 @@ impl MemoryFleet {
     /// Makes a backup lose all that it holds. An empty one has its number from then on. A number that is no backup's
     /// changes nothing.
     pub fn lose(&mut self, backup: u64)
-        ensures lost { state_of self.new ≡ lost (state_of self.old) backup }
-        ensures none { (state_of self.old).backups ≤ backup → state_of self.new ≡ state_of self.old }
+        ensures lost { fleet_state self.new ≡ lost (fleet_state self.old) backup }
+        ensures none { (fleet_state self.old).backups ≤ backup → fleet_state self.new ≡ fleet_state self.old }
     {
         if let Some(memory) = self.backups.get_mut(backup as usize) {
             memory.clear();
@@ -61,7 +61,7 @@ impl MemoryFleet {
 
     /// All replicas of all backups, by backup, then by master, then by segment.
     pub fn inventory(&self, alloc: Global) -> Result<Inventory, NoMemory>
-        ensures shown { IfOk result (λ hs. AreHeld hs (state_of self.now).picture) }
+        ensures shown { IfOk result (λ hs. AreHeld hs (fleet_state self.now).picture) }
         ensures rising { IfOk result (λ hs. IsRising hs) }
     {
         let mut list = Vec::new(alloc);
@@ -79,16 +79,16 @@ impl Fleet for MemoryFleet {
     ghost use Rattle.replica.specs.Take.{TakeGives};
     ghost use Rattle.backup.specs.Acts.{IsWrongOp};
     ghost use Rattle.backup.specs.Inventory.{IsRising};
-    ghost use Rattle.backup.specs.State.{state_of};
+    ghost use Rattle.backup.specs.State.{fleet_state};
 
-    ghost state = { state_of };
+    ghost state = { fleet_state };
 
     /// Hands an op to a backup. Spent is answered before Wrong, and NoMemory only where the op fits. No take ends in a
     /// fault.
     fn take(&mut self, backup: u64, op: &Op<'_>) -> Result<(), TakeFault>
-        ensures gives { TakeGives (state_of self.old) backup (shown_op op.now) result (state_of self.new) }
-        ensures spent { (result ≡ Err TakeFault.Spent) ↔ ((state_of self.old).takes ≡ (state_of self.old).end) }
-        ensures wrong { (result ≡ Err TakeFault.Wrong) ↔ IsWrongOp (state_of self.old) backup (shown_op op.now) }
+        ensures gives { TakeGives (fleet_state self.old) backup (shown_op op.now) result (fleet_state self.new) }
+        ensures spent { (result ≡ Err TakeFault.Spent) ↔ ((fleet_state self.old).takes ≡ (fleet_state self.old).end) }
+        ensures wrong { (result ≡ Err TakeFault.Wrong) ↔ IsWrongOp (fleet_state self.old) backup (shown_op op.now) }
         ensures no_fault { ¬ (result ≡ Err TakeFault.Fault) }
     {
         if self.takes == self.end {
@@ -105,9 +105,9 @@ impl Fleet for MemoryFleet {
 
     /// All replicas of one backup, by master, then by segment.
     fn holdings(&self, alloc: Global, backup: u64) -> Result<Vec<Holding>, NoMemory>
-        ensures shown { IfOk result (λ hs. AreHeldBy hs.items (state_of self.now).picture backup) }
+        ensures shown { IfOk result (λ hs. AreHeldBy hs.items (fleet_state self.now).picture backup) }
         ensures once { IfOk result (λ hs. IsOnce hs.items) }
-        ensures none { IfOk result (λ hs. (state_of self.now).backups ≤ backup → hs.items ≡ []) }
+        ensures none { IfOk result (λ hs. (fleet_state self.now).backups ≤ backup → hs.items ≡ []) }
         ensures rising { IfOk result (λ hs. IsRising hs.items) }
     {
         let mut list = Vec::new(alloc);

@@ -16,7 +16,7 @@ use Rattle.log_model.proofs.Lists.{below_at}
 use Rattle.log_model.proofs.Texts.{text_there, text_other}
 use Rattle.clean_model.specs.Intact.{IsIntact}
 use Rattle.clean_model.specs.Laws.{ApplyKeeps}
-use Rattle.clean_model.specs.Memory.{Memory, LogSet, log_ids, log_of}
+use Rattle.clean_model.specs.Memory.{Memory, LogSet, log_ids, log_set_of}
 use Rattle.clean_model.specs.Steps.{recorded, IsNamed}
 use Rattle.clean_model.specs.Tracked.{IsTracked, IsAround}
 use Rattle.clean_model.proofs.AppendedUnits.{IsStage, command_then, images_there, images_last, images_out}
@@ -109,12 +109,12 @@ module _ (d : LogData) (m : Memory) (p : Picture) (segment : ℕ) (r : Record) (
   state_is : to ≡ state_of e
   state_is = sym (state_applied d segment r)
 
-  tracked : IsTracked (log_of e n log.texts) m.pass n.index (state_of e).contents
-  tracked = subst (λ (st : State). IsTracked (log_of e n log.texts) m.pass n.index st.contents) state_is
+  tracked : IsTracked (log_set_of e n log.texts) m.pass n.index (state_of e).contents
+  tracked = subst (λ (st : State). IsTracked (log_set_of e n log.texts) m.pass n.index st.contents) state_is
       (texts_changed grown_log log.texts from m.pass n.index to.contents stage.tracked)
 
-  around : IsAround (log_of e n log.texts) m.pass (state_of e).contents (state_of e).safe d.next
-  around = subst (λ (st : State). IsAround (log_of e n log.texts) m.pass st.contents st.safe d.next) state_is (record {
+  around : IsAround (log_set_of e n log.texts) m.pass (state_of e).contents (state_of e).safe d.next
+  around = subst (λ (st : State). IsAround (log_set_of e n log.texts) m.pass st.contents st.safe d.next) state_is (record {
     below = stage.below;
     named_below = stage.named_below;
     versions = λ k h s f l. stage.versions k h s f (told_in grown_log log.texts from s f l);

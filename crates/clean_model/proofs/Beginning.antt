@@ -15,7 +15,7 @@ use Rattle.log_model.proofs.NewIds.{id_taken_kept}
 use Rattle.log_model.proofs.Texts.{text_there}
 use Rattle.clean_model.specs.Intact.{survivor_entries, IsPassOf, AreSealed, IsIntact}
 use Rattle.clean_model.specs.Laws.{BeginKeeps}
-use Rattle.clean_model.specs.Memory.{Place, Memory, LogSet, Pass, no_pass, IsAt, log_ids, log_of, StandsAt}
+use Rattle.clean_model.specs.Memory.{Place, Memory, LogSet, Pass, no_pass, IsAt, log_ids, log_set_of, StandsAt}
 use Rattle.clean_model.specs.Steps.{pass_begun, MayBeginClean}
 use Rattle.clean_model.specs.Tracked.{IsTracked, IsPassing, IsAround}
 use Rattle.clean_model.proofs.KeptEntries.{places_all}
@@ -45,10 +45,10 @@ module _ (d : LogData) (m : Memory) (p : Picture) (victims : List ℕ) (i : IsIn
   then_log = id_taken_kept d p opening i.log
 
   abbrev log : LogSet
-  log = log_of d m i.log.texts
+  log = log_set_of d m i.log.texts
 
   abbrev new : LogSet
-  new = log_of e memory then_log.texts
+  new = log_set_of e memory then_log.texts
 
   older : (s : ℕ) → IsAmong s (log_ids d m) → s ≡ d.next → ⊥
   older s c same = let lt = i.around.below s c in omega arith

@@ -10,7 +10,7 @@ use Rattle.log_model.specs.Data.{Start, Phase, Ready, LogData, new_of, state_of}
 use Rattle.log_model.specs.Log.{Texts, base_of}
 use Rattle.clean_model.specs.Intact.{IsCommit, IsReady, IsIntact}
 use Rattle.clean_model.specs.Laws.{CommitStands}
-use Rattle.clean_model.specs.Memory.{Place, Memory, LogSet, ImagesHave, LogHas, no_pass, new_ids, log_ids, log_of}
+use Rattle.clean_model.specs.Memory.{Place, Memory, LogSet, ImagesHave, LogHas, no_pass, new_ids, log_ids, log_set_of}
 use Rattle.clean_model.specs.Memory.{counting}
 use Rattle.clean_model.specs.Tracked.{IsTracked, IsPassing}
 use Rattle.clean_model.proofs.Bases.{key_data, base_in, base_out}
@@ -43,7 +43,7 @@ module _ (d : LogData) (m : Memory) (p : Picture) (i : IsIntact d m p)
 
   module _ (n : Start) (now : d.phase ≡ Ready) (commit : IsCommit d.head.start m.pass n) where
     abbrev left : LogSet
-    left = counting (log_of d m texts) n.others
+    left = counting (log_set_of d m texts) n.others
 
     no_new : new_ids (new_of d.phase) ≡ []
     no_new = ap (λ (ph : Phase). new_ids (new_of ph)) now
@@ -66,7 +66,7 @@ module _ (d : LogData) (m : Memory) (p : Picture) (i : IsIntact d m p)
     }
 
     tracked : IsTracked left no_pass m.index (state_of d).contents
-    tracked = committed (log_of d m texts) m.pass m.index (state_of d).contents n.others i.tracked passing_done less
+    tracked = committed (log_set_of d m texts) m.pass m.index (state_of d).contents n.others i.tracked passing_done less
 
     abbrev base : List Entry
     base = base_of texts n.others

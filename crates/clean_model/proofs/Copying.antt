@@ -17,7 +17,7 @@ use Rattle.log_model.specs.Data.{Start, LogData, new_of, state_of}
 use Rattle.clean_model.specs.Compaction.{has, is_place}
 use Rattle.clean_model.specs.Intact.{survivor_entries, AreSealed, IsRollOf, IsIntact}
 use Rattle.clean_model.specs.Laws.{CopyKeeps}
-use Rattle.clean_model.specs.Memory.{Place, Index, Memory, Images, LogSet, log_ids, log_of, grown, copied, StandsAt}
+use Rattle.clean_model.specs.Memory.{Place, Index, Memory, Images, LogSet, log_ids, log_set_of, grown, copied, StandsAt}
 use Rattle.clean_model.specs.Steps.{with_place, next_place, is_copied, with_copy}
 use Rattle.clean_model.specs.Tracked.{IsTracked, IsPassing, IsAround}
 use Rattle.clean_model.proofs.KeptEntries.{has_is}
@@ -68,7 +68,7 @@ module _ (d : LogData) (m : Memory) (p : Picture) (i : IsIntact d m p) (first : 
     (cursor : m.rest ≡ first ∷ rest) (victim : IsAmong first.segment m.pass.victims) (s : ℕ)
     (survivor : IsAmong s m.pass.survivors) where
   abbrev log : LogSet
-  log = log_of d m i.log.texts
+  log = log_set_of d m i.log.texts
 
   not_done : m.rest ≡ [] → ⊥
   not_done is = let never : first ∷ rest ≡ [] = sym cursor ∙ is in cc

@@ -15,7 +15,7 @@ use Rattle.log_model.proofs.Soundness.{kept_is_sound}
 use Rattle.clean_model.specs.Covered.{IsInLogBag, image_bag, log_bag, HasGrave, MayName, IsCovered}
 use Rattle.clean_model.specs.Intact.{IsIntact}
 use Rattle.clean_model.specs.Laws.{IntactIsCovered, IntactIsSound, IntactIsDurable}
-use Rattle.clean_model.specs.Memory.{Memory, LogSet, log_ids, log_of, ImagesHave, SegmentHas, LogHas}
+use Rattle.clean_model.specs.Memory.{Memory, LogSet, log_ids, log_set_of, ImagesHave, SegmentHas, LogHas}
 use Rattle.clean_model.specs.Tracked.{IsBuried}
 use Rattle.clean_model.proofs.Bases.{key_data, data_among}
 use Rattle.clean_model.proofs.TrackedBags.{in_segment, between_clean, between_means}
@@ -25,7 +25,7 @@ module _ (d : LogData) (m : Memory) (p q : Picture) (i : IsIntact d m p)
     (known : (b s : ℕ) (r : Replica) (e : Entry) → q b d.config.master s ≡ Some r → among (data_in r.bytes) e
     → among (m.images s) e ⊎ among (i.log.texts s) e) where
   abbrev log : LogSet
-  log = log_of d m i.log.texts
+  log = log_set_of d m i.log.texts
 
   image_from : (e : Entry) → image_bag d m e → ImagesHave (log_ids d m) m.images e
   image_from e h = (h.0, record { counts = h.1.counts; among = among_data e (m.images h.0) h.1.held })

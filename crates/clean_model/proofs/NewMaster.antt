@@ -12,7 +12,7 @@ use Rattle.log_model.specs.Steps.{first_start, fresh, MayBegin}
 use Rattle.log_model.proofs.NewMaster.{fresh_is_kept}
 use Rattle.log_model.proofs.Segments.{no_keys}
 use Rattle.clean_model.specs.Laws.{FreshIsIntact}
-use Rattle.clean_model.specs.Memory.{SegmentHas, log_ids, log_of}
+use Rattle.clean_model.specs.Memory.{SegmentHas, log_ids, log_set_of}
 use Rattle.clean_model.specs.Steps.{first_memory}
 use Rattle.clean_model.proofs.NoPass.{none_passing, none_chosen}
 use Rattle.clean_model.proofs.SealedSurvivors.{none_sealed}
@@ -24,7 +24,7 @@ module _ (c : LogConfig) (p : Picture) (may : MayBegin c p) where
   one : (s : ℕ) → IsAmong s (log_ids (fresh c) (first_memory c)) → 1 ≡ s
   one s l = elim l [ inl same ↦ same | inr never ↦ absurd never ]
 
-  no_entry : (s : ℕ) (e : Entry) (k : Key) → IsOfKey k e → SegmentHas (log_of (fresh c) (first_memory c) log.texts) s e
+  no_entry : (s : ℕ) (e : Entry) (k : Key) → IsOfKey k e → SegmentHas (log_set_of (fresh c) (first_memory c) log.texts) s e
       → ⊥
   no_entry s e k at m = elim m.among as (λ _. ⊥) [
     | inl a ↦ no_keys c.master first_start e k a at

@@ -19,7 +19,7 @@ use Rattle.log_model.proofs.Segments.{no_keys}
 use Rattle.log_model.proofs.Texts.{text_other}
 use Rattle.clean_model.specs.Intact.{IsRollOf, IsIntact}
 use Rattle.clean_model.specs.Laws.{RollKeeps, CommitKeeps}
-use Rattle.clean_model.specs.Memory.{Memory, LogSet, new_ids, log_ids, log_of}
+use Rattle.clean_model.specs.Memory.{Memory, LogSet, new_ids, log_ids, log_set_of}
 use Rattle.clean_model.specs.Steps.{rolled, MayCommit}
 use Rattle.clean_model.proofs.CommitBase.{commit_stands}
 use Rattle.clean_model.proofs.Lists.{among_at, image_there}
@@ -45,10 +45,10 @@ module _ (d : LogData) (m : Memory) (p : Picture) (i : IsIntact d m p) (n : Star
   then_log = rolling_is_kept d p n i.log roll stands
 
   abbrev log : LogSet
-  log = log_of d m i.log.texts
+  log = log_set_of d m i.log.texts
 
   abbrev new : LogSet
-  new = log_of e memory then_log.texts
+  new = log_set_of e memory then_log.texts
 
   older : (s : ℕ) → IsAmong s (log_ids d m) → s ≡ n.id → ⊥
   older s c same = let lt = i.around.below s c in let next = roll.next in omega arith

@@ -26,7 +26,7 @@ use Rattle.log_model.proofs.Spares.{sealed_is_kept}
 use Rattle.log_model.proofs.Texts.{text_there, text_other}
 use Rattle.clean_model.specs.Intact.{survivor_entries, AreSealed, IsIntact}
 use Rattle.clean_model.specs.Laws.{SealKeeps}
-use Rattle.clean_model.specs.Memory.{Memory, log_of}
+use Rattle.clean_model.specs.Memory.{Memory, log_set_of}
 use Rattle.clean_model.specs.Steps.{seal_op, sealed_more, MaySeal}
 use Rattle.clean_model.proofs.Lists.{equal_true}
 use Rattle.clean_model.proofs.LogSetChanges.{told_in, texts_changed}
@@ -268,7 +268,7 @@ module _ (d : LogData) (m : Memory) (p : Picture) (s b : ℕ) (i : IsIntact d m 
 
 pub seal_keeps : SealKeeps
 seal_keeps d m p s b i may =
-    let log = log_of d m i.log.texts in
+    let log = log_set_of d m i.log.texts in
     let told = sealed_from d m p s b i may in (
       (sealed_log d m p s b i may).0,
       (sealed_log d m p s b i may).1,

@@ -17,7 +17,7 @@ use Rattle.log_model.proofs.NextOp.{next_is_held, next_is_standing, past_then}
 use Rattle.log_model.proofs.Pictures.{taken_elsewhere}
 use Rattle.clean_model.specs.Intact.{IsCommit, IsReady, AreSealed, IsIntact}
 use Rattle.clean_model.specs.Laws.{TakeKeeps}
-use Rattle.clean_model.specs.Memory.{Memory, LogSet, new_ids, log_ids, log_of}
+use Rattle.clean_model.specs.Memory.{Memory, LogSet, new_ids, log_ids, log_set_of}
 use Rattle.clean_model.specs.Steps.{finished, ended, after_take}
 use Rattle.clean_model.specs.Tracked.{IsTracked, IsPassing, IsAround}
 use Rattle.clean_model.proofs.CommitBase.{passing_done, ready_text}
@@ -32,7 +32,7 @@ use Rattle.clean_model.proofs.Premises.{IsLess}
 module _ (d : LogData) (m : Memory) (p q : Picture) (i : IsIntact d m p)
     (same : (c s : ℕ) → IsAmong s m.pass.survivors → q c d.config.master s ≡ p c d.config.master s) where
   abbrev log : LogSet
-  log = log_of d m i.log.texts
+  log = log_set_of d m i.log.texts
 
   -- what the log laws give of another master with these texts
   pub record Logs (e : LogData) : Type 0 where
@@ -137,7 +137,7 @@ module _ (d : LogData) (m : Memory) (p q : Picture) (i : IsIntact d m p)
       ]
 
       abbrev new : LogSet
-      new = log_of last m i.log.texts
+      new = log_set_of last m i.log.texts
 
       more : IsMore log new
       more = record {

@@ -10,7 +10,7 @@ use Rattle.log_model.specs.Data.{LogConfig, Start, LogData, ids_of, new_of, stat
 use Rattle.log_model.specs.Kept.{IsKept}
 use Rattle.log_model.specs.Log.{Texts}
 use Rattle.clean_model.specs.Covered.{map_of}
-use Rattle.clean_model.specs.Memory.{Place, Pass, Memory, log_ids, log_of}
+use Rattle.clean_model.specs.Memory.{Place, Pass, Memory, log_ids, log_set_of}
 use Rattle.clean_model.specs.Tracked.{IsTracked, IsPassing, IsAround}
 
 -- ---- a pass
@@ -85,9 +85,9 @@ pub record AreGone (ids : List ℕ) (unused : ℕ) (waiting : List ℕ) : Type 0
 -- it leaves are in order.
 pub record IsIntact (d : LogData) (m : Memory) (p : Picture) : Type 0 where
   pub log : IsKept d p
-  pub tracked : IsTracked (log_of d m log.texts) m.pass m.index (map_of d)
+  pub tracked : IsTracked (log_set_of d m log.texts) m.pass m.index (map_of d)
   pub passing : IsPassing (log_ids d m) m.images m.pass m.index m.rest
-  pub around : IsAround (log_of d m log.texts) m.pass (map_of d) (state_of d).safe d.next
+  pub around : IsAround (log_set_of d m log.texts) m.pass (map_of d) (state_of d).safe d.next
   pub chosen : IsPassOf d.head.start (new_of d.phase) m.pass
   pub sealing : AreSealed d.config m log.texts p
   pub rolling : (n : Start) → new_of d.phase ≡ Some n → IsRollOf d m n

@@ -18,7 +18,7 @@ use Rattle.clap.specs.declared.parser.matches.ArgMatches.{ArgMatches}
 use Rattle.clap.proofs.CallerLemmas.{added_plain}
 use Rattle.clap.proofs.OnLiterals.{clap_on_literals}
 use Rattle.clap.proofs.WalkLemmas.{one_text-rows}
-use Rattle.command_line.specs.CommandLine.{HasNumber, HasOptions, IsCommand, IsDefault, IsNumberIn, NumberOption, ReadsNumber, default_options, number_rule, ramlog, versioned, ramlog_faults, ramlog_matches}
+use Rattle.command_line.specs.CommandLine.{HasNumber, HasOptions, IsCommand, IsDefault, IsNumberIn, NumberOption, ReadsNumber, default_options, number_rule, ramlog, with_version, ramlog_faults, ramlog_matches}
 use Rattle.command_line.specs.CommandLine.{backups, replicas, step, segment, seglet, seglets, tables, history, bytes, objects}
 use Rattle.command_line.specs.declared.number_option.NumberOption as code
 use Rattle.command_line.specs.declared.settings.Options.{Options}
@@ -47,9 +47,9 @@ texts_given f about after usage version t first second third last =
 
 -- a command that was given its texts
 described : (old new : Command) (app : App) (t : Texts) → IsCommand app old
-    → out-Command new ≡ with_texts (out-Command old) t → IsCommand (versioned app) new
+    → out-Command new ≡ with_texts (out-Command old) t → IsCommand (with_version app) new
 described old new app t is same = record {
-  shape = ap app_of_fields same ∙ ap versioned is.shape;
+  shape = ap app_of_fields same ∙ ap with_version is.shape;
   plain = subst (λ (f : Command-F Command). All IsPlainArg f.args.items × (f.groups.items ≡ [])) (sym same) is.plain;
   local = ap (λ (f : Command-F Command). f.has_globals) same ∙ is.local;
 }
@@ -91,14 +91,14 @@ grown c options i is over =
 pub opening : (new old : Command) (t : Texts) (options : List code.NumberOption)
     → app_of old ≡ new_app (codes "ramlog") → (args_of old ≡ []) × (groups_of old ≡ []) → (out-Command old).has_globals ≡ false
     → out-Command new ≡ with_texts (out-Command old) t
-    → fold with_listed (versioned (new_app (codes "ramlog"))) options ≡ ramlog → Growing new options
+    → fold with_listed (with_version (new_app (codes "ramlog"))) options ≡ ramlog → Growing new options
 opening new old t options app empty local same whole = record {
   shape = ap (λ app. fold with_listed app options) is.shape ∙ whole;
   plain = is.plain;
   local = is.local;
 }
   where
-    is : IsCommand (versioned (new_app (codes "ramlog"))) new
+    is : IsCommand (with_version (new_app (codes "ramlog"))) new
     is = described old new _ t record {
       shape = app;
       plain = (subst (All IsPlainArg) (sym empty.0) (All-nil IsPlainArg), empty.1);

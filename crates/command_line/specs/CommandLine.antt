@@ -62,12 +62,12 @@ abbrev pub with_option : App → NumberOption → App
 with_option app option = with_rule app (number_rule option.name option.least option.most)
 
 -- the app with a version
-abbrev pub versioned : App → App
-versioned app = record app { top = record app.top { has_version = true } }
+abbrev pub with_version : App → App
+with_version app = record app { top = record app.top { has_version = true } }
 
 -- the program's command: the ten options, a version, and nothing else
 unfoldable pub ramlog : App
-ramlog = fold with_option (versioned (new_app (codes "ramlog")))
+ramlog = fold with_option (with_version (new_app (codes "ramlog")))
     (backups ∷ replicas ∷ step ∷ segment ∷ seglet ∷ seglets ∷ tables ∷ history ∷ bytes ∷ objects ∷ [])
 
 -- clap's exact matches of the words

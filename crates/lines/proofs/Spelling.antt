@@ -7,8 +7,8 @@ use Rattle.std.proofs.lemmas.Bool.Decides.{nat_tests}
 use Rattle.std.proofs.lemmas.List.Elements.{All-push, All-nil, All-cons}
 use Rattle.std.proofs.lemmas.List.Splits.{slice_split_at, slice_split_none, join_with_byte-slice_split}
 use Rattle.std.proofs.lemmas.Fmt.{decimal_by_steps}
-use Rattle.lines.specs.Grammar.{IsIdle, IsKey, IsWord, LineValue, Says, Idle, Put, Get, Hex, Stop, Lose, shown}
-use Rattle.lines.specs.Words.{AreNumber, AreWordsOf, Reads, is_space}
+use Rattle.lines.specs.Grammar.{IsIdle, IsKeyWord, IsWord, LineValue, Says, Idle, Put, Get, Hex, Stop, Lose, shown_line}
+use Rattle.lines.specs.Words.{AreNumber, AreWordsOf, ReadsWords, is_space}
 use Rattle.lines.specs.declared.line.Line.{Line}
 
 -- ---- words
@@ -71,7 +71,7 @@ is_get = record { some = search (arith); visible = λ k d below. search (arith) 
 
 -- what is behind `put`
 pub put : (words : List (List ℕ)) (table : ℕ) (key value : List ℕ) (behind last : List (List ℕ)) → words ≡ decimal table ∷ behind
-    → table < 2 ^ 64 → (behind ≡ key ∷ last) × IsKey key → (last ≡ value ∷ []) × IsWord value
+    → table < 2 ^ 64 → (behind ≡ key ∷ last) × IsKeyWord key → (last ≡ value ∷ []) × IsWord value
     → AreWordsOf (codes "put" ∷ words) (Put table key value)
 put words table key value behind last cut small key_is value_is = record {
   spelled = ap (λ ws. codes "put" ∷ ws)
@@ -84,7 +84,7 @@ put words table key value behind last cut small key_is value_is = record {
 
 -- what is behind `get`
 pub get : (words : List (List ℕ)) (table : ℕ) (key : List ℕ) (behind : List (List ℕ)) → words ≡ decimal table ∷ behind
-    → table < 2 ^ 64 → (behind ≡ key ∷ []) × IsKey key → AreWordsOf (codes "get" ∷ words) (Get table key)
+    → table < 2 ^ 64 → (behind ≡ key ∷ []) × IsKeyWord key → AreWordsOf (codes "get" ∷ words) (Get table key)
 get words table key behind cut small key_is = record {
   spelled = ap (λ ws. codes "get" ∷ ws) (cut ∙ ap (λ ws. decimal table ∷ ws) key_is.0);
   each = All-cons IsWord (codes "get") (decimal table ∷ key ∷ []) is_get
@@ -132,12 +132,12 @@ cut text line busy says = record {
 
 -- so what is read of the words is what the text says
 pub read_is_said : (text : List ℕ) (words : List (List ℕ)) (result : Option Line) → words ≡ slice_split is_space text
-    → Reads words result → IfSome result (λ line. Says text (shown line))
-read_is_said text words (Some line) split reads = said text (shown line) (subst (λ ws. AreWordsOf ws (shown line)) split reads)
+    → ReadsWords words result → IfSome result (λ line. Says text (shown_line line))
+read_is_said text words (Some line) split reads = said text (shown_line line) (subst (λ ws. AreWordsOf ws (shown_line line)) split reads)
 read_is_said text words None split reads = search rules
 
 pub unread_is_unsaid : (text : List ℕ) (words : List (List ℕ)) (result : Option Line) → words ≡ slice_split is_space text
-    → (IsIdle text → ⊥) → Reads words result → IsNone result → (line : LineValue) → Says text line → ⊥
+    → (IsIdle text → ⊥) → ReadsWords words result → IsNone result → (line : LineValue) → Says text line → ⊥
 unread_is_unsaid text words (Some line) split busy reads none other says = absurd (cc)
 unread_is_unsaid text words None split busy reads none line says =
     reads line (subst (λ ws. AreWordsOf ws line) (sym split) (cut text line busy says))

@@ -19,15 +19,15 @@ pub data LineValue : Type 0 where
   Recover : LineValue
 
 -- what a line of the program says
-abbrev pub shown : Line → LineValue
-shown line.Idle = Idle
-shown (line.Put table key value) = Put table key.now value.now
-shown (line.Get table key) = Get table key.now
-shown (line.Hex segment) = Hex segment
-shown (line.Stop takes) = Stop takes
-shown line.Crash = Crash
-shown (line.Lose backup) = Lose backup
-shown line.Recover = Recover
+abbrev pub shown_line : Line → LineValue
+shown_line line.Idle = Idle
+shown_line (line.Put table key value) = Put table key.now value.now
+shown_line (line.Get table key) = Get table key.now
+shown_line (line.Hex segment) = Hex segment
+shown_line (line.Stop takes) = Stop takes
+shown_line line.Crash = Crash
+shown_line (line.Lose backup) = Lose backup
+shown_line line.Recover = Recover
 
 -- ---- words
 
@@ -37,7 +37,7 @@ pub record IsWord (word : List ℕ) : Type 0 where
   pub visible : All (λ b. (33 ≤ b) × (b ≤ 126)) word
 
 -- a key is a word of at most 1,024 bytes
-pub record IsKey (key : List ℕ) : Type 0 where
+pub record IsKeyWord (key : List ℕ) : Type 0 where
   pub word : IsWord key
   pub short : length key ≤ 1024
 
@@ -57,8 +57,8 @@ words_of Recover = codes "recover" ∷ []
 -- the numbers of a line are of 64 bits, and its key is a key
 abbrev pub IsLine : LineValue → Type 0
 IsLine Idle = Unit {0}
-IsLine (Put table key value) = (table < 2 ^ 64) × IsKey key
-IsLine (Get table key) = (table < 2 ^ 64) × IsKey key
+IsLine (Put table key value) = (table < 2 ^ 64) × IsKeyWord key
+IsLine (Get table key) = (table < 2 ^ 64) × IsKeyWord key
 IsLine (Hex segment) = segment < 2 ^ 64
 IsLine (Stop takes) = takes < 2 ^ 64
 IsLine Crash = Unit {0}

@@ -3,7 +3,7 @@ use Rattle.std.specs.Prelude.{◌≡◌, ◌==◌, ◌<◌, ◌≤◌, ◌^◌, 
 use Rattle.std.specs.Borrow.{Bor}
 use Rattle.std.specs.List.{All, slice_split}
 use Rattle.std.specs.Fmt.{decimal}
-use Rattle.lines.specs.Grammar.{IsLine, IsWord, LineValue, Idle, shown, words_of}
+use Rattle.lines.specs.Grammar.{IsLine, IsWord, LineValue, Idle, shown_line, words_of}
 use Rattle.lines.specs.declared.line.Line.{Line}
 
 abbrev pub is_space : ℕ → Bool
@@ -41,6 +41,6 @@ AreWordsOf words Idle = ⊥
 AreWordsOf words line = Spell words line
 
 -- the line that the words spell, or None where they spell none
-abbrev pub Reads : List (List ℕ) → Option Line → Type 0
-Reads words None = (line : LineValue) → AreWordsOf words line → ⊥
-Reads words (Some line) = AreWordsOf words (shown line)
+abbrev pub ReadsWords : List (List ℕ) → Option Line → Type 0
+ReadsWords words None = (line : LineValue) → AreWordsOf words line → ⊥
+ReadsWords words (Some line) = AreWordsOf words (shown_line line)

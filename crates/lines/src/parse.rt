@@ -1,8 +1,8 @@
 //! Parsing lines.
 
 ghost use Rattle.std.specs.Prelude.{◌≡◌, ◌∷◌, ◌↔◌, ℕ, IfSome, IsNone, IsTrue, codes};
-ghost use Rattle.lines.specs.Grammar.{IsIdle, LineValue, Says, shown};
-ghost use Rattle.lines.specs.Words.{AreNumber, Reads};
+ghost use Rattle.lines.specs.Grammar.{IsIdle, LineValue, Says, shown_line};
+ghost use Rattle.lines.specs.Words.{AreNumber, ReadsWords};
 
 use crate::line::Line;
 use crate::words::Words;
@@ -12,7 +12,7 @@ use crate::words::Words;
 /// It takes no memory: a key and a value are parts of the text. The length of the text, which `next_line` bounds, isn't
 /// looked at.
 pub fn parse_line(text: &[u8]) -> Option<Line<'_>>
-    ensures sound { IfSome result (λ line. Says text.entry.now (shown line)) }
+    ensures sound { IfSome result (λ line. Says text.entry.now (shown_line line)) }
     ensures complete { IsNone result → (line : LineValue) → ¬ Says text.entry.now line }
 {
     if is_idle(text) {
@@ -30,7 +30,7 @@ fn is_idle(text: &[u8]) -> bool
 
 /// Parses the words of a line that does something.
 fn parse_words(mut words: Words<'_>) -> Option<Line<'_>>
-    ensures { Reads words.entry result }
+    ensures { ReadsWords words.entry result }
 {
     match words.next_word()? {
         name if is(name, "put") => put(words),
@@ -54,7 +54,7 @@ fn is(word: &[u8], text: &str) -> bool
 
 /// The words behind `put`: a table, a key and a value.
 fn put(mut words: Words<'_>) -> Option<Line<'_>>
-    ensures { Reads (codes "put" ∷ words.entry) result }
+    ensures { ReadsWords (codes "put" ∷ words.entry) result }
 {
     let table = words.number()?;
     let key = words.key()?;
@@ -64,7 +64,7 @@ fn put(mut words: Words<'_>) -> Option<Line<'_>>
 
 /// The words behind `get`: a table and a key.
 fn get(mut words: Words<'_>) -> Option<Line<'_>>
-    ensures { Reads (codes "get" ∷ words.entry) result }
+    ensures { ReadsWords (codes "get" ∷ words.entry) result }
 {
     let table = words.number()?;
     let key = words.last_key()?;
@@ -73,7 +73,7 @@ fn get(mut words: Words<'_>) -> Option<Line<'_>>
 
 /// The words behind `hex`: the number of a segment.
 fn hex(words: Words<'_>) -> Option<Line<'_>>
-    ensures { Reads (codes "hex" ∷ words.entry) result }
+    ensures { ReadsWords (codes "hex" ∷ words.entry) result }
 {
     let segment = only_number(words)?;
     Some(Line::Hex { segment })
@@ -81,7 +81,7 @@ fn hex(words: Words<'_>) -> Option<Line<'_>>
 
 /// The word behind `stop`: how many takes are left.
 fn stop(words: Words<'_>) -> Option<Line<'_>>
-    ensures { Reads (codes "stop" ∷ words.entry) result }
+    ensures { ReadsWords (codes "stop" ∷ words.entry) result }
 {
     let takes = only_number(words)?;
     Some(Line::Stop { takes })
@@ -89,7 +89,7 @@ fn stop(words: Words<'_>) -> Option<Line<'_>>
 
 /// The word behind `lose`: the number of a backup.
 fn lose(words: Words<'_>) -> Option<Line<'_>>
-    ensures { Reads (codes "lose" ∷ words.entry) result }
+    ensures { ReadsWords (codes "lose" ∷ words.entry) result }
 {
     let backup = only_number(words)?;
     Some(Line::Lose { backup })

@@ -4,7 +4,7 @@ ghost use Rattle.std.specs.Prelude.{◌≡◌, ◌≢◌, ◌∷◌, ◌^◌, �
 ghost use Rattle.std.specs.List.{All, slice_split};
 ghost use Rattle.std.specs.Fmt.{decimal};
 ghost use Rattle.std.specs.Str.Parse.{AllDigits, digits_value};
-ghost use Rattle.lines.specs.Grammar.{IsKey, IsWord};
+ghost use Rattle.lines.specs.Grammar.{IsKeyWord, IsWord};
 ghost use Rattle.lines.specs.Words.{IsVisible, IsVisibleFront, is_space, words_left};
 
 use std::marker::Model;
@@ -52,8 +52,8 @@ impl<'a> Words<'a> {
 
     /// The next word as a key.
     pub(crate) fn key(&mut self) -> Option<&'a [u8]>
-        ensures sound { IfSome result (λ key. (self.old ≡ key.now ∷ self.new) × IsKey key.now) }
-        ensures complete { IsNone result → (key : List ℕ) (rest : List (List ℕ)) → IsKey key → self.old ≢ key ∷ rest }
+        ensures sound { IfSome result (λ key. (self.old ≡ key.now ∷ self.new) × IsKeyWord key.now) }
+        ensures complete { IsNone result → (key : List ℕ) (rest : List (List ℕ)) → IsKeyWord key → self.old ≢ key ∷ rest }
     {
         let key = self.next_word()?;
         (is_word(key) && key.len() <= MAX_KEY_LEN).then_some(key)
@@ -61,8 +61,8 @@ impl<'a> Words<'a> {
 
     /// The only word that is left, as a key.
     pub(crate) fn last_key(self) -> Option<&'a [u8]>
-        ensures sound { IfSome result (λ key. (self.entry ≡ key.now ∷ []) × IsKey key.now) }
-        ensures complete { IsNone result → (key : List ℕ) → IsKey key → self.entry ≢ key ∷ [] }
+        ensures sound { IfSome result (λ key. (self.entry ≡ key.now ∷ []) × IsKeyWord key.now) }
+        ensures complete { IsNone result → (key : List ℕ) → IsKeyWord key → self.entry ≢ key ∷ [] }
     {
         let key = self.last()?;
         (key.len() <= MAX_KEY_LEN).then_some(key)

@@ -12,7 +12,7 @@ use Rattle.log_model.specs.Data.{Start, LogUnit, Head, start_entries, entries_of
 use Rattle.log_model.specs.Steps.{units_between}
 use Rattle.log_head.specs.declared.head.UnitEnd.{UnitEnd}
 use Rattle.log_head.specs.Head.{HeadValue, end_of}
-use Rattle.log_head.specs.Steps.{fresh_head, with_unit}
+use Rattle.log_head.specs.Steps.{fresh_head, with_unit_end}
 use Rattle.log_head.specs.Log.{but_last, start_in, entries_between, units_from, head_of, AreEnds, IsImageOf}
 use Rattle.log_head.proofs.Heads.{text_more}
 
@@ -194,7 +194,7 @@ module _ (master : ℕ) (h : HeadValue) (l : Head) (is : IsImageOf master h l) w
 
   -- with one more unit the image holds the head with one more unit
   pub image_with_unit : (number : ℕ) (unit : List Entry)
-      → IsImageOf master (with_unit h number unit) (record l { units = l.units ++ record { number = number; entries = unit } ∷ [] })
+      → IsImageOf master (with_unit_end h number unit) (record l { units = l.units ++ record { number = number; entries = unit } ∷ [] })
   image_with_unit number unit =
       let u : LogUnit = record { number = number; entries = unit } in
       let more : List LogUnit = l.units ++ u ∷ [] in

@@ -26,8 +26,8 @@ end_of from [] (suc n) = from
 end_of from (u ∷ us) (suc n) = end_of u.end us n
 
 -- the record of the unit at this place
-abbrev pub number_at : List UnitEnd → ℕ → Option ℕ
-number_at us place = option_map (λ (u : UnitEnd). u.number) (slice_get us place)
+abbrev pub record_at : List UnitEnd → ℕ → Option ℕ
+record_at us place = option_map (λ (u : UnitEnd). u.number) (slice_get us place)
 
 -- the length of an image with a unit at its end
 abbrev pub len_with : List Entry → List Entry → ℕ
@@ -39,7 +39,7 @@ EndAt from [] len = from ≡ len
 EndAt from (u ∷ us) len = (from ≤ u.end) × EndAt u.end us len
 
 -- what holds of every head
-pub record IsHead (h : HeadValue) : Type 0 where
+pub record IsHeadValue (h : HeadValue) : Type 0 where
   pub segment : IsSegment h.image
   pub limit : length (text_of h.image) ≤ 8388608
   pub units : EndAt h.opening h.units (length (text_of h.image))

@@ -5,7 +5,7 @@ use Rattle.entry.specs.Text.{text_of, IsSegment}
 use Rattle.log_model.specs.Data.{Start, Head, entries_of, head_entries}
 use Rattle.log_model.specs.Steps.{units_between}
 use Rattle.log_head.specs.Head.{HeadValue, end_of}
-use Rattle.log_head.specs.Steps.{fresh_head, with_unit}
+use Rattle.log_head.specs.Steps.{fresh_head, with_unit_end}
 use Rattle.log_head.specs.Log.{head_of, IsImageOf}
 
 -- An image has one head of the log: the one that is read from it.
@@ -37,7 +37,7 @@ FreshIsImage = (master replicas : ℕ) (start : Start)
 
 abbrev pub UnitIsImage : Type 0
 UnitIsImage = (master : ℕ) (h : HeadValue) (l : Head) (number : ℕ) (unit : List Entry) → IsImageOf master h l
-    → IsImageOf master (with_unit h number unit)
+    → IsImageOf master (with_unit_end h number unit)
     (record l { units = l.units ++ record { number = number; entries = unit } ∷ [] })
 
 -- What replicas have changes nothing else.

@@ -21,16 +21,16 @@ fresh_head master replicas start = record {
 }
 
 -- one more unit
-abbrev pub with_unit : HeadValue → ℕ → List Entry → HeadValue
-with_unit h number unit = record h {
+abbrev pub with_unit_end : HeadValue → ℕ → List Entry → HeadValue
+with_unit_end h number unit = record h {
   image = h.image ++ unit;
   units = h.units ++ record { number = number; end = length (text_of (h.image ++ unit)) } ∷ [];
 }
 
 -- one more replica, with the opening alone
-abbrev pub with_replica : HeadValue → HeadValue
-with_replica h = record h { taken = h.taken ++ 0 ∷ [] }
+abbrev pub with_opened_replica : HeadValue → HeadValue
+with_opened_replica h = record h { taken = h.taken ++ 0 ∷ [] }
 
 -- one more unit on a replica
-abbrev pub with_taken : HeadValue → ℕ → HeadValue
-with_taken h j = record h { taken = slice_set h.taken j (unwrap_or (slice_get h.taken j) 0 + 1) }
+abbrev pub with_one_taken : HeadValue → ℕ → HeadValue
+with_one_taken h j = record h { taken = slice_set h.taken j (unwrap_or (slice_get h.taken j) 0 + 1) }

@@ -38,7 +38,7 @@ pub struct Head {
 
 impl Model for Head {
     ghost use Rattle.std.specs.Prelude.{◌≤◌, vec_capacity};
-    ghost use Rattle.log_head.specs.Head.{HeadValue, IsHead};
+    ghost use Rattle.log_head.specs.Head.{HeadValue, IsHeadValue};
 
     ghost Value = { HeadValue };
 
@@ -52,7 +52,7 @@ impl Model for Head {
     } };
 
     // there is room for each replica to be counted
-    ghost invariant = { λ h. (h.replicas ≤ vec_capacity h.taken) × IsHead (record {
+    ghost invariant = { λ h. (h.replicas ≤ vec_capacity h.taken) × IsHeadValue (record {
       id = h.id;
       replicas = h.replicas;
       image = h.image;
@@ -64,8 +64,8 @@ impl Model for Head {
 
 impl Head {
     ghost use Rattle.log_head.specs.declared.head.UnitEnd.{UnitEnd as UnitValue};
-    ghost use Rattle.log_head.specs.Head.{HeadValue, IsHead, end_of, number_at, len_with, everywhere, IsLagging};
-    ghost use Rattle.log_head.specs.Steps.{lone_start, fresh_head, with_unit, with_replica, with_taken};
+    ghost use Rattle.log_head.specs.Head.{HeadValue, IsHeadValue, end_of, record_at, len_with, everywhere, IsLagging};
+    ghost use Rattle.log_head.specs.Steps.{lone_start, fresh_head, with_unit_end, with_opened_replica, with_one_taken};
     ghost use Rattle.log_model.specs.Data.{Start};
 
     /// The first head of a master. Its opening alone is in its image, and no replica was opened.
@@ -77,7 +77,7 @@ impl Head {
     ) -> Result<Head, NoMemory>
         requires { replicas ≤ 64 }
         ensures begun { IfOk result (λ head. head ≡ fresh_head master replicas (lone_start safe)) }
-        ensures valid { IfOk result (λ head. IsHead head) }
+        ensures valid { IfOk result (λ head. IsHeadValue head) }
     {
         let taken = Vec::with_capacity(alloc, replicas)?;
         let image = first_image(alloc, master, safe)?;
@@ -95,14 +95,14 @@ impl Head {
     /// The segment's number.
     pub fn id(&self) -> u64
         ensures id { result ≡ self.now.id }
-        ensures valid { IsHead self.now }
+        ensures valid { IsHeadValue self.now }
     {
         self.id
     }
 
     pub fn image(&self) -> &Segment
         ensures image { result.now ≡ self.now.image }
-        ensures valid { IsHead self.now }
+        ensures valid { IsHeadValue self.now }
     {
         &self.image
     }
@@ -117,7 +117,7 @@ impl Head {
     /// Whether all replicas were opened.
     pub fn is_open(&self) -> bool
         ensures open { result ≡ (length self.now.taken == self.now.replicas) }
-        ensures valid { IsHead self.now }
+        ensures valid { IsHeadValue self.now }
     {
         self.taken.len() == self.replicas
     }
@@ -184,8 +184,8 @@ impl Head {
 
     /// The record of the first unit that some replica lacks; `None` where each has all of them.
     pub fn first_missing(&self) -> Option<usize>
-        ensures valid { IsHead self.now }
-        ensures missing { result ≡ number_at self.now.units (everywhere self.now) }
+        ensures valid { IsHeadValue self.now }
+        ensures missing { result ≡ record_at self.now.units (everywhere self.now) }
     {
         match self.units.get(self.everywhere()) {
             None => None,
@@ -209,8 +209,8 @@ impl Head {
     /// Counts a replica that was opened.
     pub fn open(&mut self)
         requires { length self.old.taken < self.old.replicas }
-        ensures opened { self.new ≡ with_replica self.old }
-        ensures valid { IsHead self.new }
+        ensures opened { self.new ≡ with_opened_replica self.old }
+        ensures valid { IsHeadValue self.new }
     {
         self.taken.push_reserved(0)
     }
@@ -219,8 +219,8 @@ impl Head {
     pub fn extend(&mut self, replica: usize)
         requires lags { IfSome (slice_get self.old.taken replica) (λ n. n < length self.old.units) }
         requires opened { replica < length self.old.taken }
-        ensures extended { self.new ≡ with_taken self.old replica }
-        ensures valid { IsHead self.new }
+        ensures extended { self.new ≡ with_one_taken self.old replica }
+        ensures valid { IsHeadValue self.new }
     {
         self.taken[replica] += 1;
     }
@@ -236,11 +236,11 @@ impl Head {
         requires some { 0 < length unit.now }
         requires data { are_data (map shown unit.now) ≡ true }
         requires limit { limit ≤ 8388608 }
-        ensures ok { OnOk result (self.new ≡ with_unit self.old number (map shown unit.now)) }
+        ensures ok { OnOk result (self.new ≡ with_unit_end self.old number (map shown unit.now)) }
         ensures limit { OnOk result (len_with self.old.image (map shown unit.now) ≤ limit) }
         ensures full { IsErrOf result AppendFault.Full → limit < len_with self.old.image (map shown unit.now) }
         ensures err { OnErr result (self.new ≡ self.old) }
-        ensures valid { OnOk result (IsHead self.new) }
+        ensures valid { OnOk result (IsHeadValue self.new) }
     {
         if self.units.reserve(1).is_err() {
             return Err(AppendFault::NoMemory);

@@ -11,7 +11,7 @@ use Rattle.entry.specs.Bag.{IsAmong}
 use Rattle.entry.specs.Text.{is_data, data_in, Opening, opening_in, opening_of}
 use Rattle.replica.specs.declared.holding.Holding.{Holding}
 use Rattle.replica.specs.Picture.{Replica, Picture, left_on, IsHeld}
-use Rattle.replica.specs.Choice.{Choice, IsOther, bag_of}
+use Rattle.replica.specs.Choice.{Choice, IsUsableOf, bag_of}
 use Rattle.versioned_map.specs.Represents.{Represents}
 use Rattle.versioned_map.specs.Versioned.{State}
 use Rattle.log_model.specs.Data.{Start, LogData, front_entries, closed_of, state_after, everywhere, durable_of}
@@ -79,7 +79,7 @@ module _ (d : LogData) (texts : Texts) (p : Picture) (held : IsLogHeld d texts p
 
   module _ (keep : ℕ → Bool) where
     abbrev Held : Opening → Holding → Type 0
-    Held opening h = IsHeld (left_on keep p) h × IsOther master opening h
+    Held opening h = IsHeld (left_on keep p) h × IsUsableOf master opening h
 
     others_are : (opening : Opening) (hs : List Holding) (ids : List ℕ) → map (λ (h : Holding). h.segment) hs ≡ ids
         → AllByRecursion (Held opening) hs → AreAll ids → IsBase hs ids

@@ -11,7 +11,7 @@ use Rattle.entry.specs.Text.{Opening, opening_in}
 use Rattle.entry.proofs.BagLemmas.{among_left}
 use Rattle.replica.specs.declared.holding.Holding.{Holding}
 use Rattle.replica.specs.Picture.{Replica, Picture, left_on, Shown, shown_by, IsHeld}
-use Rattle.replica.specs.Choice.{Choice, IsOther}
+use Rattle.replica.specs.Choice.{Choice, IsUsableOf}
 use Rattle.replica.specs.Survival.{HoldsHead, IsOpened, IsHeadLeft, HeadSurvives, BothSurvive}
 use Rattle.log_model.specs.Data.{Start, LogData, IsHome, new_of, opened_of, closed_of}
 use Rattle.log_model.specs.Kept.{IsLogHeld}
@@ -118,7 +118,7 @@ shown_held p keep b master s r is_kept there =
 
 module _ (p : Picture) (master : ℕ) (opening : Opening) (keep : ℕ → Bool) where
   abbrev Held : Holding → Type 0
-  Held h = IsHeld (left_on keep p) h × IsOther master opening h
+  Held h = IsHeld (left_on keep p) h × IsUsableOf master opening h
 
   record Others (ids : List ℕ) : Type 0 where
     hs : List Holding

@@ -27,7 +27,7 @@ use Rattle.master_core.specs.Log.{log_of, state_now}
 use Rattle.master_core.specs.Steps.{record_now, Applies}
 use Rattle.master_core.proofs.Finding.{head_or_none}
 use Rattle.master_core.proofs.Refusals.{is_admitted, passed_early}
-use Rattle.master.specs.Invariant.{IsMemoryOf, IsKept}
+use Rattle.master.specs.Invariant.{IsMemoryOf, IsWellKept}
 
 -- ---- images
 
@@ -57,7 +57,7 @@ entries_longer master h n (e ∷ es) =
 
 -- ---- a command
 
-module _ (d e : MasterData) (f : FleetState) (seat : ℕ) (command : Command) (answer : StepAnswer) (kept : IsKept d f) (is : Applies d seat command answer e)
+module _ (d e : MasterData) (f : FleetState) (seat : ℕ) (command : Command) (answer : StepAnswer) (kept : IsWellKept d f) (is : Applies d seat command answer e)
     (may : MayApply (log_of d) (dead_segment d command) (record_now d seat command)) (core : IsCore e) where
   abbrev m : Memory
   m = kept.memory
@@ -113,7 +113,7 @@ module _ (d e : MasterData) (f : FleetState) (seat : ℕ) (command : Command) (a
     pass = kept.memory_is.pass;
   }
 
-  pub applied_kept : IsKept e f
+  pub applied_kept : IsWellKept e f
   applied_kept = record {
     core = core;
     alone = ap (λ (l : LogData). l.head.start.others) is.log ∙ kept.alone;

@@ -24,7 +24,7 @@ use Rattle.master_core.specs.Causes.{dead_segment}
 use Rattle.master_core.specs.Data.{MasterData}
 use Rattle.master_core.specs.Log.{log_of}
 use Rattle.master_core.specs.Steps.{Applies, record_now}
-use Rattle.master.specs.Invariant.{IsKept}
+use Rattle.master.specs.Invariant.{IsWellKept}
 use Rattle.master.specs.Keeps.{Keeps}
 use Rattle.master.specs.Pushes.{IsNextOp, Pushes}
 use Rattle.master.specs.Steps.{FailsTake, Steps}
@@ -106,7 +106,7 @@ is_next d e o (Opened backup segment) is = inl is.0
 is_next d e o (Extended backup segment) is = inr (inl is.0.extends)
 is_next d e o (Applied place reply) is = absurd is
 
-module _ (old new : World) (kept : IsKept old.knows old.fleet) where
+module _ (old new : World) (kept : IsWellKept old.knows old.fleet) where
   log_kept : IsLogKept (log_of old.knows) kept.before
   log_kept = kept.intact.log
 
@@ -169,6 +169,6 @@ module _ (old new : World) (kept : IsKept old.knows old.fleet) where
   step_keeps Push (Err r) (inl t) = unchanged t.1
   step_keeps Push (Err r) (inr t) = failed r t.1
 
-pub steps_keep : (old new : World) (step : Step) (result : Result StepAnswer Refusal) → IsKept old.knows old.fleet → Steps old step result new
+pub steps_keep : (old new : World) (step : Step) (result : Result StepAnswer Refusal) → IsWellKept old.knows old.fleet → Steps old step result new
     → Keeps 1 old new
 steps_keep old new step result kept t = step_keeps old new kept step result t

@@ -22,13 +22,13 @@ use Rattle.master_core.specs.Invariant.{IsCore}
 use Rattle.master_core.specs.Log.{log_of}
 use Rattle.master_core.specs.Steps.{halted, refusal_of, failed_data}
 use Rattle.master_core.proofs.Beginning.{halted_core}
-use Rattle.master.specs.Invariant.{IsKept}
+use Rattle.master.specs.Invariant.{IsWellKept}
 use Rattle.master.specs.Pushes.{IsNextOp}
 use Rattle.master.specs.Steps.{Declines}
 
 -- ---- an op
 
-module _ (d : MasterData) (ks : List ℕ) (f : FleetState) (o : LogOp) (kept : IsKept d f) (running : d.is_halted ≡ false)
+module _ (d : MasterData) (ks : List ℕ) (f : FleetState) (o : LogOp) (kept : IsWellKept d f) (running : d.is_halted ≡ false)
     (next : IsNext (log_of d) o (log_of (record d { head = record d.head { taken = ks } }))) (backup : o.backup < d.config.backups) where
   abbrev e : MasterData
   e = record d { head = record d.head { taken = ks } }
@@ -62,7 +62,7 @@ module _ (d : MasterData) (ks : List ℕ) (f : FleetState) (o : LogOp) (kept : I
       let same = same_Some (with_taken f then_is.0) g (sym fits ∙ is) in
       (ap (λ (h : FleetState). h.picture) same, sym (ap (λ (h : FleetState). h.backups) same))
 
-  pub taken_kept : (g : FleetState) → IsCore e → fleet_taken f o.backup (op_of d.config.master o) ≡ Some g → IsKept e g
+  pub taken_kept : (g : FleetState) → IsCore e → fleet_taken f o.backup (op_of d.config.master o) ≡ Some g → IsWellKept e g
   taken_kept g core is =
       let same = picture_is g is in
       record {
@@ -80,7 +80,7 @@ module _ (d : MasterData) (ks : List ℕ) (f : FleetState) (o : LogOp) (kept : I
   -- ---- a fault
 
   -- after a fault the backups are as before, or have the op
-  fault_kept : (g : FleetState) → Refuses f o.backup (op_of d.config.master o) take_fault.Fault g → IsKept (halted d) g
+  fault_kept : (g : FleetState) → Refuses f o.backup (op_of d.config.master o) take_fault.Fault g → IsWellKept (halted d) g
   fault_kept g refused = record {
     core = halted_core d kept.core;
     alone = kept.alone;
@@ -108,11 +108,11 @@ module _ (d : MasterData) (ks : List ℕ) (f : FleetState) (o : LogOp) (kept : I
       then_is.1 ∙ ap (λ (p : Picture). Some p) ((picture_is t.0 t.1.1).0 ∙ sym (ap (λ (h : FleetState). h.picture) t.2)),
     )
 
-  pub failed_kept : (g : FleetState) (fault : TakeFault) → Refuses f o.backup (op_of d.config.master o) fault g → IsKept (failed_data d fault) g
-  failed_kept g take_fault.NoMemory refused = subst (IsKept d) (sym refused) kept
+  pub failed_kept : (g : FleetState) (fault : TakeFault) → Refuses f o.backup (op_of d.config.master o) fault g → IsWellKept (failed_data d fault) g
+  failed_kept g take_fault.NoMemory refused = subst (IsWellKept d) (sym refused) kept
   failed_kept g take_fault.Wrong refused = absurd (never_wrong g refused)
   failed_kept g take_fault.Fault refused = fault_kept g refused
-  failed_kept g take_fault.Spent refused = subst (IsKept d) (sym refused.1) kept
+  failed_kept g take_fault.Spent refused = subst (IsWellKept d) (sym refused.1) kept
 
   pub not_wrong : (g : FleetState) (x : TakeFault) → Refuses f o.backup (op_of d.config.master o) x g → x ≡ take_fault.Wrong → ⊥
   not_wrong g x refused is = never_wrong g (rw is at refused)

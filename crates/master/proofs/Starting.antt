@@ -14,7 +14,7 @@ use Rattle.master_core.specs.Config.{config_fault}
 use Rattle.master_core.specs.Data.{fresh_data}
 use Rattle.master_core.specs.Invariant.{IsCore}
 use Rattle.master_core.specs.Log.{log_config, opening_of, log_of}
-use Rattle.master.specs.Invariant.{IsKept}
+use Rattle.master.specs.Invariant.{IsWellKept}
 use Rattle.master.proofs.Placing.{placed}
 
 log_fresh : (c : Config) → IsCore (fresh_data c) → log_of (fresh_data c) ≡ fresh (log_config c)
@@ -23,7 +23,7 @@ log_fresh c core =
     λ i. record { config = log_config c; opening = opening_of (fresh_data c); history = []; head = same i; phase = Ready; next = 2 }
 
 pub fresh_kept : (c : Config) (f : FleetState) → config_fault c ≡ None → IsCore (fresh_data c) → c.backups ≤ f.backups
-    → ((b s : ℕ) → f.picture b c.master s ≡ None) → IsKept (fresh_data c) f
+    → ((b s : ℕ) → f.picture b c.master s ≡ None) → IsWellKept (fresh_data c) f
 fresh_kept c f ok core backups nothing =
     let same = log_fresh c core in
     record {

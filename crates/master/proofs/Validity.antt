@@ -12,11 +12,11 @@ use Rattle.clean_model.specs.Memory.{Pass, log_ids}
 use Rattle.master_core.specs.Data.{MasterData}
 use Rattle.master_core.specs.Log.{log_of, images_of, memory_of}
 use Rattle.master_core.proofs.Finding.{indexed}
-use Rattle.master.specs.Invariant.{IsKept}
+use Rattle.master.specs.Invariant.{IsWellKept}
 use Rattle.master.specs.Valid.{IsValid}
 use Rattle.master.proofs.Memories.{IsSame, covered_too}
 
-module _ (d : MasterData) (f : FleetState) (kept : IsKept d f) where
+module _ (d : MasterData) (f : FleetState) (kept : IsWellKept d f) where
   -- the head alone is in the log set
   in_head : (s : ℕ) → IsAmong s (log_ids (log_of d) kept.memory) → d.head.id ≡ s
   in_head s i = sym kept.core.image.id ∙ elim (subst (λ (ids : List ℕ). IsAmong s ids) only i) [

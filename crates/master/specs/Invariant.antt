@@ -14,7 +14,7 @@ pub record IsMemoryOf (d : MasterData) (m : Memory) : Type 0 where
   pub image : m.images d.head.id ≡ d.head.image
   pub pass : m.pass ≡ no_pass
 
-pub record IsKept (d : MasterData) (f : FleetState) : Type 0 where
+pub record IsWellKept (d : MasterData) (f : FleetState) : Type 0 where
   pub core : IsCore d
   -- the digest lists the head alone
   pub alone : (head_of d.head).start.others ≡ []

@@ -11,7 +11,7 @@ ghost use Rattle.master_core.specs.Data.{fresh_data};
 ghost use Rattle.master_core.specs.Log.{log_of};
 ghost use Rattle.master_core.specs.Shown.{IsShown};
 ghost use Rattle.master_core.specs.Steps.{reply_now};
-ghost use Rattle.master.specs.Invariant.{IsKept};
+ghost use Rattle.master.specs.Invariant.{IsWellKept};
 ghost use Rattle.master.specs.Keeps.{Keeps};
 ghost use Rattle.master.specs.Steps.{Accepts, Declines, Steps, IsRun};
 ghost use Rattle.master.specs.Valid.{IsValid};
@@ -33,14 +33,14 @@ pub struct Master<F: Fleet> {
 }
 
 impl<F: Fleet> Model for Master<F> {
-    ghost use Rattle.master.specs.Invariant.{IsKept};
+    ghost use Rattle.master.specs.Invariant.{IsWellKept};
     ghost use Rattle.master.specs.World.{MasterValue};
 
     ghost Value = { MasterValue F };
 
     ghost view = { λ m. record { knows = m.core; fleet = m.fleet } };
 
-    ghost invariant = { λ m. IsKept m.core (F.state m.fleet) };
+    ghost invariant = { λ m. IsWellKept m.core (F.state m.fleet) };
 }
 
 impl<F: Fleet> Master<F> {
@@ -77,7 +77,7 @@ impl<F: Fleet> Master<F> {
 
     /// What each method of a master finds and leaves.
     fn show_kept(&self)
-        ensures { IsKept self.now.knows (F.state self.now.fleet) }
+        ensures { IsWellKept self.now.knows (F.state self.now.fleet) }
     {
         let _alloc = self.alloc;
     }

@@ -16,7 +16,7 @@ use Rattle.versioned_map.specs.History.{commands_of, IsLegal}
 use Rattle.versioned_map.specs.Units.{safe_given}
 use Rattle.versioned_map.specs.Versioned.{State, with_contents, replies, after, after_command}
 use Rattle.versioned_map.proofs.Units.{states_pushed}
-use Rattle.log_head.specs.Head.{HeadValue, IsHead}
+use Rattle.log_head.specs.Head.{HeadValue, IsHeadValue}
 use Rattle.log_head.specs.Log.{head_of, IsImageOf}
 use Rattle.log_head.proofs.HeadLog.{head_is, image_with_unit}
 use Rattle.log_model.specs.Data.{Head, Ready}
@@ -45,7 +45,7 @@ image_appended h n [] = sym (append-nil h.image)
 image_appended h n (e ∷ es) = refl
 
 -- the head of the log has that unit, too
-head_appended : (master : ℕ) (h : HeadValue) (n : ℕ) (u : List Entry) → IsImageOf master h (head_of h) → IsHead (appended h n u)
+head_appended : (master : ℕ) (h : HeadValue) (n : ℕ) (u : List Entry) → IsImageOf master h (head_of h) → IsHeadValue (appended h n u)
     → (head_of (appended h n u) ≡ record (head_of h) { units = with_unit (head_of h).units n u }) × IsImageOf master (appended h n u) (head_of (appended h n u))
 head_appended master h n [] is head = (refl, is)
 head_appended master h n (e ∷ es) is head =
@@ -54,7 +54,7 @@ head_appended master h n (e ∷ es) is head =
     (same, subst (λ (l : Head). IsImageOf master (appended h n (e ∷ es)) l) (sym same) more)
 
 -- it fits
-fits_then : (d : MasterData) (n : ℕ) (u : List Entry) → IsCore d → IsHead (appended d.head n u) → (u ≡ []) ⊎ Fits (log_of d) u
+fits_then : (d : MasterData) (n : ℕ) (u : List Entry) → IsCore d → IsHeadValue (appended d.head n u) → (u ≡ []) ⊎ Fits (log_of d) u
 fits_then d n [] core head = inl refl
 fits_then d n (e ∷ es) core head = inr (record {
   ready = refl;
@@ -80,7 +80,7 @@ module _ (d : MasterData) (core : IsCore d) (command : Command) (change : Change
       (unit_fits d command passed (ap is_empty (sym unit_is) ∙ some))
 
   module _ (seat at : ℕ) (passed : command_refusal d command ≡ None) (is_placed : IsPlaced d command change at)
-      (head : IsHead (appended d.head (length d.history) (unit_of_change d.head.id command change))) where
+      (head : IsHeadValue (appended d.head (length d.history) (unit_of_change d.head.id command change))) where
     abbrev unit : List Entry
     unit = unit_of_change d.head.id command change
 

@@ -1,7 +1,7 @@
 -- A new core, and a core of which replicas took something or failed.
 use Rattle.std.proofs.Common.{◌≡◌, ℕ, List, [], refl, sym, subst, arith}
 use Rattle.std.specs.Prelude.{None}
-use Rattle.log_head.specs.Head.{IsHead}
+use Rattle.log_head.specs.Head.{IsHeadValue}
 use Rattle.log_head.specs.Log.{head_of, IsImageOf}
 use Rattle.log_head.specs.Steps.{fresh_head}
 use Rattle.log_head.proofs.HeadLog.{head_is, image_fresh, image_with_counts}
@@ -13,7 +13,7 @@ use Rattle.master_core.specs.Data.{MasterData, fresh_data}
 use Rattle.master_core.specs.Invariant.{IsCore}
 use Rattle.master_core.specs.Steps.{halted}
 
-pub fresh_core : (c : Config) → config_fault c ≡ None → IsHead (fresh_head c.master c.replicas first_start) → IsCore (fresh_data c)
+pub fresh_core : (c : Config) → config_fault c ≡ None → IsHeadValue (fresh_head c.master c.replicas first_start) → IsCore (fresh_data c)
 fresh_core c ok head =
     let is = image_fresh c.master c.replicas first_start in
     record {
@@ -28,7 +28,7 @@ fresh_core c ok head =
     }
 
 -- only what replicas have changed
-pub counted_core : (d : MasterData) (ks : List ℕ) → IsCore d → IsHead (record d.head { taken = ks }) → IsCore (record d { head = record d.head { taken = ks } })
+pub counted_core : (d : MasterData) (ks : List ℕ) → IsCore d → IsHeadValue (record d.head { taken = ks }) → IsCore (record d { head = record d.head { taken = ks } })
 counted_core d ks core head = record {
   config = core.config;
   replicas = core.replicas;

@@ -25,7 +25,7 @@ use Rattle.versioned_map.specs.Units.{unit_given}
 use Rattle.versioned_map.proofs.Keys.{key_eq-tells}
 use Rattle.master_core.specs.Causes.{dead_segment, unit_now}
 use Rattle.master_core.specs.Data.{MasterData}
-use Rattle.master_core.specs.Index.{Stands, AreAt}
+use Rattle.master_core.specs.Index.{LiesAt, AreAt}
 use Rattle.master_core.specs.Invariant.{IsCore}
 use Rattle.master_core.specs.Log.{Place, is_object_of, has_object_at, first_at, find, Finds, image_of, images_of, IsIndexed, state_now}
 
@@ -34,7 +34,7 @@ drop_front [] ys = refl
 drop_front (x ∷ xs) ys = drop_front xs ys
 
 -- an entry that stands at an offset is read there
-pub stands_at : (image : List Entry) (at : ℕ) (e : Entry) → AllByRecursion IsEntry image → Stands image at e → standing_at at (text_of image) ≡ Some e
+pub stands_at : (image : List Entry) (at : ℕ) (e : Entry) → AllByRecursion IsEntry image → LiesAt image at e → standing_at at (text_of image) ≡ Some e
 stands_at image at e each s =
     let split = all_split IsEntry s.before (e ∷ s.after) (subst (λ (es : List Entry). AllByRecursion IsEntry es) s.split each) in
     let parts : text_of image ≡ text_of s.before ++ text_of (e ∷ s.after) = ap text_of s.split ∙ text_of-append s.before (e ∷ s.after) in

@@ -14,7 +14,7 @@ use Rattle.versioned_map.specs.declared.command.Command.TheVariants.{Get, Put, D
 use Rattle.versioned_map.specs.declared.command.If.{If}
 use Rattle.versioned_map.specs.Command.{command_key}
 use Rattle.master_core.specs.Change.{unit_of_change, IsChangeOf}
-use Rattle.master_core.specs.Index.{Stands, AreAt, slot_in, placed, AreDistinct}
+use Rattle.master_core.specs.Index.{LiesAt, AreAt, slot_in, placed, AreDistinct}
 use Rattle.versioned_map.specs.Units.{object_entry, tombstone_entry, put_unit, safe_given, safe_after_put}
 use Rattle.versioned_map.specs.Versioned.{State, is_met, put_version, with_contents, after_command, after_put, after_delete}
 use Rattle.master_core.proofs.Changes.{unmet, undeleted, clashes}
@@ -124,7 +124,7 @@ module _ (image : List Entry) (segment at : ℕ) (places : List ℕ) (os : List 
       record { os = os; at = are_at_more image more places os all; distinct = distinct; same = same_contents (contents_of os) k x has }
 
   put_stands : (front : List Entry) (o : Object) → at ≡ length (text_of (image ++ front))
-      → Stands (image ++ (front ++ entry.Object o ∷ [])) at (entry.Object o)
+      → LiesAt (image ++ (front ++ entry.Object o ∷ [])) at (entry.Object o)
   put_stands front o e = record { before = image ++ front; after = []; split = sym (append_assoc image front (entry.Object o ∷ [])); offset = e }
 
   pushed : (front : List Entry) (o : Object) → at ≡ length (text_of (image ++ front)) → (slot : Option ℕ) → slot ≡ slot_in os o.key → slot ≡ None

@@ -8,14 +8,14 @@ use Rattle.entry.specs.declared.entry.Entry.{Entry}
 use Rattle.entry.specs.declared.entry.Entry.TheVariants as entry
 use Rattle.entry.specs.Order.{key_eq}
 use Rattle.entry.specs.Meaning.{Versioned, versioned, contents_of}
-use Rattle.master_core.specs.Index.{Stands, AreAt, slot_in, AreDistinct}
+use Rattle.master_core.specs.Index.{LiesAt, AreAt, slot_in, AreDistinct}
 use Rattle.versioned_map.specs.Versioned.{with_contents}
 use Rattle.versioned_map.proofs.Keys.{key_eq-same, key_eq-true, key_eq-tells, at_key, at_other}
 use Rattle.master_core.proofs.Places.{next_slot, none_before, some_before, contents_of_no_slot}
 
 -- ---- places
 
-stands_more : (image more : List Entry) (at : ℕ) (e : Entry) → Stands image at e → Stands (image ++ more) at e
+stands_more : (image more : List Entry) (at : ℕ) (e : Entry) → LiesAt image at e → LiesAt (image ++ more) at e
 stands_more image more at e s = record {
   before = s.before;
   after = s.after ++ more;
@@ -29,7 +29,7 @@ are_at_more image more [] (o ∷ os) all = absurd all
 are_at_more image more (at ∷ places) [] all = absurd all
 are_at_more image more (at ∷ places) (o ∷ os) all = (stands_more image more at (entry.Object o) all.0, are_at_more image more places os all.1)
 
-module _ (image : List Entry) (at : ℕ) (o : Object) (here : Stands image at (entry.Object o)) where
+module _ (image : List Entry) (at : ℕ) (o : Object) (here : LiesAt image at (entry.Object o)) where
   pub are_at_push : (places : List ℕ) (os : List Object) → AreAt image places os → AreAt image (places ++ at ∷ []) (os ++ o ∷ [])
   are_at_push [] [] all = (here, tt)
   are_at_push [] (p ∷ os) all = absurd all

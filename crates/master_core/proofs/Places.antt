@@ -9,13 +9,13 @@ use Rattle.entry.specs.declared.entry.Entry.{Entry}
 use Rattle.entry.specs.declared.entry.Entry.TheVariants as entry
 use Rattle.entry.specs.Order.{key_eq}
 use Rattle.entry.specs.Meaning.{versioned, contents_of}
-use Rattle.master_core.specs.Index.{Stands, AreAt, slot_in}
+use Rattle.master_core.specs.Index.{LiesAt, AreAt, slot_in}
 
 -- the object of a place, and those behind it
 pub record IsAt (image : List Entry) (places : List ℕ) (os : List Object) (i : ℕ) : Type 0 where
   pub o : Object
   pub next : drop i os ≡ o ∷ drop (suc i) os
-  pub stands : Stands image (get_or places i 0) (entry.Object o)
+  pub stands : LiesAt image (get_or places i 0) (entry.Object o)
 
 pub is_at_from : (image : List Entry) (places : List ℕ) (os : List Object) (i : ℕ) → AreAt image places os → i < length places → IsAt image places os i
 is_at_from image [] [] i all lt = absurd (omega arith)
@@ -52,7 +52,7 @@ slot_in_later i os rest o k is other = rw (is, other) (shifted i (slot_in rest k
 -- the object that a slot names, and what the key has
 pub record IsFound (image : List Entry) (places : List ℕ) (os : List Object) (k : Key) (j : ℕ) : Type 0 where
   pub o : Object
-  pub stands : (d : ℕ) → Stands image (get_or places j d) (entry.Object o)
+  pub stands : (d : ℕ) → LiesAt image (get_or places j d) (entry.Object o)
   pub has : contents_of os k ≡ Some (versioned o)
 
 -- a slot that is one further
@@ -82,19 +82,19 @@ passed_over : (o : Object) (os : List Object) (k : Key) → key_eq k o.key ≡ f
 passed_over o os k other = rw other refl
 
 found_step : (b : Bool) (image : List Entry) (at : ℕ) (places : List ℕ) (o : Object) (os : List Object) (k : Key) (j : ℕ) → key_eq k o.key ≡ b
-    → Stands image at (entry.Object o)
+    → LiesAt image at (entry.Object o)
     → slot_in (o ∷ os) k ≡ Some j → ((i : ℕ) → slot_in os k ≡ Some i → IsFound image places os k i) → IsFound image (at ∷ places) (o ∷ os) k j
 found_step true image at places o os k j is stands e later =
     let here : slot_in (o ∷ os) k ≡ Some 0 = rw is refl in
     let first : 0 ≡ j = same_Some 0 j (sym here ∙ e) in
-    record { o = o; stands = λ d. subst (λ (i : ℕ). Stands image (get_or (at ∷ places) i d) (entry.Object o)) first stands; has = rw is refl }
+    record { o = o; stands = λ d. subst (λ (i : ℕ). LiesAt image (get_or (at ∷ places) i d) (entry.Object o)) first stands; has = rw is refl }
 found_step false image at places o os k j is stands e later =
     let further_on : slot_in (o ∷ os) k ≡ next_slot (slot_in os k) = rw is refl in
     let before = some_before (slot_in os k) j (sym further_on ∙ e) in
     let there = later before.0 before.1 in
     record {
       o = there.o;
-      stands = λ d. subst (λ (i : ℕ). Stands image (get_or (at ∷ places) i d) (entry.Object there.o)) (sym before.2) (there.stands d);
+      stands = λ d. subst (λ (i : ℕ). LiesAt image (get_or (at ∷ places) i d) (entry.Object there.o)) (sym before.2) (there.stands d);
       has = passed_over o os k is ∙ there.has;
     }
 
@@ -122,7 +122,7 @@ walk_begins os k = record { slot = go (slot_in os k); contents = refl } where
 
 module _ (image : List Entry) (places : List ℕ) (os : List Object) (k : Key) (i : ℕ) (all : AreAt image places os) where
   -- the object of this place is not the key's
-  pub walk_on : i < length places → ((o : Object) → Stands image (get_or places i 0) (entry.Object o) → key_eq k o.key ≡ false)
+  pub walk_on : i < length places → ((o : Object) → LiesAt image (get_or places i 0) (entry.Object o) → key_eq k o.key ≡ false)
       → IsWalked os k i → IsWalked os k (i + 1)
   walk_on lt other walked =
       let there = is_at_from image places os i all lt in
@@ -136,7 +136,7 @@ module _ (image : List Entry) (places : List ℕ) (os : List Object) (k : Key) (
 
   -- it is
   pub walk_finds : (found : Object) → i < length places
-      → ((o : Object) → Stands image (get_or places i 0) (entry.Object o) → (key_eq k o.key ≡ true) × (found ≡ o))
+      → ((o : Object) → LiesAt image (get_or places i 0) (entry.Object o) → (key_eq k o.key ≡ true) × (found ≡ o))
       → IsWalked os k i → (Some i ≡ slot_in os k) × (Some (versioned found) ≡ contents_of os k)
   walk_finds found lt own walked =
       let there = is_at_from image places os i all lt in

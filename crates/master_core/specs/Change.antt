@@ -14,7 +14,7 @@ use Rattle.master_core.specs.declared.change.Change.TheVariants as change
 use Rattle.versioned_map.specs.declared.command.Command.{Command}
 use Rattle.versioned_map.specs.declared.command.Command.TheVariants.{Get, Put, Delete}
 use Rattle.log_head.specs.Head.{HeadValue, len_with}
-use Rattle.log_head.specs.Steps.{with_unit}
+use Rattle.log_head.specs.Steps.{with_unit_end}
 use Rattle.versioned_map.specs.declared.command.If.{If}
 use Rattle.versioned_map.specs.declared.command.Reply.{Reply}
 use Rattle.versioned_map.specs.Versioned.{is_spent, reply_given}
@@ -36,7 +36,7 @@ BeginsAt image command change at = (segment : ℕ) (front : List Entry) (o : Obj
 -- the head with a record's unit, where there is one
 abbrev pub appended : HeadValue → ℕ → List Entry → HeadValue
 appended h number [] = h
-appended h number (e ∷ es) = with_unit h number (e ∷ es)
+appended h number (e ∷ es) = with_unit_end h number (e ∷ es)
 
 -- what the safe version is after a change
 abbrev pub safe_of_change : ℕ → Change → ℕ

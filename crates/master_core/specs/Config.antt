@@ -1,13 +1,10 @@
 -- The limits of a configuration, and the first of them that one is outside of.
 use Rattle.std.specs.Prelude.{ℕ, ◌*◌, ◌/◌, ◌%◌, ◌^◌, ◌==◌, ◌&&◌, Bool, not, nat_le, Option, Some, None, if◌then◌else◌}
+use Rattle.entry.specs.Format.{is_within}
 use Rattle.entry.specs.Tablet.{are_tablets}
 use Rattle.master_core.specs.declared.config.Config.{Config}
 use Rattle.master_core.specs.declared.config.ConfigFault.{ConfigFault}
 use Rattle.master_core.specs.declared.config.ConfigFault.TheVariants.{BadBackups, BadStep, BadSegment, BadSeglet, BadBudget, BadTablets, BadHistory}
-
--- a number is within limits
-abbrev pub is_within : ℕ → ℕ → ℕ → Bool
-is_within least greatest n = nat_le least n && nat_le n greatest
 
 -- at least one replica, on as many backups or more, and at most 64 of those
 abbrev pub has_backups : Config → Bool

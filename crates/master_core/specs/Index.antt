@@ -15,7 +15,7 @@ use Rattle.master_core.specs.declared.change.Change.{Change}
 use Rattle.master_core.specs.declared.change.Change.TheVariants as change
 
 -- the entry stands at this offset of the image
-pub record Stands (image : List Entry) (at : ℕ) (e : Entry) : Type 0 where
+pub record LiesAt (image : List Entry) (at : ℕ) (e : Entry) : Type 0 where
   pub before : List Entry
   pub after : List Entry
   pub split : image ≡ before ++ e ∷ after
@@ -24,7 +24,7 @@ pub record Stands (image : List Entry) (at : ℕ) (e : Entry) : Type 0 where
 -- each of the objects stands at its place
 abbrev pub AreAt : List Entry → List ℕ → List Object → Type 0
 AreAt image [] [] = Unit {0}
-AreAt image (at ∷ places) (o ∷ os) = Stands image at (entry.Object o) × AreAt image places os
+AreAt image (at ∷ places) (o ∷ os) = LiesAt image at (entry.Object o) × AreAt image places os
 AreAt image [] (o ∷ os) = ⊥
 AreAt image (at ∷ places) [] = ⊥
 
@@ -48,9 +48,9 @@ AreDistinct [] = Unit {0}
 AreDistinct (o ∷ os) = (slot_in os o.key ≡ None) × AreDistinct os
 
 -- the object that was found is this one where that is the key's, and none where it isn't
-abbrev pub IsOfKey : Key → Object → Option ObjectRef → Type 0
-IsOfKey k o None = key_eq k o.key ≡ false
-IsOfKey k o (Some found) = (key_eq k o.key ≡ true) × (shown_object found ≡ o)
+abbrev pub MatchesKey : Key → Object → Option ObjectRef → Type 0
+MatchesKey k o None = key_eq k o.key ≡ false
+MatchesKey k o (Some found) = (key_eq k o.key ≡ true) × (shown_object found ≡ o)
 
 -- the slot that was found, and what the key has by the object that was found
 abbrev pub slot_found : Option (ℕ × ObjectRef) → Option ℕ
@@ -68,11 +68,11 @@ FindsSlot os k result =
 
 -- the object that stands at this offset, where one does, was found
 abbrev pub SeesObject : List Entry → ℕ → Option ObjectRef → Type 0
-SeesObject image at found = (o : Object) → Stands image at (entry.Object o) → IsSomeAnd found (λ f. shown_object f ≡ o)
+SeesObject image at found = (o : Object) → LiesAt image at (entry.Object o) → IsSomeAnd found (λ f. shown_object f ≡ o)
 
 -- the object that stands at this offset was found where it is the key's
 abbrev pub SeesObjectOf : List Entry → ℕ → Key → Option ObjectRef → Type 0
-SeesObjectOf image at k found = (o : Object) → Stands image at (entry.Object o) → IsOfKey k o found
+SeesObjectOf image at k found = (o : Object) → LiesAt image at (entry.Object o) → MatchesKey k o found
 
 -- the key's slot was found, and its object, among the objects that stand at these places
 abbrev pub FindsAmong : List Entry → List ℕ → Key → Option (ℕ × ObjectRef) → Type 0

@@ -5,7 +5,7 @@ use Rattle.entry.specs.Meaning.{contents_of}
 use Rattle.versioned_map.specs.declared.command.Command.{Command}
 use Rattle.versioned_map.specs.Command.{command_key}
 use Rattle.versioned_map.specs.History.{IsLegal}
-use Rattle.log_head.specs.Head.{IsHead}
+use Rattle.log_head.specs.Head.{IsHeadValue}
 use Rattle.log_head.specs.Log.{head_of, IsImageOf}
 use Rattle.master_core.specs.declared.change.Change.{Change}
 use Rattle.master_core.specs.Change.{IsChangeOf}
@@ -25,7 +25,7 @@ pub record IsCore (d : MasterData) : Type 0 where
   pub config : config_fault d.config ≡ None
   pub replicas : d.head.replicas ≡ d.config.replicas
   pub history : length d.history ≤ d.config.history
-  pub head : IsHead d.head
+  pub head : IsHeadValue d.head
   pub image : IsImageOf d.config.master d.head (head_of d.head)
   pub legal : IsLegal (opening_of d) d.history
   pub index : (os : List Object) × IsIndex d os

@@ -1,6 +1,6 @@
 -- What a master's core becomes: a command is applied, an op was taken, a take failed.
 use Rattle.std.specs.Prelude.{◌≡◌, ℕ, length, Bool, false, true, None, if◌then◌else◌}
-use Rattle.log_head.specs.Steps.{with_replica, with_taken}
+use Rattle.log_head.specs.Steps.{with_opened_replica, with_one_taken}
 use Rattle.log_model.specs.Steps.{applied, MayApply}
 use Rattle.replica.specs.declared.op.TakeFault.{TakeFault}
 use Rattle.replica.specs.declared.op.TakeFault.TheVariants as take_fault
@@ -41,11 +41,11 @@ MayApplyNow d seat command = MayApply (log_of d) (dead_segment d command) (recor
 
 -- one more replica of the head was opened
 abbrev pub opened_data : MasterData → MasterData
-opened_data d = record d { head = with_replica d.head }
+opened_data d = record d { head = with_opened_replica d.head }
 
 -- a replica of the head took its next unit
 abbrev pub extended_data : MasterData → ℕ → MasterData
-extended_data d j = record d { head = with_taken d.head j }
+extended_data d j = record d { head = with_one_taken d.head j }
 
 -- a backup failed
 abbrev pub halted : MasterData → MasterData

@@ -5,7 +5,7 @@ ghost use Rattle.std.specs.Prelude.{Option, ◌==◌, if◌then◌else◌, slice
 ghost use Rattle.std.specs.Option.{option_map};
 ghost use Rattle.std.specs.Result.{result_err};
 ghost use Rattle.entry.specs.Text.{text_of};
-ghost use Rattle.log_head.specs.Head.{IsHead};
+ghost use Rattle.log_head.specs.Head.{IsHeadValue};
 ghost use Rattle.log_model.specs.Data.{durable_of};
 ghost use Rattle.master_core.specs.Causes.{early_refusal, unit_refusal, command_refusal, unit_now};
 ghost use Rattle.master_core.specs.Config.{config_fault};

@@ -6,7 +6,7 @@ ghost use Rattle.entry.specs.declared.entry.Entry.{Entry};
 ghost use Rattle.entry.specs.declared.entry.Entry.TheVariants as entry;
 ghost use Rattle.entry.specs.Text.{text_of};
 ghost use Rattle.entry.specs.View.{shown};
-ghost use Rattle.log_head.specs.Head.{IsHead, len_with};
+ghost use Rattle.log_head.specs.Head.{IsHeadValue, len_with};
 ghost use Rattle.master_core.specs.Index.{placed};
 ghost use Rattle.versioned_map.specs.Units.{object_entry, tombstone_entry};
 ghost use Rattle.master_core.specs.Change.{unit_of_change, is_empty, appended, BeginsAt};
@@ -92,7 +92,7 @@ fn append_change(
     ensures full { let unit = unit_of_change head.old.id command.now change.now in
         IsErrOf result AppendFault.Full → (is_empty unit ≡ false) × (limit < len_with head.old.image unit) }
     ensures err { OnErr result (head.new ≡ head.old) }
-    ensures valid { OnOk result (IsHead head.new) }
+    ensures valid { OnOk result (IsHeadValue head.new) }
 {
     let segment = head.id();
     match command {
@@ -132,7 +132,7 @@ pub fn enact(
     requires limit { limit ≤ 8388608 }
     requires fits { let unit = unit_of_change head.old.id command.now change.now in
         is_empty unit ≡ false → len_with head.old.image unit ≤ limit }
-    ensures valid { OnOk result (IsHead head.new) }
+    ensures valid { OnOk result (IsHeadValue head.new) }
     ensures head { let unit = unit_of_change head.old.id command.now change.now in
         OnOk result (head.new ≡ appended head.old (length history.old.items) unit) }
     ensures places { OnOk result ((at : ℕ) × BeginsAt head.old.image command.now change.now at

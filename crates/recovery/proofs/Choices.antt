@@ -6,8 +6,8 @@ use Rattle.entry.specs.Bag.{IsAmong}
 use Rattle.entry.specs.Text.{Opening, is_data, entries_in, opening_in}
 use Rattle.replica.specs.declared.holding.Holding.{Holding}
 use Rattle.replica.specs.Picture.{Replica, Picture, left_on, shown_by, survivors, IsHeld}
-use Rattle.replica.specs.Choice.{Choice, IsOther, IsChoice, IsShownChoice, bag_of}
-use Rattle.replay.specs.Bags.{bag_of as segments_bag}
+use Rattle.replica.specs.Choice.{Choice, IsUsableOf, IsChoice, IsShownChoice, bag_of}
+use Rattle.replay.specs.Bags.{segments_bag}
 use Rattle.recovery_plan.specs.declared.chosen.Plan.{Plan}
 use Rattle.recovery_plan.specs.Good.{IsGood}
 use Rattle.recovery_plan.specs.Planned.{IsChoiceOf, IsPlanOf, AgreeOnDigest}
@@ -36,7 +36,7 @@ choice-of-same holds also m c same choice = record {
   usable = choice.usable;
   newest = λ h held head. choice.newest h ((same h head.0).1 held) head;
   others =
-      all-map (λ (h : Holding). holds h × IsOther m c.opening h) (λ (h : Holding). also h × IsOther m c.opening h)
+      all-map (λ (h : Holding). holds h × IsUsableOf m c.opening h) (λ (h : Holding). also h × IsUsableOf m c.opening h)
       (λ h is. ((same h is.1.0).0 is.0, is.1)) c.others choice.others;
   ids = choice.ids;
 }

@@ -6,7 +6,7 @@ use Rattle.replica.specs.declared.holding.Holding.{Holding}
 use Rattle.replica.specs.Picture.{Picture, shown_by, survivors}
 use Rattle.replica.specs.Choice.{Choice, bag_of}
 use Rattle.replica.specs.Survival.{BothSurvive}
-use Rattle.replay.specs.Bags.{bag_of as segments_bag}
+use Rattle.replay.specs.Bags.{segments_bag}
 use Rattle.replay.specs.Rebuilt.{IsRebuilt, IsRefusal}
 use Rattle.replay.specs.declared.rebuilt.Rebuilt.{Rebuilt}
 use Rattle.replay.specs.declared.fault.ReplayFault.{ReplayFault}
@@ -14,7 +14,7 @@ use Rattle.replay.specs.declared.fault.ReplayFault.TheVariants as replay_fault
 use Rattle.recovery_plan.specs.declared.chosen.Plan.{Plan}
 use Rattle.recovery_plan.specs.declared.fault.PlanFault.{PlanFault}
 use Rattle.recovery_plan.specs.declared.fault.PlanFault.TheVariants as plan_fault
-use Rattle.recovery_plan.specs.Planned.{IsChoiceOf, IsPlanOf, IsFirstBad, IsFault, NamesLoss}
+use Rattle.recovery_plan.specs.Planned.{IsChoiceOf, IsPlanOf, IsFirstBad, IsPlanFault, NamesLoss}
 use Rattle.entry.proofs.BagLemmas.{among_right}
 use Rattle.versioned_map.specs.History.{commands_of}
 use Rattle.log_model.specs.Data.{LogData, IsHome, state_after}
@@ -75,7 +75,7 @@ module _ (hs : List Holding) (m : ℕ) (d : LogData) (p : Picture) (keep : ℕ �
       subst (IsAmong first.bad) (sym first.place) (among_right first.bad first.before (first.bad ∷ first.after) (inl refl)) in
       first.is_bad (shown-good hs m d p keep is shows sound first.bad first.of_master there)
 
-  pub plan-loss : (e : PlanFault) → IsFault hs m e → NamesLoss hs m e →
+  pub plan-loss : (e : PlanFault) → IsPlanFault hs m e → NamesLoss hs m e →
       IsPlanLoss e × (BothSurvive (IsHome d) (shown_by p) d.config.master keep → IsPlanWant e)
   plan-loss plan_fault.NoHead says loss = (tt, λ both. absurd (not-both loss both))
   plan-loss (plan_fault.HeadClosed id) says loss = (tt, λ both. absurd (not-both loss both))
@@ -90,7 +90,7 @@ module _ (hs : List Holding) (m : ℕ) (d : LogData) (p : Picture) (keep : ℕ �
       let clean : IsClean (among (bag_of c)) = sound.clean keep c (surviving-choice hs m d p keep is shows c planned.choice) in
       absurd (says (subst (λ es. IsClean (among es)) (sym (bag-of-plan hs m c plan planned)) clean))
 
-pub refused-plan : (hs : List Holding) (m : ℕ) (e : PlanFault) → IsFault hs m e → NamesLoss hs m e → IsSomeLoss hs m (fault.Plan e)
+pub refused-plan : (hs : List Holding) (m : ℕ) (e : PlanFault) → IsPlanFault hs m e → NamesLoss hs m e → IsSomeLoss hs m (fault.Plan e)
 refused-plan hs m e says loss d p keep sound is shows = plan-loss hs m d p keep sound is shows e says loss
 
 pub refused-replay : (hs : List Holding) (m : ℕ) (c : Choice) (plan : Plan) (e : ReplayFault) →

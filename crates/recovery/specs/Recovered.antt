@@ -11,7 +11,7 @@ use Rattle.replica.specs.Picture.{Shown, IsHeld}
 use Rattle.recovery_plan.specs.declared.chosen.Plan.{Plan as PlanValue}
 use Rattle.recovery_plan.specs.declared.fault.PlanFault.{PlanFault}
 use Rattle.recovery_plan.specs.declared.fault.PlanFault.TheVariants as plan_fault
-use Rattle.recovery_plan.specs.Planned.{IsPlanOf, IsFault, NamesLoss}
+use Rattle.recovery_plan.specs.Planned.{IsPlanOf, IsPlanFault, NamesLoss}
 use Rattle.replay.specs.declared.fault.ReplayFault.{ReplayFault}
 use Rattle.replay.specs.declared.fault.ReplayFault.TheVariants as replay_fault
 use Rattle.replay.specs.declared.rebuilt.Rebuilt.{Rebuilt}
@@ -88,6 +88,6 @@ IsRebuiltFrom inventory master r =
 
 -- The fault stands in the inventory: there is no plan of it, or the log of its plan is refused.
 abbrev pub IsRefusedFrom : List Holding → ℕ → RecoveryFault → Type 0
-IsRefusedFrom inventory master (Plan fault) = IsFault inventory master fault × NamesLoss inventory master fault
+IsRefusedFrom inventory master (Plan fault) = IsPlanFault inventory master fault × NamesLoss inventory master fault
 IsRefusedFrom inventory master (Replay fault) =
     (plan : PlanValue) × IsPlan inventory master plan × IsRefusal plan.segments fault

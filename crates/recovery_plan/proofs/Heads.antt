@@ -5,7 +5,7 @@ use Rattle.std.specs.Prelude.{◌⊎◌}
 use Rattle.std.proofs.lemmas.Bool.{cases_lt}
 use Rattle.entry.specs.Bag.{IsAmong}
 use Rattle.replica.specs.declared.holding.Holding.{Holding}
-use Rattle.replica.specs.Choice.{IsHead}
+use Rattle.replica.specs.Choice.{IsUsableHeadOf}
 use Rattle.recovery_plan.specs.Good.{IsGood, AreGood, least_head, IsNewest, IsNewestOf}
 use Rattle.recovery_plan.specs.Planned.{IsFirstBad}
 use Rattle.recovery_plan.proofs.Bests.{among-append, among-left, among-right}
@@ -28,21 +28,21 @@ module _ (m : ℕ) (hs : List Holding) (h : Holding) where
       ⊎_elim (λ a. all g a master) (λ r. ⊎_elim (λ e. subst IsGood e (good (ap (λ (x : Holding). x.master) e ∙ master))) (λ n. absurd n) r) (among-append g hs (h ∷ []) i)
 
   -- one that is no head changes nothing
-  pub newest-skip : (o : Option ℕ) → (IsHead least_head m h → ⊥) → IsNewestOf m hs o → IsNewestOf m (hs ++ h ∷ []) o
-  newest-skip None not none = λ g i head. ⊎_elim (λ a. none g a head) (λ r. ⊎_elim (λ e. not (subst (IsHead least_head m) (sym e) head)) (λ n. n) r) (among-append g hs (h ∷ []) i)
+  pub newest-skip : (o : Option ℕ) → (IsUsableHeadOf least_head m h → ⊥) → IsNewestOf m hs o → IsNewestOf m (hs ++ h ∷ []) o
+  newest-skip None not none = λ g i head. ⊎_elim (λ a. none g a head) (λ r. ⊎_elim (λ e. not (subst (IsUsableHeadOf least_head m) (sym e) head)) (λ n. n) r) (among-append g hs (h ∷ []) i)
   newest-skip (Some id) not newest = record {
     head = newest.head;
     among = among-left newest.head hs (h ∷ []) newest.among;
     is_head = newest.is_head;
     segment = newest.segment;
-    greatest = λ g i head. ⊎_elim (λ a. newest.greatest g a head) (λ r. ⊎_elim (λ e. absurd (not (subst (IsHead least_head m) (sym e) head))) (λ n. absurd n) r) (among-append g hs (h ∷ []) i);
+    greatest = λ g i head. ⊎_elim (λ a. newest.greatest g a head) (λ r. ⊎_elim (λ e. absurd (not (subst (IsUsableHeadOf least_head m) (sym e) head))) (λ n. absurd n) r) (among-append g hs (h ∷ []) i);
   }
 
   last : IsAmong h (hs ++ h ∷ [])
   last = among-right h hs (h ∷ []) (inl refl)
 
   -- a head is the newest, or the one before it is
-  pub newest-more : (o : Option ℕ) → IsHead least_head m h → IsNewestOf m hs o → IsNewestOf m (hs ++ h ∷ []) (Some (max h.segment (unwrap_or o 0)))
+  pub newest-more : (o : Option ℕ) → IsUsableHeadOf least_head m h → IsNewestOf m hs o → IsNewestOf m (hs ++ h ∷ []) (Some (max h.segment (unwrap_or o 0)))
   newest-more None head none =
       let is : h.segment ≡ max h.segment 0 = omega arith in
       record {
@@ -55,7 +55,7 @@ module _ (m : ℕ) (hs : List Holding) (h : Holding) where
       }
   newest-more (Some id) head newest = chosen (cases_lt id h.segment)
     where
-      below : (g : Holding) → IsAmong g (hs ++ h ∷ []) → IsHead least_head m g → g.segment ≤ max h.segment id
+      below : (g : Holding) → IsAmong g (hs ++ h ∷ []) → IsUsableHeadOf least_head m g → g.segment ≤ max h.segment id
       below g i p =
           ⊎_elim (λ a. let le : g.segment ≤ id = newest.greatest g a p in omega arith)
           (λ r. ⊎_elim (λ e. let same : h.segment ≡ g.segment = ap (λ (x : Holding). x.segment) e in omega arith) (λ n. absurd n) r) (among-append g hs (h ∷ []) i)

@@ -5,12 +5,12 @@ use Rattle.std.specs.List.{AllByRecursion}
 use Rattle.entry.specs.Bag.{IsAmong}
 use Rattle.entry.specs.Text.{Opening, opening_in}
 use Rattle.replica.specs.declared.holding.Holding.{Holding}
-use Rattle.replica.specs.Choice.{Choice, IsOther}
+use Rattle.replica.specs.Choice.{Choice, IsUsableOf}
 use Rattle.recovery_plan.specs.declared.chosen.Plan.{Plan}
 use Rattle.recovery_plan.specs.declared.fault.PlanFault.{PlanFault}
 use Rattle.recovery_plan.specs.declared.fault.PlanFault.TheVariants.{NoHead, HeadClosed, Missing, BadReplica, NoMemory}
 use Rattle.recovery_plan.specs.Good.{IsOpenHead, IsNewest}
-use Rattle.recovery_plan.specs.Planned.{IsChoiceOf, IsHeadTaken, IsMissing, IsLost, IsFault, IsLaterFault, NamesLoss}
+use Rattle.recovery_plan.specs.Planned.{IsChoiceOf, IsHeadTaken, IsMissing, IsLost, IsPlanFault, IsLaterFault, NamesLoss}
 use Rattle.recovery_plan.proofs.Bests.{among-append}
 use Rattle.recovery_plan.proofs.Plans.{preferred-among}
 
@@ -30,7 +30,7 @@ chosen-open hs m c id choice newest =
 
 -- a segment of which nothing is left isn't among the others
 not-other : (hs others : List Holding) (m : ℕ) (o : Opening) (id : ℕ)
-    → AllByRecursion (λ (h : Holding). IsAmong h hs × IsOther m o h) others → IsLost hs m o id →
+    → AllByRecursion (λ (h : Holding). IsAmong h hs × IsUsableOf m o h) others → IsLost hs m o id →
     IsAmong id (map (λ (h : Holding). h.segment) others) → ⊥
 not-other hs [] m o id all lost among = among
 not-other hs (h ∷ others) m o id all lost (inl e) = lost h all.0.0 (all.0.1, e)
@@ -67,7 +67,7 @@ losses hs m (Ok p) f = tt
 losses hs m (Err fault) f = later-means hs m fault f
 
 -- what may come once it is known which head is taken is a fault
-pub fault_of : (hs : List Holding) (master : ℕ) (head : Holding) → IsHeadTaken hs master head → (fault : PlanFault) → IsLaterFault hs master fault → IsFault hs master fault
+pub fault_of : (hs : List Holding) (master : ℕ) (head : Holding) → IsHeadTaken hs master head → (fault : PlanFault) → IsLaterFault hs master fault → IsPlanFault hs master fault
 fault_of hs master head taken (Missing id) later = later
 fault_of hs master head taken NoMemory later = (head, taken)
 fault_of hs master head taken (BadReplica backup id) later = absurd later

@@ -8,7 +8,7 @@ use Rattle.std.proofs.lemmas.List.{map-append}
 use Rattle.entry.specs.Bag.{IsAmong}
 use Rattle.entry.specs.Text.{Opening, opening_in, entries_in}
 use Rattle.replica.specs.declared.holding.Holding.{Holding}
-use Rattle.replica.specs.Choice.{IsOther}
+use Rattle.replica.specs.Choice.{IsUsableOf}
 use Rattle.recovery_plan.specs.declared.fault.PlanFault.{PlanFault}
 use Rattle.recovery_plan.specs.declared.fault.PlanFault.TheVariants.{NoHead, HeadClosed, Missing, BadReplica, NoMemory}
 use Rattle.recovery_plan.specs.declared.chosen.Plan.{Plan}
@@ -30,7 +30,7 @@ taken-good hs m h t = t.good h (preferred-among (IsOpenHead m h.segment) hs h t.
 -- what is said of each of them
 pub record IsTaken (hs : List Holding) (m : ℕ) (o : Opening) (h : Holding) : Type 0 where
   pub among : IsAmong h hs
-  pub other : IsOther m o h
+  pub other : IsUsableOf m o h
   pub preferred : IsPreferred (IsReplicaOf m o h.segment) hs h
 
 module _ (hs : List Holding) (m : ℕ) (look : ℕ → Option (Bor Holding)) (best : ArePreferred m hs look) (o : Opening) where
@@ -134,7 +134,7 @@ found-choice hs m head o others taken opened all ids =
       opening = opened;
       usable = head_is.0.2;
       newest = taken.newest.greatest;
-      others = all-map (IsTaken hs m o) (λ (h : Holding). IsAmong h hs × IsOther m o h) (λ h t. (t.among, t.other)) others all;
+      others = all-map (IsTaken hs m o) (λ (h : Holding). IsAmong h hs × IsUsableOf m o h) (λ h t. (t.among, t.other)) others all;
       ids = ap (λ l. l ++ head.segment ∷ []) ids ∙ sym last;
     }
 

@@ -5,7 +5,7 @@ use Rattle.entry.specs.Bag.{IsAmong}
 use Rattle.entry.specs.Text.{header_in, Opening}
 use Rattle.segment.specs.Bytes.{IsSegmentBytes}
 use Rattle.replica.specs.declared.holding.Holding.{Holding}
-use Rattle.replica.specs.Choice.{IsHead, IsOther}
+use Rattle.replica.specs.Choice.{IsUsableHeadOf, IsUsableOf}
 
 -- the bytes are a segment's, whose header names the replica's master and segment
 pub record IsGood (h : Holding) : Type 0 where
@@ -23,21 +23,21 @@ least_head = 0
 
 -- an open replica of this segment of the master, which bears a digest
 abbrev pub IsOpenHead : ℕ → ℕ → Holding → Type 0
-IsOpenHead master id h = IsHead least_head master h × (h.segment ≡ id) × (h.is_open ≡ true)
+IsOpenHead master id h = IsUsableHeadOf least_head master h × (h.segment ≡ id) × (h.is_open ≡ true)
 
 -- a replica of this segment of the master that may be used for an id of the digest
 abbrev pub IsReplicaOf : ℕ → Opening → ℕ → Holding → Type 0
-IsReplicaOf master opening id h = IsOther master opening h × (h.segment ≡ id)
+IsReplicaOf master opening id h = IsUsableOf master opening h × (h.segment ≡ id)
 
 -- some replica that bears a digest is of this segment, and none is of a greater one
 pub record IsNewest (master : ℕ) (hs : List Holding) (id : ℕ) : Type 0 where
   pub head : Holding
   pub among : IsAmong head hs
-  pub is_head : IsHead least_head master head
+  pub is_head : IsUsableHeadOf least_head master head
   pub segment : head.segment ≡ id
-  pub greatest : (h : Holding) → IsAmong h hs → IsHead least_head master h → h.segment ≤ id
+  pub greatest : (h : Holding) → IsAmong h hs → IsUsableHeadOf least_head master h → h.segment ≤ id
 
 -- the newest head; None where no replica bears a digest
 abbrev pub IsNewestOf : ℕ → List Holding → Option ℕ → Type 0
-IsNewestOf master hs None = (h : Holding) → IsAmong h hs → IsHead least_head master h → ⊥
+IsNewestOf master hs None = (h : Holding) → IsAmong h hs → IsUsableHeadOf least_head master h → ⊥
 IsNewestOf master hs (Some id) = IsNewest master hs id

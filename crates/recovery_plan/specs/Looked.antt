@@ -19,8 +19,8 @@ ArePreferred master hs look =
     (opening : Opening) (id : ℕ) → IsBest (IsReplicaOf master opening id) hs (option_copied (look id))
 
 -- the ids of a digest but the last, which is the head's own
-abbrev pub but_last : List ℕ → List ℕ
-but_last ids = take (length ids - 1) ids
+abbrev pub without_last : List ℕ → List ℕ
+without_last ids = take (length ids - 1) ids
 
 -- what is found, id by id
 abbrev pub AreFound : (ℕ → Option (Bor Holding)) → List ℕ → List (Bor Holding) → Type 0

@@ -4,7 +4,7 @@ use Rattle.std.specs.List.{AllByRecursion}
 use Rattle.entry.specs.Bag.{IsAmong}
 use Rattle.entry.specs.Text.{Opening, entries_in, opening_in}
 use Rattle.replica.specs.declared.holding.Holding.{Holding}
-use Rattle.replica.specs.Choice.{Choice, IsHead, IsChoice}
+use Rattle.replica.specs.Choice.{Choice, IsUsableHeadOf, IsChoice}
 use Rattle.recovery_plan.specs.declared.chosen.Plan.{Plan}
 use Rattle.recovery_plan.specs.declared.fault.PlanFault.{PlanFault}
 use Rattle.recovery_plan.specs.declared.fault.PlanFault.TheVariants.{NoHead, HeadClosed, Missing, BadReplica, NoMemory}
@@ -48,7 +48,7 @@ IsBadFault hs master _ = ⊥
 -- all replicas are well, and none bears a digest
 pub record HasNoHead (hs : List Holding) (master : ℕ) : Type 0 where
   pub good : AreGood master hs
-  pub no_head : (h : Holding) → IsAmong h hs → IsHead least_head master h → ⊥
+  pub no_head : (h : Holding) → IsAmong h hs → IsUsableHeadOf least_head master h → ⊥
 
 -- all replicas are well, and none of the newest head is open
 pub record IsHeadClosed (hs : List Holding) (master id : ℕ) : Type 0 where
@@ -81,12 +81,12 @@ pub record IsMissing (hs : List Holding) (master id : ℕ) : Type 0 where
   pub lowest : (n : ℕ) → IsAmong n opening.ids → n < id → IsHere hs master opening n
 
 -- what each fault says of the replicas, in the order of the tests
-abbrev pub IsFault : List Holding → ℕ → PlanFault → Type 0
-IsFault hs master (BadReplica backup id) = IsFirstBad hs master backup id
-IsFault hs master NoHead = HasNoHead hs master
-IsFault hs master (HeadClosed id) = IsHeadClosed hs master id
-IsFault hs master (Missing id) = IsMissing hs master id
-IsFault hs master NoMemory = (head : Holding) × IsHeadTaken hs master head
+abbrev pub IsPlanFault : List Holding → ℕ → PlanFault → Type 0
+IsPlanFault hs master (BadReplica backup id) = IsFirstBad hs master backup id
+IsPlanFault hs master NoHead = HasNoHead hs master
+IsPlanFault hs master (HeadClosed id) = IsHeadClosed hs master id
+IsPlanFault hs master (Missing id) = IsMissing hs master id
+IsPlanFault hs master NoMemory = (head : Holding) × IsHeadTaken hs master head
 
 -- a fault that may come once it is known which head is taken
 abbrev pub IsLaterFault : List Holding → ℕ → PlanFault → Type 0

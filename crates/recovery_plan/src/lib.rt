@@ -1,7 +1,7 @@
 //! Which replicas a recovery reads: the newest log among an inventory, or the loss that hides it.
 //!
 //! The layer above uses `plan` alone. With Ok the plan is a choice of the newest log, which takes the preferred replica
-//! of each segment (`IsPlanOf`). A fault is one of the inventory (`IsFault`), and if it names a loss, there is nothing to
+//! of each segment (`IsPlanOf`). A fault is one of the inventory (`IsPlanFault`), and if it names a loss, there is nothing to
 //! choose (`NamesLoss`). The crate rests on `segment`, which reads replicas, and on `replica`, which defines a choice.
 #![tactic(auto)]
 

@@ -4,7 +4,7 @@ ghost use Rattle.std.specs.Prelude.{◌≡◌, ◌<◌, length, IfOk, IfErr};
 ghost use Rattle.std.specs.Ordering.{nat_cmp};
 ghost use Rattle.std.specs.BTreeMap.{get};
 ghost use Rattle.entry.specs.View.{shown_ids};
-ghost use Rattle.recovery_plan.specs.Looked.{but_last, AreFound, IsLack};
+ghost use Rattle.recovery_plan.specs.Looked.{without_last, AreFound, IsLack};
 
 use crate::fault::PlanFault;
 use entry::DigestRef;
@@ -19,7 +19,7 @@ pub(crate) fn others<'a>(
     digest: &DigestRef<'_>,
 ) -> Result<Vec<&'a Holding>, PlanFault>
     requires { 0 < length (shown_ids digest.now) }
-    ensures found { IfOk result (λ others. AreFound (get nat_cmp best.now) (but_last (shown_ids digest.now)) others.items) }
+    ensures found { IfOk result (λ others. AreFound (get nat_cmp best.now) (without_last (shown_ids digest.now)) others.items) }
     ensures fault { IfErr result (λ fault. IsLack (get nat_cmp best.now) (shown_ids digest.now) fault) }
 {
     let mut others: Vec<&'a Holding> = Vec::new(alloc);

@@ -3,7 +3,7 @@
 ghost use Rattle.std.specs.Prelude.{◌≡◌, ℕ, IfOk, IfErr};
 ghost use Rattle.replica.specs.Choice.{Choice};
 ghost use Rattle.replica.specs.declared.holding.Holding.{Holding};
-ghost use Rattle.recovery_plan.specs.Planned.{IsPlanOf, IsHeadTaken, IsFault, IsLaterFault, NamesLoss};
+ghost use Rattle.recovery_plan.specs.Planned.{IsPlanOf, IsHeadTaken, IsPlanFault, IsLaterFault, NamesLoss};
 
 use crate::chosen::Plan;
 use crate::fault::PlanFault;
@@ -42,7 +42,7 @@ pub fn plan(alloc: Global, inventory: &Inventory, master: u64) -> Result<Plan, P
     // The plan is a choice of the newest log, and takes the preferred replicas.
     ensures ok { IfOk result (λ plan. (c : Choice) × IsPlanOf inventory.now master c plan) }
     // A fault stands in the inventory: it is the first that the tests find.
-    ensures fault { IfErr result (λ fault. IsFault inventory.now master fault) }
+    ensures fault { IfErr result (λ fault. IsPlanFault inventory.now master fault) }
     // A loss is named only where there is nothing to choose.
     ensures loss { IfErr result (λ fault. NamesLoss inventory.now master fault) }
 {

@@ -8,7 +8,7 @@ use Rattle.entry.specs.declared.entry.Entry.{Entry}
 use Rattle.entry.specs.declared.entry.Entry.TheVariants as entry
 use Rattle.entry.specs.Text.{is_data}
 use Rattle.replay.specs.declared.claim.Claim.{Claim}
-use Rattle.replay.specs.Bags.{bag_of}
+use Rattle.replay.specs.Bags.{segments_bag}
 use Rattle.replay.specs.Claims.{Claimed, claimed, claim_of, claims_of}
 
 pub claims_of-append : (es fs : List Entry) → claims_of (es ++ fs) ≡ claims_of es ++ claims_of fs
@@ -29,18 +29,18 @@ claims_of-data (entry.Tombstone t ∷ es) = (let rest = claims_of-data es in cc)
 
 pub gathered_more : (segments : List (List Entry)) (i : ℕ) (es left : List Entry) (was now : List Claimed) → i < length segments →
     es ≡ get_or segments i es → left ≡ [] →
-    now ++ claims_of left ≡ was ++ claims_of es → was ++ claims_of (bag_of (drop i segments)) ≡ claims_of (bag_of segments) →
-    now ++ claims_of (bag_of (drop (i + 1) segments)) ≡ claims_of (bag_of segments)
+    now ++ claims_of left ≡ was ++ claims_of es → was ++ claims_of (segments_bag (drop i segments)) ≡ claims_of (segments_bag segments) →
+    now ++ claims_of (segments_bag (drop (i + 1) segments)) ≡ claims_of (segments_bag segments)
 gathered_more segments i es left was now lt at none inner outer =
     let rest : List (List Entry) = drop (i + 1) segments in
-    let front : claims_of (bag_of (drop i segments)) ≡ claims_of es ++ claims_of (bag_of rest) =
-    at_drop_more (λ ss. claims_of (bag_of ss)) segments i es lt
-    ∙ ap (λ (fs : List Entry). claims_of (bag_of (fs ∷ rest))) (sym at)
-    ∙ claims_of-append (filter is_data es) (bag_of rest)
-    ∙ ap (λ (cs : List Claimed). cs ++ claims_of (bag_of rest)) (claims_of-data es) in
+    let front : claims_of (segments_bag (drop i segments)) ≡ claims_of es ++ claims_of (segments_bag rest) =
+    at_drop_more (λ ss. claims_of (segments_bag ss)) segments i es lt
+    ∙ ap (λ (fs : List Entry). claims_of (segments_bag (fs ∷ rest))) (sym at)
+    ∙ claims_of-append (filter is_data es) (segments_bag rest)
+    ∙ ap (λ (cs : List Claimed). cs ++ claims_of (segments_bag rest)) (claims_of-data es) in
     let whole : now ≡ was ++ claims_of es = sym (append-nil now) ∙ ap (λ (fs : List Entry). now ++ claims_of fs) (sym none) ∙ inner in
-    ap (λ (cs : List Claimed). cs ++ claims_of (bag_of rest)) whole
-    ∙ append_assoc was (claims_of es) (claims_of (bag_of rest))
+    ap (λ (cs : List Claimed). cs ++ claims_of (segments_bag rest)) whole
+    ∙ append_assoc was (claims_of es) (claims_of (segments_bag rest))
     ∙ ap (λ (cs : List Claimed). was ++ cs) (sym front)
     ∙ outer
 

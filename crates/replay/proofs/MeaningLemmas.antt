@@ -12,7 +12,7 @@ use Rattle.entry.specs.Bag.{IsAmong}
 use Rattle.entry.specs.Meaning.{Versioned, IsOfKey, rank_of, IsTop, object_at, IsMeaning, IsClean, among, bound_of, versioned, contents_of}
 use Rattle.entry.specs.Order.{key_cmp, key_eq}
 use Rattle.entry.specs.Text.{is_data}
-use Rattle.replay.specs.Bags.{bag_of}
+use Rattle.replay.specs.Bags.{segments_bag}
 use Rattle.replay.specs.declared.fault.ReplayFault.{ReplayFault}
 use Rattle.replay.specs.declared.fault.ReplayFault.TheVariants as fault
 use Rattle.replay.specs.Rebuilt.{IsRefusal}
@@ -208,9 +208,9 @@ bound_of-front (entry.Safe version ∷ es) fs h = bound_of-front es fs h
 bound_of-front (entry.Object o ∷ es) fs h = ap (λ n. max (o.version + 1) n) (bound_of-front es fs h)
 bound_of-front (entry.Tombstone t ∷ es) fs h = ap (λ n. max (t.version + 1) n) (bound_of-front es fs h)
 
-pub bound_of-bag : (segments : List (List Entry)) → bound_of (bag_of segments) ≡ bound_of_claims (claims_of (bag_of segments))
+pub bound_of-bag : (segments : List (List Entry)) → bound_of (segments_bag segments) ≡ bound_of_claims (claims_of (segments_bag segments))
 bound_of-bag [] = refl
-bound_of-bag (es ∷ segments) = bound_of-front es (bag_of segments) (bound_of-bag segments)
+bound_of-bag (es ∷ segments) = bound_of-front es (segments_bag segments) (bound_of-bag segments)
 
 -- ---- what a sort leaves
 
@@ -227,7 +227,7 @@ AreClaims-from_sort view es before after is permutation sorted =
 
 -- ---- refusals
 
-pub refused-for : (segments : List (List Entry)) (cs : List Claimed) (f : ReplayFault) → AreClaims (bag_of segments) cs →
+pub refused-for : (segments : List (List Entry)) (cs : List Claimed) (f : ReplayFault) → AreClaims (segments_bag segments) cs →
     IsRefusedFor (has_clash cs) f → IsRefusal segments f
 refused-for segments cs fault.NoMemory are h = tt
-refused-for segments cs fault.Clash are h = clash-unclean (bag_of segments) cs are h
+refused-for segments cs fault.Clash are h = clash-unclean (segments_bag segments) cs are h

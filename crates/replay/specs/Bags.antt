@@ -5,5 +5,5 @@ use Rattle.entry.specs.declared.entry.Entry.{Entry}
 use Rattle.entry.specs.Text.{is_data}
 
 -- the objects and tombstones of the segments
-abbrev pub bag_of : List (List Entry) → List Entry
-bag_of segments = flat_map (filter is_data) segments
+abbrev pub segments_bag : List (List Entry) → List Entry
+segments_bag segments = flat_map (filter is_data) segments

@@ -2,7 +2,7 @@
 
 ghost use Rattle.std.specs.Prelude.{◌≡◌, map, IfOk};
 ghost use Rattle.replay.specs.Claims.{claimed, claims_of};
-ghost use Rattle.replay.specs.Bags.{bag_of};
+ghost use Rattle.replay.specs.Bags.{segments_bag};
 
 use crate::claim::Claim;
 use entry::NoMemory;
@@ -11,7 +11,7 @@ use std::alloc::Global;
 
 /// The claims of the segments' objects and tombstones.
 pub fn claims_in<'a>(alloc: Global, segments: &'a [Segment]) -> Result<Vec<Claim<'a>>, NoMemory>
-    ensures { IfOk result (λ claims. map claimed claims.items ≡ claims_of (bag_of segments.entry.now)) }
+    ensures { IfOk result (λ claims. map claimed claims.items ≡ claims_of (segments_bag segments.entry.now)) }
 {
     let mut claims = Vec::new(alloc);
     for segment in segments {

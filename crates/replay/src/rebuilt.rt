@@ -2,7 +2,7 @@
 
 ghost use Rattle.std.specs.Prelude.{IfOk, IfErr, OnOk};
 ghost use Rattle.entry.specs.Meaning.{IsClean, among};
-ghost use Rattle.replay.specs.Bags.{bag_of};
+ghost use Rattle.replay.specs.Bags.{segments_bag};
 ghost use Rattle.replay.specs.Rebuilt.{IsRebuilt, IsRefusal};
 
 use crate::fault::ReplayFault;
@@ -28,7 +28,7 @@ pub struct Rebuilt {
 /// even where a later version covers them. For n entries it takes n log n steps.
 pub fn rebuild_plain(alloc: Global, plan: &Plan) -> Result<Rebuilt, ReplayFault>
     ensures ok { IfOk result (IsRebuilt plan.now.segments plan.now.safe) }
-    ensures clean { OnOk result (IsClean (among (bag_of plan.now.segments))) }
+    ensures clean { OnOk result (IsClean (among (segments_bag plan.now.segments))) }
     ensures err { IfErr result (IsRefusal plan.now.segments) }
 {
     let mut claims = claims_in(alloc, plan.segments.as_slice())?;

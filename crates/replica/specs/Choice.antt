@@ -25,12 +25,12 @@ abbrev pub bag_of : Choice → List Entry
 bag_of c = flat_map (λ (h : Holding). data_in h.bytes) (c.others ++ c.head ∷ [])
 
 -- a replica of the master that bears a digest, and that may be used
-abbrev pub IsHead : ℕ → ℕ → Holding → Type 0
-IsHead least master h = (h.master ≡ master) × IsSome (opening_in h.bytes) × IsUsableHead least h.segment
+abbrev pub IsUsableHeadOf : ℕ → ℕ → Holding → Type 0
+IsUsableHeadOf least master h = (h.master ≡ master) × IsSome (opening_in h.bytes) × IsUsableHead least h.segment
 
 -- a replica of the master that may be used for an id of the digest
-abbrev pub IsOther : ℕ → Opening → Holding → Type 0
-IsOther master opening h = (h.master ≡ master) × IsUsableReplica opening h
+abbrev pub IsUsableOf : ℕ → Opening → Holding → Type 0
+IsUsableOf master opening h = (h.master ≡ master) × IsUsableReplica opening h
 
 -- A choice of a master's newest log, from the replicas that are held, where this is the least head that may be used.
 pub record IsChoice (holds : Holding → Type 0) (least master : ℕ) (c : Choice) : Type 0 where
@@ -40,8 +40,8 @@ pub record IsChoice (holds : Holding → Type 0) (least master : ℕ) (c : Choic
   pub opening : opening_in c.head.bytes ≡ Some c.opening
   pub usable : IsUsableHead least c.head.segment
   -- no head that may be used is newer
-  pub newest : (h : Holding) → holds h → IsHead least master h → h.segment ≤ c.head.segment
-  pub others : AllByRecursion (λ (h : Holding). holds h × IsOther master c.opening h) c.others
+  pub newest : (h : Holding) → holds h → IsUsableHeadOf least master h → h.segment ≤ c.head.segment
+  pub others : AllByRecursion (λ (h : Holding). holds h × IsUsableOf master c.opening h) c.others
   pub ids : map (λ (h : Holding). h.segment) c.others ++ c.head.segment ∷ [] ≡ c.opening.ids
 
 -- a choice of a master's newest log from what is shown

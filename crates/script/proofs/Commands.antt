@@ -11,13 +11,13 @@ use Rattle.master_core.specs.Data.{MasterData}
 use Rattle.master.specs.Valid.{IsValid}
 use Rattle.script.specs.declared.answer.Answer.TheVariants as answer
 use Rattle.script.specs.declared.node.Node.{Node}
-use Rattle.script.specs.Served.{IsServed, IsUnserved, IsSpent, IsOf, Stands, left_now, record_of}
+use Rattle.script.specs.Served.{IsServed, IsUnserved, IsSpent, IsOf, IsNodeAt, left_now, record_of}
 use Rattle.script.specs.Told.{Position, command_of}
 use Rattle.script.proofs.Standing.{Answered, still_stands, stands_longer, record_there, lived, lived_longer}
 
 -- ---- a command's line
 
-module _ (d e : MasterData) (old new : Node) (config : Config) (at : Position) (s : Stands old config d at) (none : at.left ≡ None)
+module _ (d e : MasterData) (old new : Node) (config : Config) (at : Position) (s : IsNodeAt old config d at) (none : at.left ≡ None)
     (line : LineValue) (command : Command) (asks : command_of line ≡ Some command) where
   -- a reply is that of the record that was added
   pub reply_told : (reply : Reply) → IsOf new None e → IsServed d e command reply → Answered d new config at line (answer.Reply reply)

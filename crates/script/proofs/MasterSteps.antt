@@ -15,12 +15,12 @@ use Rattle.master_core.specs.Data.{MasterData}
 use Rattle.master.specs.Keeps.{Keeps}
 use Rattle.master.specs.Steps.{Steps, Declines, FailsTake}
 use Rattle.master.specs.World.{World}
-use Rattle.script.specs.Served.{GoesOn, IsSpent, record_of}
+use Rattle.script.specs.Served.{LivesOn, IsSpent, record_of}
 use Rattle.script.specs.Told.{is_of_push}
 
 -- ---- a master goes on
 
-pub goes_nowhere : (d : MasterData) → GoesOn d d []
+pub goes_nowhere : (d : MasterData) → LivesOn d d []
 goes_nowhere d = record { config = refl; durable = omega arith; history = sym (append-nil d.history) }
 
 -- ---- a push
@@ -36,8 +36,8 @@ pushed_history old new (Ok a) h = ap (λ (d : MasterData). d.history) h.rest
 pushed_history old new (Err r) (inl h) = ap (λ (w : World). w.knows.history) h.1
 pushed_history old new (Err r) (inr h) = refused_history old new r h.1
 
-pub push_goes_on : (from : MasterData) (old new : World) (r : Result StepAnswer Refusal) → GoesOn from old.knows [] → Steps old Push r new
-    → Keeps 1 old new → GoesOn from new.knows []
+pub push_goes_on : (from : MasterData) (old new : World) (r : Result StepAnswer Refusal) → LivesOn from old.knows [] → Steps old Push r new
+    → Keeps 1 old new → LivesOn from new.knows []
 push_goes_on from old new r before push kept =
     let was = before.durable in
     let is = kept.durable in
@@ -99,7 +99,7 @@ place_in _ = 0
 
 -- the record that was added
 pub applied_goes_on : (old new : World) (command : Command) (place : ℕ) (reply : Reply) → Steps old (Apply 0 command) (Ok (Applied place reply)) new
-    → Keeps 1 old new → GoesOn old.knows new.knows (record_of command reply) × (place ≡ length old.knows.history)
+    → Keeps 1 old new → LivesOn old.knows new.knows (record_of command reply) × (place ≡ length old.knows.history)
 applied_goes_on old new command place reply is kept =
     let same = ap (reply_in reply) is.0.told in (
       record {

@@ -19,7 +19,7 @@ use Rattle.script.specs.declared.answer.Answer.TheVariants as answer
 use Rattle.script.specs.declared.node.Node.{Node}
 use Rattle.script.specs.declared.node.Node.TheVariants.{Up, Down, Changing}
 use Rattle.script.specs.Lives.{life_to, HasLived, Left}
-use Rattle.script.specs.Served.{GoesOn, IsOf, Stands, AnswersLine, is_up, life_of, record_of}
+use Rattle.script.specs.Served.{LivesOn, IsOf, IsNodeAt, AnswersLine, is_up, life_of, record_of}
 use Rattle.script.specs.Told.{Position, command_of, is_for_master, is_for_none, Tells}
 
 -- ---- what the node stands for goes on
@@ -31,12 +31,12 @@ last_record (x ∷ xs) r = last_record xs r
 
 abbrev pub Answered : MasterData → Node → Config → Position → LineValue → Answer → Type 0
 Answered d new config at line a =
-    (e : MasterData) × (next : Position) × Stands new config e next × ((more : List Record) × (e.history ≡ d.history ++ more))
+    (e : MasterData) × (next : Position) × IsNodeAt new config e next × ((more : List Record) × (e.history ≡ d.history ++ more))
     × Tells config (life_of e) at line a next
 
-module _ (d e : MasterData) (old new : Node) (config : Config) (at : Position) (left : Option Left) (of : IsOf new left e) (s : Stands old config d at) where
+module _ (d e : MasterData) (old new : Node) (config : Config) (at : Position) (left : Option Left) (of : IsOf new left e) (s : IsNodeAt old config d at) where
   -- the line made no record
-  pub still_stands : GoesOn d e [] → Stands new config e (record { made = at.made; acknowledged = at.acknowledged; left = left })
+  pub still_stands : LivesOn d e [] → IsNodeAt new config e (record { made = at.made; acknowledged = at.acknowledged; left = left })
   still_stands g =
       let up = g.durable in
       let kept = s.acknowledged in
@@ -48,8 +48,8 @@ module _ (d e : MasterData) (old new : Node) (config : Config) (at : Position) (
       }
 
   -- the line made one
-  pub stands_longer : (command : Command) (reply : Reply) (acknowledged : ℕ) → GoesOn d e (record_of command reply) → acknowledged ≤ durable_of (log_of e)
-      → Stands new config e (record { made = suc at.made; acknowledged = acknowledged; left = left })
+  pub stands_longer : (command : Command) (reply : Reply) (acknowledged : ℕ) → LivesOn d e (record_of command reply) → acknowledged ≤ durable_of (log_of e)
+      → IsNodeAt new config e (record { made = suc at.made; acknowledged = acknowledged; left = left })
   stands_longer command reply acknowledged g kept = record {
     node_of = of;
     configured = g.config ∙ s.configured;
@@ -61,7 +61,7 @@ module _ (d e : MasterData) (old new : Node) (config : Config) (at : Position) (
     acknowledged = kept;
   }
 
-  pub record_there : (command : Command) (reply : Reply) → GoesOn d e (record_of command reply)
+  pub record_there : (command : Command) (reply : Reply) → LivesOn d e (record_of command reply)
       → slice_get e.history at.made ≡ Some (record { seat = 0; command = command; reply = reply })
   record_there command reply g = (λ i. slice_get (g.history i) (s.made i)) ∙ last_record d.history _
 
@@ -98,13 +98,13 @@ is_down_some Changing d left down of = absurd of
 
 -- a node answers of what it stands for, and stays
 pub stays_told : (node : Node) (config : Config) (line : LineValue) (a : Answer)
-    → ((d : MasterData) (at : Position) → Stands node config d at → Tells config (life_of d) at line a at) → AnswersLine node config line node a
+    → ((d : MasterData) (at : Position) → IsNodeAt node config d at → Tells config (life_of d) at line a at) → AnswersLine node config line node a
 stays_told node config line a tells d at s = (d, at, s, ([], sym (append-nil d.history)), tells d at s)
 
 -- the node that is left stands for the same, where it stood
 pub same_told : (old new : Node) (config : Config) (line : LineValue) (a : Answer)
     → ((d : MasterData) (left : Option Left) → IsOf old left d → IsOf new left d)
-    → ((d : MasterData) (at : Position) → Stands old config d at → Tells config (life_of d) at line a at) → AnswersLine old config line new a
+    → ((d : MasterData) (at : Position) → IsNodeAt old config d at → Tells config (life_of d) at line a at) → AnswersLine old config line new a
 same_told old new config line a same tells d at s = (
   d,
   at,

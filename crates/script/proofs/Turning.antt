@@ -1,167 +1,34 @@
 -- Lines that are run in turn.
-use Rattle.std.proofs.Common.{◌≡◌, ℕ, zero, suc, ◌+◌, ◌-◌, ◌^◌, ◌<◌, ◌≤◌, Bool, true, false, List, [], ◌∷◌, ◌++◌, take, length, refl, sym, ap, subst, inl, inr, ◌∙◌, arith}
-use Rattle.std.proofs.lemmas.List.{append-nil, length-append, take-append-le}
+use Rattle.std.proofs.Common.{◌≡◌, ℕ, suc, ◌+◌, ◌-◌, ◌^◌, ◌<◌, ◌≤◌, Bool, true, false, List, [], ◌∷◌, ◌++◌, length, refl, sym, ap, subst, inl, inr, ◌∙◌, arith}
+use Rattle.std.proofs.lemmas.List.{append-nil, length-append}
 use Rattle.std.proofs.lemmas.List.Elements.{All-nil, All-push}
 use Rattle.std.proofs.lemmas.List.Concat.{flat_map-append}
-use Rattle.std.specs.Prelude.{Option, None, Some, Result, Ok, Err, slice_get}
+use Rattle.std.specs.Prelude.{Option, Result, Ok, Err}
 use Rattle.std.specs.Io.KnownBytes.{Appends, Consumes, IsAtEnd, Keeps}
 use Rattle.std.proofs.KnownBytes.{Appends-nil, Appends-trans, Appends-kept, Consumes-nil, Consumes-trans, Keeps-refl}
 use Rattle.std.specs.List.{All}
-use Rattle.lines.specs.Grammar.{LineValue}
 use Rattle.lines.specs.Reading.{IsLineText, StopsIn, TakesLine}
 use Rattle.lines.specs.declared.reading.ReadFault.{ReadFault}
 use Rattle.lines.specs.declared.reading.Taken.{Taken}
-use Rattle.versioned_map.specs.declared.command.Command.{Command}
 use Rattle.versioned_map.specs.declared.command.Record.{Record}
 use Rattle.master_core.specs.declared.config.Config.{Config}
-use Rattle.versioned_map.specs.History.{commands_of, IsLegal}
+use Rattle.versioned_map.specs.History.{IsLegal}
 use Rattle.master_core.specs.Data.{MasterData}
 use Rattle.master_core.specs.Log.{opening_of}
 use Rattle.versioned_map.specs.Represents.{empty_state}
-use Rattle.versioned_map.specs.Versioned.{State, after as map_after}
 use Rattle.script.specs.declared.answer.Answer.{Answer}
-use Rattle.script.specs.declared.answer.Answer.TheVariants as answer
 use Rattle.script.specs.declared.fault.ScriptFault.{ScriptFault}
 use Rattle.script.specs.declared.fault.ScriptFault.TheVariants as fault
 use Rattle.script.specs.declared.session.Session.{Session}
 use Rattle.script.specs.Runs.{IsOfFleet, IsScriptLine, texts_of, answers_of, AreLines, IsTakenLine, IsBadLine, TellOneLife, EndsWith, Prints, RunsScript}
 use Rattle.script.specs.declared.node.Node.{Node}
 use Rattle.script.specs.declared.node.Node.TheVariants.{Up, Down, Changing}
-use Rattle.script.specs.Lives.{Life, life_to, Left, IsLeftBy, IsLeftBySpent}
-use Rattle.script.specs.Served.{Begins, IsOf, Stands, life_of}
+use Rattle.script.specs.Lives.{Left}
+use Rattle.script.specs.Served.{BeginsSession, IsOf, IsNodeAt, life_of}
 use Rattle.script.specs.Texts.{answer_text}
-use Rattle.script.specs.Told.{Told, Position, at_start, IsRecordAt, IsIn, IsTest, IsImageAt, Tells, AreTelling}
+use Rattle.script.specs.Told.{Told, Position, at_start, Tells, AreTelling}
 use Rattle.script.specs.Turns.{RunsText, IsPrinted, PrintsText, TakesTurn, IsNoMore}
-
--- ---- a longer history tells the same
-
-slice_get-longer : (xs ys : List Record) (place : ℕ) (r : Record) → slice_get xs place ≡ Some r → slice_get (xs ++ ys) place ≡ Some r
-slice_get-longer [] ys place r is = absurd (cc)
-slice_get-longer (x ∷ xs) ys zero r is = is
-slice_get-longer (x ∷ xs) ys (suc place) r is = slice_get-longer xs ys place r is
-
-take-commands : (xs ys : List Record) (count : ℕ) → count ≤ length xs → take count (commands_of (xs ++ ys)) ≡ take count (commands_of xs)
-take-commands xs ys zero within = refl
-take-commands [] ys (suc count) within = absurd (omega arith)
-take-commands (x ∷ xs) ys (suc count) within = ap (λ l. x.command ∷ l) (take-commands xs ys count (omega arith))
-
--- positions rise
-module _ (config : Config) (life : Life) where
-  as_before : (at next : Position) → next ≡ at → at.made ≤ next.made
-  as_before at next is = let same = ap (λ (p : Position). p.made) is in omega arith
-
-  rises : (at : Position) (line : LineValue) (a : Answer) (next : Position) → Tells config life at line a next → at.made ≤ next.made
-  rises at line answer.Silent next t = as_before at next t.1
-  rises at line (answer.Reply reply) next t = let made = ap (λ (p : Position). p.made) t.1.1 in omega arith
-  rises at line (answer.Refused r) next t = elim t.1 [
-    | inl (inl (out, why)) ↦ let made = ap (λ (p : Position). p.made) out.2 in omega arith
-    | inl (inr (added, pushed)) ↦ let made = ap (λ (p : Position). p.made) added.2 in omega arith
-    | inr u ↦ as_before at next u.2
-  ]
-  rises at line (answer.Hex bytes) next t = as_before at next t.2
-  rises at line (answer.NotInLog segment) next t = as_before at next t.3
-  rises at line (answer.Stop takes) next t = as_before at next t.1
-  rises at line answer.Stopped next t = elim t.3 [
-    | inl out ↦ let made = ap (λ (p : Position). p.made) out.2 in omega arith
-    | inr added ↦ let made = ap (λ (p : Position). p.made) added.2 in omega arith
-  ]
-  rises at line answer.Crashed next t = let made = ap (λ (p : Position). p.made) t.4 in omega arith
-  rises at line (answer.Lost backup) next t = let made = ap (λ (p : Position). p.made) t.3 in omega arith
-  rises at line (answer.Recovered r) next t = as_before at next t.5
-  rises at line (answer.NotRecovered fault) next t = as_before at next t.4
-  rises at line answer.Down next t = as_before at next t.2
-  rises at line answer.Up next t = as_before at next t.2
-
-  telling_rises : (from : Position) (told : List Told) (last : Position) → AreTelling config life from told last → from.made ≤ last.made
-  telling_rises from [] last are = as_before from last are
-  telling_rises from (t ∷ ts) last are =
-      let here = rises from t.line t.answer are.0 are.1 in
-      let rest = telling_rises are.0 ts last are.2 in
-      omega arith
-
-module _ (config : Config) (opening : State) (history more : List Record) where
-  abbrev life : Life
-  life = record { opening = opening; history = history }
-
-  abbrev longer : Life
-  longer = record { opening = opening; history = history ++ more }
-
-  record_longer : (place : ℕ) (line : LineValue) (reply : _) → IsRecordAt life place line reply → IsRecordAt longer place line reply
-  record_longer place line reply is = (is.0, is.1, slice_get-longer history more place _ is.2)
-
-  same_front : (count : ℕ) → count ≤ length history → life_to life count ≡ life_to longer count
-  same_front count within =
-      let same = sym (take-append-le count history more within) in
-      λ i. record { opening = opening; history = same i }
-
-  in_longer : (at : Position) (line : LineValue) (left : Option Left) (next : Position) → IsIn life at line left next → IsIn longer at line left next
-  in_longer at line left next (reply, there, is) = (reply, record_longer at.made line reply there, is)
-
-  tells_longer : (at : Position) (line : LineValue) (a : Answer) (next : Position) → at.made ≤ length history → next.made ≤ length history
-      → Tells config life at line a next → Tells config longer at line a next
-  tells_longer at line answer.Silent next within after t = t
-  tells_longer at line (answer.Reply reply) next within after t = (t.0, (record_longer at.made line reply t.1.0, t.1.1))
-  tells_longer at line (answer.Refused r) next within after t = (
-    t.0,
-    elim t.1 [
-      | inl (inl (out, inl memory)) ↦ inl (inl (out, inl memory))
-      | inl (inl (out, inr (c, is, test))) ↦ inl (inl (out, inr (c, is, subst (λ (l : Life). IsTest config l c r) (same_front at.made within) test)))
-      | inl (inr (added, pushed)) ↦ inl (inr (in_longer at line None next added, pushed))
-      | inr u ↦ inr u
-    ],
-  )
-  tells_longer at line (answer.Hex bytes) next within after t =
-      (t.0, (t.1.0, t.1.1, subst (λ (l : Life). IsImageAt config l t.1.0 (Some bytes)) (same_front at.made within) t.1.2), t.2)
-  tells_longer at line (answer.NotInLog segment) next within after t =
-      (t.0, t.1, subst (λ (l : Life). IsImageAt config l segment None) (same_front at.made within) t.2, t.3)
-  tells_longer at line (answer.Stop takes) next within after t = t
-  tells_longer at line answer.Stopped next within after t = (
-    t.0,
-    t.1,
-    subst (λ (l : Life). IsLeftBySpent config l t.1) (same_front next.made after) t.2,
-    elim t.3 [ inl out ↦ inl out | inr added ↦ inr (in_longer at line (Some t.1) next added) ],
-  )
-  tells_longer at line answer.Crashed next within after t =
-      (t.0, t.1, t.2, subst (λ (l : Life). IsLeftBy config l t.2) (same_front at.made within) t.3, t.4)
-  tells_longer at line (answer.Lost backup) next within after t = t
-  tells_longer at line (answer.Recovered r) next within after t =
-      let table = t.3.3 in
-      let inside = table.within in
-      let count = length-append history more in (
-        t.0,
-        t.1,
-        t.2,
-        (
-          t.3.0,
-          t.3.1,
-          t.3.2,
-          record {
-            within = omega arith;
-            exactly = table.exactly
-                ∙ ap (λ (cs : List Command). (map_after opening cs).contents) (sym (take-commands history more t.3.0 table.within));
-            order = table.order;
-          },
-        ),
-        t.4,
-        t.5,
-      )
-  tells_longer at line (answer.NotRecovered fault) next within after t = t
-  tells_longer at line answer.Down next within after t = t
-  tells_longer at line answer.Up next within after t = t
-
-  pub telling_longer : (from : Position) (told : List Told) (last : Position) → last.made ≤ length history → AreTelling config life from told last
-      → AreTelling config longer from told last
-  telling_longer from [] last within are = are
-  telling_longer from (t ∷ ts) last within are =
-      let here = rises config life from t.line t.answer are.0 are.1 in
-      let rest = telling_rises config life are.0 ts last are.2 in
-      (are.0, tells_longer from t.line t.answer are.0 (omega arith) (omega arith) are.1, telling_longer are.0 ts last within are.2)
-
--- one line more
-pub telling_more : (config : Config) (life : Life) (from : Position) (told : List Told) (mid : Position) (t : Told) (next : Position)
-    → AreTelling config life from told mid → Tells config life mid t.line t.answer next → AreTelling config life from (told ++ t ∷ []) next
-telling_more config life from [] mid t next are tells = (next, subst (λ (p : Position). Tells config life p t.line t.answer next) are tells, refl)
-telling_more config life from (first ∷ rest) mid t next are tells = (are.0, are.1, telling_more config life are.0 rest mid t next are.2 tells)
+use Rattle.script.proofs.LongerLives.{telling_longer, telling_more}
 
 -- ---- a line that was run
 
@@ -212,14 +79,14 @@ pub record Running (config : Config) (session : Session) (had left held holds : 
   pub at : Position
   pub master : session.master ≡ config.master
   pub fleet : session.backups ≡ config.backups
-  pub stands : Stands session.node config knows at
+  pub stands : IsNodeAt session.node config knows at
   pub count : suc (length told) ≡ number
   pub lines : All (IsScriptLine config.backups) told
   pub telling : AreTelling config (life_of knows) at_start told at
   pub consumed : Consumes had left (texts_of told)
   pub printed : Appends held holds (answers_of told)
 
-pub starts_running : (config : Config) (session : Session) (had held : Option (List ℕ)) → Begins config session → Running config session had had held held 1
+pub starts_running : (config : Config) (session : Session) (had held : Option (List ℕ)) → BeginsSession config session → Running config session had had held held 1
 starts_running config session had held begins = record {
   told = [];
   knows = begins.stands.0;
@@ -249,7 +116,7 @@ module _ (config : Config) (old : Session) (had mid left held wrote holds : Opti
     abbrev next_told : Told
     next_told = record { text = text; line = runs.line; answer = a }
 
-    abbrev after_line : (e : MasterData) × (next : Position) × Stands new.node config e next
+    abbrev after_line : (e : MasterData) × (next : Position) × IsNodeAt new.node config e next
         × ((more : List Record) × (e.history ≡ r.knows.history ++ more)) × Tells config (life_of e) r.at runs.line a next
     after_line = runs.answers.answers config (sym r.master) r.knows r.at r.stands
 

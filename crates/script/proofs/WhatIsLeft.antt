@@ -2,7 +2,7 @@
 use Rattle.std.proofs.Common.{◌≡◌, ℕ, Bool, true, false, cond, List, [], ◌∷◌, refl, sym, ap, subst, ◌∙◌, arith}
 use Rattle.std.proofs.lemmas.List.{append-nil}
 use Rattle.std.specs.Prelude.{Option, Some, None, not, ◌==◌, ◌||◌, ◌↔◌}
-use Rattle.backup.specs.State.{state_of, lost}
+use Rattle.backup.specs.State.{fleet_state, lost}
 use Rattle.backup.specs.declared.fleet.MemoryFleet.{MemoryFleet}
 use Rattle.lines.specs.Grammar.{LineValue, Crash, Lose, Recover}
 use Rattle.entry.specs.declared.entry.Entry.{Entry}
@@ -29,7 +29,7 @@ use Rattle.script.specs.declared.answer.Answer.TheVariants as answer
 use Rattle.script.specs.declared.node.Node.{Node}
 use Rattle.script.specs.declared.node.Node.TheVariants.{Down}
 use Rattle.script.specs.Lives.{Left, is_left, IsHomeBy}
-use Rattle.script.specs.Served.{IsLeftOf, IsOf, Stands, AnswersLine, is_up, left_now, life_of}
+use Rattle.script.specs.Served.{IsLeftOf, IsOf, IsNodeAt, AnswersLine, is_up, left_now, life_of}
 use Rattle.script.specs.Told.{Position, IsRecoveredAt, Tells}
 use Rattle.script.proofs.Standing.{Answered, still_stands, lived_longer, is_up_none}
 use Rattle.script.proofs.MasterSteps.{goes_nowhere}
@@ -37,11 +37,11 @@ use Rattle.script.proofs.MasterSteps.{goes_nowhere}
 -- ---- crashes and losses
 
 -- a master that stops leaves the whole of what its fleet holds
-pub left_of : (d : MasterData) (fleet : MemoryFleet) → IsValid d (state_of fleet) → IsOf (Down fleet) (Some (left_now (state_of fleet))) d
+pub left_of : (d : MasterData) (fleet : MemoryFleet) → IsValid d (fleet_state fleet) → IsOf (Down fleet) (Some (left_now (fleet_state fleet))) d
 left_of d fleet valid = (
-  left_now (state_of fleet),
+  left_now (fleet_state fleet),
   refl,
-  record { crashed = state_of fleet; valid = valid; picture = refl; shown = λ b s. refl },
+  record { crashed = fleet_state fleet; valid = valid; picture = refl; shown = λ b s. refl },
 )
 
 pub crashed_told : (old new : Node) (config : Config) (line : LineValue) (f : FleetState) → is_up old ≡ true
@@ -101,7 +101,7 @@ shows_left hs d l f master number of shown h of_master =
     (of.shown h.backup h.segment) in
     (λ among. sym eq ∙ (shown h).0 among, λ held. (shown h).1 (eq ∙ held))
 
-pub table_told : (d : MasterData) (node : Node) (config : Config) (at : Position) (r : Rebuilt) → Stands node config d at
+pub table_told : (d : MasterData) (node : Node) (config : Config) (at : Position) (r : Rebuilt) → IsNodeAt node config d at
     → ((count : ℕ) × IsRecovered (log_of d) count r) → IsRecoveredAt (life_of d) at r
 table_told d node config at r s found =
     let kept = s.acknowledged in
@@ -111,11 +111,11 @@ table_told d node config at r s found =
     (found.0, omega arith, omega arith, record { within = found.1.within; exactly = found.1.exactly; order = found.1.order })
 
 -- a down node's line on what is left
-module _ (node : Node) (fleet : MemoryFleet) (config : Config) (d : MasterData) (at : Position) (down : node ≡ Down fleet) (s : Stands node config d at) where
-  pub left_at : (l : Left) × (at.left ≡ Some l) × IsLeftOf d l (state_of fleet)
+module _ (node : Node) (fleet : MemoryFleet) (config : Config) (d : MasterData) (at : Position) (down : node ≡ Down fleet) (s : IsNodeAt node config d at) where
+  pub left_at : (l : Left) × (at.left ≡ Some l) × IsLeftOf d l (fleet_state fleet)
   left_at = subst (λ (n : Node). IsOf n at.left d) down s.node_of
 
-  pub lost_told : (backup : ℕ) (new : MemoryFleet) → state_of new ≡ lost (state_of fleet) backup
+  pub lost_told : (backup : ℕ) (new : MemoryFleet) → fleet_state new ≡ lost (fleet_state fleet) backup
       → Answered d (Down new) config at (Lose backup) (answer.Lost backup)
   lost_told backup new is =
       let l = left_at.0 in
@@ -123,7 +123,7 @@ module _ (node : Node) (fleet : MemoryFleet) (config : Config) (d : MasterData) 
         d,
         record { made = at.made; acknowledged = at.acknowledged; left = Some less },
         record {
-          node_of = (less, refl, lost_of d l (state_of fleet) (state_of new) backup is left_at.2);
+          node_of = (less, refl, lost_of d l (fleet_state fleet) (fleet_state new) backup is left_at.2);
           configured = s.configured;
           made = s.made;
           acknowledged = s.acknowledged;
@@ -132,12 +132,12 @@ module _ (node : Node) (fleet : MemoryFleet) (config : Config) (d : MasterData) 
         (refl, l, left_at.1, refl),
       )
 
-  module _ (hs : List Holding) (master : ℕ) (number : config.master ≡ master) (shown : (h : Holding) → IsAmong h hs ↔ IsHeld (state_of fleet).picture h) where
+  module _ (hs : List Holding) (master : ℕ) (number : config.master ≡ master) (shown : (h : Holding) → IsAmong h hs ↔ IsHeld (fleet_state fleet).picture h) where
     of_master : d.config.master ≡ master
     of_master = ap (λ (c : Config). c.master) s.configured ∙ number
 
     shows : Shows hs (survivors (is_left left_at.0.lost) (shown_by left_at.0.picture)) master
-    shows = shows_left hs d left_at.0 (state_of fleet) master of_master left_at.2 shown
+    shows = shows_left hs d left_at.0 (fleet_state fleet) master of_master left_at.2 shown
 
     sound : IsSound (log_of d) left_at.0.picture
     sound = subst (λ (p : Picture). IsSound (log_of d) p) (sym left_at.2.picture) left_at.2.valid.sound

@@ -1,6 +1,6 @@
 -- What a session of lines stands for.
 use Rattle.std.specs.Prelude.{◌≡◌, ◌⊎◌, ℕ, ◌<◌, ◌≤◌, List, [], ◌∷◌, ◌++◌, Bool, true, false, Option, Some, None, length}
-use Rattle.backup.specs.State.{state_of}
+use Rattle.backup.specs.State.{fleet_state}
 use Rattle.lines.specs.Grammar.{LineValue}
 use Rattle.replica.specs.Picture.{FleetState, left_on}
 use Rattle.versioned_map.specs.declared.command.Command.{Command}
@@ -22,7 +22,7 @@ use Rattle.script.specs.Lives.{Life, Left, is_left}
 use Rattle.script.specs.Told.{Position, at_start, is_of_push, Tells}
 
 -- a master goes on: the same configuration, no less durable, and with these records more
-pub record GoesOn (old new : MasterData) (more : List Record) : Type 0 where
+pub record LivesOn (old new : MasterData) (more : List Record) : Type 0 where
   pub config : new.config ≡ old.config
   pub durable : durable_of (log_of old) ≤ durable_of (log_of new)
   pub history : new.history ≡ old.history ++ more
@@ -37,14 +37,14 @@ IsSpent f = f.takes ≡ f.end
 -- the command was served: its record is added, and durable
 abbrev pub IsServed : MasterData → MasterData → Command → Reply → Type 0
 IsServed old new command reply =
-    GoesOn old new (record_of command reply) × (length old.history < durable_of (log_of new))
+    LivesOn old new (record_of command reply) × (length old.history < durable_of (log_of new))
 
 -- The command was not answered. It was refused by a test or for want of memory, and no record was added; or its record
 -- was added, and a push was refused.
 abbrev pub IsUnserved : MasterData → MasterData → Command → Refusal → Type 0
 IsUnserved old new command r =
-    (GoesOn old new [] × ((r ≡ NoMemory) ⊎ (command_refusal old command ≡ Some r)))
-    ⊎ (((reply : Reply) × GoesOn old new (record_of command reply)) × (is_of_push r ≡ true))
+    (LivesOn old new [] × ((r ≡ NoMemory) ⊎ (command_refusal old command ≡ Some r)))
+    ⊎ (((reply : Reply) × LivesOn old new (record_of command reply)) × (is_of_push r ≡ true))
 
 -- The fleet holds of a master that is gone what its crash left, less the backups that were lost since.
 pub record IsLeftOf (d : MasterData) (l : Left) (f : FleetState) : Type 0 where
@@ -55,8 +55,8 @@ pub record IsLeftOf (d : MasterData) (l : Left) (f : FleetState) : Type 0 where
 
 -- a master that is up knows this; one that is down knew it, and this is left of it
 abbrev pub IsOf : Node → Option Left → MasterData → Type 0
-IsOf (Up m) left d = (left ≡ None) × (m.knows ≡ d) × IsValid d (state_of m.fleet)
-IsOf (Down fleet) left d = (l : Left) × (left ≡ Some l) × IsLeftOf d l (state_of fleet)
+IsOf (Up m) left d = (left ≡ None) × (m.knows ≡ d) × IsValid d (fleet_state m.fleet)
+IsOf (Down fleet) left d = (l : Left) × (left ≡ Some l) × IsLeftOf d l (fleet_state fleet)
 IsOf Changing left d = ⊥
 
 -- what a crash of a master over this fleet leaves
@@ -65,8 +65,8 @@ left_now f = record { picture = f.picture; lost = [] }
 
 -- the fleet of a node, but while its master is being dropped
 abbrev pub fleet_of : Node → Option FleetState
-fleet_of (Up m) = Some (state_of m.fleet)
-fleet_of (Down fleet) = Some (state_of fleet)
+fleet_of (Up m) = Some (fleet_state m.fleet)
+fleet_of (Down fleet) = Some (fleet_state fleet)
 fleet_of Changing = None
 
 abbrev pub is_up : Node → Bool
@@ -76,7 +76,7 @@ is_up Changing = false
 
 -- The node stands at this position for this knowledge, of a master of this configuration, and what was acknowledged is
 -- durable.
-pub record Stands (node : Node) (config : Config) (d : MasterData) (at : Position) : Type 0 where
+pub record IsNodeAt (node : Node) (config : Config) (d : MasterData) (at : Position) : Type 0 where
   pub node_of : IsOf node at.left d
   pub configured : d.config ≡ config
   pub made : at.made ≡ length d.history
@@ -87,8 +87,8 @@ life_of d = record { opening = opening_of d; history = d.history }
 
 -- What a line answers is told of the life of whatever the node stands for, and the node that is left goes on with it.
 abbrev pub AnswersLine : Node → Config → LineValue → Node → Answer → Type 0
-AnswersLine old config line new answer = (d : MasterData) (at : Position) → Stands old config d at →
-    (e : MasterData) × (next : Position) × Stands new config e next
+AnswersLine old config line new answer = (d : MasterData) (at : Position) → IsNodeAt old config d at →
+    (e : MasterData) × (next : Position) × IsNodeAt new config e next
     × ((more : List Record) × (e.history ≡ d.history ++ more)) × Tells config (life_of e) at line answer next
 
 -- the same of a session, whose master has this number
@@ -98,7 +98,7 @@ pub record SessionAnswers (old : Session) (line : LineValue) (new : Session) (an
   pub answers : (config : Config) → config.master ≡ old.master → AnswersLine old.node config line new.node answer
 
 -- a session at its start: a master of this configuration whose head is open, and of which nothing is told yet
-pub record Begins (config : Config) (s : Session) : Type 0 where
-  pub stands : (d : MasterData) × Stands s.node config d at_start × (is_open d.head ≡ true)
+pub record BeginsSession (config : Config) (s : Session) : Type 0 where
+  pub stands : (d : MasterData) × IsNodeAt s.node config d at_start × (is_open d.head ≡ true)
   pub number : s.master ≡ config.master
   pub backups : s.backups ≡ config.backups

@@ -23,9 +23,9 @@ HasValue (Put table key value) = length value ≤ 2097152
 HasValue _ = Unit {0}
 
 -- why a line wasn't run
-abbrev pub Refuses : ℕ → LineValue → LineFault → Type 0
-Refuses backups line line_fault.Bad = IsOfFleet backups line → ⊥
-Refuses backups line line_fault.NoMemory = Unit {0}
+abbrev pub RefusesLine : ℕ → LineValue → LineFault → Type 0
+RefusesLine backups line line_fault.Bad = IsOfFleet backups line → ⊥
+RefusesLine backups line line_fault.NoMemory = Unit {0}
 
 -- the line of a text was run on a session, and left another
 pub record RunsText (old : Session) (text : List ℕ) (new : Session) (answer : Answer) : Type 0 where

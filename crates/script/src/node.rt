@@ -11,7 +11,7 @@ ghost use Rattle.master_core.specs.Data.{MasterData};
 ghost use Rattle.master_core.specs.Log.{log_of};
 ghost use Rattle.replica.specs.Picture.{FleetState};
 ghost use Rattle.replica.specs.Take.{limited};
-ghost use Rattle.script.specs.Served.{GoesOn, IsServed, IsUnserved, IsSpent, IsOf, AnswersLine, fleet_of, is_up, left_now};
+ghost use Rattle.script.specs.Served.{LivesOn, IsServed, IsUnserved, IsSpent, IsOf, AnswersLine, fleet_of, is_up, left_now};
 ghost use Rattle.script.specs.Told.{command_of, is_of_push};
 
 use crate::answer::Answer;
@@ -34,7 +34,7 @@ pub enum Node {
 
 /// Pushes until a push is refused, and answers whether that was because nothing waits.
 pub fn push_all<F: Fleet>(master: &mut Master<F>) -> bool
-    ensures goes_on { GoesOn master.old.knows master.new.knows [] }
+    ensures goes_on { LivesOn master.old.knows master.new.knows [] }
     ensures open { IsTrue result → is_open master.new.knows.head ≡ true }
 {
     for _ in 0..u64::MAX {
@@ -51,7 +51,7 @@ pub fn push_all<F: Fleet>(master: &mut Master<F>) -> bool
 /// Pushes until the record at this place is durable, or a push is refused.
 #[inline(always)]
 fn push_until<F: Fleet>(master: &mut Master<F>, place: u64) -> Result<(), Refusal>
-    ensures goes_on { GoesOn master.old.knows master.new.knows [] }
+    ensures goes_on { LivesOn master.old.knows master.new.knows [] }
     ensures durable { IfOk result (λ _. place < durable_of (log_of master.new.knows)) }
     ensures refused { IfErr result (λ r. is_of_push r ≡ true) }
     ensures spent { IfErr result (λ r. r ≡ Refusal.Spent → IsSpent (F.state master.new.fleet)) }

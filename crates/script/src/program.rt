@@ -8,6 +8,7 @@ ghost use Rattle.script.specs.Program.{RunsMatches, RunsOptions, Streams};
 
 use crate::fault::{ScriptFault, report, report_config};
 use crate::running::run_script;
+use crate::session::FIRST_MASTER;
 use crate::setup::configuration;
 use clap::Error;
 use command_line::{Options, options};
@@ -53,7 +54,7 @@ pub fn run_options<R: BufRead, W: Write, E: Write>(
         (record { input = R.remaining reader.old; output = W.contents writer.old; errors = E.contents errors.old })
         (record { input = R.remaining reader.new; output = W.contents writer.new; errors = E.contents errors.new }) result }
 {
-    let Ok(config) = configuration(alloc, &options, 1) else {
+    let Ok(config) = configuration(alloc, &options, FIRST_MASTER) else {
         return report(&ScriptFault::NoMemory, errors);
     };
     match config.check() {

@@ -6,7 +6,7 @@ ghost use Rattle.master_core.specs.declared.config.Config.{Config};
 ghost use Rattle.lines.specs.Reading.{IsLineText};
 ghost use Rattle.script.specs.Configuration.{config_of};
 ghost use Rattle.script.specs.Runs.{RunsScript};
-ghost use Rattle.script.specs.Served.{Begins};
+ghost use Rattle.script.specs.Served.{BeginsSession};
 ghost use Rattle.script.specs.Turns.{IsNoMore, IsPrinted, PrintsText, TakesTurn};
 
 use crate::answer::{Answer, write_answer};
@@ -42,7 +42,7 @@ fn run_and_flush<R: BufRead, W: Write>(
     writer: &mut W,
     session: &mut Session,
 ) -> Result<(), ScriptFault>
-    ensures { (config : Config) → Begins config session.old →
+    ensures { (config : Config) → BeginsSession config session.old →
         RunsScript config (R.remaining reader.old) (R.remaining reader.new)
         (W.contents writer.old) (W.contents writer.new) result }
 {
@@ -61,7 +61,7 @@ fn run_lines<R: BufRead, W: Write>(
     writer: &mut W,
     session: &mut Session,
 ) -> Result<(), ScriptFault>
-    ensures { (config : Config) → Begins config session.old →
+    ensures { (config : Config) → BeginsSession config session.old →
         RunsScript config (R.remaining reader.old) (R.remaining reader.new)
         (W.contents writer.old) (W.contents writer.new) result }
 {

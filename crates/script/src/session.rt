@@ -1,14 +1,14 @@
 //! What a script drives: a fleet, and a master over it or none.
 
 ghost use Rattle.std.specs.Prelude.{◌≡◌, ◌≤◌, length, None, IfOk, IfErr};
-ghost use Rattle.lines.specs.Grammar.{IsKey, IsLine, shown};
+ghost use Rattle.lines.specs.Grammar.{IsKeyWord, IsLine, shown_line};
 ghost use Rattle.master_core.specs.Config.{config_fault};
 ghost use Rattle.master_core.specs.declared.config.Config.{Config};
 ghost use Rattle.script.specs.Configuration.{config_of};
 ghost use Rattle.script.specs.declared.session.LineFault.TheVariants as line_fault;
 ghost use Rattle.script.specs.Runs.{IsOfFleet};
-ghost use Rattle.script.specs.Served.{Begins, SessionAnswers};
-ghost use Rattle.script.specs.Turns.{HasValue, Refuses};
+ghost use Rattle.script.specs.Served.{BeginsSession, SessionAnswers};
+ghost use Rattle.script.specs.Turns.{HasValue, RefusesLine};
 
 use crate::answer::Answer;
 use crate::node::{Node, push_all};
@@ -36,7 +36,7 @@ impl From<NoMemory> for LineFault {
 }
 
 /// The number of the first master.
-const FIRST_MASTER: u64 = 1;
+pub(crate) const FIRST_MASTER: u64 = 1;
 
 /// What a script drives.
 #[derive(Drop)]
@@ -53,7 +53,7 @@ impl Session {
     /// An empty fleet, and a master on it whose head is open.
     pub fn start(alloc: Global, options: &Options) -> Result<Session, NoMemory>
         requires { config_fault (config_of options.now 1) ≡ None }
-        ensures { IfOk result (Begins (config_of options.now 1)) }
+        ensures { IfOk result (BeginsSession (config_of options.now 1)) }
     {
         let fleet = MemoryFleet::new(alloc, options.backups)?;
         let config = configuration(alloc, options, FIRST_MASTER)?;
@@ -77,11 +77,11 @@ impl Session {
     /// Runs one line.
     #[inline(always)]
     pub fn run_line(&mut self, line: Line<'_>) -> Result<Answer, LineFault>
-        requires line { IsLine (shown line) }
-        requires value { HasValue (shown line) }
-        ensures ran { IfOk result (λ answer. SessionAnswers self.old (shown line.entry) self.new answer) }
-        ensures of_fleet { IfOk result (λ _. IsOfFleet self.old.backups (shown line.entry)) }
-        ensures refused { IfErr result (Refuses self.old.backups (shown line.entry)) }
+        requires line { IsLine (shown_line line) }
+        requires value { HasValue (shown_line line) }
+        ensures ran { IfOk result (λ answer. SessionAnswers self.old (shown_line line.entry) self.new answer) }
+        ensures of_fleet { IfOk result (λ _. IsOfFleet self.old.backups (shown_line line.entry)) }
+        ensures refused { IfErr result (RefusesLine self.old.backups (shown_line line.entry)) }
     {
         let alloc = self.alloc;
         match line {
@@ -105,7 +105,7 @@ impl Session {
 }
 
 fn make_key(alloc: Global, table: u64, bytes: &[u8]) -> Result<Key, NoMemory>
-    requires { IsKey bytes.now }
+    requires { IsKeyWord bytes.now }
     ensures { IfOk result (λ key. key ≡ record { table = table; bytes = bytes.now }) }
 {
     match Key::new(alloc, table, bytes) {
@@ -117,7 +117,7 @@ fn make_key(alloc: Global, table: u64, bytes: &[u8]) -> Result<Key, NoMemory>
 }
 
 fn put_command(alloc: Global, table: u64, key: &[u8], value: &[u8]) -> Result<Command, NoMemory>
-    requires key { IsKey key.now }
+    requires key { IsKeyWord key.now }
     requires value { length value.now ≤ MAX_VALUE_LEN }
     ensures { IfOk result (λ command.
         command ≡ Command.Put (record { table = table; bytes = key.now }) value.now If.Any) }

@@ -13,7 +13,7 @@ use Rattle.segment.specs.declared.expected.Expected.{Expected}
 use Rattle.segment.specs.declared.fault.SegmentFault.{SegmentFault}
 use Rattle.segment.specs.declared.fault.SegmentFault.TheVariants.{BadEntry, BadOrder, TooLong, NoMemory}
 use Rattle.segment.specs.Order.{completes}
-use Rattle.segment.specs.Faults.{StandBefore, IsMisplaced, EndsEarly, IsBadOrder, IsBadEntry, IsFault}
+use Rattle.segment.specs.Faults.{StandBefore, IsMisplaced, EndsEarly, IsBadOrder, IsBadEntry, IsSegmentFault}
 use Rattle.segment.specs.Walk.{IsWalked}
 use Rattle.segment.proofs.RowLemmas.{IsFront, IsFront-from_text}
 use Rattle.segment.proofs.OrderLemmas.{not_beginning, is_whole-expects}
@@ -75,7 +75,7 @@ no_early_end bytes at before es is stand (end, not) =
     go (e ∷ rest) entries text = omega (arith, length-drop at bytes, ap length text, length-append (spelling e) (text_of rest), spelling-some e)
 
 -- Only want of memory keeps the text of a segment from being read.
-pub IsFault-text : (bytes : List ℕ) (f : SegmentFault) (es : List Entry) → IsFault bytes f → IsTextOf bytes es → length bytes ≤ 8388608 → f ≡ NoMemory
+pub IsFault-text : (bytes : List ℕ) (f : SegmentFault) (es : List Entry) → IsSegmentFault bytes f → IsTextOf bytes es → length bytes ≤ 8388608 → f ≡ NoMemory
 IsFault-text bytes (BadEntry at) es fault is limit = absurd (no_bad_entry bytes at es is fault.1)
 IsFault-text bytes (BadOrder at) es (_, (before, stand, inl misplaced)) is limit = absurd (no_misplaced bytes at before es is stand misplaced)
 IsFault-text bytes (BadOrder at) es (_, (before, stand, inr ended)) is limit = absurd (no_early_end bytes at before es is stand ended)

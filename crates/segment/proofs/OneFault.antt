@@ -13,7 +13,7 @@ use Rattle.entry.proofs.PrefixFree.{prefix_free}
 use Rattle.entry.proofs.Passing.{passes}
 use Rattle.segment.specs.declared.fault.SegmentFault.{SegmentFault}
 use Rattle.segment.specs.declared.fault.SegmentFault.TheVariants.{BadEntry, BadOrder, TooLong, NoMemory}
-use Rattle.segment.specs.Faults.{StandBefore, IsMisplaced, EndsEarly, IsUnreadable, IsBadOrder, IsBadEntry, IsFault}
+use Rattle.segment.specs.Faults.{StandBefore, IsMisplaced, EndsEarly, IsUnreadable, IsBadOrder, IsBadEntry, IsSegmentFault}
 use Rattle.segment.proofs.RowLemmas.{cons_same}
 use Rattle.segment.proofs.FaultLemmas.{IsFault-text}
 
@@ -106,7 +106,7 @@ one_order : (bytes : List ℕ) (a b : ℕ) → IsBadOrder bytes a → IsBadOrder
 one_order bytes a b (xs, at_a, here) (ys, at_b, there) = one_stop bytes a b xs ys at_a at_b (Stops-bad_order bytes a xs here) (Stops-bad_order bytes b ys there)
 
 -- No bytes have two faults.
-pub one_fault : (bytes : List ℕ) (f g : SegmentFault) → IsFault bytes f → IsFault bytes g → f ≡ g
+pub one_fault : (bytes : List ℕ) (f g : SegmentFault) → IsSegmentFault bytes f → IsSegmentFault bytes g → f ≡ g
 one_fault bytes TooLong TooLong p q = refl
 one_fault bytes TooLong (BadEntry b) p q = let limit = q.0 in absurd (omega arith)
 one_fault bytes TooLong (BadOrder b) p q = let limit = q.0 in absurd (omega arith)

@@ -36,14 +36,14 @@ abbrev pub IsBadEntry : List ℕ → ℕ → Type 0
 IsBadEntry bytes at = (before : List Entry) × (StandBefore bytes at before) × IsUnreadable bytes at
 
 -- the fault that the first failing test names; want of memory comes only where no test fails
-abbrev pub IsFault : List ℕ → SegmentFault → Type 0
-IsFault bytes TooLong = 8388608 < length bytes
-IsFault bytes (BadEntry at) = (length bytes ≤ 8388608) × IsBadEntry bytes at
-IsFault bytes (BadOrder at) = (length bytes ≤ 8388608) × IsBadOrder bytes at
-IsFault bytes NoMemory = (length bytes ≤ 8388608) × IsSegmentText bytes
+abbrev pub IsSegmentFault : List ℕ → SegmentFault → Type 0
+IsSegmentFault bytes TooLong = 8388608 < length bytes
+IsSegmentFault bytes (BadEntry at) = (length bytes ≤ 8388608) × IsBadEntry bytes at
+IsSegmentFault bytes (BadOrder at) = (length bytes ≤ 8388608) × IsBadOrder bytes at
+IsSegmentFault bytes NoMemory = (length bytes ≤ 8388608) × IsSegmentText bytes
 
 -- ---- a law
 
 -- No bytes have two faults.
 abbrev pub FaultsAreOne : Type 0
-FaultsAreOne = (bytes : List ℕ) (f g : SegmentFault) → IsFault bytes f → IsFault bytes g → f ≡ g
+FaultsAreOne = (bytes : List ℕ) (f g : SegmentFault) → IsSegmentFault bytes f → IsSegmentFault bytes g → f ≡ g

@@ -3,7 +3,7 @@
 ghost use Rattle.std.specs.Prelude.{◌≡◌, ◌≢◌, ◌≤◌, ◌<◌, List, length, IfOk, IfErr, MatchResult};
 ghost use Rattle.entry.specs.declared.entry.Entry.{Entry};
 ghost use Rattle.entry.specs.Text.{IsTextOf, IsSegmentText, entries_in};
-ghost use Rattle.segment.specs.Faults.{IsFault};
+ghost use Rattle.segment.specs.Faults.{IsSegmentFault};
 ghost use Rattle.segment.specs.Walk.{IsWalked};
 ghost use Rattle.segment.specs.Bytes.{IsSegmentBytes};
 
@@ -21,7 +21,7 @@ fn step(bytes: &[u8], at: usize, expected: Expected) -> Result<(usize, Expected)
     requires walked { IsWalked bytes.now at expected }
     ensures above { IfOk result (λ next. at < next.0) }
     ensures walked { IfOk result (λ next. IsWalked bytes.now next.0 next.1) }
-    ensures fault { IfErr result (λ fault. IsFault bytes.now fault) }
+    ensures fault { IfErr result (λ fault. IsSegmentFault bytes.now fault) }
     ensures memory { IfErr result (λ fault. fault ≢ SegmentFault.NoMemory) }
 {
     match EntryRef::read(&bytes[at..]) {
@@ -36,7 +36,7 @@ fn step(bytes: &[u8], at: usize, expected: Expected) -> Result<(usize, Expected)
 /// Makes the tests of a segment, in order.
 pub(crate) fn check(bytes: &[u8]) -> Result<(), SegmentFault>
     ensures ok { IfOk result (λ _. IsSegmentBytes bytes.now) }
-    ensures fault { IfErr result (λ fault. IsFault bytes.now fault) }
+    ensures fault { IfErr result (λ fault. IsSegmentFault bytes.now fault) }
     ensures memory { IfErr result (λ fault. fault ≢ SegmentFault.NoMemory) }
 {
     if bytes.len() > MAX_SEGMENT_LEN {
@@ -61,7 +61,7 @@ pub fn read_segment(alloc: Global, bytes: &[u8]) -> Result<Segment, SegmentFault
     ensures complete { (entries : List Entry) → IsTextOf bytes.now entries → length bytes.now ≤ MAX_SEGMENT_LEN →
         MatchResult result (λ segment. segment ≡ entries) (λ fault. fault ≡ SegmentFault.NoMemory) }
     // A fault is the one that the first failing test names. Want of memory comes only where no test fails.
-    ensures fault { IfErr result (λ fault. IsFault bytes.now fault) }
+    ensures fault { IfErr result (λ fault. IsSegmentFault bytes.now fault) }
 {
     match SegmentRef::read(bytes) {
         Ok(segment) => Ok(segment.to_segment(alloc)?),

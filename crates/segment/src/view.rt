@@ -6,7 +6,7 @@ ghost use Rattle.entry.specs.declared.entry.Entry.{Entry};
 ghost use Rattle.entry.specs.View.{shown, shown_ids};
 ghost use Rattle.entry.specs.Text.{text_of, Opening, opening_of, header_of, IsSegment, IsTextOf};
 ghost use Rattle.segment.specs.Bytes.{IsSegmentBytes, standing_at};
-ghost use Rattle.segment.specs.Faults.{IsFault};
+ghost use Rattle.segment.specs.Faults.{IsSegmentFault};
 ghost use Rattle.segment.specs.Props.{IsSegmentBytes-prop};
 
 use crate::entries::Entries;
@@ -32,7 +32,7 @@ impl<'a> SegmentRef<'a> {
         ensures complete { (entries : List Entry) → IsTextOf bytes.entry.now entries → length bytes.entry.now ≤ 8388608 →
             IsOkAnd result (λ segment. entries_of segment ≡ entries) }
         // A fault is the one that the first failing test names.
-        ensures fault { IfErr result (λ fault. IsFault bytes.entry.now fault) }
+        ensures fault { IfErr result (λ fault. IsSegmentFault bytes.entry.now fault) }
     {
         match check(bytes) {
             Ok(()) => Ok(SegmentRef { bytes }),

@@ -3,7 +3,7 @@ use Rattle.std.specs.Prelude.{Some, false, is_some, unwrap_or}
 use Rattle.std.proofs.lemmas.Bool.{both_ways}
 use Rattle.entry.specs.Text.{opening_in}
 use Rattle.replica.specs.declared.holding.Holding.{Holding}
-use Rattle.replica.specs.Choice.{IsHead}
+use Rattle.replica.specs.Choice.{IsUsableHeadOf}
 use Rattle.recovery_plan.specs.Good.{least_head}
 use Rattle.recovery_plan.proofs.Bests.{take-more}
 use Rattle.recovery_plan.proofs.Heads.{good-more, newest-more, newest-skip, first-bad}
@@ -25,7 +25,7 @@ loop-holding-preserved c =
     elim c.if-holding-master.branch [
       | then-holding-master+in-Some-true w ↦
           let bears = sym w.in-Some-true.ensures.bears ∙ w.in-Some-true.field-0-test in
-          let head : IsHead least_head m h = (w.if-holding-master.true, bears, omega arith) in
+          let head : IsUsableHeadOf least_head m h = (w.if-holding-master.true, bears, omega arith) in
           let is : c.if-holding-master.newest ≡ Some (max h.segment (unwrap_or c.loop-holding.newest 0)) =
           w.newest-is ∙ ap (λ n. Some n) (w.max.ensures ∙ ap (max h.segment) w.unwrap_or.ensures) in
           record {
@@ -34,7 +34,7 @@ loop-holding-preserved c =
           }
       | then-holding-master+in-Some-false w ↦
           let none : is_some (opening_in h.bytes) ≡ false = sym w.in-Some-false.ensures.bears ∙ w.in-Some-false.field-0-test in
-          let no : IsHead least_head m h → ⊥ = λ head. both_ways (is_some (opening_in h.bytes)) none head.1 in
+          let no : IsUsableHeadOf least_head m h → ⊥ = λ head. both_ways (is_some (opening_in h.bytes)) none head.1 in
           record {
             good = rw more (good-more m before h c.loop-holding.invariant.good (λ _. w.in-Some-false.ensures.good));
             newest = rw (more, w.newest-is) (newest-skip m before h c.loop-holding.newest no c.loop-holding.invariant.newest);

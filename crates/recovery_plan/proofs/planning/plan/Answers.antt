@@ -2,7 +2,7 @@ use Rattle.std.proofs.Common.{rules, List, subst}
 use Rattle.std.specs.Prelude.{IfErr}
 use Rattle.replica.specs.declared.holding.Holding.{Holding}
 use Rattle.std.proofs.lemmas.Result.{IfErr-weaker}
-use Rattle.recovery_plan.specs.Planned.{NamesLoss, IsHeadTaken, IsFault, IsLaterFault}
+use Rattle.recovery_plan.specs.Planned.{NamesLoss, IsHeadTaken, IsPlanFault, IsLaterFault}
 use Rattle.recovery_plan.proofs.Losses.{losses, fault_of}
 use Rattle.recovery_plan.proofs.planning.plan.Goals as goal
 
@@ -15,5 +15,5 @@ pub returns-clause-fault : goal.returns-clause-fault
 returns-clause-fault c =
     let holdings = c.as_slice-holdings.result.now in
     let taken : IsHeadTaken holdings c.args.master c.in-Some-open_head.head.now = search rules in
-    subst (λ (hs : List Holding). IfErr c.plan_from.result (λ fault. IsFault hs c.args.master fault)) c.as_slice-holdings.ensures
-    (IfErr-weaker c.plan_from.result (λ fault. IsLaterFault holdings c.args.master fault) (λ fault. IsFault holdings c.args.master fault) (λ fault. fault_of holdings c.args.master c.in-Some-open_head.head.now taken fault) c.plan_from.ensures.fault)
+    subst (λ (hs : List Holding). IfErr c.plan_from.result (λ fault. IsPlanFault hs c.args.master fault)) c.as_slice-holdings.ensures
+    (IfErr-weaker c.plan_from.result (λ fault. IsLaterFault holdings c.args.master fault) (λ fault. IsPlanFault holdings c.args.master fault) (λ fault. fault_of holdings c.args.master c.in-Some-open_head.head.now taken fault) c.plan_from.ensures.fault)

@@ -1,9 +1,9 @@
 use Rattle.master_core.specs.declared.config.Config.{Config}
-use Rattle.script.specs.Served.{Begins}
+use Rattle.script.specs.Served.{BeginsSession}
 use Rattle.script.proofs.Turning.{Running}
 use Rattle.script.proofs.running.run_lines.Given as goal
 
 abbrev pub invariant-loop-number : goal.invariant-loop-number
-invariant-loop-number g l = (config : Config) → Begins config l.fn.session →
+invariant-loop-number g l = (config : Config) → BeginsSession config l.fn.session →
     Running config l.session (g.R.Read.remaining l.fn.reader) (g.R.Read.remaining l.reader)
     (g.W.Write.contents l.fn.writer) (g.W.Write.contents l.writer) l.number

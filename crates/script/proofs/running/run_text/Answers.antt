@@ -1,6 +1,6 @@
 use Rattle.std.proofs.Common.{refl}
 use Rattle.std.proofs.KnownBytes.{Keeps-refl}
-use Rattle.lines.specs.Grammar.{shown}
+use Rattle.lines.specs.Grammar.{shown_line}
 use Rattle.script.proofs.Turning.{answer_printed}
 use Rattle.script.proofs.running.run_text.Goals as goal
 
@@ -8,7 +8,7 @@ pub returns-in-Ok : goal.returns-in-Ok
 returns-in-Ok g c =
     answer_printed _ _ _ _ _ _ c.in-Ok.answer c.print.result
     (record {
-      line = shown c.in-Some.line;
+      line = shown_line c.in-Some.line;
       says = c.in-Some.ensures.sound;
       of_fleet = c.in-Ok.ensures.of_fleet;
       answers = c.in-Ok.ensures.ran;

@@ -4,11 +4,11 @@ use Rattle.entry.specs.declared.entry.Entry.{Entry}
 use Rattle.entry.specs.Text.{text_of}
 use Rattle.entry.specs.View.{shown}
 use Rattle.log_head.specs.declared.head.UnitEnd.{UnitEnd}
-use Rattle.log_head.specs.Head.{EndAt, IsHead}
+use Rattle.log_head.specs.Head.{EndAt, IsHeadValue}
 use Rattle.log_head.proofs.Heads.{EndAt_push, all_more, text_more}
 use Rattle.log_head.proofs.head.Head.append.Goals as goal
 
-grown : (c : goal.After-push_reserved) → IsHead (record {
+grown : (c : goal.After-push_reserved) → IsHeadValue (record {
   id = c.self.inside.id;
   replicas = c.self.inside.replicas;
   image = c.append.new.self;

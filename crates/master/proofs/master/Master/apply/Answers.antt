@@ -10,16 +10,16 @@ use Rattle.master_core.specs.Data.{MasterData}
 use Rattle.master_core.specs.Invariant.{IsCore}
 use Rattle.master_core.specs.Log.{log_of}
 use Rattle.master_core.specs.Steps.{Applies, record_now}
-use Rattle.master.specs.Invariant.{IsKept}
+use Rattle.master.specs.Invariant.{IsWellKept}
 use Rattle.master.proofs.Applied.{applied_kept}
 use Rattle.master.proofs.master.Master.apply.Goals as goal
 
 -- whether it was applied or refused
-kept_then : (d e : MasterData) (f : FleetState) (seat : ℕ) (command : Command) (result : Result StepAnswer Refusal) → IsKept d f
+kept_then : (d e : MasterData) (f : FleetState) (seat : ℕ) (command : Command) (result : Result StepAnswer Refusal) → IsWellKept d f
     → IfOk result (λ answer. Applies d seat command answer e)
-    → OnOk result (MayApply (log_of d) (dead_segment d command) (record_now d seat command)) → OnOk result (IsCore e) → OnErr result (e ≡ d) → IsKept e f
+    → OnOk result (MayApply (log_of d) (dead_segment d command) (record_now d seat command)) → OnOk result (IsCore e) → OnErr result (e ≡ d) → IsWellKept e f
 kept_then d e f seat command (Ok answer) kept is may core same = applied_kept d e f seat command answer kept is may core
-kept_then d e f seat command (Err r) kept is may core same = subst (λ (m : MasterData). IsKept m f) (sym same) kept
+kept_then d e f seat command (Err r) kept is may core same = subst (λ (m : MasterData). IsWellKept m f) (sym same) kept
 
 pub invariant_of-self : goal.invariant_of-self
 invariant_of-self g c =

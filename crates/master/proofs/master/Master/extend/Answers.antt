@@ -15,7 +15,7 @@ use Rattle.master_core.specs.Invariant.{IsCore}
 use Rattle.master_core.specs.Log.{log_of}
 use Rattle.master_core.specs.Steps.{extended_data}
 use Rattle.master_core.proofs.Refusals.{push_lags}
-use Rattle.master.specs.Invariant.{IsKept}
+use Rattle.master.specs.Invariant.{IsWellKept}
 use Rattle.master.specs.Pushes.{Pushes, IsNextOp}
 use Rattle.master.proofs.NextOps.{extend_op, extends_next, extends_told}
 use Rattle.master.proofs.Placing.{home_within}
@@ -39,7 +39,7 @@ module _ (g : given.Over) (c : goal.After-take g) where
   abbrev units : ℕ
   units = c.units_of-units.result
 
-  kept : IsKept d f
+  kept : IsWellKept d f
   kept = c.self.invariant
 
   running : d.is_halted ≡ false
@@ -115,7 +115,7 @@ module _ (g : given.Over) (c : goal.After-take g) where
 pub invariant_of-self : goal.invariant_of-self
 invariant_of-self g c =
     let t = (goal.at.invariant_of-self g c).After-take in
-    subst (λ (m : MasterData). IsKept m (after g t)) (sym c.extend.ensures.extended)
+    subst (λ (m : MasterData). IsWellKept m (after g t)) (sym c.extend.ensures.extended)
     (taken_kept (d g t) (taken_then g t) (f g t) (o g t) (kept g t) (running g t) (next g t) (within g t) (after g t)
     (subst IsCore c.extend.ensures.extended c.extend.ensures.valid) (takes g t c.in-Ok.ensures).1)
 
@@ -128,7 +128,7 @@ fail-requires g c =
 pub invariant_of-self-in-Err : goal.invariant_of-self-in-Err
 invariant_of-self-in-Err g c =
     let t = (goal.at.invariant_of-self-in-Err g c).After-take in
-    subst (λ (m : MasterData). IsKept m (after g t)) (sym c.fail.ensures.failed)
+    subst (λ (m : MasterData). IsWellKept m (after g t)) (sym c.fail.ensures.failed)
     (failed_kept (d g t) (taken_then g t) (f g t) (o g t) (kept g t) (running g t) (next g t) (within g t) (after g t)
     c.in-Err.fault (refuses g t c.in-Err.fault c.in-Err.ensures))
 

@@ -3,7 +3,7 @@ use Rattle.versioned_map.specs.declared.command.Command.{Command}
 use Rattle.versioned_map.specs.declared.command.Record.{Record}
 use Rattle.versioned_map.specs.declared.command.Reply.{Reply}
 use Rattle.master_core.specs.declared.change.Change.{Change}
-use Rattle.log_head.specs.Head.{HeadValue, IsHead}
+use Rattle.log_head.specs.Head.{HeadValue, IsHeadValue}
 use Rattle.master_core.specs.declared.step.StepAnswer.TheVariants.{Applied}
 use Rattle.log_model.specs.Steps.{MayApply}
 use Rattle.master_core.specs.Causes.{command_refusal, dead_segment}
@@ -59,8 +59,8 @@ module _ (c : goal.After-push_reserved) where
   reply : c.args.accepted.reply ≡ reply_now d command
   reply = rw (← c.self.view_is) at c.requires.reply
 
-  head : IsHead (appended d.head (length d.history) (unit_of_change d.head.id command change))
-  head = subst (λ (h : HeadValue). IsHead h) c.in_ok-enact.ensures.head c.in_ok-enact.ensures.valid
+  head : IsHeadValue (appended d.head (length d.history) (unit_of_change d.head.id command change))
+  head = subst (λ (h : HeadValue). IsHeadValue h) c.in_ok-enact.ensures.head c.in_ok-enact.ensures.valid
 
   items : c.push_reserved.new.self.items ≡ d.history ++ c.args.accepted ∷ []
   items = rw (c.push_reserved.ensures.items, c.enact.ensures.history) refl

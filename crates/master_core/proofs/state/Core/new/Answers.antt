@@ -1,5 +1,5 @@
 use Rattle.std.proofs.Common.{◌≡◌, [], rules, subst}
-use Rattle.log_head.specs.Head.{HeadValue, IsHead}
+use Rattle.log_head.specs.Head.{HeadValue, IsHeadValue}
 use Rattle.log_head.specs.Steps.{fresh_head}
 use Rattle.log_model.specs.Steps.{first_start}
 use Rattle.master_core.proofs.Beginning.{fresh_core}
@@ -13,4 +13,4 @@ invariant_of-core c =
     let history : c.new-2.result.items ≡ [] = search rules in
     let head : c.in_ok-head.head ≡ fresh_head c.args.config.master c.args.config.replicas first_start = search rules in
     rw (head, safe, places, history)
-    (fresh_core c.args.config c.requires (subst (λ (h : HeadValue). IsHead h) head c.in_ok-head.ensures.valid))
+    (fresh_core c.args.config c.requires (subst (λ (h : HeadValue). IsHeadValue h) head c.in_ok-head.ensures.valid))

@@ -1,5 +1,5 @@
 use Rattle.std.proofs.Common.{sym, subst}
-use Rattle.log_head.specs.Head.{HeadValue, IsHead}
+use Rattle.log_head.specs.Head.{HeadValue, IsHeadValue}
 use Rattle.master_core.specs.Data.{MasterData}
 use Rattle.master_core.specs.Invariant.{IsCore}
 use Rattle.master_core.proofs.Beginning.{counted_core}
@@ -25,7 +25,7 @@ counted c =
     } in
     subst (λ (h : HeadValue). IsCore (record d { head = h })) (sym c.open.ensures.opened)
     (counted_core d _ c.self.invariant
-    (subst (λ (h : HeadValue). IsHead h) c.open.ensures.opened c.open.ensures.valid))
+    (subst (λ (h : HeadValue). IsHeadValue h) c.open.ensures.opened c.open.ensures.valid))
 
 pub invariant_of-self : goal.invariant_of-self
 invariant_of-self c = counted (goal.at.invariant_of-self c).After-open

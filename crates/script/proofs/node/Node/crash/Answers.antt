@@ -1,6 +1,6 @@
 use Rattle.std.proofs.Common.{refl, ap, subst}
 use Rattle.std.specs.Prelude.{None}
-use Rattle.backup.specs.State.{state_of}
+use Rattle.backup.specs.State.{fleet_state}
 use Rattle.lines.specs.Grammar.{Crash}
 use Rattle.script.specs.declared.node.Node.{Node}
 use Rattle.script.specs.declared.node.Node.TheVariants.{Up}
@@ -10,7 +10,7 @@ use Rattle.script.proofs.node.Node.crash.Goals as goal
 
 pub returns-in-Up-clause-told : goal.returns-in-Up-clause-told
 returns-in-Up-clause-told c = λ config.
-    let f = state_of c.in-Up.field-0.fleet in
+    let f = fleet_state c.in-Up.field-0.fleet in
     crashed_told c.args.self.now c.drop_master.new.self config Crash f (ap is_up c.in-Up.is)
     (λ d of.
     let was : IsOf (Up c.in-Up.field-0) None d = subst (λ (n : Node). IsOf n None d) c.in-Up.is of in

@@ -1,0 +1,144 @@
+-- What lines tell of a life, they tell of a longer one.
+use Rattle.std.proofs.Common.{◌≡◌, ℕ, zero, suc, ◌≤◌, List, [], ◌∷◌, ◌++◌, take, length, refl, sym, ap, subst, inl, inr, ◌∙◌, arith}
+use Rattle.std.proofs.lemmas.List.{length-append, take-append-le}
+use Rattle.std.specs.Prelude.{Option, None, Some, slice_get}
+use Rattle.lines.specs.Grammar.{LineValue}
+use Rattle.versioned_map.specs.declared.command.Command.{Command}
+use Rattle.versioned_map.specs.declared.command.Record.{Record}
+use Rattle.master_core.specs.declared.config.Config.{Config}
+use Rattle.versioned_map.specs.History.{commands_of}
+use Rattle.versioned_map.specs.Versioned.{State, after as map_after}
+use Rattle.script.specs.declared.answer.Answer.{Answer}
+use Rattle.script.specs.declared.answer.Answer.TheVariants as answer
+use Rattle.script.specs.Lives.{Life, life_to, Left, IsLeftBy, IsLeftBySpent}
+use Rattle.script.specs.Told.{Told, Position, IsRecordAt, IsIn, IsTest, IsImageAt, Tells, AreTelling}
+
+-- ---- a longer history tells the same
+
+slice_get-longer : (xs ys : List Record) (place : ℕ) (r : Record) → slice_get xs place ≡ Some r → slice_get (xs ++ ys) place ≡ Some r
+slice_get-longer [] ys place r is = absurd (cc)
+slice_get-longer (x ∷ xs) ys zero r is = is
+slice_get-longer (x ∷ xs) ys (suc place) r is = slice_get-longer xs ys place r is
+
+take-commands : (xs ys : List Record) (count : ℕ) → count ≤ length xs → take count (commands_of (xs ++ ys)) ≡ take count (commands_of xs)
+take-commands xs ys zero within = refl
+take-commands [] ys (suc count) within = absurd (omega arith)
+take-commands (x ∷ xs) ys (suc count) within = ap (λ l. x.command ∷ l) (take-commands xs ys count (omega arith))
+
+-- positions rise
+module _ (config : Config) (life : Life) where
+  as_before : (at next : Position) → next ≡ at → at.made ≤ next.made
+  as_before at next is = let same = ap (λ (p : Position). p.made) is in omega arith
+
+  rises : (at : Position) (line : LineValue) (a : Answer) (next : Position) → Tells config life at line a next → at.made ≤ next.made
+  rises at line answer.Silent next t = as_before at next t.1
+  rises at line (answer.Reply reply) next t = let made = ap (λ (p : Position). p.made) t.1.1 in omega arith
+  rises at line (answer.Refused r) next t = elim t.1 [
+    | inl (inl (out, why)) ↦ let made = ap (λ (p : Position). p.made) out.2 in omega arith
+    | inl (inr (added, pushed)) ↦ let made = ap (λ (p : Position). p.made) added.2 in omega arith
+    | inr u ↦ as_before at next u.2
+  ]
+  rises at line (answer.Hex bytes) next t = as_before at next t.2
+  rises at line (answer.NotInLog segment) next t = as_before at next t.3
+  rises at line (answer.Stop takes) next t = as_before at next t.1
+  rises at line answer.Stopped next t = elim t.3 [
+    | inl out ↦ let made = ap (λ (p : Position). p.made) out.2 in omega arith
+    | inr added ↦ let made = ap (λ (p : Position). p.made) added.2 in omega arith
+  ]
+  rises at line answer.Crashed next t = let made = ap (λ (p : Position). p.made) t.4 in omega arith
+  rises at line (answer.Lost backup) next t = let made = ap (λ (p : Position). p.made) t.3 in omega arith
+  rises at line (answer.Recovered r) next t = as_before at next t.5
+  rises at line (answer.NotRecovered fault) next t = as_before at next t.4
+  rises at line answer.Down next t = as_before at next t.2
+  rises at line answer.Up next t = as_before at next t.2
+
+  telling_rises : (from : Position) (told : List Told) (last : Position) → AreTelling config life from told last → from.made ≤ last.made
+  telling_rises from [] last are = as_before from last are
+  telling_rises from (t ∷ ts) last are =
+      let here = rises from t.line t.answer are.0 are.1 in
+      let rest = telling_rises are.0 ts last are.2 in
+      omega arith
+
+module _ (config : Config) (opening : State) (history more : List Record) where
+  abbrev life : Life
+  life = record { opening = opening; history = history }
+
+  abbrev longer : Life
+  longer = record { opening = opening; history = history ++ more }
+
+  record_longer : (place : ℕ) (line : LineValue) (reply : _) → IsRecordAt life place line reply → IsRecordAt longer place line reply
+  record_longer place line reply is = (is.0, is.1, slice_get-longer history more place _ is.2)
+
+  same_front : (count : ℕ) → count ≤ length history → life_to life count ≡ life_to longer count
+  same_front count within =
+      let same = sym (take-append-le count history more within) in
+      λ i. record { opening = opening; history = same i }
+
+  in_longer : (at : Position) (line : LineValue) (left : Option Left) (next : Position) → IsIn life at line left next → IsIn longer at line left next
+  in_longer at line left next (reply, there, is) = (reply, record_longer at.made line reply there, is)
+
+  tells_longer : (at : Position) (line : LineValue) (a : Answer) (next : Position) → at.made ≤ length history → next.made ≤ length history
+      → Tells config life at line a next → Tells config longer at line a next
+  tells_longer at line answer.Silent next within after t = t
+  tells_longer at line (answer.Reply reply) next within after t = (t.0, (record_longer at.made line reply t.1.0, t.1.1))
+  tells_longer at line (answer.Refused r) next within after t = (
+    t.0,
+    elim t.1 [
+      | inl (inl (out, inl memory)) ↦ inl (inl (out, inl memory))
+      | inl (inl (out, inr (c, is, test))) ↦ inl (inl (out, inr (c, is, subst (λ (l : Life). IsTest config l c r) (same_front at.made within) test)))
+      | inl (inr (added, pushed)) ↦ inl (inr (in_longer at line None next added, pushed))
+      | inr u ↦ inr u
+    ],
+  )
+  tells_longer at line (answer.Hex bytes) next within after t =
+      (t.0, (t.1.0, t.1.1, subst (λ (l : Life). IsImageAt config l t.1.0 (Some bytes)) (same_front at.made within) t.1.2), t.2)
+  tells_longer at line (answer.NotInLog segment) next within after t =
+      (t.0, t.1, subst (λ (l : Life). IsImageAt config l segment None) (same_front at.made within) t.2, t.3)
+  tells_longer at line (answer.Stop takes) next within after t = t
+  tells_longer at line answer.Stopped next within after t = (
+    t.0,
+    t.1,
+    subst (λ (l : Life). IsLeftBySpent config l t.1) (same_front next.made after) t.2,
+    elim t.3 [ inl out ↦ inl out | inr added ↦ inr (in_longer at line (Some t.1) next added) ],
+  )
+  tells_longer at line answer.Crashed next within after t =
+      (t.0, t.1, t.2, subst (λ (l : Life). IsLeftBy config l t.2) (same_front at.made within) t.3, t.4)
+  tells_longer at line (answer.Lost backup) next within after t = t
+  tells_longer at line (answer.Recovered r) next within after t =
+      let table = t.3.3 in
+      let inside = table.within in
+      let count = length-append history more in (
+        t.0,
+        t.1,
+        t.2,
+        (
+          t.3.0,
+          t.3.1,
+          t.3.2,
+          record {
+            within = omega arith;
+            exactly = table.exactly
+                ∙ ap (λ (cs : List Command). (map_after opening cs).contents) (sym (take-commands history more t.3.0 table.within));
+            order = table.order;
+          },
+        ),
+        t.4,
+        t.5,
+      )
+  tells_longer at line (answer.NotRecovered fault) next within after t = t
+  tells_longer at line answer.Down next within after t = t
+  tells_longer at line answer.Up next within after t = t
+
+  pub telling_longer : (from : Position) (told : List Told) (last : Position) → last.made ≤ length history → AreTelling config life from told last
+      → AreTelling config longer from told last
+  telling_longer from [] last within are = are
+  telling_longer from (t ∷ ts) last within are =
+      let here = rises config life from t.line t.answer are.0 are.1 in
+      let rest = telling_rises config life are.0 ts last are.2 in
+      (are.0, tells_longer from t.line t.answer are.0 (omega arith) (omega arith) are.1, telling_longer are.0 ts last within are.2)
+
+-- one line more
+pub telling_more : (config : Config) (life : Life) (from : Position) (told : List Told) (mid : Position) (t : Told) (next : Position)
+    → AreTelling config life from told mid → Tells config life mid t.line t.answer next → AreTelling config life from (told ++ t ∷ []) next
+telling_more config life from [] mid t next are tells = (next, subst (λ (p : Position). Tells config life p t.line t.answer next) are tells, refl)
+telling_more config life from (first ∷ rest) mid t next are tells = (are.0, are.1, telling_more config life are.0 rest mid t next are.2 tells)
