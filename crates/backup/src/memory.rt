@@ -1,7 +1,7 @@
 //! What one backup holds.
 
 ghost use Rattle.std.specs.Prelude.{◌≡◌, ℕ, ◌++◌, OnOk, Some, None};
-ghost use Rattle.replica.specs.Op.{shown_act, Open, Extend};
+ghost use Rattle.replica.specs.Op.{shown_act, Open, Extend, Close};
 ghost use Rattle.backup.specs.Shelf.{replica_at, holdings_of, ActsAt, KeepsOthers, IsInOrder};
 
 use crate::stored::Stored;
@@ -35,6 +35,7 @@ impl MemoryBackup {
         match op.act {
             Act::Open(bytes) => self.open(alloc, place, bytes),
             Act::Extend { at, bytes } => self.extend(place, at, bytes),
+            Act::Close => self.close(place),
         }
     }
 
@@ -60,6 +61,16 @@ impl MemoryBackup {
     {
         match self.replicas.get_mut(&place) {
             Some(stored) => stored.extend(at, bytes),
+            None => Err(TakeFault::Wrong),
+        }
+    }
+
+    fn close(&mut self, place: (u64, u64)) -> Result<(), TakeFault>
+        ensures named { ActsAt Close place.0 place.1 self.old result self.new }
+        ensures others { KeepsOthers place.0 place.1 self.old self.new }
+    {
+        match self.replicas.get_mut(&place) {
+            Some(stored) => stored.close(),
             None => Err(TakeFault::Wrong),
         }
     }

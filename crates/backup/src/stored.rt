@@ -1,7 +1,7 @@
 //! A replica in memory.
 
 ghost use Rattle.std.specs.Prelude.{◌≡◌, Some, IfOk, true};
-ghost use Rattle.replica.specs.Op.{Extend};
+ghost use Rattle.replica.specs.Op.{Extend, Close};
 ghost use Rattle.backup.specs.Acts.{Acts};
 ghost use Rattle.backup.specs.Shelf.{holding_of};
 
@@ -66,5 +66,16 @@ impl Stored {
             Ok(()) => Ok(()),
             Err(_) => Err(TakeFault::NoMemory),
         }
+    }
+
+    /// Closes an open replica. It takes no memory.
+    pub fn close(&mut self) -> Result<(), TakeFault>
+        ensures { Acts Close (Some self.old) result (Some self.new) }
+    {
+        if !self.is_open {
+            return Err(TakeFault::Wrong);
+        }
+        self.is_open = false;
+        Ok(())
     }
 }

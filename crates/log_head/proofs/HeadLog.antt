@@ -18,7 +18,7 @@ use Rattle.log_head.proofs.Heads.{text_more}
 
 -- ---- the opening
 
-but_last_is : (xs : List ℕ) (x : ℕ) → but_last (xs ++ x ∷ []) ≡ xs
+pub but_last_is : (xs : List ℕ) (x : ℕ) → but_last (xs ++ x ∷ []) ≡ xs
 but_last_is [] x = refl
 but_last_is (y ∷ []) x = refl
 but_last_is (y ∷ z ∷ zs) x = ap (λ (l : List ℕ). y ∷ l) (but_last_is (z ∷ zs) x)

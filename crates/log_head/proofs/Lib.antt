@@ -1,2 +1,4 @@
 pub mod Heads
 pub mod HeadLog
+pub mod Rolls
+pub mod RollLog

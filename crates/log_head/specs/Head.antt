@@ -1,10 +1,12 @@
 -- The head of the log.
-use Rattle.std.specs.Prelude.{◌≡◌, ℕ, zero, suc, ◌+◌, ◌<◌, ◌≤◌, List, [], ◌∷◌, length, take, Option, Some, None, slice_get, nat_lt, if◌then◌else◌}
+use Rattle.std.specs.Prelude.{◌≡◌, ℕ, zero, suc, ◌+◌, ◌<◌, ◌≤◌, ◌==◌, ◌&&◌, List, [], ◌∷◌, length, take, Bool}
+use Rattle.std.specs.Prelude.{Option, Some, None, IfSome, is_none, slice_get, nat_lt, if◌then◌else◌}
 use Rattle.entry.specs.declared.entry.Entry.{Entry}
-use Rattle.entry.specs.Text.{text_of, IsSegment}
+use Rattle.entry.specs.Text.{Opening, text_of, opening_of, IsSegment}
 use Rattle.std.specs.List.{AllByRecursion}
-use Rattle.std.specs.Option.{option_map}
+use Rattle.std.specs.Option.{option_map, option_map_or}
 use Rattle.log_model.specs.Data.{fewest}
+use Rattle.log_head.specs.declared.head.Roll.{Roll}
 use Rattle.log_head.specs.declared.head.UnitEnd.{UnitEnd}
 
 pub record HeadValue : Type 0 where
@@ -18,6 +20,16 @@ pub record HeadValue : Type 0 where
   pub units : List UnitEnd
   -- how many units each replica has, of those that were opened
   pub taken : List ℕ
+  -- the roll that is under way
+  pub roll : Option Roll
+
+-- the ids of the digest that an image bears
+abbrev pub digest_of : List Entry → List ℕ
+digest_of image = option_map_or (λ (o : Opening). o.ids) (opening_of image) []
+
+-- all replicas are open, and no roll is under way
+abbrev pub is_open : HeadValue → Bool
+is_open h = (length h.taken == h.replicas) && is_none h.roll
 
 -- where the first units end: the length of a replica that has just them
 abbrev pub end_of : ℕ → List UnitEnd → ℕ → ℕ
@@ -38,6 +50,16 @@ abbrev pub EndAt : ℕ → List UnitEnd → ℕ → Type 0
 EndAt from [] len = from ≡ len
 EndAt from (u ∷ us) len = (from ≤ u.end) × EndAt u.end us len
 
+-- what holds of every roll, of a head that is to have so many replicas, of which so many were opened
+pub record IsRollValue (replicas count : ℕ) (r : Roll) : Type 0 where
+  pub segment : IsSegment r.image
+  pub limit : length (text_of r.image) ≤ 8388608
+  pub whole : count ≡ replicas
+  pub opened : r.opened ≤ replicas
+  pub closed : r.closed < replicas
+  -- no replica of the old head is closed before the new head is open
+  pub order : r.opened < replicas → r.closed ≡ 0
+
 -- what holds of every head
 pub record IsHeadValue (h : HeadValue) : Type 0 where
   pub segment : IsSegment h.image
@@ -47,6 +69,7 @@ pub record IsHeadValue (h : HeadValue) : Type 0 where
   pub few : h.replicas ≤ 64
   -- each replica has some of the first units
   pub taken : AllByRecursion (λ n. n ≤ length h.units) h.taken
+  pub roll : IfSome h.roll (IsRollValue h.replicas (length h.taken))
 
 -- the replica that has the fewest units, the first of several; None where each has all of them
 abbrev pub IsLagging : ℕ → List ℕ → Option ℕ → Type 0

@@ -1,12 +1,13 @@
 -- What holds of heads and the log, step by step.
-use Rattle.std.specs.Prelude.{◌≡◌, ℕ, ◌-◌, ◌≤◌, List, [], ◌∷◌, ◌++◌, length, take, drop}
+use Rattle.std.specs.Prelude.{◌≡◌, ℕ, suc, ◌-◌, ◌<◌, ◌≤◌, List, [], ◌∷◌, ◌++◌, length, take, drop}
 use Rattle.entry.specs.declared.entry.Entry.{Entry}
 use Rattle.entry.specs.Text.{text_of, IsSegment}
-use Rattle.log_model.specs.Data.{Start, Head, entries_of, head_entries}
-use Rattle.log_model.specs.Steps.{units_between}
-use Rattle.log_head.specs.Head.{HeadValue, end_of}
-use Rattle.log_head.specs.Steps.{fresh_head, with_unit_end}
-use Rattle.log_head.specs.Log.{head_of, IsImageOf}
+use Rattle.log_model.specs.Data.{Start, Head, Opened, entries_of, head_entries}
+use Rattle.log_model.specs.Steps.{units_between, one_opened, new_head}
+use Rattle.log_head.specs.declared.head.Roll.{Roll}
+use Rattle.log_head.specs.Head.{HeadValue, IsRollValue, end_of}
+use Rattle.log_head.specs.Steps.{fresh_head, with_unit_end, fresh_roll, in_force}
+use Rattle.log_head.specs.Log.{head_of, start_of, phase_in, IsImageOf, IsNewImage}
 
 -- An image has one head of the log: the one that is read from it.
 abbrev pub HeadIsRead : Type 0
@@ -44,3 +45,21 @@ UnitIsImage = (master : ℕ) (h : HeadValue) (l : Head) (number : ℕ) (unit : L
 abbrev pub CountsAreImage : Type 0
 CountsAreImage = (master : ℕ) (h : HeadValue) (l : Head) (ks : List ℕ) → IsImageOf master h l
     → IsImageOf master (record h { taken = ks }) (record l { taken = ks })
+
+-- ---- rolls
+
+-- A roll that begins is to a head with this start, whose opening is in its image.
+abbrev pub RollBegins : Type 0
+RollBegins = (master : ℕ) (h : HeadValue) (n : Start) → 0 < h.replicas
+    → (phase_in h.replicas (fresh_roll master n) ≡ Opened 0 n) × IsNewImage master (fresh_roll master n)
+
+-- One more replica of the new head makes of the phase what the log says.
+abbrev pub RollOpens : Type 0
+RollOpens = (h : HeadValue) (r : Roll) → IsRollValue h.replicas (length h.taken) r → r.opened < h.replicas
+    → phase_in h.replicas (record r { opened = suc r.opened }) ≡ one_opened h.replicas r.opened (start_of r)
+
+-- A head that is in force is the log's new head.
+abbrev pub RollEnds : Type 0
+RollEnds = (master : ℕ) (h : HeadValue) (r : Roll) → IsNewImage master r → IsSegment r.image
+    → (head_of (in_force h r) ≡ new_head h.replicas (start_of r))
+    × IsImageOf master (in_force h r) (head_of (in_force h r))

@@ -1,4 +1,5 @@
 pub mod Head
 pub mod Steps
+pub mod Next
 pub mod Log
 pub mod Laws

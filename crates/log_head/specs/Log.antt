@@ -1,8 +1,10 @@
 -- What a head is to the log: its opening, and the units that stand in its image between the ends.
-use Rattle.std.specs.Prelude.{◌≡◌, ℕ, ◌+◌, ◌-◌, List, [], ◌∷◌, length, take, drop, Option, Some, None}
+use Rattle.std.specs.Prelude.{◌≡◌, ℕ, ◌+◌, ◌-◌, ◌==◌, List, [], ◌∷◌, length, take, drop, Option, Some, None, if◌then◌else◌}
+use Rattle.std.specs.Option.{option_map_or}
 use Rattle.entry.specs.declared.entry.Entry.{Entry}
 use Rattle.entry.specs.Text.{text_of, entries_in, Opening, opening_of}
-use Rattle.log_model.specs.Data.{Start, LogUnit, Head, start_entries, head_entries}
+use Rattle.log_model.specs.Data.{Start, LogUnit, Head, Phase, Ready, Opened, Closed, start_entries, head_entries}
+use Rattle.log_head.specs.declared.head.Roll.{Roll}
 use Rattle.log_head.specs.declared.head.UnitEnd.{UnitEnd}
 use Rattle.log_head.specs.Head.{HeadValue}
 
@@ -35,6 +37,22 @@ head_of h = record {
   units = units_from (text_of h.image) h.opening h.units;
   taken = h.taken;
 }
+
+-- what the new head of a roll begins with
+abbrev pub start_of : Roll → Start
+start_of r = start_in r.id (opening_of r.image)
+
+-- how far a roll is, of heads with so many replicas
+abbrev pub phase_in : ℕ → Roll → Phase
+phase_in replicas r = if r.opened == replicas then Closed r.closed (start_of r) else Opened r.opened (start_of r)
+
+-- the phase as the log knows it
+abbrev pub phase_of : HeadValue → Phase
+phase_of h = option_map_or (phase_in h.replicas) h.roll Ready
+
+-- the image of a roll is the opening of its new head
+abbrev pub IsNewImage : ℕ → Roll → Type 0
+IsNewImage master r = r.image ≡ start_entries master (start_of r)
 
 -- the ends are those of the units, the first of which begins at the offset
 abbrev pub AreEnds : ℕ → List UnitEnd → List LogUnit → Type 0

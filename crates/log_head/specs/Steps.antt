@@ -1,9 +1,12 @@
 -- What a head becomes.
-use Rattle.std.specs.Prelude.{ℕ, ◌+◌, List, [], ◌∷◌, ◌++◌, length, slice_get, slice_set, unwrap_or}
+use Rattle.std.specs.Prelude.{ℕ, suc, ◌+◌, ◌==◌, List, [], ◌∷◌, ◌++◌, length, Option, Some, None, slice_get, slice_set, unwrap_or}
+use Rattle.std.specs.Prelude.{if◌then◌else◌}
 use Rattle.entry.specs.declared.entry.Entry.{Entry}
 use Rattle.entry.specs.Text.{text_of}
-use Rattle.log_head.specs.Head.{HeadValue}
+use Rattle.log_head.specs.declared.head.Roll.{Roll}
+use Rattle.log_head.specs.Head.{HeadValue, digest_of}
 use Rattle.log_model.specs.Data.{Start, start_entries}
+use Rattle.log_model.specs.Steps.{no_units}
 
 -- what the first head of a master begins with: its digest lists itself alone
 abbrev pub lone_start : ℕ → Start
@@ -18,6 +21,7 @@ fresh_head master replicas start = record {
   opening = length (text_of (start_entries master start));
   units = [];
   taken = [];
+  roll = None;
 }
 
 -- one more unit
@@ -34,3 +38,43 @@ with_opened_replica h = record h { taken = h.taken ++ 0 ∷ [] }
 -- one more unit on a replica
 abbrev pub with_one_taken : HeadValue → ℕ → HeadValue
 with_one_taken h j = record h { taken = slice_set h.taken j (unwrap_or (slice_get h.taken j) 0 + 1) }
+
+-- ---- a roll
+
+-- what the next head begins with: this id, the ids of the digest in force, and the safe version
+abbrev pub start_after : HeadValue → ℕ → ℕ → Start
+start_after h id safe = record { id = id; others = digest_of h.image; safe = safe }
+
+-- a roll to this head, of which nothing is opened or closed
+abbrev pub fresh_roll : ℕ → Start → Roll
+fresh_roll master start =
+    record { id = start.id; image = start_entries master start; opened = 0; closed = 0 }
+
+-- a roll to the next head has begun
+abbrev pub with_roll : HeadValue → ℕ → ℕ → ℕ → HeadValue
+with_roll h master id safe = record h { roll = Some (fresh_roll master (start_after h id safe)) }
+
+-- one more replica of the new head is open
+abbrev pub with_new_replica : HeadValue → Roll → HeadValue
+with_new_replica h r = record h { roll = Some (record r { opened = suc r.opened }) }
+
+-- the new head, of which each replica has the opening alone
+abbrev pub in_force : HeadValue → Roll → HeadValue
+in_force h r = record {
+  id = r.id;
+  replicas = h.replicas;
+  image = r.image;
+  opening = length (text_of r.image);
+  units = [];
+  taken = no_units h.replicas;
+  roll = None;
+}
+
+-- one more replica of the old head is closed; with the last one the new head is in force
+abbrev pub with_closed_replica : HeadValue → Roll → HeadValue
+with_closed_replica h r =
+    if suc r.closed == h.replicas then in_force h r else record h { roll = Some (record r { closed = suc r.closed }) }
+
+-- the image of the old head, once its last replica is closed
+abbrev pub old_image : HeadValue → Roll → Option (List Entry)
+old_image h r = if suc r.closed == h.replicas then Some h.image else None

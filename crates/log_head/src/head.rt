@@ -6,7 +6,7 @@ ghost use Rattle.entry.specs.declared.entry.Role.TheVariants.{Head as head_role}
 ghost use Rattle.entry.specs.Text.{text_of, are_data};
 ghost use Rattle.entry.specs.View.{shown};
 ghost use Rattle.std.specs.Prelude.{nat_le, Option, ◌==◌};
-ghost use Rattle.std.specs.Option.{option_map};
+ghost use Rattle.std.specs.Option.{option_map, option_copied};
 
 use entry::{EntryRef, Ids, NoMemory, SafeVersion};
 use segment::{AppendFault, Segment};
@@ -22,18 +22,32 @@ pub struct UnitEnd {
     pub end: usize,
 }
 
+/// A roll to the next head, which is opened on its backups before the old head is closed.
+#[derive(Drop)]
+pub struct Roll {
+    /// The new head's number.
+    pub id: u64,
+    /// The new head's image: its opening.
+    pub image: Segment,
+    /// How many replicas of the new head are open.
+    pub opened: usize,
+    /// How many replicas of the old head are closed.
+    pub closed: usize,
+}
+
 /// The head. Its replicas are opened in order, and each has a front of the image that ends where a unit does.
 #[derive(Drop)]
 pub struct Head {
-    id: u64,
+    pub(crate) id: u64,
     /// How many replicas it is to have.
-    replicas: usize,
-    image: Segment,
+    pub(crate) replicas: usize,
+    pub(crate) image: Segment,
     /// Where the opening ends in the image.
-    opening: usize,
-    units: Vec<UnitEnd>,
+    pub(crate) opening: usize,
+    pub(crate) units: Vec<UnitEnd>,
     /// How many units each replica has, of those that were opened.
-    taken: Vec<usize>,
+    pub(crate) taken: Vec<usize>,
+    pub(crate) roll: Option<Roll>,
 }
 
 impl Model for Head {
@@ -49,6 +63,7 @@ impl Model for Head {
       opening = h.opening;
       units = h.units.items;
       taken = h.taken.items;
+      roll = h.roll;
     } };
 
     // there is room for each replica to be counted
@@ -59,28 +74,32 @@ impl Model for Head {
       opening = h.opening;
       units = h.units.items;
       taken = h.taken.items;
+      roll = h.roll;
     }) };
 }
 
 impl Head {
     ghost use Rattle.log_head.specs.declared.head.UnitEnd.{UnitEnd as UnitValue};
-    ghost use Rattle.log_head.specs.Head.{HeadValue, IsHeadValue, end_of, record_at, len_with, everywhere, IsLagging};
+    ghost use Rattle.log_head.specs.Head.{HeadValue, IsHeadValue, end_of, record_at, len_with, everywhere, is_open, IsLagging};
     ghost use Rattle.log_head.specs.Steps.{lone_start, fresh_head, with_unit_end, with_opened_replica, with_one_taken};
     ghost use Rattle.log_model.specs.Data.{Start};
 
-    /// The first head of a master. Its opening alone is in its image, and no replica was opened.
+    /// The first head of a master. Its opening alone is in its image, which has room for `room` bytes, and no replica
+    /// was opened.
     pub fn begin(
         alloc: Global,
         master: u64,
         replicas: usize,
         safe: SafeVersion,
+        room: usize,
     ) -> Result<Head, NoMemory>
         requires { replicas ≤ 64 }
         ensures begun { IfOk result (λ head. head ≡ fresh_head master replicas (lone_start safe)) }
         ensures valid { IfOk result (λ head. IsHeadValue head) }
     {
         let taken = Vec::with_capacity(alloc, replicas)?;
-        let image = first_image(alloc, master, safe)?;
+        let mut image = first_image(alloc, master, safe)?;
+        image.reserve(room)?;
         let opening = image.bytes().len();
         Ok(Head {
             id: 1,
@@ -89,6 +108,7 @@ impl Head {
             opening,
             units: Vec::new(alloc),
             taken,
+            roll: None,
         })
     }
 
@@ -114,12 +134,19 @@ impl Head {
         self.taken.len()
     }
 
-    /// Whether all replicas were opened.
+    /// Whether all replicas are open, and no roll is under way.
     pub fn is_open(&self) -> bool
-        ensures open { result ≡ (length self.now.taken == self.now.replicas) }
+        ensures open { result ≡ is_open self.now }
         ensures valid { IsHeadValue self.now }
     {
-        self.taken.len() == self.replicas
+        self.taken.len() == self.replicas && self.roll.is_none()
+    }
+
+    /// The roll that is under way.
+    pub fn roll(&self) -> Option<&Roll>
+        ensures { option_copied result ≡ self.entry.now.roll }
+    {
+        self.roll.as_ref()
     }
 
     /// Whether this many bytes more are within the limit.
@@ -197,7 +224,7 @@ impl Head {
     fn everywhere(&self) -> usize
         ensures { result ≡ everywhere self.now }
     {
-        if !self.is_open() {
+        if self.taken.len() < self.replicas {
             return 0;
         }
         match self.lagging() {

@@ -8,6 +8,9 @@
 
 mod head;
 mod laws;
+mod next;
+mod rolling;
 
-pub use head::{Head, UnitEnd};
-pub use laws::{heads_are_read, images_go_on};
+pub use head::{Head, Roll, UnitEnd};
+pub use laws::{heads_are_read, images_go_on, rolls_go_on};
+pub use next::Next;

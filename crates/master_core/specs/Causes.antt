@@ -1,5 +1,6 @@
 -- Why a step is refused.
-use Rattle.std.specs.Prelude.{ℕ, ◌+◌, ◌==◌, ◌&&◌, length, Bool, false, nat_le, not, Option, Some, None, List, is_none, if◌then◌else◌}
+use Rattle.std.specs.Prelude.{ℕ, ◌+◌, ◌-◌, ◌/◌, ◌^◌, ◌==◌, ◌&&◌, length, Bool, nat_le, nat_lt, not, Option, Some, None, List}
+use Rattle.std.specs.Prelude.{is_none, if◌then◌else◌}
 use Rattle.std.specs.Option.{option_map_or}
 use Rattle.entry.specs.declared.entry.Entry.{Entry}
 use Rattle.entry.specs.Tablet.{have_key}
@@ -9,12 +10,16 @@ use Rattle.versioned_map.specs.Command.{command_key}
 use Rattle.versioned_map.specs.Represents.{unit_of}
 use Rattle.versioned_map.specs.Versioned.{is_spent}
 use Rattle.log_model.specs.Data.{fewest}
-use Rattle.log_head.specs.Head.{HeadValue}
+use Rattle.log_head.specs.declared.head.Roll.{Roll}
+use Rattle.log_head.specs.Head.{HeadValue, digest_of, is_open}
+use Rattle.master_core.specs.declared.config.Config.{Config}
+use Rattle.master_core.specs.declared.image.Place.{Place}
 use Rattle.master_core.specs.declared.step.Refusal.{Refusal}
 use Rattle.master_core.specs.declared.step.Refusal.TheVariants.{Halted, TooBig, NoTablet, HistoryFull, VersionsSpent, Full, Rolling, Nothing}
+use Rattle.master_core.specs.declared.step.Refusal.TheVariants.{SegmentsSpent}
 use Rattle.master_core.specs.Change.{is_too_big, is_empty}
 use Rattle.master_core.specs.Data.{MasterData}
-use Rattle.master_core.specs.Log.{state_now, Place, find}
+use Rattle.master_core.specs.Log.{state_now, find}
 
 -- ---- a command
 
@@ -27,19 +32,26 @@ early_refusal d command =
     else if nat_le d.config.history (length d.history) then Some HistoryFull
     else None
 
--- all replicas of the head were opened
-abbrev pub is_open : HeadValue → Bool
-is_open h = length h.taken == h.replicas
-
 -- the unit is within the segment's bytes
 abbrev pub has_room : MasterData → List Entry → Bool
 has_room d unit = nat_le (length (text_of d.head.image) + length (text_of unit)) d.config.segment
 
--- the rule of a roll: no other head can begin yet
-abbrev pub may_roll : MasterData → Bool
-may_roll d = false
+-- the ids of the newest digest, that of a begun roll included
+abbrev pub newest_digest : HeadValue → List ℕ
+newest_digest h = option_map_or (λ (r : Roll). digest_of r.image) h.roll (digest_of h.image)
 
--- why the unit of a command is not appended: it doesn't fit the open head and no other may begin, or one has to
+-- the most segments that a log may have
+abbrev pub most_segments : Config → ℕ
+most_segments c = c.segment / 32
+
+-- The rule of a roll: the log may have one more segment, and the last two are kept for a roll that makes room; without
+-- a cleaning pass such a roll takes out one.
+abbrev pub may_roll : MasterData → Bool
+may_roll d =
+    let more = length (newest_digest d.head) + 1 in
+    nat_le more (most_segments d.config) && nat_le more (most_segments d.config - 2 + 1)
+
+-- why the unit of a command is not appended: it doesn't fit the open head and no roll may begin, or a roll is due
 abbrev pub unit_refusal : MasterData → List Entry → Option Refusal
 unit_refusal d unit =
     if is_empty unit then None
@@ -47,7 +59,7 @@ unit_refusal d unit =
     else if not (is_open d.head && has_room d unit) then Some Rolling
     else None
 
--- the segment in which the index names a place for the command's key; which one doesn't matter where it names none
+-- the segment in which the index finds the command's key; which one doesn't matter if it finds none
 abbrev pub dead_segment : MasterData → Command → ℕ
 dead_segment d command = option_map_or (λ (p : Place). p.segment) (find d (command_key command)) 0
 
@@ -61,14 +73,25 @@ late_refusal d command =
     if is_spent (state_now d).safe ((state_now d).contents (command_key command)) command then Some VersionsSpent
     else unit_refusal d (unit_now d command)
 
--- the first test that refuses the command, want of memory apart; None where all are passed
+-- the first test that refuses the command, apart from memory; None if all are passed
 abbrev pub command_refusal : MasterData → Command → Option Refusal
 command_refusal d command =
     if is_none (early_refusal d command) then late_refusal d command else early_refusal d command
 
+-- ---- a roll
+
+-- the test that refuses a roll by itself, apart from memory
+abbrev pub roll_refusal : MasterData → Option Refusal
+roll_refusal d =
+    if d.is_halted then Some Halted
+    else if not (is_open d.head) then Some Rolling
+    else if nat_lt (2 ^ 62) d.next then Some SegmentsSpent
+    else if not (may_roll d) then Some Full
+    else None
+
 -- ---- a push
 
--- each replica was opened, and has each unit
+-- each replica is open and has each unit, and no roll is under way
 abbrev pub is_pushed : HeadValue → Bool
 is_pushed h = is_open h && (fewest (length h.units) h.taken == length h.units)
 

@@ -5,12 +5,18 @@ use Rattle.log_model.specs.Steps.{first_start}
 use Rattle.log_head.specs.Head.{HeadValue}
 use Rattle.log_head.specs.Steps.{fresh_head}
 use Rattle.master_core.specs.declared.config.Config.{Config}
+use Rattle.master_core.specs.declared.image.ClosedSegment.{ClosedSegment}
+use Rattle.master_core.specs.declared.image.Place.{Place}
 
 pub record MasterData : Type 0 where
   pub config : Config
   pub head : HeadValue
-  -- where the live objects begin in the head's image
-  pub places : List ℕ
+  -- the closed segments of the log
+  pub closed : List ClosedSegment
+  -- the first id that no segment had yet
+  pub next : ℕ
+  -- where the live objects lie
+  pub places : List Place
   -- the version that the next new key gets
   pub safe : ℕ
   pub history : List Record
@@ -22,6 +28,8 @@ abbrev pub fresh_data : Config → MasterData
 fresh_data config = record {
   config = config;
   head = fresh_head config.master config.replicas first_start;
+  closed = [];
+  next = 2;
   places = [];
   safe = 1;
   history = [];

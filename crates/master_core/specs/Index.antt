@@ -1,7 +1,8 @@
 -- Where entries stand in an image, and what an index of places finds.
-use Rattle.std.specs.Prelude.{◌≡◌, ℕ, suc, true, false, List, [], ◌∷◌, ◌++◌, length, Option, Some, None, IsSomeAnd, slice_set, if◌then◌else◌}
+use Rattle.std.specs.Prelude.{◌≡◌, ℕ, suc, true, false, List, [], ◌∷◌, ◌++◌, length, Option, Some, None, IsSomeAnd}
+use Rattle.std.specs.Prelude.{slice_get, slice_set, if◌then◌else◌}
 use Rattle.std.specs.List.{remove}
-use Rattle.std.specs.Option.{option_map}
+use Rattle.std.specs.Option.{option_map, option_map_or}
 use Rattle.entry.specs.declared.key.Key.{Key}
 use Rattle.entry.specs.declared.entry.Object.{Object}
 use Rattle.entry.specs.declared.entry.Entry.{Entry}
@@ -13,6 +14,7 @@ use Rattle.entry.specs.Text.{text_of}
 use Rattle.entry.specs.View.{shown_object}
 use Rattle.master_core.specs.declared.change.Change.{Change}
 use Rattle.master_core.specs.declared.change.Change.TheVariants as change
+use Rattle.master_core.specs.declared.image.Place.{Place}
 
 -- the entry stands at this offset of the image
 pub record LiesAt (image : List Entry) (at : ℕ) (e : Entry) : Type 0 where
@@ -21,26 +23,35 @@ pub record LiesAt (image : List Entry) (at : ℕ) (e : Entry) : Type 0 where
   pub split : image ≡ before ++ e ∷ after
   pub offset : at ≡ length (text_of before)
 
--- each of the objects stands at its place
-abbrev pub AreAt : List Entry → List ℕ → List Object → Type 0
-AreAt image [] [] = Unit {0}
-AreAt image (at ∷ places) (o ∷ os) = LiesAt image at (entry.Object o) × AreAt image places os
-AreAt image [] (o ∷ os) = ⊥
-AreAt image (at ∷ places) [] = ⊥
+-- the entry is at this place of the images
+abbrev pub IsAtPlace : (ℕ → List Entry) → Place → Entry → Type 0
+IsAtPlace images p e = LiesAt (images p.segment) p.at e
+
+-- each of the objects is at its place
+abbrev pub AreAt : (ℕ → List Entry) → List Place → List Object → Type 0
+AreAt images [] [] = Unit {0}
+AreAt images (p ∷ places) (o ∷ os) = IsAtPlace images p (entry.Object o) × AreAt images places os
+AreAt images [] (o ∷ os) = ⊥
+AreAt images (p ∷ places) [] = ⊥
+
+-- the segment of the place of this slot; which one doesn't matter if there is no slot
+abbrev pub segment_at : List Place → Option ℕ → ℕ
+segment_at places None = 0
+segment_at places (Some slot) = option_map_or (λ (p : Place). p.segment) (slice_get places slot) 0
 
 -- the first of the objects that has the key
 abbrev pub slot_in : List Object → Key → Option ℕ
 slot_in [] k = None
 slot_in (o ∷ os) k = if key_eq k o.key then Some 0 else option_map (λ n. suc n) (slot_in os k)
 
--- the places once a change was done to the object of this slot, whose new object, if any, stands at this offset
-abbrev pub placed : List ℕ → Change → Option ℕ → ℕ → List ℕ
-placed places change.Nothing slot at = places
-placed places (change.Create version) slot at = places ++ at ∷ []
-placed places (change.Replace dead version) None at = places
-placed places (change.Replace dead version) (Some slot) at = slice_set places slot at
-placed places (change.Delete dead) None at = places
-placed places (change.Delete dead) (Some slot) at = remove places slot
+-- the places once a change was done to the object of this slot, whose new object, if any, is at this place
+abbrev pub placed : List Place → Change → Option ℕ → Place → List Place
+placed places change.Nothing slot p = places
+placed places (change.Create version) slot p = places ++ p ∷ []
+placed places (change.Replace dead version) None p = places
+placed places (change.Replace dead version) (Some slot) p = slice_set places slot p
+placed places (change.Delete dead) None p = places
+placed places (change.Delete dead) (Some slot) p = remove places slot
 
 -- no two of the objects have one key
 abbrev pub AreDistinct : List Object → Type 0
@@ -66,14 +77,14 @@ FindsSlot os k result =
 
 -- ---- what is found in an image
 
--- the object that stands at this offset, where one does, was found
+-- the object that is at this offset, if one is, was found
 abbrev pub SeesObject : List Entry → ℕ → Option ObjectRef → Type 0
 SeesObject image at found = (o : Object) → LiesAt image at (entry.Object o) → IsSomeAnd found (λ f. shown_object f ≡ o)
 
--- the object that stands at this offset was found where it is the key's
-abbrev pub SeesObjectOf : List Entry → ℕ → Key → Option ObjectRef → Type 0
-SeesObjectOf image at k found = (o : Object) → LiesAt image at (entry.Object o) → MatchesKey k o found
+-- the object that is at this place was found if it is the key's
+abbrev pub SeesObjectOf : (ℕ → List Entry) → Place → Key → Option ObjectRef → Type 0
+SeesObjectOf images p k found = (o : Object) → IsAtPlace images p (entry.Object o) → MatchesKey k o found
 
--- the key's slot was found, and its object, among the objects that stand at these places
-abbrev pub FindsAmong : List Entry → List ℕ → Key → Option (ℕ × ObjectRef) → Type 0
-FindsAmong image places k result = (os : List Object) → AreAt image places os → FindsSlot os k result
+-- the key's slot was found, and its object, among the objects that are at these places
+abbrev pub FindsAmong : (ℕ → List Entry) → List Place → Key → Option (ℕ × ObjectRef) → Type 0
+FindsAmong images places k result = (os : List Object) → AreAt images places os → FindsSlot os k result

@@ -1,4 +1,5 @@
 pub mod Config
+pub mod Images
 pub mod Data
 pub mod Log
 pub mod Change

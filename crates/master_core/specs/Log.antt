@@ -12,11 +12,13 @@ use Rattle.versioned_map.specs.declared.command.Command.{Command}
 use Rattle.versioned_map.specs.Command.{command_key}
 use Rattle.versioned_map.specs.Represents.{empty_state}
 use Rattle.versioned_map.specs.Versioned.{State}
-use Rattle.log_model.specs.Data.{LogConfig, Ready, LogData, state_of}
+use Rattle.log_model.specs.Data.{LogConfig, LogData, state_of}
 use Rattle.clean_model.specs.Memory.{Memory, Place as EntryPlace, no_pass}
-use Rattle.log_head.specs.Log.{head_of}
+use Rattle.log_head.specs.Log.{head_of, phase_of}
 use Rattle.master_core.specs.declared.config.Config.{Config}
+use Rattle.master_core.specs.declared.image.Place.{Place}
 use Rattle.master_core.specs.Data.{MasterData}
+use Rattle.master_core.specs.Images.{image_among, images_among}
 
 -- ---- placement
 
@@ -43,15 +45,15 @@ log_config c = record {
 abbrev pub opening_of : MasterData → State
 opening_of d = empty_state
 
--- the log: one head, and no roll
+-- the log
 abbrev pub log_of : MasterData → LogData
 log_of d = record {
   config = log_config d.config;
   opening = opening_of d;
   history = d.history;
   head = head_of d.head;
-  phase = Ready;
-  next = suc d.head.id;
+  phase = phase_of d.head;
+  next = d.next;
 }
 
 -- the versioned map's state after the history
@@ -64,19 +66,14 @@ held_now d command = (state_now d).contents (command_key command)
 
 -- ---- images
 
--- the entries that memory has of a segment: only the head has an image
+-- the entries that memory has of a segment, if it has any
 abbrev pub image_of : MasterData → ℕ → Option (List Entry)
-image_of d segment = if segment == d.head.id then Some d.head.image else None
+image_of d segment = image_among d.head d.closed segment
 
 abbrev pub images_of : MasterData → ℕ → List Entry
-images_of d segment = unwrap_or (image_of d segment) []
+images_of d segment = images_among d.head d.closed segment
 
 -- ---- the index
-
--- where an entry lies: the segment, and how many bytes of its image come before it
-pub record Place : Type 0 where
-  pub segment : ℕ
-  pub at : ℕ
 
 abbrev pub is_object_of : Key → Entry → Bool
 is_object_of k (entry.Header h) = false
@@ -85,18 +82,18 @@ is_object_of k (entry.Safe version) = false
 is_object_of k (entry.Object o) = key_eq k o.key
 is_object_of k (entry.Tombstone t) = false
 
--- an object of the key stands at this offset of the image
-abbrev pub has_object_at : List Entry → Key → ℕ → Bool
-has_object_at image k at = option_map_or (is_object_of k) (standing_at at (text_of image)) false
+-- an object of the key is at this place of the images
+abbrev pub has_object_at : (ℕ → List Entry) → Key → Place → Bool
+has_object_at images k p = option_map_or (is_object_of k) (standing_at p.at (text_of (images p.segment))) false
 
--- the first of the offsets at which an object of the key stands
-abbrev pub first_at : List Entry → Key → List ℕ → Option ℕ
-first_at image k [] = None
-first_at image k (at ∷ places) = if has_object_at image k at then Some at else first_at image k places
+-- the first of the places that has an object of the key
+abbrev pub first_at : (ℕ → List Entry) → Key → List Place → Option Place
+first_at images k [] = None
+first_at images k (p ∷ places) = if has_object_at images k p then Some p else first_at images k places
 
 -- what the index finds
 abbrev pub find : MasterData → Key → Option Place
-find d k = option_map (λ (at : ℕ). record { segment = d.head.id; at = at }) (first_at d.head.image k d.places)
+find d k = first_at (images_of d) k d.places
 
 -- a key's object is found where it stands, and nothing of a key that has none
 abbrev pub Finds : (ℕ → List Entry) → Key → Option Place → Option Versioned → Type 0

@@ -1,7 +1,8 @@
 -- The name of each refusal, and of each fault of a configuration.
 use Rattle.std.specs.Prelude.{ℕ, List, codes}
 use Rattle.master_core.specs.declared.step.Refusal.{Refusal}
-use Rattle.master_core.specs.declared.step.Refusal.TheVariants.{TooBig, Full, VersionsSpent, HistoryFull, NoMemory, Halted, Rolling, Nothing, Spent, NoTablet}
+use Rattle.master_core.specs.declared.step.Refusal.TheVariants.{TooBig, Full, VersionsSpent, HistoryFull, NoMemory, Halted, Rolling, Nothing, Spent, SegmentsSpent}
+use Rattle.master_core.specs.declared.step.Refusal.TheVariants.{NoTablet}
 use Rattle.master_core.specs.declared.config.ConfigFault.{ConfigFault}
 use Rattle.master_core.specs.declared.config.ConfigFault.TheVariants.{BadBackups, BadStep, BadSegment, BadSeglet, BadBudget, BadTablets, BadHistory}
 
@@ -15,6 +16,7 @@ refusal_name Halted = codes "Halted"
 refusal_name Rolling = codes "Rolling"
 refusal_name Nothing = codes "Nothing"
 refusal_name Spent = codes "Spent"
+refusal_name SegmentsSpent = codes "SegmentsSpent"
 refusal_name NoTablet = codes "NoTablet"
 
 abbrev pub config_fault_name : ConfigFault → List ℕ

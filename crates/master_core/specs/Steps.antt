@@ -1,7 +1,12 @@
 -- What a master's core becomes: a command is applied, an op was taken, a take failed.
-use Rattle.std.specs.Prelude.{◌≡◌, ℕ, length, Bool, false, true, None, if◌then◌else◌}
-use Rattle.log_head.specs.Steps.{with_opened_replica, with_one_taken}
-use Rattle.log_model.specs.Steps.{applied, MayApply}
+use Rattle.std.specs.Prelude.{◌≡◌, ℕ, ◌+◌, length, Bool, false, true, None, if◌then◌else◌}
+use Rattle.std.specs.Option.{option_map_or}
+use Rattle.log_head.specs.declared.head.Roll.{Roll}
+use Rattle.log_head.specs.declared.next.Next.{Next}
+use Rattle.log_head.specs.declared.next.Next.TheVariants as next
+use Rattle.log_head.specs.Steps.{with_opened_replica, with_one_taken, with_roll, with_new_replica, with_closed_replica}
+use Rattle.log_head.specs.Steps.{old_image}
+use Rattle.log_model.specs.Steps.{applied, MayApply, next_start, rolling}
 use Rattle.replica.specs.declared.op.TakeFault.{TakeFault}
 use Rattle.replica.specs.declared.op.TakeFault.TheVariants as take_fault
 use Rattle.versioned_map.specs.declared.command.Command.{Command}
@@ -11,9 +16,10 @@ use Rattle.versioned_map.specs.Versioned.{reply_to}
 use Rattle.master_core.specs.declared.step.Refusal.{Refusal}
 use Rattle.master_core.specs.declared.step.Refusal.TheVariants as refusal
 use Rattle.master_core.specs.declared.step.StepAnswer.{StepAnswer}
-use Rattle.master_core.specs.declared.step.StepAnswer.TheVariants.{Applied}
-use Rattle.master_core.specs.Causes.{command_refusal, dead_segment}
+use Rattle.master_core.specs.declared.step.StepAnswer.TheVariants.{Applied, Rolling as RollingTo}
+use Rattle.master_core.specs.Causes.{command_refusal, roll_refusal, dead_segment}
 use Rattle.master_core.specs.Data.{MasterData}
+use Rattle.master_core.specs.Images.{with_closed}
 use Rattle.master_core.specs.Log.{log_of, state_now}
 
 -- the reply to a command: the versioned map's
@@ -39,13 +45,31 @@ AppliesAs d r place e = Applies d r.seat r.command (Applied place r.reply) e
 abbrev pub MayApplyNow : MasterData → ℕ → Command → Type 0
 MayApplyNow d seat command = MayApply (log_of d) (dead_segment d command) (record_now d seat command)
 
--- one more replica of the head was opened
-abbrev pub opened_data : MasterData → MasterData
-opened_data d = record d { head = with_opened_replica d.head }
+-- A roll that no test refuses begins: the next head lists the log, and records the safe version of now.
+pub record BeginsRoll (d : MasterData) (answer : StepAnswer) (e : MasterData) : Type 0 where
+  pub passed : roll_refusal d ≡ None
+  pub told : answer ≡ RollingTo d.next
+  pub log : log_of e ≡ rolling (log_of d) (next_start (log_of d))
+  pub rest : e ≡ record d { head = e.head; next = e.next }
 
--- a replica of the head took its next unit
-abbrev pub extended_data : MasterData → ℕ → MasterData
-extended_data d j = record d { head = with_one_taken d.head j }
+-- what a core becomes when a roll begins
+abbrev pub rolling_data : MasterData → MasterData
+rolling_data d = record d { head = with_roll d.head d.config.master d.next d.safe; next = d.next + 1 }
+
+-- one more replica of the old head was closed; with the last one its segment is one of the closed ones
+abbrev pub closed_data : MasterData → Roll → MasterData
+closed_data d r = record d {
+  head = with_closed_replica d.head r;
+  closed = with_closed d.closed d.head.id (old_image d.head r);
+}
+
+-- what a core becomes when the op of a push was taken
+abbrev pub taken_data : MasterData → Next → MasterData
+taken_data d (next.OpenFirst j) = record d { head = with_opened_replica d.head }
+taken_data d (next.Extend j) = record d { head = with_one_taken d.head j }
+taken_data d (next.OpenNew j) =
+    option_map_or (λ (r : Roll). record d { head = with_new_replica d.head r }) d.head.roll d
+taken_data d (next.CloseOld j) = option_map_or (closed_data d) d.head.roll d
 
 -- a backup failed
 abbrev pub halted : MasterData → MasterData

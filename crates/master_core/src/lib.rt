@@ -9,11 +9,14 @@
 
 mod change;
 mod config;
+mod image;
 mod index;
+mod rolling;
 mod state;
 mod step;
 mod unit;
 
 pub use config::{Config, ConfigFault};
+pub use image::{ClosedSegment, Place};
 pub use state::Core;
 pub use step::{Look, Refusal, Shown, Step, StepAnswer};

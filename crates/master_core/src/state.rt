@@ -1,7 +1,7 @@
 //! What a master knows, and the steps that take nothing from its fleet.
 
 ghost use Rattle.std.specs.Prelude.{List, ◌⊎◌, ◌≡◌, ◌≤◌, ◌<◌, ◌^◌, ℕ, None, Some, false, true, length, IfOk, IfErr, IfSome, OnOk, OnErr};
-ghost use Rattle.std.specs.Prelude.{Option, ◌==◌, if◌then◌else◌, slice_get};
+ghost use Rattle.std.specs.Prelude.{Option, IsSome, vec_len, vec_capacity};
 ghost use Rattle.std.specs.Option.{option_map};
 ghost use Rattle.std.specs.Result.{result_err};
 ghost use Rattle.entry.specs.Text.{text_of};
@@ -13,15 +13,16 @@ ghost use Rattle.master_core.specs.Data.{fresh_data};
 ghost use Rattle.master_core.specs.Index.{slot_found, object_found};
 ghost use Rattle.master_core.specs.Invariant.{IsCore, IsChangeNow, IsJudged, IsSlotOf};
 ghost use Rattle.master_core.specs.Log.{log_of, held_now, image_of, home};
-ghost use Rattle.master_core.specs.Shown.{IsShown};
-ghost use Rattle.master_core.specs.Steps.{Applies, AppliesAs, MayApplyNow, reply_now, opened_data, extended_data, failed_data, refusal_of};
+ghost use Rattle.master_core.specs.Shown.{IsShown, NeedsMemory};
+ghost use Rattle.master_core.specs.Steps.{Applies, AppliesAs, MayApplyNow, reply_now, failed_data, refusal_of};
 
 use crate::change::{Change, change_of, is_too_big};
 use crate::config::Config;
-use crate::index::{find, place_change};
+use crate::image::{ClosedSegment, Place, image_of};
+use crate::index::find;
 use crate::step::{Look, Refusal, Shown, StepAnswer};
 use crate::unit::{enact, unit_len};
-use entry::{NoMemory, ObjectRef, SafeVersion};
+use entry::{NoMemory, ObjectRef, Row, SafeVersion};
 use log_head::Head;
 use replica::{Bytes, TakeFault};
 use segment::AppendFault;
@@ -32,14 +33,18 @@ use versioned_map::{Command, Record, Reply};
 /// What a master knows: its configuration, its head, where the live objects lie, the safe version, and its history.
 #[derive(Drop)]
 pub struct Core {
-    alloc: Global,
-    config: Config,
-    head: Head,
-    /// Where the live objects begin in the head's image.
-    places: Vec<usize>,
-    safe: SafeVersion,
-    history: Vec<Record>,
-    is_halted: bool,
+    pub(crate) alloc: Global,
+    pub(crate) config: Config,
+    pub(crate) head: Head,
+    /// The closed segments of the log, in order. There is room for one more.
+    pub(crate) closed: Vec<ClosedSegment>,
+    /// The first number that no segment had yet.
+    pub(crate) next: u64,
+    /// Where the live objects lie.
+    pub(crate) places: Vec<Place>,
+    pub(crate) safe: SafeVersion,
+    pub(crate) history: Vec<Record>,
+    pub(crate) is_halted: bool,
 }
 
 impl Model for Core {
@@ -51,15 +56,19 @@ impl Model for Core {
     ghost view = { λ m. record {
       config = m.config;
       head = m.head;
+      closed = m.closed.items;
+      next = m.next;
       places = m.places.items;
       safe = m.safe;
       history = m.history.items;
       is_halted = m.is_halted;
     } };
 
-    ghost invariant = { λ m. IsCore (record {
+    ghost invariant = { λ m. (vec_len m.closed < vec_capacity m.closed) × IsCore (record {
       config = m.config;
       head = m.head;
+      closed = m.closed.items;
+      next = m.next;
       places = m.places.items;
       safe = m.safe;
       history = m.history.items;
@@ -75,11 +84,20 @@ impl Core {
         ensures valid { IfOk result (λ core. IsCore core) }
     {
         let replicas = config.replicas as usize;
-        let head = Head::begin(alloc, config.master, replicas, SafeVersion::first())?;
+        let closed = Vec::with_capacity(alloc, 1)?;
+        let head = Head::begin(
+            alloc,
+            config.master,
+            replicas,
+            SafeVersion::first(),
+            config.segment as usize,
+        )?;
         let core = Core {
             alloc,
             config,
             head,
+            closed,
+            next: 2,
             places: Vec::new(alloc),
             safe: SafeVersion::first(),
             history: Vec::new(alloc),
@@ -118,12 +136,12 @@ impl Core {
         &self.head
     }
 
-    /// The backup of a replica of the head.
-    pub fn home(&self, replica: usize) -> u64
+    /// The backup of a replica of a segment.
+    pub fn home(&self, segment: u64, replica: usize) -> u64
         requires { replica < 64 }
-        ensures { result ≡ home self.now.config self.now.head.id replica }
+        ensures { result ≡ home self.now.config segment replica }
     {
-        self.config.home(self.head.id(), replica)
+        self.config.home(segment, replica)
     }
 
     /// The accepted commands, with their replies.
@@ -176,10 +194,13 @@ impl Core {
             return Err(Refusal::Rolling);
         }
         let limit = self.config.segment as usize;
-        if !self.head.fits(unit_len(command, change), limit) {
-            return Err(Refusal::Full);
+        if self.head.fits(unit_len(command, change), limit) {
+            return Ok(());
         }
-        Ok(())
+        if self.may_roll() {
+            return Err(Refusal::Rolling);
+        }
+        Err(Refusal::Full)
     }
 
     /// The object of the command's key, and which of the places it has.
@@ -189,8 +210,9 @@ impl Core {
         ensures object { object_found result ≡ held_now self.entry.now command.now }
     {
         find(
+            &self.head,
+            self.closed.as_slice(),
             self.places.as_slice(),
-            self.head.image(),
             &command.key().view(),
         )
     }
@@ -312,26 +334,7 @@ impl Core {
         Ok(place)
     }
 
-    // ---- replicas
-
-    /// Counts a replica of the head that was opened.
-    pub fn open(&mut self)
-        requires { length self.old.head.taken < self.old.head.replicas }
-        ensures opened { self.new ≡ opened_data self.old }
-        ensures valid { IsCore self.new }
-    {
-        self.head.open();
-    }
-
-    /// Counts a unit that a replica of the head took.
-    pub fn extend(&mut self, replica: usize)
-        requires lags { IfSome (slice_get self.old.head.taken replica) (λ n. n < length self.old.head.units) }
-        requires opened { replica < length self.old.head.taken }
-        ensures extended { self.new ≡ extended_data self.old replica }
-        ensures valid { IsCore self.new }
-    {
-        self.head.extend(replica);
-    }
+    // ---- a fault
 
     /// What a fault of a take answers; after a fault of a backup the master stays halted. No op of a master is Wrong.
     pub fn fail(&mut self, fault: TakeFault) -> Refusal
@@ -356,23 +359,23 @@ impl Core {
     /// What is to be shown. Nothing changes.
     pub fn look(&self, look: Look) -> Result<Shown, NoMemory>
         ensures shown { IfOk result (λ shown. IsShown self.now look shown) }
-        // Memory is wanted for the image alone.
-        ensures refused { OnErr result (look ≡ Look.Image self.now.head.id) }
+        ensures refused { OnErr result (NeedsMemory self.now look) }
     {
         match look {
-            Look::Image(id) => Ok(Shown::Image(self.image_of(id)?)),
+            Look::Digest => Ok(Shown::Digest(Row::new(self.head.digest(self.alloc)?))),
+            Look::Image(id) => Ok(Shown::Image(self.bytes_of(id)?)),
         }
     }
 
-    /// The bytes of a segment's image; `None` where there is no such image.
-    fn image_of(&self, id: u64) -> Result<Option<Bytes>, NoMemory>
+    /// The bytes of a segment's image; `None` if there is no such image.
+    fn bytes_of(&self, id: u64) -> Result<Option<Bytes>, NoMemory>
         ensures image { IfOk result (λ image. image ≡ option_map text_of (image_of self.now id)) }
-        ensures refused { OnErr result (id ≡ self.now.head.id) }
+        ensures refused { OnErr result (IsSome (image_of self.now id)) }
     {
-        if id != self.head.id() {
+        let Some(image) = image_of(&self.head, self.closed.as_slice(), id) else {
             return Ok(None);
-        }
-        let bytes = Vec::from_slice(self.alloc, self.head.image().bytes())?;
+        };
+        let bytes = Vec::from_slice(self.alloc, image.bytes())?;
         Ok(Some(Bytes::new(bytes)))
     }
 }

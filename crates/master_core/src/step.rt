@@ -4,6 +4,7 @@ ghost use Rattle.std.specs.Prelude.{◌≡◌, IfOk, Some};
 ghost use Rattle.master_core.specs.declared.step.Refusal.TheVariants as refusal;
 ghost use Rattle.master_core.specs.Names.{refusal_name};
 
+use entry::Row;
 use replica::Bytes;
 use std::alloc::{AllocError, AllocFailed};
 use std::error::Error;
@@ -15,8 +16,10 @@ use versioned_map::{Command, Reply};
 pub enum Step {
     /// One command of a seat. It takes nothing from the fleet.
     Apply(u64, Command),
-    /// One op handed to one backup: the next unit where a replica lags, or the head opened on its next backup.
+    /// One op handed to one backup: the next unit if a replica lags, else the next Open or Close of a roll.
     Push,
+    /// A roll to the next head begins. It takes nothing from the fleet.
+    BeginRoll,
 }
 
 impl Step {
@@ -27,6 +30,7 @@ impl Step {
         match self {
             Step::Apply(seat, command) => Ok(Step::Apply(*seat, command.copy()?)),
             Step::Push => Ok(Step::Push),
+            Step::BeginRoll => Ok(Step::BeginRoll),
         }
     }
 }
@@ -40,6 +44,10 @@ pub enum StepAnswer {
     Extended(u64, u64),
     /// The backup and the segment.
     Opened(u64, u64),
+    /// The backup and the segment.
+    Closed(u64, u64),
+    /// The number of the new head.
+    Rolling(u64),
 }
 
 /// Why a step was refused. The numbers are fixed; those that are missing belong to steps that don't exist yet.
@@ -47,7 +55,7 @@ pub enum StepAnswer {
 pub enum Refusal {
     /// 1: the key and the value of a put are too big for a quarter of a segment.
     TooBig,
-    /// 2: the unit doesn't fit the head, and no other head may begin.
+    /// 2: the unit doesn't fit the head and no roll may begin, or a roll by itself may not begin.
     Full,
     /// 3: no version is left for the put.
     VersionsSpent,
@@ -57,12 +65,14 @@ pub enum Refusal {
     NoMemory,
     /// 6: a backup failed, in this step or an earlier one.
     Halted,
-    /// 7: the head is not open yet.
+    /// 7: a roll is under way, or is due, or the first head is not open yet.
     Rolling,
     /// 8: nothing waits.
     Nothing,
     /// 10: the fleet takes no more ops.
     Spent,
+    /// 11: no number is left for a segment.
+    SegmentsSpent,
     /// 12: no tablet of the master has the key's place.
     NoTablet,
 }
@@ -83,6 +93,7 @@ impl fmt::Display for Refusal {
             Refusal::Rolling => "Rolling",
             Refusal::Nothing => "Nothing",
             Refusal::Spent => "Spent",
+            Refusal::SegmentsSpent => "SegmentsSpent",
             Refusal::NoTablet => "NoTablet",
         })
     }
@@ -107,6 +118,8 @@ impl<T: Drop> From<AllocFailed<T>> for Refusal {
 /// What is to be shown of a master.
 #[derive(Clone, Copy)]
 pub enum Look {
+    /// The ids of the digest in force.
+    Digest,
     /// The image of a segment.
     Image(u64),
 }
@@ -114,6 +127,8 @@ pub enum Look {
 /// What is shown of a master.
 #[derive(Drop)]
 pub enum Shown {
-    /// The bytes of the image, or `None` where there is no such image.
+    /// The ids of the digest in force, in order.
+    Digest(Row<u64>),
+    /// The bytes of the image, or `None` if there is no such image.
     Image(Option<Bytes>),
 }

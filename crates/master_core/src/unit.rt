@@ -7,12 +7,13 @@ ghost use Rattle.entry.specs.declared.entry.Entry.TheVariants as entry;
 ghost use Rattle.entry.specs.Text.{text_of};
 ghost use Rattle.entry.specs.View.{shown};
 ghost use Rattle.log_head.specs.Head.{IsHeadValue, len_with};
-ghost use Rattle.master_core.specs.Index.{placed};
+ghost use Rattle.master_core.specs.Index.{placed, segment_at};
 ghost use Rattle.versioned_map.specs.Units.{object_entry, tombstone_entry};
 ghost use Rattle.master_core.specs.Change.{unit_of_change, is_empty, appended, BeginsAt};
 
 use crate::change::Change;
-use crate::index::place_change;
+use crate::image::Place;
+use crate::index::{place_change, segment_at};
 use entry::{EntryRef, Key, NoMemory, ObjectRef, TombstoneRef, Value, Version};
 use log_head::Head;
 use segment::AppendFault;
@@ -79,22 +80,22 @@ pub fn unit_len(command: &Command, change: &Change) -> usize
     }
 }
 
-/// Appends the unit of a change to the head.
+/// Appends the unit of a change to the head, where the dead object, if there is one, lies in this segment.
 fn append_change(
     head: &mut Head,
     command: &Command,
     change: &Change,
+    segment: u64,
     number: usize,
     limit: usize,
 ) -> Result<(), AppendFault>
     requires { limit ≤ 8388608 }
-    ensures ok { OnOk result (head.new ≡ appended head.old number (unit_of_change head.old.id command.now change.now)) }
-    ensures full { let unit = unit_of_change head.old.id command.now change.now in
+    ensures ok { OnOk result (head.new ≡ appended head.old number (unit_of_change segment command.now change.now)) }
+    ensures full { let unit = unit_of_change segment command.now change.now in
         IsErrOf result AppendFault.Full → (is_empty unit ≡ false) × (limit < len_with head.old.image unit) }
     ensures err { OnErr result (head.new ≡ head.old) }
     ensures valid { OnOk result (IsHeadValue head.new) }
 {
-    let segment = head.id();
     match command {
         Command::Get(_) => Ok(()),
         Command::Delete(key) => match change {
@@ -121,7 +122,7 @@ fn append_change(
 /// record.
 pub fn enact(
     head: &mut Head,
-    places: &mut Vec<usize>,
+    places: &mut Vec<Place>,
     history: &mut Vec<Record>,
     command: &Command,
     change: &Change,
@@ -130,25 +131,29 @@ pub fn enact(
 ) -> Result<(), NoMemory>
     requires slot { IfSome slot (λ slot. slot < vec_len places.old) }
     requires limit { limit ≤ 8388608 }
-    requires fits { let unit = unit_of_change head.old.id command.now change.now in
+    requires fits { let unit = unit_of_change (segment_at places.old.items slot) command.now change.now in
         is_empty unit ≡ false → len_with head.old.image unit ≤ limit }
     ensures valid { OnOk result (IsHeadValue head.new) }
-    ensures head { let unit = unit_of_change head.old.id command.now change.now in
+    ensures head { let unit = unit_of_change (segment_at places.old.items slot) command.now change.now in
         OnOk result (head.new ≡ appended head.old (length history.old.items) unit) }
     ensures places { OnOk result ((at : ℕ) × BeginsAt head.old.image command.now change.now at
-        × (places.new.items ≡ placed places.old.items change.now slot at)) }
+        × (places.new.items ≡ placed places.old.items change.now slot (record { segment = head.old.id; at = at }))) }
     ensures history { history.new.items ≡ history.old.items }
     ensures room { OnOk result (vec_len history.new < vec_capacity history.new) }
     ensures err { OnErr result ((head.new ≡ head.old) × (places.new.items ≡ places.old.items)) }
 {
-    let at = head.image().bytes().len() + object_offset(command, change);
+    let place = Place {
+        segment: head.id(),
+        at: head.image().bytes().len() + object_offset(command, change),
+    };
+    let dead = segment_at(places.as_slice(), slot);
     history.reserve(1)?;
     places.reserve(1)?;
-    match append_change(head, command, change, history.len(), limit) {
+    match append_change(head, command, change, dead, history.len(), limit) {
         Ok(()) => {}
         Err(AppendFault::Full) => unreachable!(),
         Err(AppendFault::NoMemory) => return Err(NoMemory),
     }
-    place_change(places, change, slot, at);
+    place_change(places, change, slot, place);
     Ok(())
 }

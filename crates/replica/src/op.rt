@@ -9,6 +9,8 @@ pub enum Act<'a> {
     Open(&'a [u8]),
     /// The bytes are appended to an open replica of the length `at`, in bytes.
     Extend { at: usize, bytes: &'a [u8] },
+    /// The open replica is closed.
+    Close,
 }
 
 /// An op on the replica of a master's segment.

@@ -101,6 +101,21 @@ impl Segment {
         Ok(at)
     }
 
+    /// Takes memory for a text of this many bytes, once, so that no append within them takes more.
+    pub fn reserve(&mut self, len: usize) -> Result<(), NoMemory>
+        ensures { self.new ≡ self.old }
+    {
+        let more = len.saturating_sub(self.bytes.len());
+        self.bytes.reserve_exact(more)
+    }
+
+    /// Gives back the memory beyond this many bytes, or beyond the text if that is longer.
+    pub fn trim(&mut self, len: usize)
+        ensures { self.new ≡ self.old }
+    {
+        self.bytes.shrink_to(len);
+    }
+
     /// The text.
     pub fn bytes(&self) -> &[u8]
         ensures text { result.now ≡ text_of self.now }

@@ -15,6 +15,7 @@ grown : (c : goal.After-push_reserved) → IsHeadValue (record {
   opening = c.self.inside.opening;
   units = c.push_reserved.new.self.items;
   taken = c.self.inside.taken.items;
+  roll = c.self.inside.roll;
 })
 grown c =
     let old = c.self.invariant.1 in
@@ -36,6 +37,7 @@ grown c =
       opened = old.opened;
       few = old.few;
       taken = rw items (all_more c.self.inside.taken.items (length units) (length (units ++ unit ∷ [])) count old.taken);
+      roll = old.roll;
     }
 
 pub invariant_of-self-2 : goal.invariant_of-self-2

@@ -1,0 +1,71 @@
+-- What a roll of a head is to the log.
+use Rattle.std.proofs.Common.{◌≡◌, ℕ, suc, ◌<◌, ◌≤◌, Bool, true, false, List, [], ◌∷◌, ◌++◌, length, refl, sym, ap, subst, ◌∙◌, arith}
+use Rattle.std.specs.Prelude.{Option, Some, None, ◌==◌, if◌then◌else◌}
+use Rattle.std.proofs.lemmas.Bool.{eqb-true}
+use Rattle.std.proofs.lemmas.Bool.Decides.{nat_tests}
+use Rattle.std.proofs.lemmas.List.{append-nil}
+use Rattle.entry.specs.declared.entry.Entry.{Entry}
+use Rattle.entry.specs.Text.{Opening, text_of, opening_of, IsSegment}
+use Rattle.log_model.specs.Data.{Start, Head, Phase, Opened, Closed, ids_of, start_entries, head_entries}
+use Rattle.log_model.specs.Steps.{one_opened, new_head}
+use Rattle.log_head.specs.declared.head.Roll.{Roll}
+use Rattle.log_head.specs.Head.{HeadValue, IsRollValue, digest_of}
+use Rattle.log_head.specs.Log.{but_last, start_in, start_of, phase_in, phase_of, head_of, IsImageOf, IsNewImage}
+use Rattle.log_head.specs.Steps.{fresh_roll, with_roll, with_new_replica, in_force}
+use Rattle.log_head.proofs.HeadLog.{but_last_is, head_is}
+
+-- ---- a roll begins
+
+pub start_is : (master : ℕ) (n : Start) → start_of (fresh_roll master n) ≡ n
+start_is master n = ap (λ (ids : List ℕ). record { id = n.id; others = ids; safe = n.safe }) (but_last_is n.others n.id)
+
+pub opening_is : (master : ℕ) (n : Start) → IsNewImage master (fresh_roll master n)
+opening_is master n = ap (start_entries master) (sym (start_is master n))
+
+pub phase_begun : (h : HeadValue) (master : ℕ) (n : Start) → 0 < h.replicas
+    → phase_in h.replicas (fresh_roll master n) ≡ Opened 0 n
+phase_begun h master n some =
+    let test : (0 == h.replicas) ≡ false = grind (arith, nat_tests) in
+    rw test (ap (λ (s : Start). Opened 0 s) (start_is master n))
+
+-- an image of the log bears the digest of its head
+pub digest_is : (master : ℕ) (h : HeadValue) (l : Head) → IsImageOf master h l → digest_of h.image ≡ ids_of l.start
+digest_is master h l is = ap digest_of is.image
+
+-- ---- a replica of the new head is opened
+
+pub phase_opened : (h : HeadValue) (r : Roll) → r.opened < h.replicas → (r.opened < h.replicas → r.closed ≡ 0)
+    → phase_in h.replicas (record r { opened = suc r.opened }) ≡ one_opened h.replicas r.opened (start_of r)
+phase_opened h r few order =
+    ap (λ (k : ℕ). if suc r.opened == h.replicas then Closed k (start_of r) else Opened (suc r.opened) (start_of r)) (order few)
+
+-- before all of them are, the phase is this
+pub phase_opening : (h : HeadValue) (r : Roll) → r.opened < h.replicas → phase_in h.replicas r ≡ Opened r.opened (start_of r)
+phase_opening h r few = let test : (r.opened == h.replicas) ≡ false = grind (arith, nat_tests) in rw test refl
+
+-- once all are, it is this
+pub phase_closing : (replicas : ℕ) (r : Roll) → r.opened ≡ replicas → phase_in replicas r ≡ Closed r.closed (start_of r)
+phase_closing replicas r all = let test : (r.opened == replicas) ≡ true = grind (arith, nat_tests) in rw test refl
+
+-- ---- the new head is in force
+
+start_in_id : (id : ℕ) (o : Option Opening) → (start_in id o).id ≡ id
+start_in_id id None = refl
+start_in_id id (Some o) = refl
+
+module _ (master : ℕ) (h : HeadValue) (r : Roll) (new : IsNewImage master r) (segment : IsSegment r.image) where
+  in_force_image : IsImageOf master (in_force h r) (new_head h.replicas (start_of r))
+  in_force_image = record {
+    id = start_in_id r.id (opening_of r.image);
+    none_loaded = refl;
+    image = new ∙ sym (append-nil (start_entries master (start_of r)));
+    opening = ap (λ (es : List Entry). length (text_of es)) new;
+    ends = tt;
+    taken = refl;
+  }
+
+  pub head_in_force : head_of (in_force h r) ≡ new_head h.replicas (start_of r)
+  head_in_force = head_is master (in_force h r) (new_head h.replicas (start_of r)) in_force_image segment
+
+  pub image_in_force : IsImageOf master (in_force h r) (head_of (in_force h r))
+  image_in_force = subst (λ (l : Head). IsImageOf master (in_force h r) l) (sym head_in_force) in_force_image

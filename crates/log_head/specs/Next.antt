@@ -1,0 +1,63 @@
+-- What the next push does, and the op that it hands over.
+use Rattle.std.specs.Prelude.{◌≡◌, ℕ, ◌+◌, ◌-◌, ◌<◌, List, [], length, take, drop, Option, Some, None, slice_get, unwrap_or}
+use Rattle.std.specs.Option.{option_map_or}
+use Rattle.entry.specs.Text.{text_of}
+use Rattle.replica.specs.Op.{ActValue, Open, Extend, Close, OpValue}
+use Rattle.log_head.specs.declared.head.Roll.{Roll}
+use Rattle.log_head.specs.declared.next.Next.{Next}
+use Rattle.log_head.specs.declared.next.Next.TheVariants as next
+use Rattle.log_head.specs.Head.{HeadValue, end_of, IsLagging}
+
+-- each replica is open and has each unit
+pub record IsWholeHead (h : HeadValue) : Type 0 where
+  pub opened : length h.taken ≡ h.replicas
+  pub none_lags : IsLagging (length h.units) h.taken None
+
+-- The order of pushes: the first head is opened; then the replica that lags most is extended; then the new head of a
+-- roll is opened; then the old head is closed.
+abbrev pub IsNextPush : HeadValue → Option Next → Type 0
+IsNextPush h None = IsWholeHead h × (h.roll ≡ None)
+IsNextPush h (Some (next.OpenFirst j)) = (j ≡ length h.taken) × (j < h.replicas)
+IsNextPush h (Some (next.Extend j)) = (length h.taken ≡ h.replicas) × IsLagging (length h.units) h.taken (Some j)
+IsNextPush h (Some (next.OpenNew j)) =
+    IsWholeHead h × (r : Roll) × (h.roll ≡ Some r) × (j ≡ r.opened) × (j < h.replicas)
+IsNextPush h (Some (next.CloseOld j)) =
+    IsWholeHead h × (r : Roll) × (h.roll ≡ Some r) × (j ≡ r.closed) × (r.opened ≡ h.replicas)
+
+-- ---- its op
+
+-- the replica that it is for
+abbrev pub replica_of : Next → ℕ
+replica_of (next.OpenFirst j) = j
+replica_of (next.Extend j) = j
+replica_of (next.OpenNew j) = j
+replica_of (next.CloseOld j) = j
+
+-- how many units a replica has
+abbrev pub units_of : HeadValue → ℕ → ℕ
+units_of h j = unwrap_or (slice_get h.taken j) 0
+
+-- the bytes of the image between the ends of these units
+abbrev pub bytes_between : HeadValue → ℕ → ℕ → List ℕ
+bytes_between h from to =
+    let start = end_of h.opening h.units from in
+    take (end_of h.opening h.units to - start) (drop start (text_of h.image))
+
+-- the segment that it is for
+abbrev pub segment_of : HeadValue → Next → ℕ
+segment_of h (next.OpenNew j) = option_map_or (λ (r : Roll). r.id) h.roll h.id
+segment_of h _ = h.id
+
+-- the image of the new head's opening
+abbrev pub new_bytes : HeadValue → List ℕ
+new_bytes h = option_map_or (λ (r : Roll). text_of r.image) h.roll []
+
+abbrev pub act_of : HeadValue → Next → ActValue
+act_of h (next.OpenFirst j) = Open (take h.opening (text_of h.image))
+act_of h (next.Extend j) =
+    Extend (end_of h.opening h.units (units_of h j)) (bytes_between h (units_of h j) (units_of h j + 1))
+act_of h (next.OpenNew j) = Open (new_bytes h)
+act_of h (next.CloseOld j) = Close
+
+abbrev pub op_of : ℕ → HeadValue → Next → OpValue
+op_of master h push = record { master = master; segment = segment_of h push; act = act_of h push }

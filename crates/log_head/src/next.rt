@@ -1,0 +1,31 @@
+//! What the next push does.
+
+ghost use Rattle.std.specs.Prelude.{◌≡◌};
+ghost use Rattle.log_head.specs.Next.{replica_of};
+
+/// What the next push does, to the replica of this number.
+#[derive(Clone, Copy)]
+pub enum Next {
+    /// A replica of a master's first head is opened.
+    OpenFirst(usize),
+    /// A replica of the head is handed its next unit.
+    Extend(usize),
+    /// A replica of the new head is opened.
+    OpenNew(usize),
+    /// A replica of the old head is closed.
+    CloseOld(usize),
+}
+
+impl Next {
+    /// The number of the replica.
+    pub fn replica(&self) -> usize
+        ensures { result ≡ replica_of self.now }
+    {
+        match self {
+            Next::OpenFirst(replica) => *replica,
+            Next::Extend(replica) => *replica,
+            Next::OpenNew(replica) => *replica,
+            Next::CloseOld(replica) => *replica,
+        }
+    }
+}
