@@ -112,6 +112,13 @@ impl Head {
         })
     }
 
+    /// What holds of every head.
+    pub fn show_valid(&self)
+        ensures { IsHeadValue self.now }
+    {
+        let _id = self.id;
+    }
+
     /// The segment's number.
     pub fn id(&self) -> u64
         ensures id { result ≡ self.now.id }

@@ -1,23 +1,22 @@
 -- What a master keeps: the laws of a log hold of what it knows, its memory, and the backups before a fault.
-use Rattle.std.specs.Prelude.{◌≡◌, ◌≤◌, [], false}
+use Rattle.std.specs.Prelude.{◌≡◌, ℕ, ◌≤◌, false}
+use Rattle.entry.specs.Bag.{IsAmong}
 use Rattle.replica.specs.Picture.{Picture, FleetState}
-use Rattle.log_head.specs.Log.{head_of}
 use Rattle.clean_model.specs.Intact.{IsIntact}
-use Rattle.clean_model.specs.Memory.{Memory, no_pass}
+use Rattle.clean_model.specs.Memory.{Memory, no_pass, log_ids}
 use Rattle.clean_model.specs.Steps.{IsFault}
 use Rattle.master_core.specs.Data.{MasterData}
 use Rattle.master_core.specs.Invariant.{IsCore}
-use Rattle.master_core.specs.Log.{log_of}
+use Rattle.master_core.specs.Log.{log_of, images_of}
 
--- the memory is that of the master's head, and no pass is open
+-- the memory has the master's images of the log, no pass is open, and no roll is a pass's commit
 pub record IsMemoryOf (d : MasterData) (m : Memory) : Type 0 where
-  pub image : m.images d.head.id ≡ d.head.image
+  pub images : (s : ℕ) → IsAmong s (log_ids (log_of d) m) → m.images s ≡ images_of d s
   pub pass : m.pass ≡ no_pass
+  pub commits : m.commits ≡ false
 
 pub record IsWellKept (d : MasterData) (f : FleetState) : Type 0 where
   pub core : IsCore d
-  -- the digest lists the head alone
-  pub alone : (head_of d.head).start.others ≡ []
   pub memory : Memory
   pub memory_is : IsMemoryOf d memory
   -- what the backups held before a fault

@@ -1,12 +1,14 @@
 -- The op that a push hands to a backup.
-use Rattle.std.specs.Prelude.{◌≡◌, ℕ, ◌+◌, length, false, Some, slice_get, unwrap_or}
+use Rattle.std.specs.Prelude.{◌≡◌, ◌⊎◌, ℕ, ◌+◌, length, false, Some, slice_get, unwrap_or}
+use Rattle.log_head.specs.declared.next.Next.{Next}
+use Rattle.log_head.specs.declared.next.Next.TheVariants as next
 use Rattle.log_head.specs.Head.{IsLagging}
 use Rattle.log_model.specs.Data.{LogData}
 use Rattle.log_model.specs.Ops.{LogOp, op_of}
-use Rattle.log_model.specs.Steps.{OpensFirst, Extends}
+use Rattle.log_model.specs.Steps.{OpensFirst, Extends, OpensNew, ClosesOld}
 use Rattle.replica.specs.Take.{Takes}
 use Rattle.master_core.specs.declared.step.StepAnswer.{StepAnswer}
-use Rattle.master_core.specs.declared.step.StepAnswer.TheVariants.{Applied, Opened, Extended}
+use Rattle.master_core.specs.declared.step.StepAnswer.TheVariants.{Applied, Opened, Extended, Closed, Rolling}
 use Rattle.master_core.specs.Log.{log_of}
 use Rattle.master.specs.World.{World}
 
@@ -23,17 +25,28 @@ pub record ExtendsNext (d : LogData) (o : LogOp) (e : LogData) : Type 0 where
   pub lagging : IsLagging (length d.head.units) d.head.taken (Some extends.j)
   pub reached : extends.to ≡ reach d extends.j
 
--- what the answer of a push says of its op: the head is opened on its next backup, or a replica takes its next unit
+-- What the answer of a push says of its op: a first head is opened on its next backup, or a new one is; a replica takes
+-- its next unit; the old head is closed on its next backup.
 abbrev pub IsNextOp : LogData → LogOp → StepAnswer → LogData → Type 0
-IsNextOp d o (Opened backup segment) e = OpensFirst d o e × (backup ≡ o.backup) × (segment ≡ o.segment)
+IsNextOp d o (Opened backup segment) e =
+    (OpensFirst d o e ⊎ OpensNew d o e) × (backup ≡ o.backup) × (segment ≡ o.segment)
 IsNextOp d o (Extended backup segment) e = ExtendsNext d o e × (backup ≡ o.backup) × (segment ≡ o.segment)
+IsNextOp d o (Closed backup segment) e = ClosesOld d o e × (backup ≡ o.backup) × (segment ≡ o.segment)
 IsNextOp d o (Applied place reply) e = ⊥
+IsNextOp d o (Rolling segment) e = ⊥
 
 -- A push that is accepted: one op, which the fleet took.
 pub record Pushes (old : World) (answer : StepAnswer) (new : World) : Type 0 where
   pub op : LogOp
   pub running : old.knows.is_halted ≡ false
   pub next : IsNextOp (log_of old.knows) op answer (log_of new.knows)
-  -- only the head changed
-  pub rest : new.knows ≡ record old.knows { head = new.knows.head }
+  -- only the head and the closed segments changed
+  pub rest : new.knows ≡ record old.knows { head = new.knows.head; closed = new.knows.closed }
   pub takes : Takes old.fleet op.backup (op_of old.knows.config.master op) new.fleet
+
+-- what a push answers whose op is on this replica
+abbrev pub answer_of : Next → ℕ → ℕ → StepAnswer
+answer_of (next.OpenFirst j) backup segment = Opened backup segment
+answer_of (next.Extend j) backup segment = Extended backup segment
+answer_of (next.OpenNew j) backup segment = Opened backup segment
+answer_of (next.CloseOld j) backup segment = Closed backup segment

@@ -1,30 +1,31 @@
 //! One master over a fleet of backups.
 
 ghost use Rattle.std.specs.Prelude.{List, ◌⊎◌, ◌≡◌, ◌≤◌, ◌<◌, ℕ, None, Some, false, true, length, IfOk, IfErr, IfSome, OnOk, OnErr};
-ghost use Rattle.std.specs.Prelude.{slice_get};
 ghost use Rattle.std.specs.Result.{result_err};
-ghost use Rattle.log_head.specs.Head.{IsLagging};
+ghost use Rattle.log_head.specs.Next.{IsNextPush};
 ghost use Rattle.log_model.specs.Data.{durable_of};
 ghost use Rattle.master_core.specs.Causes.{command_refusal};
 ghost use Rattle.master_core.specs.Config.{config_fault};
 ghost use Rattle.master_core.specs.Data.{fresh_data};
 ghost use Rattle.master_core.specs.Log.{log_of};
-ghost use Rattle.master_core.specs.Shown.{IsShown};
+ghost use Rattle.master_core.specs.Shown.{IsShown, NeedsMemory};
 ghost use Rattle.master_core.specs.Steps.{reply_now};
 ghost use Rattle.master.specs.Invariant.{IsWellKept};
 ghost use Rattle.master.specs.Keeps.{Keeps};
+ghost use Rattle.master.specs.Pushes.{answer_of};
 ghost use Rattle.master.specs.Steps.{Accepts, Declines, Steps, IsRun};
 ghost use Rattle.master.specs.Valid.{IsValid};
 ghost use Rattle.master.specs.World.{world};
 
 use entry::NoMemory;
 use master_core::{Config, Core, Look, Refusal, Shown, Step, StepAnswer};
-use replica::{Act, Bench, Fleet, Op};
+use log_head::Next;
+use replica::{Bench, Fleet};
 use std::alloc::Global;
 use std::marker::Model;
 use versioned_map::{Command, Record, Reply};
 
-/// A log-structured store on one head, over a fleet of backups.
+/// A log-structured store over a fleet of backups.
 #[derive(Drop)]
 pub struct Master<F: Fleet> {
     alloc: Global,
@@ -123,8 +124,7 @@ impl<F: Fleet> Master<F> {
     /// What is to be shown. Nothing changes.
     pub fn look(&self, look: Look) -> Result<Shown, NoMemory>
         ensures shown { IfOk result (λ shown. IsShown self.now.knows look shown) }
-        // Memory is wanted for the image alone.
-        ensures refused { OnErr result (look ≡ Look.Image self.now.knows.head.id) }
+        ensures refused { OnErr result (NeedsMemory self.now.knows look) }
     {
         self.core.look(look)
     }
@@ -141,6 +141,7 @@ impl<F: Fleet> Master<F> {
         let outcome = match step {
             Step::Apply(seat, command) => self.apply(seat, command),
             Step::Push => self.push(),
+            Step::BeginRoll => self.begin_roll(),
         };
         self.show_valid();
         outcome
@@ -156,6 +157,14 @@ impl<F: Fleet> Master<F> {
         self.core.apply(seat, command)
     }
 
+    /// A roll begins.
+    fn begin_roll(&mut self) -> Result<StepAnswer, Refusal>
+        ensures accepted { IfOk result (λ a. Accepts (world F.state self.old) Step.BeginRoll a (world F.state self.new)) }
+        ensures refused { IfErr result (λ r. Declines (world F.state self.old) Step.BeginRoll r (world F.state self.new)) }
+    {
+        self.core.begin_roll()
+    }
+
     /// One op handed to one backup.
     fn push(&mut self) -> Result<StepAnswer, Refusal>
         ensures accepted { IfOk result (λ a. Accepts (world F.state self.old) Step.Push a (world F.state self.new)) }
@@ -164,62 +173,26 @@ impl<F: Fleet> Master<F> {
         if self.core.is_halted() {
             return Err(Refusal::Halted);
         }
-        if !self.core.head().is_open() {
-            return self.open_next();
-        }
-        match self.core.head().lagging() {
+        match self.core.next() {
             None => Err(Refusal::Nothing),
-            Some(replica) => self.extend(replica),
+            Some(next) => self.hand(next),
         }
     }
 
-    /// Opens the next replica of the head.
-    fn open_next(&mut self) -> Result<StepAnswer, Refusal>
+    /// Hands the op of a push to its backup.
+    fn hand(&mut self, next: Next) -> Result<StepAnswer, Refusal>
         requires running { self.old.knows.is_halted ≡ false }
-        requires waiting { length self.old.knows.head.taken < self.old.knows.head.replicas }
+        requires next { IsNextPush self.old.knows.head (Some next) }
         ensures accepted { IfOk result (λ a. Accepts (world F.state self.old) Step.Push a (world F.state self.new)) }
         ensures refused { IfErr result (λ r. Declines (world F.state self.old) Step.Push r (world F.state self.new)) }
     {
-        let head = self.core.head();
-        let segment = head.id();
-        let backup = self.core.home(head.opened());
-        let op = Op {
-            master: self.core.master(),
-            segment,
-            act: Act::Open(head.opening()),
-        };
+        let op = self.core.head().op(self.core.master(), next);
+        let segment = op.segment;
+        let backup = self.core.home(segment, next.replica());
         match self.fleet.take(backup, &op) {
             Ok(()) => {
-                self.core.open();
-                Ok(StepAnswer::Opened(backup, segment))
-            }
-            Err(fault) => Err(self.core.fail(fault)),
-        }
-    }
-
-    /// Hands the replica that lags its next unit.
-    fn extend(&mut self, replica: usize) -> Result<StepAnswer, Refusal>
-        requires running { self.old.knows.is_halted ≡ false }
-        requires lagging { IsLagging (length self.old.knows.head.units) self.old.knows.head.taken (Some replica) }
-        ensures accepted { IfOk result (λ a. Accepts (world F.state self.old) Step.Push a (world F.state self.new)) }
-        ensures refused { IfErr result (λ r. Declines (world F.state self.old) Step.Push r (world F.state self.new)) }
-    {
-        let head = self.core.head();
-        let segment = head.id();
-        let units = head.units_of(replica);
-        let backup = self.core.home(replica);
-        let op = Op {
-            master: self.core.master(),
-            segment,
-            act: Act::Extend {
-                at: head.end_of(units),
-                bytes: head.unit_behind(units),
-            },
-        };
-        match self.fleet.take(backup, &op) {
-            Ok(()) => {
-                self.core.extend(replica);
-                Ok(StepAnswer::Extended(backup, segment))
+                self.core.took(next);
+                Ok(answer(next, backup, segment))
             }
             Err(fault) => Err(self.core.fail(fault)),
         }
@@ -271,6 +244,18 @@ impl<F: Bench> Master<F> {
     {
         self.fleet.limit(n);
         self.show_valid();
+    }
+}
+
+/// What a push answers.
+fn answer(next: Next, backup: u64, segment: u64) -> StepAnswer
+    ensures { result ≡ answer_of next backup segment }
+{
+    match next {
+        Next::OpenFirst(_) => StepAnswer::Opened(backup, segment),
+        Next::Extend(_) => StepAnswer::Extended(backup, segment),
+        Next::OpenNew(_) => StepAnswer::Opened(backup, segment),
+        Next::CloseOld(_) => StepAnswer::Closed(backup, segment),
     }
 }
 

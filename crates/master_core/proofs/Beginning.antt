@@ -1,16 +1,18 @@
 -- A new core, and a core of which replicas took something or failed.
-use Rattle.std.proofs.Common.{◌≡◌, ℕ, List, [], refl, sym, subst, arith}
-use Rattle.std.specs.Prelude.{None}
+use Rattle.std.proofs.Common.{◌≡◌, ℕ, List, [], refl, sym, ap, subst, arith}
+use Rattle.std.specs.Prelude.{Option, Some, None, IfSome}
+use Rattle.log_head.specs.declared.head.Roll.{Roll}
 use Rattle.log_head.specs.Head.{IsHeadValue}
 use Rattle.log_head.specs.Log.{head_of, IsImageOf}
 use Rattle.log_head.specs.Steps.{fresh_head}
 use Rattle.log_head.proofs.HeadLog.{head_is, image_fresh, image_with_counts}
 use Rattle.log_model.specs.Data.{Head}
+use Rattle.log_model.specs.Log.{AreBelow}
 use Rattle.log_model.specs.Steps.{first_start}
 use Rattle.master_core.specs.declared.config.Config.{Config}
 use Rattle.master_core.specs.Config.{config_fault}
 use Rattle.master_core.specs.Data.{MasterData, fresh_data}
-use Rattle.master_core.specs.Invariant.{IsCore}
+use Rattle.master_core.specs.Invariant.{IsRollOf, IsCore}
 use Rattle.master_core.specs.Steps.{halted}
 
 pub fresh_core : (c : Config) → config_fault c ≡ None → IsHeadValue (fresh_head c.master c.replicas first_start) → IsCore (fresh_data c)
@@ -23,6 +25,12 @@ fresh_core c ok head =
       head = head;
       image = subst (λ (l : Head). IsImageOf c.master (fresh_head c.master c.replicas first_start) l)
           (sym (head_is c.master (fresh_head c.master c.replicas first_start) _ is head.segment)) is;
+      closed = sym (ap (λ (l : Head). l.start.others) (head_is c.master (fresh_head c.master c.replicas first_start) _ is head.segment));
+      segments = tt;
+      below = subst (λ (l : Head). AreBelow l.start) (sym (head_is c.master (fresh_head c.master c.replicas first_start) _ is head.segment)) tt;
+      used = omega arith;
+      next = omega arith;
+      roll = tt;
       legal = refl;
       index = ([], record { places = tt; distinct = tt; contents = refl; safe = refl });
     }
@@ -35,9 +43,18 @@ counted_core d ks core head = record {
   history = core.history;
   head = head;
   image = image_with_counts d.config.master d.head (head_of d.head) core.image ks;
+  closed = core.closed;
+  segments = core.segments;
+  below = core.below;
+  used = core.used;
+  next = core.next;
+  roll = go d.head.roll core.roll;
   legal = core.legal;
   index = (core.index.0, (let i = core.index.1 in record { places = i.places; distinct = i.distinct; contents = i.contents; safe = i.safe }));
-}
+} where
+  go : (o : Option Roll) → IfSome o (IsRollOf d) → IfSome o (IsRollOf (record d { head = record d.head { taken = ks } }))
+  go None is = tt
+  go (Some r) is = record { image = is.image; lists = is.lists; newer = is.newer; used = is.used }
 
 pub halted_core : (d : MasterData) → IsCore d → IsCore (halted d)
 halted_core d core = record {
@@ -46,6 +63,15 @@ halted_core d core = record {
   history = core.history;
   head = core.head;
   image = core.image;
+  closed = core.closed;
+  segments = core.segments;
+  below = core.below;
+  used = core.used;
+  next = core.next;
+  roll = go d.head.roll core.roll;
   legal = core.legal;
   index = (core.index.0, (let i = core.index.1 in record { places = i.places; distinct = i.distinct; contents = i.contents; safe = i.safe }));
-}
+} where
+  go : (o : Option Roll) → IfSome o (IsRollOf d) → IfSome o (IsRollOf (halted d))
+  go None is = tt
+  go (Some r) is = record { image = is.image; lists = is.lists; newer = is.newer; used = is.used }

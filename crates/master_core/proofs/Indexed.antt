@@ -14,13 +14,14 @@ use Rattle.versioned_map.specs.declared.command.Command.TheVariants.{Get, Put, D
 use Rattle.versioned_map.specs.declared.command.If.{If}
 use Rattle.versioned_map.specs.Command.{command_key}
 use Rattle.master_core.specs.Change.{unit_of_change, IsChangeOf}
-use Rattle.master_core.specs.Index.{LiesAt, AreAt, slot_in, placed, AreDistinct}
+use Rattle.master_core.specs.declared.image.Place.{Place}
+use Rattle.master_core.specs.Index.{IsAtPlace, AreAt, slot_in, placed, AreDistinct}
 use Rattle.versioned_map.specs.Units.{object_entry, tombstone_entry, put_unit, safe_given, safe_after_put}
 use Rattle.versioned_map.specs.Versioned.{State, is_met, put_version, with_contents, after_command, after_put, after_delete}
 use Rattle.master_core.proofs.Changes.{unmet, undeleted, clashes}
 use Rattle.versioned_map.proofs.Keys.{key_eq-tells}
 use Rattle.master_core.proofs.Places.{contents_of_no_slot, found_at}
-use Rattle.master_core.proofs.Indexing.{are_at_more, are_at_push, are_at_set, are_at_remove, distinct_push, distinct_set, distinct_remove, contents_push}
+use Rattle.master_core.proofs.Indexing.{Grow, are_at_grown, are_at_push, are_at_set, are_at_remove, distinct_push, distinct_set, distinct_remove, contents_push}
 use Rattle.master_core.proofs.Indexing.{contents_set, contents_remove}
 
 -- ---- the state after a command, by what it leaves its key
@@ -104,57 +105,67 @@ replaced_at safe (Some x) k value when dead version c = (λ e. cc, go (is_met wh
 -- ---- an index
 
 -- the places lead to objects of distinct keys that make up the contents
-pub record Indexes (image : List Entry) (places : List ℕ) (contents : Contents) : Type 0 where
+pub record Indexes (images : ℕ → List Entry) (places : List Place) (contents : Contents) : Type 0 where
   pub os : List Object
-  pub at : AreAt image places os
+  pub at : AreAt images places os
   pub distinct : AreDistinct os
   pub same : contents_of os ≡ contents
 
--- the new object of a change, if it makes one, stands at this offset
+-- the new object of a change, if it makes one, begins at this offset
 abbrev pub IsPut : List Entry → ℕ → Command → Change → ℕ → Type 0
 IsPut image segment command c at =
     (front : List Entry) (o : Object) → unit_of_change segment command c ≡ front ++ entry.Object o ∷ [] → at ≡ length (text_of (image ++ front))
 
-module _ (image : List Entry) (segment at : ℕ) (places : List ℕ) (os : List Object) (safe : ℕ) (all : AreAt image places os)
-    (distinct : AreDistinct os) where
+module _ (images grown : ℕ → List Entry) (grow : Grow images grown) (p : Place) (segment : ℕ) (places : List Place) (os : List Object) (safe : ℕ)
+    (all : AreAt images places os) (distinct : AreDistinct os) where
+  all_grown : AreAt grown places os
+  all_grown = are_at_grown images grown places os grow all
+
+  -- the image of the place's segment has this more
+  abbrev Ends : List Entry → Type 0
+  Ends more = grown p.segment ≡ images p.segment ++ more
+
+  -- the entries of the image and these end where the place is
+  abbrev IsBehind : List Entry → Type 0
+  IsBehind front = p.at ≡ length (text_of (images p.segment ++ front))
+
   -- the places are as they were, and the key has what it had
-  kept_index : (more : List Entry) (k : Key) (x : Option Versioned) → contents_of os k ≡ x
-      → Indexes (image ++ more) places (with_contents (contents_of os) k x)
-  kept_index more k x has =
-      record { os = os; at = are_at_more image more places os all; distinct = distinct; same = same_contents (contents_of os) k x has }
+  kept_index : (k : Key) (x : Option Versioned) → contents_of os k ≡ x → Indexes grown places (with_contents (contents_of os) k x)
+  kept_index k x has = record { os = os; at = all_grown; distinct = distinct; same = same_contents (contents_of os) k x has }
 
-  put_stands : (front : List Entry) (o : Object) → at ≡ length (text_of (image ++ front))
-      → LiesAt (image ++ (front ++ entry.Object o ∷ [])) at (entry.Object o)
-  put_stands front o e = record { before = image ++ front; after = []; split = sym (append_assoc image front (entry.Object o ∷ [])); offset = e }
+  put_stands : (front : List Entry) (o : Object) → IsBehind front → Ends (front ++ entry.Object o ∷ []) → IsAtPlace grown p (entry.Object o)
+  put_stands front o e ends = record {
+    before = images p.segment ++ front;
+    after = [];
+    split = ends ∙ sym (append_assoc (images p.segment) front (entry.Object o ∷ []));
+    offset = e;
+  }
 
-  pushed : (front : List Entry) (o : Object) → at ≡ length (text_of (image ++ front)) → (slot : Option ℕ) → slot ≡ slot_in os o.key → slot ≡ None
-      → Indexes (image ++ (front ++ entry.Object o ∷ [])) (places ++ at ∷ []) (with_contents (contents_of os) o.key (Some (versioned o)))
-  pushed front o e slot is none =
+  pushed : (front : List Entry) (o : Object) → IsBehind front → Ends (front ++ entry.Object o ∷ []) → (slot : Option ℕ)
+      → slot ≡ slot_in os o.key → slot ≡ None → Indexes grown (places ++ p ∷ []) (with_contents (contents_of os) o.key (Some (versioned o)))
+  pushed front o e ends slot is none =
       let absent : slot_in os o.key ≡ None = sym is ∙ none in
       record {
         os = os ++ o ∷ [];
-        at = are_at_push (image ++ (front ++ entry.Object o ∷ [])) at o (put_stands front o e) places os
-            (are_at_more image (front ++ entry.Object o ∷ []) places os all);
+        at = are_at_push grown p o (put_stands front o e ends) places os all_grown;
         distinct = distinct_push os o distinct absent;
         same = contents_push os o absent;
       }
 
-  set_to : (front : List Entry) (o : Object) → at ≡ length (text_of (image ++ front)) → (j : ℕ) → slot_in os o.key ≡ Some j
-      → Indexes (image ++ (front ++ entry.Object o ∷ [])) (placed places (change.Replace 0 0) (Some j) at)
-      (with_contents (contents_of os) o.key (Some (versioned o)))
-  set_to front o e j there = record {
+  set_to : (front : List Entry) (o : Object) → IsBehind front → Ends (front ++ entry.Object o ∷ []) → (j : ℕ) → slot_in os o.key ≡ Some j
+      → Indexes grown (placed places (change.Replace 0 0) (Some j) p) (with_contents (contents_of os) o.key (Some (versioned o)))
+  set_to front o e ends j there = record {
     os = _;
-    at = are_at_set (image ++ (front ++ entry.Object o ∷ [])) at o (put_stands front o e) places os j
-        (are_at_more image (front ++ entry.Object o ∷ []) places os all);
+    at = are_at_set grown p o (put_stands front o e ends) places os j all_grown;
     distinct = distinct_set os j o distinct there;
     same = contents_set os j o there;
   }
 
-  taken_out : (more : List Entry) (k : Key) (j : ℕ) → slot_in os k ≡ Some j
-      → Indexes (image ++ more) (placed places (change.Delete 0) (Some j) at) (with_contents (contents_of os) k None)
-  taken_out more k j there = record {
+  taken_out : (k : Key) (j : ℕ) → slot_in os k ≡ Some j
+      → Indexes grown (placed places (change.Delete 0) (Some j) p) (with_contents (contents_of os) k None)
+  taken_out k j there = record {
     os = _;
-    at = are_at_remove (image ++ more) places os j (are_at_more image more places os all);
+    at = are_at_remove grown places os j all_grown;
     distinct = distinct_remove os j distinct;
     same = contents_remove os k j distinct there;
   }
@@ -163,48 +174,47 @@ module _ (image : List Entry) (segment at : ℕ) (places : List ℕ) (os : List 
   no_slot : (k : Key) (slot : Option ℕ) → slot ≡ slot_in os k → contents_of os k ≡ None → slot ≡ None
   no_slot k None is none = refl
   no_slot k (Some j) is none =
-      let there = found_at image places os k j all (sym is) in let both : Some (versioned there.o) ≡ None = sym there.has ∙ none in absurd (cc)
+      let there = found_at images places os k j all (sym is) in let both : Some (versioned there.o) ≡ None = sym there.has ∙ none in absurd (cc)
 
   replaced_index : (k : Key) (value : List ℕ) (when : If) (dead version : ℕ) (slot : Option ℕ) → slot ≡ slot_in os k
-      → (x : Option Versioned) → contents_of os k ≡ x → (x ≡ None → ⊥) → at ≡ length (text_of (image ++ tombstone_entry k dead segment ∷ []))
-      → Indexes (image ++ unit_of_change segment (Put k value when) (change.Replace dead version))
-      (placed places (change.Replace dead version) slot at) (with_contents (contents_of os) k (now version value))
-  replaced_index k value when dead version None is x has some e = absurd (some (sym has ∙ contents_of_no_slot os k (sym is)))
-  replaced_index k value when dead version (Some j) is x has some e =
-      set_to (tombstone_entry k dead segment ∷ []) (record { key = k; version = version; value = value }) e j (sym is)
+      → (x : Option Versioned) → contents_of os k ≡ x → (x ≡ None → ⊥) → IsBehind (tombstone_entry k dead segment ∷ [])
+      → Ends (unit_of_change segment (Put k value when) (change.Replace dead version))
+      → Indexes grown (placed places (change.Replace dead version) slot p) (with_contents (contents_of os) k (now version value))
+  replaced_index k value when dead version None is x has some e ends = absurd (some (sym has ∙ contents_of_no_slot os k (sym is)))
+  replaced_index k value when dead version (Some j) is x has some e ends =
+      set_to (tombstone_entry k dead segment ∷ []) (record { key = k; version = version; value = value }) e ends j (sym is)
 
   deleted_index : (k : Key) (dead : ℕ) (slot : Option ℕ) → slot ≡ slot_in os k
-      → Indexes (image ++ unit_of_change segment (Delete k) (change.Delete dead)) (placed places (change.Delete dead) slot at)
-      (with_contents (contents_of os) k None)
-  deleted_index k dead None is = kept_index (tombstone_entry k dead segment ∷ []) k None (contents_of_no_slot os k (sym is))
-  deleted_index k dead (Some j) is = taken_out (tombstone_entry k dead segment ∷ []) k j (sym is)
+      → Indexes grown (placed places (change.Delete dead) slot p) (with_contents (contents_of os) k None)
+  deleted_index k dead None is = kept_index k None (contents_of_no_slot os k (sym is))
+  deleted_index k dead (Some j) is = taken_out k j (sym is)
 
   abbrev held : Key → Option Versioned
   held k = contents_of os k
 
   pub goes_on : (command : Command) (c : Change) (slot : Option ℕ) → slot ≡ slot_in os (command_key command)
-      → IsChangeOf safe (held (command_key command)) command c → IsPut image segment command c at
-      → Indexes (image ++ unit_of_change segment command c) (placed places c slot at)
+      → IsChangeOf safe (held (command_key command)) command c → IsPut (images p.segment) segment command c p.at
+      → Ends (unit_of_change segment command c)
+      → Indexes grown (placed places c slot p)
       (with_contents (contents_of os) (command_key command) (given safe (held (command_key command)) command))
-  goes_on (Get k) change.Nothing slot is of is_put = kept_index [] k (held k) refl
-  goes_on (Get k) (change.Create version) slot is of is_put = absurd (clashes refl (of.nothing 0))
-  goes_on (Get k) (change.Replace dead version) slot is of is_put = absurd (clashes refl (of.nothing 0))
-  goes_on (Get k) (change.Delete dead) slot is of is_put = absurd (clashes refl (of.nothing 0))
-  goes_on (Put k value when) change.Nothing slot is of is_put = kept_index [] k _ (sym (kept_put safe (held k) k value when of))
-  goes_on (Put k value when) (change.Create version) slot is of is_put =
+  goes_on (Get k) change.Nothing slot is of is_put ends = kept_index k (held k) refl
+  goes_on (Get k) (change.Create version) slot is of is_put ends = absurd (clashes refl (of.nothing 0))
+  goes_on (Get k) (change.Replace dead version) slot is of is_put ends = absurd (clashes refl (of.nothing 0))
+  goes_on (Get k) (change.Delete dead) slot is of is_put ends = absurd (clashes refl (of.nothing 0))
+  goes_on (Put k value when) change.Nothing slot is of is_put ends = kept_index k _ (sym (kept_put safe (held k) k value when of))
+  goes_on (Put k value when) (change.Create version) slot is of is_put ends =
       let at_key = created_at safe (held k) k value when version of in
-      subst (λ (x : Option Versioned). Indexes (image ++ object_entry k version value ∷ []) (places ++ at ∷ []) (with_contents (contents_of os) k x))
-      (sym at_key.1)
+      subst (λ (x : Option Versioned). Indexes grown (places ++ p ∷ []) (with_contents (contents_of os) k x)) (sym at_key.1)
       (pushed [] (record { key = k; version = version; value = value })
-      (is_put [] (record { key = k; version = version; value = value }) refl) slot is (no_slot k slot is at_key.0))
-  goes_on (Put k value when) (change.Replace dead version) slot is of is_put =
+      (is_put [] (record { key = k; version = version; value = value }) refl) ends slot is (no_slot k slot is at_key.0))
+  goes_on (Put k value when) (change.Replace dead version) slot is of is_put ends =
       let at_key = replaced_at safe (held k) k value when dead version of in
-      subst (λ (x : Option Versioned). Indexes (image ++ unit_of_change segment (Put k value when) (change.Replace dead version))
-      (placed places (change.Replace dead version) slot at) (with_contents (contents_of os) k x)) (sym at_key.1)
+      subst (λ (x : Option Versioned). Indexes grown (placed places (change.Replace dead version) slot p) (with_contents (contents_of os) k x))
+      (sym at_key.1)
       (replaced_index k value when dead version slot is (held k) refl at_key.0
-      (is_put (tombstone_entry k dead segment ∷ []) (record { key = k; version = version; value = value }) refl))
-  goes_on (Put k value when) (change.Delete dead) slot is of is_put = absurd (clashes (of.unit 0) (of.nothing 0))
-  goes_on (Delete k) change.Nothing slot is of is_put = kept_index [] k None (undeleted safe (held k) k of)
-  goes_on (Delete k) (change.Create version) slot is of is_put = absurd (clashes (of.unit 0) (of.nothing 0))
-  goes_on (Delete k) (change.Replace dead version) slot is of is_put = absurd (clashes (of.unit 0) (of.nothing 0))
-  goes_on (Delete k) (change.Delete dead) slot is of is_put = deleted_index k dead slot is
+      (is_put (tombstone_entry k dead segment ∷ []) (record { key = k; version = version; value = value }) refl) ends)
+  goes_on (Put k value when) (change.Delete dead) slot is of is_put ends = absurd (clashes (of.unit 0) (of.nothing 0))
+  goes_on (Delete k) change.Nothing slot is of is_put ends = kept_index k None (undeleted safe (held k) k of)
+  goes_on (Delete k) (change.Create version) slot is of is_put ends = absurd (clashes (of.unit 0) (of.nothing 0))
+  goes_on (Delete k) (change.Replace dead version) slot is of is_put ends = absurd (clashes (of.unit 0) (of.nothing 0))
+  goes_on (Delete k) (change.Delete dead) slot is of is_put ends = deleted_index k dead slot is

@@ -8,12 +8,17 @@ use Rattle.entry.specs.declared.entry.Entry.{Entry}
 use Rattle.entry.specs.declared.entry.Entry.TheVariants as entry
 use Rattle.entry.specs.Order.{key_eq}
 use Rattle.entry.specs.Meaning.{Versioned, versioned, contents_of}
-use Rattle.master_core.specs.Index.{LiesAt, AreAt, slot_in, AreDistinct}
+use Rattle.master_core.specs.declared.image.Place.{Place}
+use Rattle.master_core.specs.Index.{LiesAt, IsAtPlace, AreAt, slot_in, AreDistinct}
 use Rattle.versioned_map.specs.Versioned.{with_contents}
 use Rattle.versioned_map.proofs.Keys.{key_eq-same, key_eq-true, key_eq-tells, at_key, at_other}
 use Rattle.master_core.proofs.Places.{next_slot, none_before, some_before, contents_of_no_slot}
 
 -- ---- places
+
+-- each image is one of these, with more at its end
+abbrev pub Grow : (ℕ → List Entry) → (ℕ → List Entry) → Type 0
+Grow images grown = (s : ℕ) → (more : List Entry) × (grown s ≡ images s ++ more)
 
 stands_more : (image more : List Entry) (at : ℕ) (e : Entry) → LiesAt image at e → LiesAt (image ++ more) at e
 stands_more image more at e s = record {
@@ -23,34 +28,40 @@ stands_more image more at e s = record {
   offset = s.offset;
 }
 
-pub are_at_more : (image more : List Entry) (places : List ℕ) (os : List Object) → AreAt image places os → AreAt (image ++ more) places os
-are_at_more image more [] [] all = tt
-are_at_more image more [] (o ∷ os) all = absurd all
-are_at_more image more (at ∷ places) [] all = absurd all
-are_at_more image more (at ∷ places) (o ∷ os) all = (stands_more image more at (entry.Object o) all.0, are_at_more image more places os all.1)
+stands_grown : (images grown : ℕ → List Entry) (p : Place) (e : Entry) → Grow images grown → IsAtPlace images p e → IsAtPlace grown p e
+stands_grown images grown p e g s =
+    let longer = g p.segment in
+    subst (λ (image : List Entry). LiesAt image p.at e) (sym longer.1) (stands_more (images p.segment) longer.0 p.at e s)
 
-module _ (image : List Entry) (at : ℕ) (o : Object) (here : LiesAt image at (entry.Object o)) where
-  pub are_at_push : (places : List ℕ) (os : List Object) → AreAt image places os → AreAt image (places ++ at ∷ []) (os ++ o ∷ [])
+pub are_at_grown : (images grown : ℕ → List Entry) (places : List Place) (os : List Object) → Grow images grown → AreAt images places os → AreAt grown places os
+are_at_grown images grown [] [] g all = tt
+are_at_grown images grown [] (o ∷ os) g all = absurd all
+are_at_grown images grown (p ∷ places) [] g all = absurd all
+are_at_grown images grown (p ∷ places) (o ∷ os) g all =
+    (stands_grown images grown p (entry.Object o) g all.0, are_at_grown images grown places os g all.1)
+
+module _ (images : ℕ → List Entry) (at : Place) (o : Object) (here : IsAtPlace images at (entry.Object o)) where
+  pub are_at_push : (places : List Place) (os : List Object) → AreAt images places os → AreAt images (places ++ at ∷ []) (os ++ o ∷ [])
   are_at_push [] [] all = (here, tt)
   are_at_push [] (p ∷ os) all = absurd all
   are_at_push (x ∷ places) [] all = absurd all
   are_at_push (x ∷ places) (p ∷ os) all = (all.0, are_at_push places os all.1)
 
-  pub are_at_set : (places : List ℕ) (os : List Object) (j : ℕ) → AreAt image places os → AreAt image (slice_set places j at) (slice_set os j o)
+  pub are_at_set : (places : List Place) (os : List Object) (j : ℕ) → AreAt images places os → AreAt images (slice_set places j at) (slice_set os j o)
   are_at_set [] [] j all = tt
   are_at_set [] (p ∷ os) j all = absurd all
   are_at_set (x ∷ places) [] j all = absurd all
   are_at_set (x ∷ places) (p ∷ os) zero all = (here, all.1)
   are_at_set (x ∷ places) (p ∷ os) (suc j) all = (all.0, are_at_set places os j all.1)
 
-pub are_at_remove : (image : List Entry) (places : List ℕ) (os : List Object) (j : ℕ) → AreAt image places os
-    → AreAt image (remove places j) (remove os j)
-are_at_remove image [] [] zero all = tt
-are_at_remove image [] [] (suc j) all = tt
-are_at_remove image [] (p ∷ os) j all = absurd all
-are_at_remove image (x ∷ places) [] j all = absurd all
-are_at_remove image (x ∷ places) (p ∷ os) zero all = all.1
-are_at_remove image (x ∷ places) (p ∷ os) (suc j) all = (all.0, are_at_remove image places os j all.1)
+pub are_at_remove : (images : ℕ → List Entry) (places : List Place) (os : List Object) (j : ℕ) → AreAt images places os
+    → AreAt images (remove places j) (remove os j)
+are_at_remove images [] [] zero all = tt
+are_at_remove images [] [] (suc j) all = tt
+are_at_remove images [] (p ∷ os) j all = absurd all
+are_at_remove images (x ∷ places) [] j all = absurd all
+are_at_remove images (x ∷ places) (p ∷ os) zero all = all.1
+are_at_remove images (x ∷ places) (p ∷ os) (suc j) all = (all.0, are_at_remove images places os j all.1)
 
 -- ---- slots
 

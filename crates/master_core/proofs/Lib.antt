@@ -1,6 +1,7 @@
 pub mod Changes
 pub mod Places
 pub mod Indexing
+pub mod Imaging
 pub mod Indexed
 pub mod Refusals
 pub mod Homes
@@ -8,3 +9,4 @@ pub mod Finding
 pub mod Counted
 pub mod Beginning
 pub mod Adding
+pub mod Rolls

@@ -1,7 +1,7 @@
 -- Which test refuses a step.
 use Rattle.std.proofs.Common.{◌≡◌, ℕ, ◌+◌, ◌<◌, ◌≤◌, Bool, true, false, cond, List, length, refl, arith}
-use Rattle.std.specs.Prelude.{Option, Some, None, not, nat_le, ◌==◌, ◌&&◌, is_none}
-use Rattle.std.proofs.lemmas.Bool.{and_parts, not-false, leb-true, leb-false}
+use Rattle.std.specs.Prelude.{Option, Some, None, ◌^◌, not, nat_le, nat_lt, ◌==◌, ◌&&◌, is_none}
+use Rattle.std.proofs.lemmas.Bool.{and_parts, not-false, leb-true, leb-false, ltb-false, eqb-true}
 use Rattle.std.proofs.lemmas.Bool.Decides.{nat_tests}
 use Rattle.entry.specs.declared.entry.Entry.{Entry}
 use Rattle.entry.specs.Tablet.{have_key}
@@ -9,13 +9,18 @@ use Rattle.entry.specs.Text.{text_of}
 use Rattle.versioned_map.specs.declared.command.Command.{Command}
 use Rattle.master_core.specs.declared.config.Config.{Config}
 use Rattle.master_core.specs.declared.step.Refusal.{Refusal}
-use Rattle.master_core.specs.declared.step.Refusal.TheVariants.{Halted, TooBig, NoTablet, HistoryFull, VersionsSpent, Full, Rolling, Nothing}
-use Rattle.master_core.specs.Causes.{early_refusal, late_refusal, command_refusal, unit_refusal, has_room, is_open, unit_now, push_refusal}
+use Rattle.master_core.specs.declared.step.Refusal.TheVariants.{Halted, TooBig, NoTablet, HistoryFull, VersionsSpent, Full, Rolling, Nothing, SegmentsSpent}
+use Rattle.master_core.specs.Causes.{early_refusal, late_refusal, command_refusal, unit_refusal, has_room, unit_now}
+use Rattle.master_core.specs.Causes.{may_roll, roll_refusal, is_pushed, push_refusal}
 use Rattle.versioned_map.specs.Versioned.{is_spent}
 use Rattle.master_core.specs.Change.{is_too_big, is_empty}
 use Rattle.versioned_map.specs.Command.{command_key}
 use Rattle.master_core.specs.Config.{config_fault, has_backups}
-use Rattle.log_head.specs.Head.{HeadValue, IsLagging}
+use Rattle.log_head.specs.declared.head.Roll.{Roll}
+use Rattle.log_head.specs.declared.next.Next.{Next}
+use Rattle.log_head.specs.declared.next.Next.TheVariants as next
+use Rattle.log_head.specs.Head.{HeadValue, is_open}
+use Rattle.log_head.specs.Next.{IsNextPush}
 use Rattle.log_model.specs.Data.{fewest}
 use Rattle.master_core.specs.Log.{state_now}
 use Rattle.master_core.specs.Data.{MasterData}
@@ -81,58 +86,112 @@ module _ (d : MasterData) (command : Command) where
       → command_refusal d command ≡ o
   refused_late o e s u = rw (e, s, u) refl
 
--- a unit that is appended is within the segment
-has_room_then : (d : MasterData) (u : List Entry) → is_empty u ≡ false → unit_refusal d u ≡ None → has_room d u ≡ true
-has_room_then d u some e =
-    let rest : cond (is_open d.head && (not (has_room d u) && not false)) (Some Full) (cond (not (is_open d.head && has_room d u)) (Some Rolling) None) ≡ None =
+-- a unit that is appended fits an open head
+room_then : (d : MasterData) (u : List Entry) → is_empty u ≡ false → unit_refusal d u ≡ None → (is_open d.head ≡ true) × (has_room d u ≡ true)
+room_then d u some e =
+    let rest : cond (is_open d.head && (not (has_room d u) && not (may_roll d))) (Some Full)
+    (cond (not (is_open d.head && has_room d u)) (Some Rolling) None) ≡ None =
     rw some at e in
-    let a = passes (is_open d.head && (not (has_room d u) && not false)) Full _ rest in
-    (and_parts _ _ (not-false (is_open d.head && has_room d u) (passes (not (is_open d.head && has_room d u)) Rolling None a.1).0)).1
+    let a = passes (is_open d.head && (not (has_room d u) && not (may_roll d))) Full _ rest in
+    and_parts _ _ (not-false (is_open d.head && has_room d u) (passes (not (is_open d.head && has_room d u)) Rolling None a.1).0)
+
+unit_room : (d : MasterData) (command : Command) → command_refusal d command ≡ None → is_empty (unit_now d command) ≡ false
+    → (is_open d.head ≡ true) × (has_room d (unit_now d command) ≡ true)
+unit_room d command passed some =
+    let late = (early_first d command (early_refusal d command) (late_refusal d command) passed).1 in
+    let unit = (passes (is_spent (state_now d).safe ((state_now d).contents (command_key command)) command) VersionsSpent _ late).1 in
+    room_then d (unit_now d command) some unit
 
 pub unit_fits : (d : MasterData) (command : Command) → command_refusal d command ≡ None → is_empty (unit_now d command) ≡ false
     → length (text_of d.head.image) + length (text_of (unit_now d command)) ≤ d.config.segment
 unit_fits d command passed some =
-    let late = (early_first d command (early_refusal d command) (late_refusal d command) passed).1 in
-    let unit = (passes (is_spent (state_now d).safe ((state_now d).contents (command_key command)) command) VersionsSpent _ late).1 in
-    let room = has_room_then d (unit_now d command) some unit in
-    leb-true (length (text_of d.head.image) + length (text_of (unit_now d command))) d.config.segment room
+    leb-true (length (text_of d.head.image) + length (text_of (unit_now d command))) d.config.segment (unit_room d command passed some).1
+
+pub unit_open : (d : MasterData) (command : Command) → command_refusal d command ≡ None → is_empty (unit_now d command) ≡ false
+    → is_open d.head ≡ true
+unit_open d command passed some = (unit_room d command passed some).0
 
 -- what a head that is open and what one that isn't, with room or without, make of a unit
 pub refused_closed : (d : MasterData) (u : List Entry) → is_empty u ≡ false → is_open d.head ≡ false → unit_refusal d u ≡ Some Rolling
 refused_closed d u some closed = rw (some, closed) refl
 
-pub refused_full : (d : MasterData) (u : List Entry) → is_empty u ≡ false → is_open d.head ≡ true → has_room d u ≡ false → unit_refusal d u ≡ Some Full
-refused_full d u some opened full = rw (some, opened, full) refl
+pub refused_full : (d : MasterData) (u : List Entry) → is_empty u ≡ false → is_open d.head ≡ true → has_room d u ≡ false → may_roll d ≡ false
+    → unit_refusal d u ≡ Some Full
+refused_full d u some opened full never = rw (some, opened, full, never) refl
+
+pub refused_due : (d : MasterData) (u : List Entry) → is_empty u ≡ false → is_open d.head ≡ true → has_room d u ≡ false → may_roll d ≡ true
+    → unit_refusal d u ≡ Some Rolling
+refused_due d u some opened full may = rw (some, opened, full, may) refl
 
 pub refused_not : (d : MasterData) (u : List Entry) → is_empty u ≡ false → is_open d.head ≡ true → has_room d u ≡ true → unit_refusal d u ≡ None
 refused_not d u some opened room = rw (some, opened, room) refl
 
+-- ---- a roll
+
+-- an open head has all its replicas open, and no roll under way
+pub open_parts : (h : HeadValue) → is_open h ≡ true → (length h.taken ≡ h.replicas) × (h.roll ≡ None)
+open_parts h opened =
+    let parts = and_parts (length h.taken == h.replicas) (is_none h.roll) opened in
+    (eqb-true (length h.taken) h.replicas parts.0, none h.roll parts.1)
+  where
+    none : (o : Option Roll) → is_none o ≡ true → o ≡ None
+    none None is = refl
+    none (Some r) is = absurd (cc)
+
+-- what holds if no test refuses a roll
+pub record MayBeginRoll (d : MasterData) : Type 0 where
+  pub running : d.is_halted ≡ false
+  pub opened : is_open d.head ≡ true
+  pub ids : d.next ≤ 2 ^ 62
+  pub rule : may_roll d ≡ true
+
+pub may_begin : (d : MasterData) → roll_refusal d ≡ None → MayBeginRoll d
+may_begin d e =
+    let a = passes d.is_halted Halted _ e in
+    let o = passes (not (is_open d.head)) Rolling _ a.1 in
+    let i = passes (nat_lt (2 ^ 62) d.next) SegmentsSpent _ o.1 in
+    let m = passes (not (may_roll d)) Full None i.1 in
+    record { running = a.0; opened = not-false _ o.0; ids = ltb-false (2 ^ 62) d.next i.0; rule = not-false _ m.0 }
+
 -- ---- a push
 
-is_open_false : (h : HeadValue) → length h.taken < h.replicas → is_open h ≡ false
-is_open_false h lt = grind (arith, nat_tests)
+and_false : (b : Bool) → (b && false) ≡ false
+and_false true = refl
+and_false false = refl
 
-pub push_waits : (d : MasterData) → d.is_halted ≡ false → length d.head.taken < d.head.replicas → push_refusal d ≡ None
-push_waits d running lt = let closed = is_open_false d.head lt in rw (running, closed) refl
+-- a head with a roll isn't open
+rolling_closed : (h : HeadValue) (r : Roll) → h.roll ≡ Some r → is_open h ≡ false
+rolling_closed h r is = rw is (and_false (length h.taken == h.replicas))
 
-pub push_lags : (d : MasterData) (j : ℕ) → d.is_halted ≡ false → IsLagging (length d.head.units) d.head.taken (Some j) → push_refusal d ≡ None
-push_lags d j running lagging =
-    let some = lagging.2 in
-    let few : fewest (length d.head.units) d.head.taken ≡ lagging.0 =
-    fewest_at (length d.head.units) lagging.0 j d.head.taken lagging.1 lagging.2 lagging.3 in
-    let less : (fewest (length d.head.units) d.head.taken == length d.head.units) ≡ false = grind (arith, nat_tests) in
-    rw (running, less, and_false (is_open d.head)) refl
+pub push_passed : (d : MasterData) (push : Next) → d.is_halted ≡ false → IsNextPush d.head (Some push) → push_refusal d ≡ None
+push_passed d push running is = rw (running, waits push is) refl
   where
-    and_false : (b : Bool) → (b && false) ≡ false
-    and_false true = refl
-    and_false false = refl
+    waits : (n : Next) → IsNextPush d.head (Some n) → is_pushed d.head ≡ false
+    waits (next.OpenFirst j) is =
+        let at = is.0 in
+        let few = is.1 in
+        let test : (length d.head.taken == d.head.replicas) ≡ false = grind (arith, nat_tests) in
+        rw test refl
+    waits (next.Extend j) is =
+        let lagging = is.1 in
+        let some = lagging.2 in
+        let few : fewest (length d.head.units) d.head.taken ≡ lagging.0 =
+        fewest_at (length d.head.units) lagging.0 j d.head.taken lagging.1 lagging.2 lagging.3 in
+        let less : (fewest (length d.head.units) d.head.taken == length d.head.units) ≡ false = grind (arith, nat_tests) in
+        rw less (and_false (is_open d.head))
+    waits (next.OpenNew j) is = (let closed = rolling_closed d.head is.1 is.2 in rw closed refl)
+    waits (next.CloseOld j) is = (let closed = rolling_closed d.head is.1 is.2 in rw closed refl)
 
-pub push_done : (d : MasterData) → d.is_halted ≡ false → is_open d.head ≡ true → IsLagging (length d.head.units) d.head.taken None
-    → push_refusal d ≡ Some Nothing
-push_done d running opened all =
-    let few : fewest (length d.head.units) d.head.taken ≡ length d.head.units = fewest_all (length d.head.units) d.head.taken all in
+pub push_done : (d : MasterData) → d.is_halted ≡ false → IsNextPush d.head None → push_refusal d ≡ Some Nothing
+push_done d running is =
+    let whole = is.0 in
+    let all = whole.opened in
+    let few : fewest (length d.head.units) d.head.taken ≡ length d.head.units =
+    fewest_all (length d.head.units) d.head.taken whole.none_lags in
     let same : (fewest (length d.head.units) d.head.taken == length d.head.units) ≡ true = grind (arith, nat_tests) in
-    rw (running, opened, same) refl
+    let all_open : (length d.head.taken == d.head.replicas) ≡ true = grind (arith, nat_tests) in
+    let none = is.1 in
+    rw (running, all_open, none, same) refl
 
 pub push_halted : (d : MasterData) → d.is_halted ≡ true → push_refusal d ≡ Some Halted
 push_halted d halted = rw halted refl

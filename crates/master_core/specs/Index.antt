@@ -34,10 +34,14 @@ AreAt images (p ∷ places) (o ∷ os) = IsAtPlace images p (entry.Object o) × 
 AreAt images [] (o ∷ os) = ⊥
 AreAt images (p ∷ places) [] = ⊥
 
--- the segment of the place of this slot; which one doesn't matter if there is no slot
+-- the place of this slot
+abbrev pub place_at : List Place → Option ℕ → Option Place
+place_at places None = None
+place_at places (Some slot) = slice_get places slot
+
+-- the segment of that place; which one doesn't matter if there is none
 abbrev pub segment_at : List Place → Option ℕ → ℕ
-segment_at places None = 0
-segment_at places (Some slot) = option_map_or (λ (p : Place). p.segment) (slice_get places slot) 0
+segment_at places slot = option_map_or (λ (p : Place). p.segment) (place_at places slot) 0
 
 -- the first of the objects that has the key
 abbrev pub slot_in : List Object → Key → Option ℕ

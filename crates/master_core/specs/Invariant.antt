@@ -1,7 +1,9 @@
 -- What holds of every master's core.
 use Rattle.std.specs.Prelude.{◌≡◌, ℕ, ◌^◌, ◌+◌, ◌<◌, ◌≤◌, List, length, map, Option, None, IfSome}
 use Rattle.entry.specs.declared.entry.Object.{Object}
+use Rattle.std.specs.List.{AllByRecursion}
 use Rattle.entry.specs.Meaning.{contents_of}
+use Rattle.entry.specs.Text.{IsSegment}
 use Rattle.versioned_map.specs.declared.command.Command.{Command}
 use Rattle.versioned_map.specs.Command.{command_key}
 use Rattle.versioned_map.specs.History.{IsLegal}
@@ -40,6 +42,7 @@ pub record IsCore (d : MasterData) : Type 0 where
   pub image : IsImageOf d.config.master d.head (head_of d.head)
   -- the closed segments are the others of the head's digest
   pub closed : map (λ (c : ClosedSegment). c.id) d.closed ≡ (head_of d.head).start.others
+  pub segments : AllByRecursion (λ (c : ClosedSegment). IsSegment c.image) d.closed
   pub below : AreBelow (head_of d.head).start
   pub used : d.head.id < d.next
   pub next : d.next ≤ 2 ^ 62 + 1

@@ -56,7 +56,7 @@ impl Core {
         ensures err { OnErr result (self.new ≡ self.old) }
     {
         self.admit_roll()?;
-        self.closed.reserve(2)?;
+        self.closed.reserve(1)?;
         let id = self.next;
         let seglet = self.config.seglet as usize;
         let kept = self.head.image().bytes().len().div_ceil(seglet) * seglet;

@@ -1,7 +1,7 @@
 //! What a master knows, and the steps that take nothing from its fleet.
 
 ghost use Rattle.std.specs.Prelude.{List, ◌⊎◌, ◌≡◌, ◌≤◌, ◌<◌, ◌^◌, ℕ, None, Some, false, true, length, IfOk, IfErr, IfSome, OnOk, OnErr};
-ghost use Rattle.std.specs.Prelude.{Option, IsSome, vec_len, vec_capacity};
+ghost use Rattle.std.specs.Prelude.{Option, IsSome};
 ghost use Rattle.std.specs.Option.{option_map};
 ghost use Rattle.std.specs.Result.{result_err};
 ghost use Rattle.entry.specs.Text.{text_of};
@@ -36,7 +36,7 @@ pub struct Core {
     pub(crate) alloc: Global,
     pub(crate) config: Config,
     pub(crate) head: Head,
-    /// The closed segments of the log, in order. There is room for one more.
+    /// The closed segments of the log, in order.
     pub(crate) closed: Vec<ClosedSegment>,
     /// The first number that no segment had yet.
     pub(crate) next: u64,
@@ -48,6 +48,7 @@ pub struct Core {
 }
 
 impl Model for Core {
+    ghost use Rattle.std.specs.Prelude.{◌<◌, IsSome, vec_len, vec_capacity};
     ghost use Rattle.master_core.specs.Data.{MasterData};
     ghost use Rattle.master_core.specs.Invariant.{IsCore};
 
@@ -64,7 +65,8 @@ impl Model for Core {
       is_halted = m.is_halted;
     } };
 
-    ghost invariant = { λ m. (vec_len m.closed < vec_capacity m.closed) × IsCore (record {
+    // while a roll is under way there is room for one more closed segment
+    ghost invariant = { λ m. (IsSome m.head.roll → vec_len m.closed < vec_capacity m.closed) × IsCore (record {
       config = m.config;
       head = m.head;
       closed = m.closed.items;
@@ -84,7 +86,6 @@ impl Core {
         ensures valid { IfOk result (λ core. IsCore core) }
     {
         let replicas = config.replicas as usize;
-        let closed = Vec::with_capacity(alloc, 1)?;
         let head = Head::begin(
             alloc,
             config.master,
@@ -96,7 +97,7 @@ impl Core {
             alloc,
             config,
             head,
-            closed,
+            closed: Vec::new(alloc),
             next: 2,
             places: Vec::new(alloc),
             safe: SafeVersion::first(),

@@ -96,6 +96,7 @@ fn append_change(
     ensures err { OnErr result (head.new ≡ head.old) }
     ensures valid { OnOk result (IsHeadValue head.new) }
 {
+    head.show_valid();
     match command {
         Command::Get(_) => Ok(()),
         Command::Delete(key) => match change {

@@ -9,14 +9,14 @@ use Rattle.master_core.proofs.unit.append_change.Goals as goal
 
 pub returns-in-Replace-clause-ok : goal.returns-in-Replace-clause-ok
 returns-in-Replace-clause-ok c =
-    let tombstone = c.tombstone_of-tombstone.ensures ∙ ap (λ (s : ℕ). tombstone_entry c.in-Put.key c.in-Replace.dead s) c.id-segment.ensures.id in
+    let tombstone = c.tombstone_of-tombstone.ensures in
     rw (c.in-Put.is, c.in-Replace.is, ← tombstone, ← c.object_of-object.ensures) c.append-in-Replace.ensures.ok
 
 pub returns-in-Replace-clause-full : goal.returns-in-Replace-clause-full
 returns-in-Replace-clause-full c =
-    let tombstone = c.tombstone_of-tombstone.ensures ∙ ap (λ (s : ℕ). tombstone_entry c.in-Put.key c.in-Replace.dead s) c.id-segment.ensures.id in
+    let tombstone = c.tombstone_of-tombstone.ensures in
     let unit : ◌≡◌ {A = List Entry} (shown c.tombstone_of-tombstone.result ∷ shown c.object_of-object.result ∷ [])
-    (tombstone_entry c.in-Put.key c.in-Replace.dead c.args.head.now.id ∷ object_entry c.in-Put.key c.in-Replace.version c.in-Put.value ∷ []) =
+    (tombstone_entry c.in-Put.key c.in-Replace.dead c.args.segment ∷ object_entry c.in-Put.key c.in-Replace.version c.in-Put.value ∷ []) =
     λ i. tombstone i ∷ c.object_of-object.ensures i ∷ [] in
     rw (c.in-Put.is, c.in-Replace.is)
     (subst (λ (u : List Entry). IsErrOf c.append-in-Replace.result append_fault.Full → (is_empty u ≡ false)

@@ -9,40 +9,29 @@ use Rattle.log_model.specs.Steps.{MayApply}
 use Rattle.master_core.specs.Causes.{command_refusal, dead_segment}
 use Rattle.master_core.specs.Log.{log_of}
 use Rattle.master_core.specs.Change.{unit_of_change, appended}
+use Rattle.master_core.specs.contracts.state.Core.{the_view}
 use Rattle.master_core.specs.Data.{MasterData}
+use Rattle.master_core.specs.Index.{segment_at}
 use Rattle.master_core.specs.Invariant.{IsCore, IsJudged}
 use Rattle.master_core.specs.Steps.{reply_now, record_now, Applies}
-use Rattle.master_core.proofs.Adding.{added, fits, may, added_core, added_applies}
+use Rattle.std.specs.Prelude.{IsSome}
+use Rattle.master_core.proofs.Adding.{same_appended, added, fits, may, added_core, added_applies}
 use Rattle.master_core.proofs.state.Core.add.Goals as goal
 use Rattle.master_core.proofs.state.Core.add.Goals.{After-push_reserved}
 
 pub enact-requires-clause-fits : goal.enact-requires-clause-fits
 enact-requires-clause-fits c =
-    let d : MasterData = record {
-      config = c.self.inside.config;
-      head = c.self.inside.head;
-      places = c.self.inside.places.items;
-      safe = c.self.inside.safe;
-      history = c.self.inside.history.items;
-      is_halted = c.self.inside.is_halted;
-    } in
+    let d : MasterData = the_view c.self.inside in
     let command = c.args.accepted.command in
     let passed : command_refusal d command ≡ None = rw (← c.self.view_is) at c.requires.passed in
     let judged : IsJudged d command c.args.change.now c.args.slot = rw (← c.self.view_is) at c.requires.judged in
-    fits d c.self.invariant command c.args.change.now c.args.slot judged passed
+    fits d c.self.invariant.1 command c.args.change.now c.args.slot judged passed
 
 -- ---- the core with the record, where memory was given
 
 module _ (c : goal.After-push_reserved) where
   abbrev d : MasterData
-  d = record {
-    config = c.self.inside.config;
-    head = c.self.inside.head;
-    places = c.self.inside.places.items;
-    safe = c.self.inside.safe;
-    history = c.self.inside.history.items;
-    is_halted = c.self.inside.is_halted;
-  }
+  d = the_view c.self.inside
 
   abbrev command : Command
   command = c.args.accepted.command
@@ -59,8 +48,13 @@ module _ (c : goal.After-push_reserved) where
   reply : c.args.accepted.reply ≡ reply_now d command
   reply = rw (← c.self.view_is) at c.requires.reply
 
-  head : IsHeadValue (appended d.head (length d.history) (unit_of_change d.head.id command change))
+  head : IsHeadValue (appended d.head (length d.history) (unit_of_change (segment_at d.places c.args.slot) command change))
   head = subst (λ (h : HeadValue). IsHeadValue h) c.in_ok-enact.ensures.head c.in_ok-enact.ensures.valid
+
+  roll_then : c.enact.new.head.roll ≡ d.head.roll
+  roll_then =
+      ap (λ (h : HeadValue). h.roll) c.in_ok-enact.ensures.head
+      ∙ (same_appended d.head (length d.history) (unit_of_change (segment_at d.places c.args.slot) command change)).2
 
   items : c.push_reserved.new.self.items ≡ d.history ++ c.args.accepted ∷ []
   items = rw (c.push_reserved.ensures.items, c.enact.ensures.history) refl
@@ -68,12 +62,14 @@ module _ (c : goal.After-push_reserved) where
   abbrev e : MasterData
   e =
       let there = c.in_ok-enact.ensures.places in
-      added d c.self.invariant command change c.args.slot judged c.args.accepted.seat there.0 passed there.1 head
+      added d c.self.invariant.1 command change c.args.slot judged c.args.accepted.seat there.0 passed there.1 head
 
   abbrev left : MasterData
   left = record {
     config = d.config;
     head = c.enact.new.head;
+    closed = d.closed;
+    next = d.next;
     places = c.enact.new.places.items;
     safe = c.safe_after-self-inside.result;
     history = c.push_reserved.new.self.items;
@@ -87,6 +83,8 @@ module _ (c : goal.After-push_reserved) where
   knows = λ i. record {
     config = d.config;
     head = sym c.in_ok-enact.ensures.head i;
+    closed = d.closed;
+    next = d.next;
     places = sym c.in_ok-enact.ensures.places.2 i;
     safe = sym c.safe_after-self-inside.ensures i;
     history = sym (items ∙ ap with_reply reply) i;
@@ -97,7 +95,7 @@ module _ (c : goal.After-push_reserved) where
   core =
       let there = c.in_ok-enact.ensures.places in
       subst IsCore knows
-      (added_core d c.self.invariant command change c.args.slot judged c.args.accepted.seat there.0 passed there.1 head)
+      (added_core d c.self.invariant.1 command change c.args.slot judged c.args.accepted.seat there.0 passed there.1 head)
 
   applies : Applies d c.args.accepted.seat command (Applied (length d.history) c.args.accepted.reply) left
   applies =
@@ -105,15 +103,17 @@ module _ (c : goal.After-push_reserved) where
       let seat = c.args.accepted.seat in
       subst (λ (m : MasterData). Applies d seat command (Applied (length d.history) c.args.accepted.reply) m) knows
       (subst (λ (r : Reply). Applies d seat command (Applied (length d.history) r) e) (sym reply)
-      (added_applies d c.self.invariant command change c.args.slot judged seat there.0 passed there.1 head))
+      (added_applies d c.self.invariant.1 command change c.args.slot judged seat there.0 passed there.1 head))
 
   may_apply : MayApply (log_of d) (dead_segment d command) (record_now d c.args.accepted.seat command)
   may_apply =
       let there = c.in_ok-enact.ensures.places in
-      may d c.self.invariant command change c.args.slot judged c.args.accepted.seat there.0 passed there.1 head
+      may d c.self.invariant.1 command change c.args.slot judged c.args.accepted.seat there.0 passed there.1 head
 
 pub invariant_of-self-2 : goal.invariant_of-self-2
-invariant_of-self-2 c = core (goal.at.invariant_of-self-2 c).After-push_reserved
+invariant_of-self-2 c =
+    let t = (goal.at.invariant_of-self-2 c).After-push_reserved in
+    (λ some. c.self.invariant.0 (subst IsSome (roll_then t) some), core t)
 
 pub returns-clause-added : goal.returns-clause-added
 returns-clause-added c =

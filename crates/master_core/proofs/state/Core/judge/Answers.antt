@@ -19,7 +19,7 @@ returns-clause-judged c =
     let version : version_in x ≡ c.match-found.version =
     ap (λ (y : Option Versioned). version_in y) (sym c.find-found.ensures.object)
     ∙ elim c.match-found.branch [ in-None w ↦ rw (w.in-None.is, w.version-is) refl | in-Some w ↦ rw (w.in-Some.is, w.version-is) refl ] in
-    let safe : c.self.inside.safe ≡ (state_now c.args.self.now).safe = rw (← c.self.view_is) c.self.invariant.index.1.safe in
+    let safe : c.self.inside.safe ≡ (state_now c.args.self.now).safe = rw (← c.self.view_is) c.self.invariant.1.index.1.safe in
     record {
       within = slot_within c.find-found.result _ c.find-found.ensures.within;
       slot_of = c.find-found.ensures.slot;

@@ -1,4 +1,4 @@
-use Rattle.std.proofs.Common.{◌≡◌, [], rules, subst}
+use Rattle.std.proofs.Common.{◌≡◌, [], arith, rules, subst}
 use Rattle.log_head.specs.Head.{HeadValue, IsHeadValue}
 use Rattle.log_head.specs.Steps.{fresh_head}
 use Rattle.log_model.specs.Steps.{first_start}
@@ -12,5 +12,6 @@ invariant_of-core c =
     let places : c.new.result.items ≡ [] = search rules in
     let history : c.new-2.result.items ≡ [] = search rules in
     let head : c.in_ok-head.head ≡ fresh_head c.args.config.master c.args.config.replicas first_start = search rules in
-    rw (head, safe, places, history)
-    (fresh_core c.args.config c.requires (subst (λ (h : HeadValue). IsHeadValue h) head c.in_ok-head.ensures.valid))
+    let closed : c.new-3.result.items ≡ [] = search rules in
+    rw (head, closed, safe, places, history)
+    ((λ never. absurd never), fresh_core c.args.config c.requires (subst (λ (h : HeadValue). IsHeadValue h) head c.in_ok-head.ensures.valid))

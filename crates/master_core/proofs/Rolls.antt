@@ -1,0 +1,283 @@
+-- A roll begins, and goes on by the ops of pushes.
+use Rattle.std.proofs.Common.{◌≡◌, ℕ, suc, ◌+◌, ◌<◌, ◌≤◌, Bool, true, false, List, [], ◌∷◌, ◌++◌, length, map, refl, sym, ap, subst, ◌∙◌, add-one, arith}
+use Rattle.std.specs.Prelude.{Option, Some, None, IfSome, ◌==◌, unwrap_or}
+use Rattle.std.specs.List.{AllByRecursion}
+use Rattle.std.specs.Option.{option_map_or}
+use Rattle.std.proofs.lemmas.Bool.Decides.{nat_tests}
+use Rattle.std.proofs.lemmas.List.{append-nil, map-append, length-append}
+use Rattle.std.proofs.lemmas.Option.{same_Some}
+use Rattle.entry.specs.declared.entry.Entry.{Entry}
+use Rattle.entry.specs.Text.{text_of, IsSegment}
+use Rattle.log_head.specs.declared.head.Roll.{Roll}
+use Rattle.log_head.specs.declared.next.Next.{Next}
+use Rattle.log_head.specs.declared.next.Next.TheVariants as next
+use Rattle.log_head.specs.Head.{HeadValue, IsHeadValue, IsRollValue, digest_of}
+use Rattle.log_head.specs.Log.{head_of, start_of, phase_of}
+use Rattle.log_head.specs.Next.{IsNextPush}
+use Rattle.log_head.specs.Steps.{start_after, fresh_roll, with_roll, with_new_replica, with_closed_replica, in_force}
+use Rattle.log_head.proofs.RollLog.{start_is, opening_is, phase_begun, digest_is, head_in_force, image_in_force}
+use Rattle.log_head.proofs.Rolls.{rolls}
+use Rattle.log_model.specs.Data.{Start, Head, Phase, Ready, Opened, LogData, ids_of, start_entries}
+use Rattle.log_model.specs.Log.{AreBelow}
+use Rattle.log_model.specs.Steps.{new_head, next_start, rolling, MayRoll}
+use Rattle.master_core.specs.declared.image.ClosedSegment.{ClosedSegment}
+use Rattle.master_core.specs.declared.step.StepAnswer.TheVariants.{Rolling as RollingTo}
+use Rattle.master_core.specs.Causes.{roll_refusal, newest_digest}
+use Rattle.master_core.specs.Data.{MasterData}
+use Rattle.master_core.specs.Images.{closed_image, image_among, images_among, with_closed}
+use Rattle.master_core.specs.Invariant.{IsIndex, IsRollOf, IsCore}
+use Rattle.master_core.specs.Log.{log_config, opening_of, log_of, state_now, images_of}
+use Rattle.master_core.specs.Steps.{BeginsRoll, rolling_data, closed_data, taken_data}
+use Rattle.master_core.proofs.Adding.{ready_open}
+use Rattle.master_core.proofs.Beginning.{counted_core}
+use Rattle.master_core.proofs.Imaging.{ids_in, none_above, rolled_grow, same_roll, closed_same}
+use Rattle.master_core.proofs.Indexing.{Grow, are_at_grown}
+use Rattle.master_core.proofs.Refusals.{MayBeginRoll, may_begin, open_parts, has_homes}
+
+-- ---- the ids of a log
+
+module _ (d : MasterData) (core : IsCore d) where
+  abbrev start : Start
+  start = (head_of d.head).start
+
+  -- the closed segments are below the head
+  closed_below : AllByRecursion (λ (id : ℕ). id < d.head.id) (ids_in d.closed)
+  closed_below =
+      subst (λ (ids : List ℕ). AllByRecursion (λ (id : ℕ). id < d.head.id) ids) (sym core.closed)
+      (subst (λ (top : ℕ). AllByRecursion (λ (id : ℕ). id < top) start.others) core.image.id core.below)
+
+  pub no_closed : (s : ℕ) → d.head.id ≤ s → closed_image d.closed s ≡ None
+  no_closed s le = none_above d.closed d.head.id s closed_below le
+
+  -- the digest in force has one id more than there are closed segments
+  pub listed : d.head.roll ≡ None → length (newest_digest d.head) ≡ length d.closed + 1
+  listed none =
+      ap (λ (o : Option Roll). length (option_map_or (λ (r : Roll). digest_of r.image) o (digest_of d.head.image))) none
+      ∙ ap length (digest_is d.config.master d.head (head_of d.head) core.image)
+      ∙ length-append start.others (start.id ∷ [])
+      ∙ ap (λ (ids : List ℕ). length ids + 1) (sym core.closed)
+      ∙ ap (λ (n : ℕ). n + 1) (counted d.closed)
+    where
+      counted : (cs : List ClosedSegment) → length (ids_in cs) ≡ length cs
+      counted [] = refl
+      counted (c ∷ cs) = ap suc (counted cs)
+
+  -- ---- a roll begins
+
+  abbrev new : Start
+  new = start_after d.head d.next d.safe
+
+  new_is : new ≡ next_start (log_of d)
+  new_is = λ i. record {
+    id = d.next;
+    others = digest_is d.config.master d.head (head_of d.head) core.image i;
+    safe = core.index.1.safe i;
+  }
+
+  module _ (passed : roll_refusal d ≡ None) (valid : IsHeadValue (with_roll d.head d.config.master d.next d.safe)) where
+    abbrev may : MayBeginRoll d
+    may = may_begin d passed
+
+    abbrev roll : Roll
+    roll = fresh_roll d.config.master new
+
+    none : d.head.roll ≡ None
+    none = (open_parts d.head may.opened).1
+
+    pub may_roll_now : MayRoll (log_of d)
+    may_roll_now = record {
+      ready = ready_open d.head may.opened;
+      segment = subst (λ (n : Start). IsSegment (start_entries d.config.master n)) new_is valid.roll.segment;
+      limit = subst (λ (n : Start). length (text_of (start_entries d.config.master n)) ≤ 8388608) new_is valid.roll.limit;
+    }
+
+    log_begun : log_of (rolling_data d) ≡ rolling (log_of d) (next_start (log_of d))
+    log_begun = λ i. record {
+      config = log_config d.config;
+      opening = opening_of d;
+      history = d.history;
+      head = head_of d.head;
+      phase = (phase_begun d.head d.config.master new some ∙ ap (λ (n : Start). Opened 0 n) new_is) i;
+      next = more i;
+    } where
+      some : 0 < d.head.replicas
+      some = let same = core.replicas in let pos = (has_homes d.config core.config).some in omega arith
+
+      more : d.next + 1 ≡ suc d.next
+      more = rw add-one refl
+
+    pub roll_begins : BeginsRoll d (RollingTo d.next) (rolling_data d)
+    roll_begins = record { passed = passed; told = refl; log = log_begun; rest = refl }
+
+    grow : Grow (images_of d) (images_of (rolling_data d))
+    grow = rolled_grow d.head d.closed roll none (no_closed d.next (let lt = core.used in omega arith))
+
+    pub rolled_core : IsCore (rolling_data d)
+    rolled_core = record {
+      config = core.config;
+      replicas = core.replicas;
+      history = core.history;
+      head = valid;
+      image = (let is = core.image in record {
+        id = is.id;
+        none_loaded = is.none_loaded;
+        image = is.image;
+        opening = is.opening;
+        ends = is.ends;
+        taken = is.taken;
+      });
+      closed = core.closed;
+      segments = core.segments;
+      below = core.below;
+      used = (let lt = core.used in omega arith);
+      next = (let le = may.ids in omega arith);
+      roll = record {
+        image = opening_is d.config.master new;
+        lists = ap (λ (n : Start). n.others) (start_is d.config.master new ∙ new_is);
+        newer = core.used;
+        used = omega arith;
+      };
+      legal = core.legal;
+      index = (core.index.0, (let i = core.index.1 in record {
+        places = are_at_grown (images_of d) (images_of (rolling_data d)) d.places core.index.0 grow i.places;
+        distinct = i.distinct;
+        contents = i.contents;
+        safe = i.safe;
+      }));
+    }
+
+-- ---- a roll goes on
+
+-- the same images lead the index to the same objects
+same_grow : (images others : ℕ → Option (List Entry)) → ((s : ℕ) → others s ≡ images s)
+    → Grow (λ s. unwrap_or (images s) []) (λ s. unwrap_or (others s) [])
+same_grow images others same s =
+    ([], ap (λ (o : Option (List Entry)). unwrap_or o []) (same s) ∙ sym (append-nil (unwrap_or (images s) [])))
+
+module _ (d : MasterData) (core : IsCore d) (r : Roll) (is : d.head.roll ≡ Some r) where
+  pub rolls_of : IsRollOf d r
+  rolls_of = subst (λ (o : Option Roll). IfSome o (IsRollOf d)) is core.roll
+
+  pub values : IsRollValue d.head.replicas (length d.head.taken) r
+  values = rolls d.head r core.head is
+
+  -- what was opened or closed is counted
+  module _ (opened closed : ℕ) (valid : IsHeadValue (record d.head { roll = Some (record r { opened = opened; closed = closed }) })) where
+    abbrev q : Roll
+    q = record r { opened = opened; closed = closed }
+
+    abbrev e : MasterData
+    e = record d { head = record d.head { roll = Some (record r { opened = opened; closed = closed }) } }
+
+    pub counted_roll : IsCore e
+    counted_roll = record {
+      config = core.config;
+      replicas = core.replicas;
+      history = core.history;
+      head = valid;
+      image = (let own = core.image in record {
+        id = own.id;
+        none_loaded = own.none_loaded;
+        image = own.image;
+        opening = own.opening;
+        ends = own.ends;
+        taken = own.taken;
+      });
+      closed = core.closed;
+      segments = core.segments;
+      below = core.below;
+      used = core.used;
+      next = core.next;
+      roll = record { image = rolls_of.image; lists = rolls_of.lists; newer = rolls_of.newer; used = rolls_of.used };
+      legal = core.legal;
+      index = (core.index.0, (let i = core.index.1 in record {
+        places = are_at_grown (images_of d) (images_of e) d.places core.index.0
+            (same_grow (image_among d.head d.closed) (image_among e.head d.closed) (same_roll d.head d.closed r q is refl refl)) i.places;
+        distinct = i.distinct;
+        contents = i.contents;
+        safe = i.safe;
+      }));
+    }
+
+  -- ---- the last Close
+
+  abbrev f : MasterData
+  f = record d { head = in_force d.head r; closed = with_closed d.closed d.head.id (Some d.head.image) }
+
+  head_then : head_of (in_force d.head r) ≡ new_head d.head.replicas (start_of r)
+  head_then = head_in_force d.config.master d.head r rolls_of.image values.segment
+
+  others_then : (head_of (in_force d.head r)).start.others ≡ ids_of (head_of d.head).start
+  others_then = ap (λ (l : Head). l.start.others) head_then ∙ rolls_of.lists
+
+  apart : d.head.id ≡ r.id → ⊥
+  apart same = let lt = rolls_of.newer in omega arith
+
+  all_more : {X : Type 0} (P : X → Type 0) (xs : List X) (x : X) → AllByRecursion P xs → P x → AllByRecursion P (xs ++ x ∷ [])
+  all_more P [] x all p = (p, tt)
+  all_more P (y ∷ ys) x all p = (all.0, all_more P ys x all.1 p)
+
+  all_below : (a b : ℕ) (ids : List ℕ) → a ≤ b → AllByRecursion (λ (id : ℕ). id < a) ids → AllByRecursion (λ (id : ℕ). id < b) ids
+  all_below a b [] le all = tt
+  all_below a b (s ∷ ids) le all = let lt = all.0 in (omega arith, all_below a b ids le all.1)
+
+  pub ended_core : IsHeadValue (in_force d.head r) → IsCore f
+  ended_core valid = record {
+    config = core.config;
+    replicas = core.replicas;
+    history = core.history;
+    head = valid;
+    image = image_in_force d.config.master d.head r rolls_of.image values.segment;
+    closed = map-append (λ (c : ClosedSegment). c.id) d.closed (record { id = d.head.id; image = d.head.image } ∷ [])
+        ∙ (λ i. core.closed i ++ sym core.image.id i ∷ []) ∙ sym others_then;
+    segments = all_more (λ (c : ClosedSegment). IsSegment c.image) d.closed (record { id = d.head.id; image = d.head.image })
+        core.segments core.head.segment;
+    below = subst (λ (l : Head). AreBelow l.start) (sym head_then) below;
+    used = rolls_of.used;
+    next = core.next;
+    roll = tt;
+    legal = core.legal;
+    index = (core.index.0, (let i = core.index.1 in record {
+      places = are_at_grown (images_of d) (images_of f) d.places core.index.0
+          (same_grow (image_among d.head d.closed) (image_among f.head f.closed)
+          (closed_same d.head d.closed r is apart (no_closed d core d.head.id (omega arith)))) i.places;
+      distinct = i.distinct;
+      contents = i.contents;
+      safe = i.safe;
+    }));
+  } where
+    id_is : (start_of r).id ≡ r.id
+    id_is = ap (λ (l : Head). l.start.id) (sym head_then) ∙ (image_in_force d.config.master d.head r rolls_of.image values.segment).id
+
+    below : AreBelow (start_of r)
+    below =
+        let lt = rolls_of.newer in
+        let own = core.image.id in
+        let top = id_is in
+        subst (λ (ids : List ℕ). AllByRecursion (λ (id : ℕ). id < (start_of r).id) ids) (sym rolls_of.lists)
+        (all_more (λ (id : ℕ). id < (start_of r).id) (head_of d.head).start.others (head_of d.head).start.id
+        (all_below (head_of d.head).start.id (start_of r).id (head_of d.head).start.others (omega arith) core.below) (omega arith))
+
+-- ---- the op of a push was taken
+
+pub opened_core : (d : MasterData) (core : IsCore d) (r : Roll) → d.head.roll ≡ Some r → IsHeadValue (with_new_replica d.head r)
+    → IsCore (record d { head = with_new_replica d.head r })
+opened_core d core r is valid = counted_roll d core r is (suc r.opened) r.closed valid
+
+pub closed_core : (d : MasterData) (core : IsCore d) (r : Roll) → d.head.roll ≡ Some r → IsHeadValue (with_closed_replica d.head r)
+    → IsCore (closed_data d r)
+closed_core d core r is = go (suc r.closed == d.head.replicas) refl where
+  go : (t : Bool) → (suc r.closed == d.head.replicas) ≡ t → IsHeadValue (with_closed_replica d.head r) → IsCore (closed_data d r)
+  go true test valid = rw test (ended_core d core r is (rw test at valid))
+  go false test valid = rw test (counted_roll d core r is r.opened (suc r.closed) (rw test at valid))
+
+module _ (d : MasterData) (core : IsCore d) where
+  pub taken_core : (push : Next) → IsNextPush d.head (Some push) → IsHeadValue (taken_data d push).head → IsCore (taken_data d push)
+  taken_core (next.OpenFirst j) is valid = counted_core d (d.head.taken ++ 0 ∷ []) core valid
+  taken_core (next.Extend j) is valid = counted_core d _ core valid
+  taken_core (next.OpenNew j) is valid =
+      let e = ap (λ (o : Option Roll). option_map_or (λ (q : Roll). record d { head = with_new_replica d.head q }) o d) is.2 in
+      subst IsCore (sym e) (opened_core d core is.1 is.2 (subst (λ (m : MasterData). IsHeadValue m.head) e valid))
+  taken_core (next.CloseOld j) is valid =
+      let e = ap (λ (o : Option Roll). option_map_or (closed_data d) o d) is.2 in
+      subst IsCore (sym e) (closed_core d core is.1 is.2 (subst (λ (m : MasterData). IsHeadValue m.head) e valid))
