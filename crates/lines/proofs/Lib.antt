@@ -1,4 +1,5 @@
 pub mod Cutting
+pub mod Names
 pub mod Numbers
 pub mod OneLine
 pub mod Spelling

@@ -1,4 +1,4 @@
--- Decimal digits that are read from the left, and the numbers that they write.
+-- Decimal digits that are read from the left, and their numbers.
 use Rattle.std.proofs.Common.{◌≡◌, ◌∙◌, ◌+◌, ◌-◌, ◌*◌, ◌^◌, ◌<◌, ◌≤◌, ◌∷◌, [], Option, Some, None, ap, sym, subst, ℕ, zero, suc, List, length, drop, get_or, arith}
 use Rattle.std.specs.Prelude.{IfSome}
 use Rattle.std.specs.Fmt.{decimal}
@@ -10,13 +10,13 @@ use Rattle.std.proofs.lemmas.Str.{digit_value_digit}
 use Rattle.std.proofs.lemmas.Str.Parse.{digit_from_value, numerals_by_value, tells_digits}
 use Rattle.std.proofs.lemmas.Fmt.{decimal_digit, decimal_is_IsNumeral, decimal-digits_value, first_decimal}
 
--- so far the digits before place i were read, and write n
+-- the digits before place i were read, and n is their number
 pub record AreReadTo (ds : List ℕ) (i n : ℕ) : Type 0 where
   pub value : digits_value_after 10 n (drop i ds) ≡ digits_value 10 ds
   pub read : AllDigits 10 (drop i ds) → AllDigits 10 ds
   pub left : AllDigits 10 ds → AllDigits 10 (drop i ds)
 
--- more digits write no smaller number
+-- the number of more digits is no smaller
 grows : (n : ℕ) (ds : List ℕ) → n ≤ digits_value_after 10 n ds
 grows n [] = omega arith
 grows n (c ∷ cs) = omega (arith, grows (n * 10 + digit_value c) cs)
@@ -71,7 +71,7 @@ only_zero (suc n) ds small is first =
     let same : get_or (decimal (suc n)) 0 0 ≡ 48 = ap (λ l. get_or l 0 0) (sym is) ∙ first in
     absurd (omega (arith, same, first_decimal (suc n) (omega arith) small))
 
--- digits of a number that is too large are written for none
+-- the digits of a number that is too large are those of no number of 64 bits
 pub too_large_to_write : (ds : List ℕ) (n : ℕ) → n < 2 ^ 64 → (AllDigits 10 ds → 2 ^ 64 ≤ digits_value 10 ds) → ds ≡ decimal n → ⊥
 too_large_to_write ds n small large is =
     let numeral = decimal_is_IsNumeral n small in

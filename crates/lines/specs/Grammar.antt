@@ -7,31 +7,47 @@ use Rattle.lines.specs.declared.line.Line.TheVariants as line
 
 -- ---- lines
 
--- what a line says, with keys and values as lists of bytes
+-- a line, with keys and values as lists of bytes
 pub data LineValue : Type 0 where
   Idle : LineValue
   Put : (table : ℕ) (key value : List ℕ) → LineValue
+  New : (table : ℕ) (key value : List ℕ) → LineValue
+  Cas : (table : ℕ) (key : List ℕ) (version : ℕ) (value : List ℕ) → LineValue
   Get : (table : ℕ) (key : List ℕ) → LineValue
+  Del : (table : ℕ) (key : List ℕ) → LineValue
+  Roll : LineValue
+  BeginRoll : LineValue
+  Push : LineValue
+  Log : LineValue
   Hex : (segment : ℕ) → LineValue
   Stop : (takes : ℕ) → LineValue
   Crash : LineValue
   Lose : (backup : ℕ) → LineValue
   Recover : LineValue
+  Holdings : LineValue
 
--- what a line of the program says
+-- the value of a line of the program
 abbrev pub shown_line : Line → LineValue
 shown_line line.Idle = Idle
 shown_line (line.Put table key value) = Put table key.now value.now
+shown_line (line.New table key value) = New table key.now value.now
+shown_line (line.Cas table key version value) = Cas table key.now version value.now
 shown_line (line.Get table key) = Get table key.now
+shown_line (line.Del table key) = Del table key.now
+shown_line line.Roll = Roll
+shown_line line.BeginRoll = BeginRoll
+shown_line line.Push = Push
+shown_line line.Log = Log
 shown_line (line.Hex segment) = Hex segment
 shown_line (line.Stop takes) = Stop takes
 shown_line line.Crash = Crash
 shown_line (line.Lose backup) = Lose backup
 shown_line line.Recover = Recover
+shown_line line.Holdings = Holdings
 
 -- ---- words
 
--- a word has one byte or more, each from 0x21 to 0x7E
+-- a word is one byte or more, each from 0x21 to 0x7E
 pub record IsWord (word : List ℕ) : Type 0 where
   pub some : 0 < length word
   pub visible : All (λ b. (33 ≤ b) × (b ≤ 126)) word
@@ -47,23 +63,39 @@ pub record IsKeyWord (key : List ℕ) : Type 0 where
 abbrev pub words_of : LineValue → List (List ℕ)
 words_of Idle = []
 words_of (Put table key value) = codes "put" ∷ decimal table ∷ key ∷ value ∷ []
+words_of (New table key value) = codes "new" ∷ decimal table ∷ key ∷ value ∷ []
+words_of (Cas table key version value) = codes "cas" ∷ decimal table ∷ key ∷ decimal version ∷ value ∷ []
 words_of (Get table key) = codes "get" ∷ decimal table ∷ key ∷ []
+words_of (Del table key) = codes "del" ∷ decimal table ∷ key ∷ []
+words_of Roll = codes "roll" ∷ []
+words_of BeginRoll = codes "beginroll" ∷ []
+words_of Push = codes "push" ∷ []
+words_of Log = codes "log" ∷ []
 words_of (Hex segment) = codes "hex" ∷ decimal segment ∷ []
 words_of (Stop takes) = codes "stop" ∷ decimal takes ∷ []
 words_of Crash = codes "crash" ∷ []
 words_of (Lose backup) = codes "lose" ∷ decimal backup ∷ []
 words_of Recover = codes "recover" ∷ []
+words_of Holdings = codes "holdings" ∷ []
 
--- the numbers of a line are of 64 bits, and its key is a key
+-- the numbers of the line have 64 bits, and its key is a key
 abbrev pub IsLine : LineValue → Type 0
 IsLine Idle = Unit {0}
 IsLine (Put table key value) = (table < 2 ^ 64) × IsKeyWord key
+IsLine (New table key value) = (table < 2 ^ 64) × IsKeyWord key
+IsLine (Cas table key version value) = (table < 2 ^ 64) × IsKeyWord key × (version < 2 ^ 64)
 IsLine (Get table key) = (table < 2 ^ 64) × IsKeyWord key
+IsLine (Del table key) = (table < 2 ^ 64) × IsKeyWord key
+IsLine Roll = Unit {0}
+IsLine BeginRoll = Unit {0}
+IsLine Push = Unit {0}
+IsLine Log = Unit {0}
 IsLine (Hex segment) = segment < 2 ^ 64
 IsLine (Stop takes) = takes < 2 ^ 64
 IsLine Crash = Unit {0}
 IsLine (Lose backup) = backup < 2 ^ 64
 IsLine Recover = Unit {0}
+IsLine Holdings = Unit {0}
 
 -- the text is empty or begins with `#`
 abbrev pub IsIdle : List ℕ → Type 0
@@ -75,13 +107,13 @@ pub record IsWritten (text : List ℕ) (line : LineValue) : Type 0 where
   pub words : All IsWord (words_of line)
   pub limits : IsLine line
 
--- the text says the line
+-- the text is that of the line
 abbrev pub Says : List ℕ → LineValue → Type 0
 Says text Idle = IsIdle text
 Says text line = IsWritten text line
 
 -- ---- a law
 
--- a text says one line at most
+-- no text is that of two lines
 abbrev pub EachTextSaysOneLine : Type 0
 EachTextSaysOneLine = (text : List ℕ) (one other : LineValue) → Says text one → Says text other → one ≡ other

@@ -1,4 +1,4 @@
--- What is taken of a reader, line by line: each line ends at its line feed, which the last may lack.
+-- The lines that are taken of a reader. A line feed ends each line, but may be missing behind the last.
 use Rattle.std.specs.Prelude.{◌≡◌, ◌≢◌, ◌<◌, ◌≤◌, ◌+◌, ℕ, Bool, true, false, List, [], ◌∷◌, ◌++◌, length, take, min}
 use Rattle.std.specs.Prelude.{Option, Some, None, Result, Ok, Err}
 use Rattle.std.specs.List.{All}
@@ -19,7 +19,7 @@ pub record IsLineText (line : List ℕ) : Type 0 where
   pub unbroken : IsUnbroken line
   pub short : length line ≤ 4096
 
--- one byte was taken of the reader, or it was at its end
+-- one byte was taken of the reader, or the reader was at its end
 abbrev pub TakesByte : Option (List ℕ) → Option (List ℕ) → Option ℕ → Type 0
 TakesByte old new (Some byte) = Consumes old new (byte ∷ [])
 TakesByte old new None = Consumes old new [] × IsAtEnd new
@@ -32,26 +32,26 @@ TakesLine old new line Last = Consumes old new line × IsAtEnd new × (0 < lengt
 TakesLine old new line TooLong = Consumes old new line × IsUnbroken line × (length line ≡ 4097)
 TakesLine old new line Nothing = Consumes old new [] × IsAtEnd new × (line ≡ [])
 
--- What was taken where no line was: where the reader failed the bytes that stand in `line`, and where memory ran out
--- nothing.
+-- what was taken at a fault: the bytes in `line` if the reader failed, and nothing if it was out of memory
 abbrev pub StopsIn : Option (List ℕ) → Option (List ℕ) → List ℕ → ReadFault → Type 0
 StopsIn old new line Failed = Consumes old new line × IsLineText line
 StopsIn old new line NoMemory = Consumes old new [] × (line ≡ [])
 
 -- ---- what a reader shows
 
--- where the line ends that is shown: behind `len` bytes at a line feed, or not within `most` bytes
+-- how much of the line is shown: `len` bytes before a line feed, or `len` bytes and no line feed within `most` bytes
 abbrev pub IsFrontOfLine : List ℕ → ℕ → ℕ → Bool → Type 0
 IsFrontOfLine bytes most len true =
-    IsUnbroken (take len bytes) × (take (len + 1) bytes ≡ take len bytes ++ 10 ∷ []) × (len < length bytes) × (len < most)
+    IsUnbroken (take len bytes) × (take (len + 1) bytes ≡ take len bytes ++ 10 ∷ [])
+    × (len < length bytes) × (len < most)
 IsFrontOfLine bytes most len false = IsUnbroken (take len bytes) × (len ≡ min (length bytes) most)
 
--- a part of a line stands behind what was there
+-- a part of a line was appended
 abbrev pub GrowsBy : List ℕ → List ℕ → List ℕ → Type 0
 GrowsBy before after part = (after ≡ before ++ part) × IsUnbroken part
 
--- What was taken of what a reader shows: the last part of a line with the line feed behind it, or a part of one byte or
--- more, or nothing. A fault takes nothing.
+-- What was taken of the bytes that a reader shows: the last part of a line with the line feed behind it, or a part of
+-- one byte or more, or nothing. A fault takes nothing.
 abbrev pub TakesShown : Option (List ℕ) → Option (List ℕ) → List ℕ → List ℕ → Result Shown ReadFault → Type 0
 TakesShown old new before after (Ok shown.Ended) =
     (part : List ℕ) × Consumes old new (part ++ 10 ∷ []) × GrowsBy before after part × (length after ≤ 4096)

@@ -1,9 +1,10 @@
--- How the parser takes a text apart: it is cut at each space, and what follows a line's name has one of a few shapes.
-use Rattle.std.specs.Prelude.{◌≡◌, ◌==◌, ◌<◌, ◌≤◌, ◌^◌, ℕ, Bool, List, [], ◌∷◌, length, take, slice_index, Option, Some, None}
+-- How the parser takes a text apart: it is cut at each space, and the words behind a line's name have one of few shapes.
+use Rattle.std.specs.Prelude.{◌≡◌, ◌≢◌, ◌==◌, ◌<◌, ◌≤◌, ◌^◌, ℕ, Bool, List, [], ◌∷◌, length, take, slice_index}
+use Rattle.std.specs.Prelude.{Option, Some, None}
 use Rattle.std.specs.Borrow.{Bor}
 use Rattle.std.specs.List.{All, slice_split}
 use Rattle.std.specs.Fmt.{decimal}
-use Rattle.lines.specs.Grammar.{IsLine, IsWord, LineValue, Idle, shown_line, words_of}
+use Rattle.lines.specs.Grammar.{IsKeyWord, IsLine, IsWord, LineValue, Idle, shown_line, words_of}
 use Rattle.lines.specs.declared.line.Line.{Line}
 
 abbrev pub is_space : ℕ → Bool
@@ -13,21 +14,46 @@ is_space b = b == 32
 abbrev pub IsVisible : ℕ → Type 0
 IsVisible b = (33 ≤ b) × (b ≤ 126)
 
--- so many bytes at the front are visible, and the next one isn't
+-- the first `len` bytes are visible, and the next one isn't
 pub record IsVisibleFront (bytes : List ℕ) (len : ℕ) : Type 0 where
   pub within : len ≤ length bytes
   pub visible : All IsVisible (take len bytes)
   pub ends : len < length bytes → IsVisible (slice_index bytes len) → ⊥
 
--- the words of what is left of a text, if any is
+-- the words of what is left of a text, if anything is
 abbrev pub words_left : Option (Bor (List ℕ)) → List (List ℕ)
 words_left None = []
 words_left (Some rest) = slice_split is_space rest.now
 
--- the words are a number
+-- ---- the words behind a line's name
+
+-- a number
 pub record AreNumber (words : List (List ℕ)) (n : ℕ) : Type 0 where
   pub spelled : words ≡ decimal n ∷ []
   pub small : n < 2 ^ 64
+
+-- a table and a key
+pub record AreKey (words : List (List ℕ)) (table : ℕ) (key : List ℕ) : Type 0 where
+  pub spelled : words ≡ decimal table ∷ key ∷ []
+  pub small : table < 2 ^ 64
+  pub is_key : IsKeyWord key
+
+-- a table, a key and a value
+pub record AreObject (words : List (List ℕ)) (table : ℕ) (key value : List ℕ) : Type 0 where
+  pub spelled : words ≡ decimal table ∷ key ∷ value ∷ []
+  pub small : table < 2 ^ 64
+  pub is_key : IsKeyWord key
+  pub is_value : IsWord value
+
+-- a table, a key, a version and a value
+pub record AreVersioned (words : List (List ℕ)) (table : ℕ) (key : List ℕ) (version : ℕ) (value : List ℕ) : Type 0 where
+  pub spelled : words ≡ decimal table ∷ key ∷ decimal version ∷ value ∷ []
+  pub small : table < 2 ^ 64
+  pub is_key : IsKeyWord key
+  pub small_version : version < 2 ^ 64
+  pub is_value : IsWord value
+
+-- ---- the words of a line
 
 -- the words spell the line
 pub record Spell (words : List (List ℕ)) (line : LineValue) : Type 0 where
@@ -40,7 +66,12 @@ abbrev pub AreWordsOf : List (List ℕ) → LineValue → Type 0
 AreWordsOf words Idle = ⊥
 AreWordsOf words line = Spell words line
 
--- the line that the words spell, or None where they spell none
+-- the line that the words spell, or None if they spell none
 abbrev pub ReadsWords : List (List ℕ) → Option Line → Type 0
 ReadsWords words None = (line : LineValue) → AreWordsOf words line → ⊥
 ReadsWords words (Some line) = AreWordsOf words (shown_line line)
+
+-- the line if no word is left, or None if one is
+abbrev pub ReadsEnd : Line → List (List ℕ) → Option Line → Type 0
+ReadsEnd line words None = words ≢ []
+ReadsEnd line words (Some read) = (words ≡ []) × (read ≡ line)

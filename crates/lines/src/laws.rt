@@ -2,7 +2,7 @@
 
 ghost use Rattle.lines.specs.Grammar.{EachTextSaysOneLine};
 
-/// A text says one line at most.
+/// No text is that of two lines.
 pub fn one_line()
     ensures { EachTextSaysOneLine }
 {}

@@ -1,4 +1,4 @@
-//! What a line of a script says.
+//! The lines of a script.
 
 /// A line of a script. Keys and values are borrowed from the text that was parsed.
 #[derive(Clone, Copy, Debug)]
@@ -11,11 +11,37 @@ pub enum Line<'a> {
         key: &'a [u8],
         value: &'a [u8],
     },
+    /// Put a value under a key only if the key is absent.
+    New {
+        table: u64,
+        key: &'a [u8],
+        value: &'a [u8],
+    },
+    /// Put a value under a key only if the key has this version.
+    Cas {
+        table: u64,
+        key: &'a [u8],
+        version: u64,
+        value: &'a [u8],
+    },
     /// Get the value of a key of a table.
     Get {
         table: u64,
         key: &'a [u8],
     },
+    /// Delete a key of a table.
+    Del {
+        table: u64,
+        key: &'a [u8],
+    },
+    /// Begin a roll, and push until the new head is open.
+    Roll,
+    /// Begin a roll.
+    BeginRoll,
+    /// Hand one op to one backup.
+    Push,
+    /// Show the ids of the digest in force.
+    Log,
     /// Show the bytes of a segment.
     Hex {
         segment: u64,
@@ -32,4 +58,6 @@ pub enum Line<'a> {
     },
     /// Recover the crashed master.
     Recover,
+    /// Show each replica that backups hold.
+    Holdings,
 }

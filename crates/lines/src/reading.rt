@@ -33,9 +33,9 @@ pub enum Taken {
 /// The most bytes of a line, without its line feed.
 const MAX_LINE_LEN: usize = 4096;
 
-/// Reads the next line over what `line` held, without its line feed.
+/// Reads the next line, without its line feed, in place of what `line` held.
 ///
-/// Memory for the longest line is asked for before anything is read. A read that was interrupted is tried again.
+/// It asks for the memory of the longest line before it reads anything. It tries an interrupted read again.
 pub fn next_line<R: BufRead>(reader: &mut R, line: &mut Vec<u8>) -> Result<Taken, ReadFault>
     ensures taken { IfOk result (TakesLine (R.remaining reader.old) (R.remaining reader.new) line.new.items) }
     ensures fault { IfErr result (StopsIn (R.remaining reader.old) (R.remaining reader.new) line.new.items) }
@@ -48,7 +48,7 @@ pub fn next_line<R: BufRead>(reader: &mut R, line: &mut Vec<u8>) -> Result<Taken
         match take_shown(reader, line)? {
             Shown::Ended => return Ok(Taken::Ended),
             Shown::Part => {}
-            // A read tells for certain where the input ends.
+            // Only a read is certain to find the end of the input.
             Shown::Nothing => match next_byte(reader)? {
                 Some(b'\n') => return Ok(Taken::Ended),
                 Some(byte) => line.push_reserved(byte),
@@ -113,7 +113,7 @@ fn take_shown<R: BufRead>(reader: &mut R, line: &mut Vec<u8>) -> Result<Shown, R
     }
 }
 
-/// How many of the first `most` bytes stand before a line feed, and whether one stands behind them.
+/// How many of the first `most` bytes come before a line feed, and whether there is a line feed among them.
 fn front_of_line(shown: &[u8], most: usize) -> (usize, bool)
     ensures { IsFrontOfLine shown.now most result.0 result.1 }
 {

@@ -12,7 +12,7 @@ use std::marker::Model;
 /// The most bytes of a key.
 const MAX_KEY_LEN: usize = 1024;
 
-/// The words of a text that are still to be read: what stands between its spaces.
+/// The words of a text that are still to be read. A space ends each word but the last.
 #[derive(Drop)]
 pub(crate) struct Words<'a> {
     rest: Option<&'a [u8]>,
@@ -25,14 +25,14 @@ impl<'a> Model for Words<'a> {
 }
 
 impl<'a> Words<'a> {
-    /// The words of the text, of which there is one at least.
+    /// The words of the text: one or more.
     pub(crate) fn of(text: &'a [u8]) -> Self
         ensures { result ≡ slice_split is_space text.entry.now }
     {
         Words { rest: Some(text) }
     }
 
-    /// The next word, which is empty where no byte stands between two spaces.
+    /// The next word. It is empty if two spaces have no byte between them.
     pub(crate) fn next_word(&mut self) -> Option<&'a [u8]>
         ensures { MatchOption result ((self.old ≡ []) × (self.new ≡ []))
             (λ word. self.old ≡ word.now ∷ self.new) }
@@ -45,7 +45,8 @@ impl<'a> Words<'a> {
     /// The next word as a number.
     pub(crate) fn number(&mut self) -> Option<u64>
         ensures sound { IfSome result (λ n. self.old ≡ decimal n ∷ self.new) }
-        ensures complete { IsNone result → (n : ℕ) (rest : List (List ℕ)) → n < 2 ^ 64 → self.old ≢ decimal n ∷ rest }
+        ensures complete { IsNone result
+            → (n : ℕ) (rest : List (List ℕ)) → n < 2 ^ 64 → self.old ≢ decimal n ∷ rest }
     {
         parse_number(self.next_word()?)
     }
@@ -53,7 +54,8 @@ impl<'a> Words<'a> {
     /// The next word as a key.
     pub(crate) fn key(&mut self) -> Option<&'a [u8]>
         ensures sound { IfSome result (λ key. (self.old ≡ key.now ∷ self.new) × IsKeyWord key.now) }
-        ensures complete { IsNone result → (key : List ℕ) (rest : List (List ℕ)) → IsKeyWord key → self.old ≢ key ∷ rest }
+        ensures complete { IsNone result
+            → (key : List ℕ) (rest : List (List ℕ)) → IsKeyWord key → self.old ≢ key ∷ rest }
     {
         let key = self.next_word()?;
         (is_word(key) && key.len() <= MAX_KEY_LEN).then_some(key)
@@ -77,7 +79,7 @@ impl<'a> Words<'a> {
         is_word(rest).then_some(rest)
     }
 
-    /// `Some` where no word is left.
+    /// `Some` if no word is left.
     pub(crate) fn end(mut self) -> Option<()>
         ensures { IsSome result ↔ (self.entry ≡ []) }
     {
@@ -88,7 +90,7 @@ impl<'a> Words<'a> {
     }
 }
 
-/// The bytes before the first space, and those behind it, if there is one.
+/// The bytes before the first space, and those behind it if there is one.
 fn split_word(text: &[u8]) -> (&[u8], Option<&[u8]>)
     ensures { slice_split is_space text.entry.now ≡ result.0.now ∷ words_left result.1 }
 {
@@ -106,13 +108,13 @@ fn is_word(bytes: &[u8]) -> bool
 }
 
 /// How many bytes at the front are visible.
-// Not inlined, so that its loops carry nothing of the caller's.
+// Not inlined, so that its loops hold no values of the caller.
 #[inline(never)]
 fn visible_len(bytes: &[u8]) -> usize
     ensures { IsVisibleFront bytes.now result }
 {
     let mut len = 0;
-    // Eight are looked at together, as long as all of them are visible.
+    // Eight bytes at a time, as long as all eight are visible.
     while bytes.len() - len >= 8 && are_visible(&bytes[len..len + 8]) {
         len += 8;
     }
@@ -122,7 +124,7 @@ fn visible_len(bytes: &[u8]) -> usize
     len
 }
 
-/// Whether all of a few bytes are visible. Each is looked at.
+/// Whether all of a few bytes are visible. It looks at each of them.
 #[inline(always)]
 fn are_visible(bytes: &[u8]) -> bool
     ensures { IsTrue result ↔ All IsVisible bytes.now }
@@ -141,7 +143,7 @@ fn is_visible(byte: u8) -> bool
     (0x21..=0x7e).contains(&byte)
 }
 
-/// The number that the word writes in decimal digits without leading zeros.
+/// The number that is written as this word, in decimal digits without leading zeros.
 fn parse_number(word: &[u8]) -> Option<u64>
     ensures sound { IfSome result (λ n. word.now ≡ decimal n) }
     ensures complete { IsNone result → (n : ℕ) → n < 2 ^ 64 → word.now ≢ decimal n }
@@ -155,7 +157,7 @@ fn parse_number(word: &[u8]) -> Option<u64>
     if word.len() == 1 { Some(0) } else { None }
 }
 
-/// The number that decimal digits write.
+/// The number that is written in these decimal digits.
 fn digits_value(digits: &[u8]) -> Option<u64>
     ensures sound { IfSome result (λ n. AllDigits 10 digits.now × (digits_value 10 digits.now ≡ n)) }
     ensures fits { IfSome result (λ n. n < 2 ^ 64) }

@@ -1,8 +1,9 @@
-use Rattle.std.proofs.Common.{arith}
-use Rattle.lines.proofs.Spelling.{put}
+use Rattle.std.proofs.Common.{rules}
+use Rattle.lines.proofs.Names as names
 use Rattle.lines.proofs.parse.put.Goals as goal
 
+pub returns-in_err-table : goal.returns-in_err-table
+returns-in_err-table c = rw c.from_residual.ensures (names.no_put c.args.words (c.object.ensures.complete (search rules)))
+
 pub returns : goal.returns
-returns c =
-    put c.args.words c.in_ok-table.table c.in_ok-key.key.now c.in_ok-value.value.now _ _ c.in_ok-table.ensures.sound (omega arith)
-    c.in_ok-key.ensures.sound c.in_ok-value.ensures.sound
+returns c = names.put c.args.words _ _ _ c.in_ok-table.ensures.sound

@@ -1,0 +1,9 @@
+use Rattle.std.proofs.Common.{rules}
+use Rattle.lines.proofs.Names as names
+use Rattle.lines.proofs.parse.cas.Goals as goal
+
+pub returns-in_err-table : goal.returns-in_err-table
+returns-in_err-table c = rw c.from_residual.ensures (names.no_cas c.args.words (c.versioned.ensures.complete (search rules)))
+
+pub returns : goal.returns
+returns c = names.cas c.args.words _ _ _ _ c.in_ok-table.ensures.sound
