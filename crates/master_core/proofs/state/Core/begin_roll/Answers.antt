@@ -20,7 +20,7 @@ module _ (c : goal.After-self-1) where
   core = c.self.invariant.1
 
   passed : roll_refusal d ≡ None
-  passed = sym c.admit_roll.ensures ∙ ap result_err c.in_ok-admit_roll.was
+  passed = ap roll_refusal c.self.view_is ∙ sym c.admit_roll.ensures ∙ ap result_err c.in_ok-admit_roll.was
 
   abbrev begun : c.begin_roll.new.self ≡ with_roll d.head d.config.master d.next d.safe
   begun = c.in_ok-begin_roll.ensures.begun

@@ -14,4 +14,4 @@ invariant_of-core c =
     let head : c.in_ok-head.head ≡ fresh_head c.args.config.master c.args.config.replicas first_start = search rules in
     let closed : c.new-3.result.items ≡ [] = search rules in
     rw (head, closed, safe, places, history)
-    ((λ never. absurd never), fresh_core c.args.config c.requires (subst (λ (h : HeadValue). IsHeadValue h) head c.in_ok-head.ensures.valid))
+    ((λ never. absurd (cc)), fresh_core c.args.config c.requires (subst (λ (h : HeadValue). IsHeadValue h) head c.in_ok-head.ensures.valid))

@@ -1,5 +1,5 @@
-use Rattle.std.proofs.Common.{◌≡◌, ◌<◌, ◌++◌, ◌∷◌, [], List, refl, sym, ap, subst, ◌∙◌}
-use Rattle.std.specs.Prelude.{Option, Some, None, IfSome, IsSome}
+use Rattle.std.proofs.Common.{◌≡◌, ℕ, suc, Bool, true, false, ◌++◌, ◌∷◌, [], List, refl, sym, ap, subst, ◌∙◌}
+use Rattle.std.specs.Prelude.{Option, Some, None, IfSome, IsSome, ◌==◌}
 use Rattle.std.proofs.lemmas.Option.{slice_get_within}
 use Rattle.entry.specs.declared.entry.Entry.{Entry}
 use Rattle.log_head.specs.declared.head.Roll.{Roll}
@@ -24,7 +24,9 @@ module _ (c : goal.After-open) where
   d = the_view c.self.inside
 
   waits : IsNextPush d.head (Some (next.OpenFirst c.in-OpenFirst.field-0))
-  waits = rw (← c.self.view_is, c.in-OpenFirst.is) at c.requires
+  waits =
+      subst (λ (n : Next). IsNextPush d.head (Some n)) c.in-OpenFirst.is
+      (subst (λ (m : MasterData). IsNextPush m.head (Some c.args.next)) (sym c.self.view_is) c.requires)
 
   opened : IsCore (record d { head = c.open.new.self })
   opened =
@@ -36,17 +38,18 @@ module _ (c : goal.After-open) where
 
 pub invariant_of-self : goal.invariant_of-self
 invariant_of-self c =
-    let t = (goal.at.invariant_of-self c).After-open in
-    (λ some. c.self.invariant.0 (subst IsSome (room t) some), opened t)
+    (λ some. c.self.invariant.0 (subst IsSome (room c) some), opened c)
 
 pub returns-in-OpenFirst-clause-valid : goal.returns-in-OpenFirst-clause-valid
-returns-in-OpenFirst-clause-valid c = opened (goal.at.returns-in-OpenFirst-clause-valid c).After-open
+returns-in-OpenFirst-clause-valid c = opened c
 
 -- ---- a unit
 
 pub extend-requires-clause-opened : goal.extend-requires-clause-opened
 extend-requires-clause-opened c =
-    let waits : IsNextPush (the_view c.self.inside).head (Some (next.Extend c.in-Extend.replica)) = rw (← c.self.view_is, c.in-Extend.is) at c.requires in
+    let waits : IsNextPush (the_view c.self.inside).head (Some (next.Extend c.in-Extend.replica)) =
+    subst (λ (n : Next). IsNextPush (the_view c.self.inside).head (Some n)) c.in-Extend.is
+    (subst (λ (m : MasterData). IsNextPush m.head (Some c.args.next)) (sym c.self.view_is) c.requires) in
     slice_get_within _ c.in-Extend.replica waits.1.0 waits.1.1
 
 module _ (c : goal.After-extend) where
@@ -54,7 +57,9 @@ module _ (c : goal.After-extend) where
   d' = the_view c.self.inside
 
   lags : IsNextPush d'.head (Some (next.Extend c.in-Extend.replica))
-  lags = rw (← c.self.view_is, c.in-Extend.is) at c.requires
+  lags =
+      subst (λ (n : Next). IsNextPush d'.head (Some n)) c.in-Extend.is
+      (subst (λ (m : MasterData). IsNextPush m.head (Some c.args.next)) (sym c.self.view_is) c.requires)
 
   extended : IsCore (record d' { head = c.extend.new.self })
   extended =
@@ -66,11 +71,10 @@ module _ (c : goal.After-extend) where
 
 pub invariant_of-self-in-Extend : goal.invariant_of-self-in-Extend
 invariant_of-self-in-Extend c =
-    let t = (goal.at.invariant_of-self-in-Extend c).After-extend in
-    (λ some. c.self.invariant.0 (subst IsSome (room' t) some), extended t)
+    (λ some. c.self.invariant.0 (subst IsSome (room' c) some), extended c)
 
 pub returns-in-Extend-clause-valid : goal.returns-in-Extend-clause-valid
-returns-in-Extend-clause-valid c = extended (goal.at.returns-in-Extend-clause-valid c).After-extend
+returns-in-Extend-clause-valid c = extended c
 
 -- ---- a replica of the new head
 
@@ -79,7 +83,9 @@ module _ (c : goal.After-open_new) where
   m = the_view c.self.inside
 
   rolls : IsNextPush m.head (Some (next.OpenNew c.in-OpenNew.field-0))
-  rolls = rw (← c.self.view_is, c.in-OpenNew.is) at c.requires
+  rolls =
+      subst (λ (n : Next). IsNextPush m.head (Some n)) c.in-OpenNew.is
+      (subst (λ (x : MasterData). IsNextPush x.head (Some c.args.next)) (sym c.self.view_is) c.requires)
 
   new_opened : c.open_new.new.self ≡ with_new_replica m.head rolls.1
   new_opened = subst (λ (o : Option Roll). IfSome o (λ r. c.open_new.new.self ≡ with_new_replica m.head r)) rolls.2 c.open_new.ensures.opened
@@ -90,49 +96,98 @@ module _ (c : goal.After-open_new) where
       (opened_core m c.self.invariant.1 rolls.1 rolls.2 (subst IsHeadValue new_opened c.open_new.ensures.valid))
 
   some_roll : IsSome m.head.roll
-  some_roll = subst IsSome (sym rolls.2) tt
+  some_roll = subst IsSome (sym rolls.2) refl
 
 pub invariant_of-self-in-OpenNew : goal.invariant_of-self-in-OpenNew
 invariant_of-self-in-OpenNew c =
-    let t = (goal.at.invariant_of-self-in-OpenNew c).After-open_new in
-    (λ some. c.self.invariant.0 (some_roll t), core_opened t)
+    (λ some. c.self.invariant.0 (some_roll c), core_opened c)
 
 pub returns-in-OpenNew-clause-valid : goal.returns-in-OpenNew-clause-valid
-returns-in-OpenNew-clause-valid c = core_opened (goal.at.returns-in-OpenNew-clause-valid c).After-open_new
+returns-in-OpenNew-clause-valid c = core_opened c
 
 -- ---- a replica of the old head
 
-module _ (c : goal.After-close_old) where
-  abbrev k : MasterData
-  k = the_view c.self.inside
+-- the core once the old head's replica is closed, from what `close_old` gave
+module _ (k : MasterData) (core : IsCore k) (push : Next) (j : ℕ) (was : push ≡ next.CloseOld j) (is : IsNextPush k.head (Some push)) (h : HeadValue)
+    (image : Option (List Entry)) (counts : IfSome k.head.roll (λ r. h ≡ with_closed_replica k.head r))
+    (gives : IfSome k.head.roll (λ r. image ≡ old_image k.head r)) (valid : IsHeadValue h) where
+  ends : IsNextPush k.head (Some (next.CloseOld j))
+  ends = subst (λ (n : Next). IsNextPush k.head (Some n)) was is
 
-  ends : IsNextPush k.head (Some (next.CloseOld c.in-CloseOld.field-0))
-  ends = rw (← c.self.view_is, c.in-CloseOld.is) at c.requires
+  head_closed : h ≡ with_closed_replica k.head ends.1
+  head_closed = subst (λ (o : Option Roll). IfSome o (λ r. h ≡ with_closed_replica k.head r)) ends.2 counts
 
-  head_closed : c.close_old.new.self ≡ with_closed_replica k.head ends.1
-  head_closed = subst (λ (o : Option Roll). IfSome o (λ r. c.close_old.new.self ≡ with_closed_replica k.head r)) ends.2 c.close_old.ensures.closed
+  image_out : image ≡ old_image k.head ends.1
+  image_out = subst (λ (o : Option Roll). IfSome o (λ r. image ≡ old_image k.head r)) ends.2 gives
 
-  image_out : c.close_old.result ≡ old_image k.head ends.1
-  image_out = subst (λ (o : Option Roll). IfSome o (λ r. c.close_old.result ≡ old_image k.head r)) ends.2 c.close_old.ensures.old
-
-  core_closed : (closed : List ClosedSegment) → closed ≡ with_closed k.closed k.head.id c.close_old.result
-      → IsCore (record k { head = c.close_old.new.self; closed = closed })
-  core_closed closed is =
+  core_closed : (closed : List ClosedSegment) → closed ≡ with_closed k.closed k.head.id image → IsCore (record k { head = h; closed = closed })
+  core_closed closed same =
       subst (λ (x : HeadValue × List ClosedSegment). IsCore (record k { head = x.0; closed = x.1 }))
-      (λ i. (sym head_closed i, (ap (with_closed k.closed k.head.id) (sym image_out) ∙ sym is) i))
-      (closed_core k c.self.invariant.1 ends.1 ends.2 (subst IsHeadValue head_closed c.close_old.ensures.valid))
+      (λ i. (sym head_closed i, (ap (with_closed k.closed k.head.id) (sym image_out) ∙ sym same) i))
+      (closed_core k core ends.1 ends.2 (subst IsHeadValue head_closed valid))
 
-  some_roll' : IsSome k.head.roll
-  some_roll' = subst IsSome (sym ends.2) tt
+  some_then : IsSome k.head.roll
+  some_then = subst IsSome (sym ends.2) refl
+
+  -- once the old image is out no roll is under way
+  none_then : (x : List Entry) → image ≡ Some x → h.roll ≡ None
+  none_then x out = go (suc ends.1.closed == k.head.replicas) refl where
+    go : (t : Bool) → (suc ends.1.closed == k.head.replicas) ≡ t → h.roll ≡ None
+    go true test = ap (λ (g : HeadValue). g.roll) head_closed ∙ rw test refl
+    go false test =
+        let never : Some x ≡ None = sym out ∙ image_out ∙ rw test refl in
+        absurd (cc)
+
+module _ (c : goal.After-push_reserved) where
+  abbrev k' : MasterData
+  k' = the_view c.self.inside
+
+  waits' : IsNextPush k'.head (Some c.args.next)
+  waits' = subst (λ (x : MasterData). IsNextPush x.head (Some c.args.next)) (sym c.self.view_is) c.requires
+
+  items : c.push_reserved.new.self.items ≡ with_closed k'.closed k'.head.id c.close_old.result
+  items =
+      c.push_reserved.ensures.items
+      ∙ ap (λ (id : ℕ). k'.closed ++ record { id = id; image = c.in-Some.image } ∷ []) c.id-id.ensures.id
+      ∙ ap (with_closed k'.closed k'.head.id) (sym c.in-Some.is)
+
+  core_then : IsCore (record k' { head = c.close_old.new.self; closed = c.push_reserved.new.self.items })
+  core_then =
+      core_closed k' c.self.invariant.1 c.args.next c.in-CloseOld.field-0 c.in-CloseOld.is waits' c.close_old.new.self c.close_old.result
+      c.close_old.ensures.closed c.close_old.ensures.old c.close_old.ensures.valid c.push_reserved.new.self.items items
+
+  no_roll : IsSome c.close_old.new.self.roll → ⊥
+  no_roll some =
+      let none = none_then k' c.self.invariant.1 c.args.next c.in-CloseOld.field-0 c.in-CloseOld.is waits' c.close_old.new.self c.close_old.result
+      c.close_old.ensures.closed c.close_old.ensures.old c.close_old.ensures.valid c.in-Some.image c.in-Some.is in
+      let never : IsSome {T = Roll} None = subst IsSome none some in cc
 
 pub invariant_of-self-in-Some : goal.invariant_of-self-in-Some
-invariant_of-self-in-Some c = ?
-
-pub invariant_of-self-in_default : goal.invariant_of-self-in_default
-invariant_of-self-in_default c = ?
+invariant_of-self-in-Some c = (λ some. absurd (no_roll c some), core_then c)
 
 pub returns-in-Some-clause-valid : goal.returns-in-Some-clause-valid
-returns-in-Some-clause-valid c = ?
+returns-in-Some-clause-valid c = core_then c
+
+module _ (c : goal.In_default) where
+  abbrev k'' : MasterData
+  k'' = the_view c.self.inside
+
+  waits'' : IsNextPush k''.head (Some c.args.next)
+  waits'' = subst (λ (x : MasterData). IsNextPush x.head (Some c.args.next)) (sym c.self.view_is) c.requires
+
+  core_still : IsCore (record k'' { head = c.close_old.new.self; closed = k''.closed })
+  core_still =
+      core_closed k'' c.self.invariant.1 c.args.next c.in-CloseOld.field-0 c.in-CloseOld.is waits'' c.close_old.new.self c.close_old.result
+      c.close_old.ensures.closed c.close_old.ensures.old c.close_old.ensures.valid k''.closed
+      (ap (with_closed k''.closed k''.head.id) (sym c.in_default.is))
+
+  room_still : IsSome k''.head.roll
+  room_still =
+      some_then k'' c.self.invariant.1 c.args.next c.in-CloseOld.field-0 c.in-CloseOld.is waits'' c.close_old.new.self c.close_old.result
+      c.close_old.ensures.closed c.close_old.ensures.old c.close_old.ensures.valid
+
+pub invariant_of-self-in_default : goal.invariant_of-self-in_default
+invariant_of-self-in_default c = (λ some. c.self.invariant.0 (room_still c), core_still c)
 
 pub returns-in_default-clause-valid : goal.returns-in_default-clause-valid
-returns-in_default-clause-valid c = ?
+returns-in_default-clause-valid c = core_still c
