@@ -1,5 +1,5 @@
 -- A command that no test refuses is added to a core.
-use Rattle.std.proofs.Common.{◌≡◌, ◌⊎◌, ℕ, suc, ◌+◌, ◌≤◌, inl, inr, true, false, List, [], ◌∷◌, ◌++◌, length, refl, sym, ap, subst, ◌∙◌, arith}
+use Rattle.std.proofs.Common.{◌≡◌, ◌⊎◌, ℕ, ◌+◌, ◌≤◌, inl, inr, true, false, List, [], ◌∷◌, ◌++◌, length, refl, sym, ap, subst, ◌∙◌, arith}
 use Rattle.std.specs.Prelude.{Option, Some, None, IfSome, ◌<◌}
 use Rattle.std.specs.Option.{option_map_or}
 use Rattle.versioned_map.specs.Represents.{unit_of}
@@ -243,4 +243,11 @@ module _ (d : MasterData) (core : IsCore d) (command : Command) (change : Change
     }
 
     pub added_applies : Applies d seat command (Applied (length d.history) (reply_now d command)) added
-    added_applies = record { passed = passed; told = refl; config = refl; running = admitted.running; log = log_then }
+    added_applies = record {
+      passed = passed;
+      told = refl;
+      config = refl;
+      running = admitted.running;
+      log = log_then;
+      rest = ap (λ (u : List Entry). record added { head = appended d.head (length d.history) u }) unit_is;
+    }

@@ -1,10 +1,9 @@
 -- What the index of a core finds.
-use Rattle.std.proofs.Common.{◌≡◌, ◌⊎◌, ℕ, inl, inr, Bool, true, false, List, [], ◌∷◌, ◌++◌, length, drop, refl, sym, ap, subst, ◌∙◌}
+use Rattle.std.proofs.Common.{◌≡◌, ℕ, inl, inr, Bool, true, false, List, [], ◌∷◌, ◌++◌, length, drop, refl, sym, ap, subst, ◌∙◌}
 use Rattle.std.specs.Prelude.{Option, Some, None, IfSome}
 use Rattle.std.specs.List.{AllByRecursion}
 use Rattle.std.specs.Option.{option_map, option_map_or}
-use Rattle.std.proofs.lemmas.Bool.Decides.{nat_tests}
-use Rattle.std.proofs.Common.{arith}
+use Rattle.std.proofs.lemmas.Option.{same_Some}
 use Rattle.entry.specs.declared.key.Key.{Key}
 use Rattle.entry.specs.declared.entry.Object.{Object}
 use Rattle.entry.specs.declared.entry.Entry.{Entry}
@@ -18,12 +17,9 @@ use Rattle.segment.specs.Bytes.{standing_at}
 use Rattle.entry.proofs.ListLemmas.{all_split}
 use Rattle.segment.proofs.RowLemmas.{text_of-append}
 use Rattle.versioned_map.specs.declared.command.Command.{Command}
-use Rattle.versioned_map.specs.declared.command.Command.TheVariants.{Get, Put, Delete}
 use Rattle.versioned_map.specs.Command.{command_key}
-use Rattle.versioned_map.specs.Represents.{unit_of}
-use Rattle.versioned_map.specs.Units.{unit_given}
 use Rattle.versioned_map.proofs.Keys.{key_eq-tells}
-use Rattle.master_core.specs.Causes.{dead_segment, unit_now}
+use Rattle.master_core.specs.Causes.{dead_segment}
 use Rattle.master_core.specs.Data.{MasterData}
 use Rattle.log_head.specs.declared.head.Roll.{Roll}
 use Rattle.log_head.specs.Head.{IsRollValue}
@@ -78,6 +74,30 @@ module _ (images : ℕ → List Entry) (each : (s : ℕ) → AllByRecursion IsEn
             (finds_among places os all.1)))
       ]
 
+  -- what the key has is found where it is
+  pub finds_at : (places : List Place) (os : List Object) → AreAt images places os → (x : Versioned) → contents_of os k ≡ Some x
+      → (q : Place) × (first_at images k places ≡ Some q) × IsAtPlace images q (object_at k x)
+  finds_at [] [] all x has = absurd (cc)
+  finds_at [] (o ∷ os) all x has = absurd all
+  finds_at (p ∷ places) [] all x has = absurd all
+  finds_at (p ∷ places) (o ∷ os) all x has =
+      let test : has_object_at images k p ≡ key_eq k o.key = there p o all.0 in
+      elim (key_eq-tells k o.key) as (λ _. (q : Place) × (first_at images k (p ∷ places) ≡ Some q) × IsAtPlace images q (object_at k x)) [
+        | inl t ↦ (
+            let yes = t.0 in
+            let found : first_at images k (p ∷ places) ≡ Some p = rw (test, yes) refl in
+            let own : contents_of (o ∷ os) k ≡ Some (versioned o) = rw yes refl in
+            let value : versioned o ≡ x = same_Some (versioned o) x (sym own ∙ has) in
+            let same : entry.Object o ≡ object_at k x = ap (λ (q : Key). object_at q (versioned o)) (sym t.1) ∙ ap (object_at k) value in
+            (p, found, subst (λ (e : Entry). LiesAt (images p.segment) p.at e) same all.0))
+        | inr f ↦ (
+            let no = f.0 in
+            let found : first_at images k (p ∷ places) ≡ first_at images k places = rw (test, no) refl in
+            let rest : contents_of (o ∷ os) k ≡ contents_of os k = rw no refl in
+            let later = finds_at places os all.1 x (sym rest ∙ has) in
+            (later.0, found ∙ later.1, later.2))
+      ]
+
   next_place : (p : Place) (places : List Place) (slot : Option ℕ) → place_at (p ∷ places) (next_slot slot) ≡ place_at places slot
   next_place p places None = refl
   next_place p places (Some j) = refl
@@ -108,6 +128,12 @@ indexed d core k =
     let index = core.index.1 in
     subst (λ (x : Option Versioned). Finds (images_of d) k (find d k) x) (λ i. index.contents i k)
     (finds_among (images_of d) (each_of d core) k d.places os index.places)
+
+-- a present key's object is where the index finds it
+pub found_place : (d : MasterData) → IsCore d → (k : Key) (x : Versioned) → (state_now d).contents k ≡ Some x
+    → (q : Place) × (find d k ≡ Some q) × IsAtPlace (images_of d) q (object_at k x)
+found_place d core k x has =
+    finds_at (images_of d) (each_of d core) k d.places core.index.0 core.index.1.places x ((λ i. core.index.1.contents i k) ∙ has)
 
 -- ---- the segment of the dead object
 

@@ -1,5 +1,5 @@
 -- The images of a log, through each step.
-use Rattle.std.proofs.Common.{◌≡◌, ℕ, ◌<◌, ◌≤◌, Bool, true, false, List, [], ◌∷◌, ◌++◌, map, refl, sym, ap, subst, ◌∙◌, arith}
+use Rattle.std.proofs.Common.{◌≡◌, ℕ, ◌<◌, ◌≤◌, Bool, true, false, List, [], ◌∷◌, ◌++◌, map, refl, sym, ap, ◌∙◌, arith}
 use Rattle.std.specs.Prelude.{Option, Some, None, IfSome, unwrap_or, ◌==◌, if◌then◌else◌}
 use Rattle.std.specs.List.{AllByRecursion}
 use Rattle.std.proofs.lemmas.Bool.{eqb-true}
@@ -110,6 +110,18 @@ appended_grow h g cs unit id roll image s = by_head (h.id == s) refl
         ([], rw (is, other) (ap (λ (o : Option Roll). unwrap_or (new_image_or o s (closed_image cs s)) []) roll
             ∙ sym (append-nil (unwrap_or (new_image_or h.roll s (closed_image cs s)) []))))
 
+-- the image of the head, and of any other segment, once the head has a unit more
+pub appended_own : (h g : HeadValue) (cs : List ClosedSegment) (unit : List Entry) (s : ℕ) → g.id ≡ h.id → g.image ≡ h.image ++ unit
+    → (h.id == s) ≡ true → images_among g cs s ≡ images_among h cs s ++ unit
+appended_own h g cs unit s id image is =
+    let other : (g.id == s) ≡ true = ap (λ (n : ℕ). n == s) id ∙ is in rw (is, other) image
+
+pub appended_other : (h g : HeadValue) (cs : List ClosedSegment) (s : ℕ) → g.id ≡ h.id → g.roll ≡ h.roll → (h.id == s) ≡ false
+    → images_among g cs s ≡ images_among h cs s
+appended_other h g cs s id roll is =
+    let other : (g.id == s) ≡ false = ap (λ (n : ℕ). n == s) id ∙ is in
+    rw (is, other) (ap (λ (o : Option Roll). unwrap_or (new_image_or o s (closed_image cs s)) []) roll)
+
 -- a roll that begins adds an image of an id that had none
 pub rolled_grow : (h : HeadValue) (cs : List ClosedSegment) (r : Roll) → h.roll ≡ None → closed_image cs r.id ≡ None
     → Grow (images_among h cs) (images_among (record h { roll = Some r }) cs)
@@ -126,6 +138,16 @@ rolled_grow h cs r none new s = by_head (h.id == s) refl
         → (more : List Entry) × (images_among (record h { roll = Some r }) cs s ≡ images_among h cs s ++ more)
     by_head true is = ([], rw is (sym (append-nil h.image)))
     by_head false is = by_roll (r.id == s) is refl
+
+-- that image, and any other
+pub rolled_own : (h : HeadValue) (cs : List ClosedSegment) (r : Roll) → (h.id ≡ r.id → ⊥)
+    → images_among (record h { roll = Some r }) cs r.id ≡ r.image
+rolled_own h cs r other =
+    let away = other_id h.id r.id other in let own = same_id r.id in rw (away, own) refl
+
+pub rolled_other : (h : HeadValue) (cs : List ClosedSegment) (r : Roll) (s : ℕ) → h.roll ≡ None → (r.id ≡ s → ⊥)
+    → images_among (record h { roll = Some r }) cs s ≡ images_among h cs s
+rolled_other h cs r s none other = let away = other_id r.id s other in rw (none, away) refl
 
 -- what a roll has opened or closed changes no image
 pub same_roll : (h : HeadValue) (cs : List ClosedSegment) (r q : Roll) → h.roll ≡ Some r → q.id ≡ r.id → q.image ≡ r.image → (s : ℕ)

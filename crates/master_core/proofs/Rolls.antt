@@ -1,32 +1,32 @@
 -- A roll begins, and goes on by the ops of pushes.
-use Rattle.std.proofs.Common.{◌≡◌, ℕ, suc, ◌+◌, ◌<◌, ◌≤◌, Bool, true, false, List, [], ◌∷◌, ◌++◌, length, map, refl, sym, ap, subst, ◌∙◌, add-one, arith}
+use Rattle.std.proofs.Common.{◌≡◌, ◌⊎◌, inl, inr, ℕ, suc, ◌+◌, ◌<◌, ◌≤◌, Bool, true, false, List, [], ◌∷◌, ◌++◌, length, refl, sym, ap, subst, ◌∙◌, add-one, arith}
 use Rattle.std.specs.Prelude.{Option, Some, None, IfSome, ◌==◌, unwrap_or}
 use Rattle.std.specs.List.{AllByRecursion}
 use Rattle.std.specs.Option.{option_map_or}
-use Rattle.std.proofs.lemmas.Bool.Decides.{nat_tests}
+use Rattle.std.proofs.lemmas.Bool.{eqb-true}
+use Rattle.entry.specs.Bag.{IsAmong}
 use Rattle.std.proofs.lemmas.List.{append-nil, map-append, length-append}
-use Rattle.std.proofs.lemmas.Option.{same_Some}
 use Rattle.entry.specs.declared.entry.Entry.{Entry}
 use Rattle.entry.specs.Text.{text_of, IsSegment}
 use Rattle.log_head.specs.declared.head.Roll.{Roll}
 use Rattle.log_head.specs.declared.next.Next.{Next}
 use Rattle.log_head.specs.declared.next.Next.TheVariants as next
-use Rattle.log_head.specs.Head.{HeadValue, IsHeadValue, IsRollValue, digest_of}
-use Rattle.log_head.specs.Log.{head_of, start_of, phase_of}
+use Rattle.log_head.specs.Head.{IsHeadValue, IsRollValue, digest_of}
+use Rattle.log_head.specs.Log.{head_of, start_of}
 use Rattle.log_head.specs.Next.{IsNextPush}
 use Rattle.log_head.specs.Steps.{start_after, fresh_roll, with_roll, with_new_replica, with_closed_replica, in_force}
 use Rattle.log_head.proofs.RollLog.{start_is, opening_is, phase_begun, digest_is, head_in_force, image_in_force}
 use Rattle.log_head.proofs.Rolls.{rolls}
-use Rattle.log_model.specs.Data.{Start, Head, Phase, Ready, Opened, LogData, ids_of, start_entries}
+use Rattle.log_model.specs.Data.{Start, Head, Opened, ids_of, start_entries}
 use Rattle.log_model.specs.Log.{AreBelow}
 use Rattle.log_model.specs.Steps.{new_head, next_start, rolling, MayRoll}
 use Rattle.master_core.specs.declared.image.ClosedSegment.{ClosedSegment}
 use Rattle.master_core.specs.declared.step.StepAnswer.TheVariants.{Rolling as RollingTo}
 use Rattle.master_core.specs.Causes.{roll_refusal, newest_digest}
 use Rattle.master_core.specs.Data.{MasterData}
-use Rattle.master_core.specs.Images.{closed_image, image_among, images_among, with_closed}
-use Rattle.master_core.specs.Invariant.{IsIndex, IsRollOf, IsCore}
-use Rattle.master_core.specs.Log.{log_config, opening_of, log_of, state_now, images_of}
+use Rattle.master_core.specs.Images.{closed_image, new_image_or, image_among, with_closed}
+use Rattle.master_core.specs.Invariant.{IsRollOf, IsCore}
+use Rattle.master_core.specs.Log.{log_config, opening_of, log_of, image_of, images_of}
 use Rattle.master_core.specs.Steps.{BeginsRoll, rolling_data, closed_data, taken_data}
 use Rattle.master_core.proofs.Adding.{ready_open}
 use Rattle.master_core.proofs.Beginning.{counted_core}
@@ -210,7 +210,7 @@ module _ (d : MasterData) (core : IsCore d) (r : Roll) (is : d.head.roll ≡ Som
   others_then : (head_of (in_force d.head r)).start.others ≡ ids_of (head_of d.head).start
   others_then = ap (λ (l : Head). l.start.others) head_then ∙ rolls_of.lists
 
-  apart : d.head.id ≡ r.id → ⊥
+  pub apart : d.head.id ≡ r.id → ⊥
   apart same = let lt = rolls_of.newer in omega arith
 
   all_more : {X : Type 0} (P : X → Type 0) (xs : List X) (x : X) → AllByRecursion P xs → P x → AllByRecursion P (xs ++ x ∷ [])
@@ -281,3 +281,50 @@ module _ (d : MasterData) (core : IsCore d) where
   taken_core (next.CloseOld j) is valid =
       let e = ap (λ (o : Option Roll). option_map_or (closed_data d) o d) is.2 in
       subst IsCore (sym e) (closed_core d core is.1 is.2 (subst (λ (m : MasterData). IsHeadValue m.head) e valid))
+
+-- ---- images stay where they are found
+
+module _ (d : MasterData) (core : IsCore d) where
+  pub taken_images : (push : Next) → IsNextPush d.head (Some push) → (s : ℕ) → image_of (taken_data d push) s ≡ image_of d s
+  taken_images (next.OpenFirst j) is s = refl
+  taken_images (next.Extend j) is s = refl
+  taken_images (next.OpenNew j) is s =
+      ap (λ (o : Option Roll). image_of (option_map_or (λ (q : Roll). record d { head = with_new_replica d.head q }) o d) s) is.2
+      ∙ same_roll d.head d.closed is.1 (record is.1 { opened = suc is.1.opened }) is.2 refl refl s
+  taken_images (next.CloseOld j) is s =
+      ap (λ (o : Option Roll). image_of (option_map_or (closed_data d) o d) s) is.2 ∙ go (suc is.1.closed == d.head.replicas) refl
+    where
+      go : (t : Bool) → (suc is.1.closed == d.head.replicas) ≡ t → image_of (closed_data d is.1) s ≡ image_of d s
+      go true test =
+          rw test (closed_same d.head d.closed is.1 is.2 (apart d core is.1 is.2) (no_closed d core d.head.id (omega arith)) s)
+      go false test = rw test (same_roll d.head d.closed is.1 (record is.1 { closed = suc is.1.closed }) is.2 refl refl s)
+
+  -- a segment with an image is of the log
+  pub has_image : (s : ℕ) (image : List Entry) → image_of d s ≡ Some image
+      → (s ≡ d.head.id) ⊎ (((r : Roll) × (d.head.roll ≡ Some r) × (s ≡ r.id)) ⊎ IsAmong s (head_of d.head).start.others)
+  has_image s image is = by_head (d.head.id == s) refl is
+    where
+      among_closed : (cs : List ClosedSegment) → closed_image cs s ≡ Some image → IsAmong s (ids_in cs)
+      among_closed [] found = absurd (cc)
+      among_closed (c ∷ cs) found = go (c.id == s) refl (among_closed cs)
+        where
+          go : (t : Bool) → (c.id == s) ≡ t → (closed_image cs s ≡ Some image → IsAmong s (ids_in cs)) → IsAmong s (ids_in (c ∷ cs))
+          go true here later = inl (eqb-true c.id s here)
+          go false away later = inr (later (rw away at found))
+
+      closed_too : closed_image d.closed s ≡ Some image → IsAmong s (head_of d.head).start.others
+      closed_too found = subst (λ (ids : List ℕ). IsAmong s ids) core.closed (among_closed d.closed found)
+
+      by_roll : (o : Option Roll) → d.head.roll ≡ o → new_image_or o s (closed_image d.closed s) ≡ Some image
+          → ((r : Roll) × (d.head.roll ≡ Some r) × (s ≡ r.id)) ⊎ IsAmong s (head_of d.head).start.others
+      by_roll None same found = inr (closed_too found)
+      by_roll (Some r) same found = go (r.id == s) refl
+        where
+          go : (t : Bool) → (r.id == s) ≡ t → ((r : Roll) × (d.head.roll ≡ Some r) × (s ≡ r.id)) ⊎ IsAmong s (head_of d.head).start.others
+          go true here = inl (r, same, sym (eqb-true r.id s here))
+          go false away = inr (closed_too (rw away at found))
+
+      by_head : (t : Bool) → (d.head.id == s) ≡ t → image_of d s ≡ Some image
+          → (s ≡ d.head.id) ⊎ (((r : Roll) × (d.head.roll ≡ Some r) × (s ≡ r.id)) ⊎ IsAmong s (head_of d.head).start.others)
+      by_head true here found = inl (sym (eqb-true d.head.id s here))
+      by_head false away found = inr (by_roll d.head.roll refl (rw away at found))

@@ -1,5 +1,5 @@
 -- The limits of a configuration, and the first of them that one is outside of.
-use Rattle.std.specs.Prelude.{ℕ, ◌*◌, ◌/◌, ◌%◌, ◌^◌, ◌==◌, ◌&&◌, Bool, not, nat_le, Option, Some, None, if◌then◌else◌}
+use Rattle.std.specs.Prelude.{◌*◌, ◌/◌, ◌%◌, ◌^◌, ◌==◌, ◌&&◌, Bool, not, nat_le, Option, Some, None, if◌then◌else◌}
 use Rattle.entry.specs.Format.{is_within}
 use Rattle.entry.specs.Tablet.{are_tablets}
 use Rattle.master_core.specs.declared.config.Config.{Config}

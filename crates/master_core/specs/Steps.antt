@@ -17,7 +17,8 @@ use Rattle.master_core.specs.declared.step.Refusal.{Refusal}
 use Rattle.master_core.specs.declared.step.Refusal.TheVariants as refusal
 use Rattle.master_core.specs.declared.step.StepAnswer.{StepAnswer}
 use Rattle.master_core.specs.declared.step.StepAnswer.TheVariants.{Applied, Rolling as RollingTo}
-use Rattle.master_core.specs.Causes.{command_refusal, roll_refusal, dead_segment}
+use Rattle.master_core.specs.Causes.{command_refusal, roll_refusal, dead_segment, unit_now}
+use Rattle.master_core.specs.Change.{appended}
 use Rattle.master_core.specs.Data.{MasterData}
 use Rattle.master_core.specs.Images.{with_closed}
 use Rattle.master_core.specs.Log.{log_of, state_now}
@@ -36,6 +37,13 @@ pub record Applies (d : MasterData) (seat : ℕ) (command : Command) (answer : S
   pub config : e.config ≡ d.config
   pub running : e.is_halted ≡ false
   pub log : log_of e ≡ applied (log_of d) (dead_segment d command) (record_now d seat command)
+  -- the head has the unit, and of the rest only the index, the safe version and the history changed
+  pub rest : e ≡ record d {
+    head = appended d.head (length d.history) (unit_now d command);
+    places = e.places;
+    safe = e.safe;
+    history = e.history;
+  }
 
 -- The command of a record is applied, and told with its place and its reply.
 abbrev pub AppliesAs : MasterData → Record → ℕ → MasterData → Type 0
@@ -45,16 +53,16 @@ AppliesAs d r place e = Applies d r.seat r.command (Applied place r.reply) e
 abbrev pub MayApplyNow : MasterData → ℕ → Command → Type 0
 MayApplyNow d seat command = MayApply (log_of d) (dead_segment d command) (record_now d seat command)
 
+-- what a core becomes when a roll begins
+abbrev pub rolling_data : MasterData → MasterData
+rolling_data d = record d { head = with_roll d.head d.config.master d.next d.safe; next = d.next + 1 }
+
 -- A roll that no test refuses begins: the next head lists the log, and records the safe version of now.
 pub record BeginsRoll (d : MasterData) (answer : StepAnswer) (e : MasterData) : Type 0 where
   pub passed : roll_refusal d ≡ None
   pub told : answer ≡ RollingTo d.next
   pub log : log_of e ≡ rolling (log_of d) (next_start (log_of d))
-  pub rest : e ≡ record d { head = e.head; next = e.next }
-
--- what a core becomes when a roll begins
-abbrev pub rolling_data : MasterData → MasterData
-rolling_data d = record d { head = with_roll d.head d.config.master d.next d.safe; next = d.next + 1 }
+  pub rest : e ≡ rolling_data d
 
 -- one more replica of the old head was closed; with the last one its segment is one of the closed ones
 abbrev pub closed_data : MasterData → Roll → MasterData

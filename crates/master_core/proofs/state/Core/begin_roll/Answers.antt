@@ -1,7 +1,7 @@
 use Rattle.std.proofs.Common.{◌≡◌, ◌+◌, sym, ap, subst, ◌∙◌, arith}
 use Rattle.std.specs.Prelude.{None}
 use Rattle.std.specs.Result.{result_err}
-use Rattle.log_head.specs.Head.{HeadValue, IsHeadValue}
+use Rattle.log_head.specs.Head.{IsHeadValue}
 use Rattle.log_head.specs.Steps.{with_roll}
 use Rattle.master_core.specs.contracts.state.Core.{the_view}
 use Rattle.master_core.specs.declared.step.StepAnswer.TheVariants.{Rolling}

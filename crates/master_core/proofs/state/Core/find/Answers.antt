@@ -1,7 +1,5 @@
-use Rattle.std.proofs.Common.{◌≡◌, ℕ, List, sym, ap, subst, ◌∙◌}
-use Rattle.std.specs.Prelude.{Option}
+use Rattle.std.proofs.Common.{List, subst, ◌∙◌}
 use Rattle.entry.specs.declared.key.Key.{Key}
-use Rattle.entry.specs.declared.view.ObjectRef.{ObjectRef}
 use Rattle.entry.specs.View.{shown_key}
 use Rattle.versioned_map.specs.Command.{command_key}
 use Rattle.master_core.specs.contracts.state.Core.{the_view}

@@ -1,4 +1,4 @@
-use Rattle.std.proofs.Common.{◌≡◌, [], arith, rules, subst}
+use Rattle.std.proofs.Common.{◌≡◌, [], rules, subst}
 use Rattle.log_head.specs.Head.{HeadValue, IsHeadValue}
 use Rattle.log_head.specs.Steps.{fresh_head}
 use Rattle.log_model.specs.Steps.{first_start}

@@ -13,7 +13,6 @@ use Rattle.master_core.specs.declared.image.ClosedSegment.{ClosedSegment}
 use Rattle.master_core.specs.Data.{MasterData}
 use Rattle.master_core.specs.Images.{with_closed}
 use Rattle.master_core.specs.Invariant.{IsCore}
-use Rattle.master_core.specs.Steps.{closed_data, taken_data}
 use Rattle.master_core.proofs.Rolls.{taken_core, opened_core, closed_core}
 use Rattle.master_core.proofs.state.Core.took.Goals as goal
 
