@@ -34,7 +34,7 @@ takes_range least most _ = false
 abbrev pub obeys : NumberOption → Rule → Bool
 obeys o r = not (bytes_eq r.id o.name) || takes_range o.least o.most r.parser
 
--- the rules of a command take for an option its numbers alone, and its name is none that clap adds
+-- under the option's name the rules of a command take its numbers alone; the name is none that clap adds
 pub record IsOptionOf (o : NumberOption) (rules : List Rule) : Type 0 where
   pub obeyed : list_all (obeys o) rules ≡ true
   pub named : bytes_eq [] o.name ≡ false

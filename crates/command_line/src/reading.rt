@@ -35,8 +35,7 @@ fn command<'a>(alloc: Global) -> Result<Command<'a>, AllocError>
 pub fn options<'a>(alloc: Global, words: &'a [&'a str]) -> Result<Options, Error>
     // each field is the number of its option's entry in clap's matches, or the default without one
     ensures reads { IfOk result (HasOptions (ramlog_matches (texts words.entry.now))) }
-    // the words are taken only if clap finds no fault in them; the error is of the kind that clap finds, or memory ran
-    // out
+    // the words are taken only if clap finds no fault in them; the error is of the fault's kind, or memory ran out
     ensures refuses { FailsBy (ramlog_faults (texts words.entry.now)) result }
     // the program's name alone gives the defaults, unless memory runs out
     ensures bare { length words.entry.now ≡ 1 → IsDefault result }

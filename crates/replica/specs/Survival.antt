@@ -1,5 +1,4 @@
--- Which losses leave a master's log to a recovery. The layer above names the homes of a segment, where its replicas
--- belong.
+-- Which losses leave a master's log to a recovery. The layer above names the homes of a segment's replicas.
 use Rattle.std.specs.Prelude.{◌≡◌, ℕ, ◌<◌, ◌≤◌, ◌⊎◌, Bool, true, Some, IsSome, IsSomeAnd}
 use Rattle.entry.specs.Bag.{IsAmong}
 use Rattle.entry.specs.Text.{Opening, opening_in}

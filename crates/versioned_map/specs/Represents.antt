@@ -82,7 +82,7 @@ StatesGoOn = (st : State) (commands : List Command) (command : Command)
     → (after st (commands ++ command ∷ []) ≡ after_command (after st commands) command)
     × (replies st (commands ++ command ∷ []) ≡ replies st commands ++ reply_to (after st commands) command ∷ [])
 
--- Only the entries that the bag has count, not their order.
+-- Bags with the same entries, in any order, represent the same state.
 abbrev pub MembersRepresent : Type 0
 MembersRepresent = (recorded : ℕ) (bag other : List Entry) (st : State) → Represents recorded bag st
     → ((e : Entry) → among bag e ↔ among other e) → Represents recorded other st
