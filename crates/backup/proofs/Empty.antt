@@ -1,5 +1,6 @@
 -- Backups that hold nothing.
-use Rattle.std.proofs.Common.{◌≡◌, ℕ, zero, suc, List, [], ◌∷◌, ◌++◌, length, None, refl, subst, sym, ap, ◌+◌, ◌∙◌, length-append, arith}
+use Rattle.std.proofs.Common.{◌≡◌, ℕ, zero, suc, List, [], ◌∷◌, ◌++◌, length, None, refl}
+use Rattle.std.proofs.Common.{subst, sym, ap, ◌+◌, ◌∙◌, length-append, arith}
 use Rattle.replica.specs.Picture.{FleetState}
 use Rattle.replica.specs.Take.{no_limit}
 use Rattle.backup.specs.declared.memory.MemoryBackup.{MemoryBackup}
@@ -13,23 +14,29 @@ AreEmpty backups = (b m s : ℕ) → picture_of backups b m s ≡ None
 pub none_empty : AreEmpty []
 none_empty b m s = refl
 
-more_empty : (backups : List MemoryBackup) (x : MemoryBackup) → AreEmpty backups → ((m s : ℕ) → replica_at x m s ≡ None) → AreEmpty (backups ++ x ∷ [])
+more_empty : (backups : List MemoryBackup) (x : MemoryBackup) → AreEmpty backups → ((m s : ℕ) → replica_at x m s ≡ None)
+    → AreEmpty (backups ++ x ∷ [])
 more_empty [] x held fresh zero m s = fresh m s
 more_empty [] x held fresh (suc b) m s = refl
 more_empty (y ∷ ys) x held fresh zero m s = held zero m s
 more_empty (y ∷ ys) x held fresh (suc b) m s = more_empty ys x (λ c. held (suc c)) fresh b m s
 
-pub pushed_empty : (backups new : List MemoryBackup) (x : MemoryBackup) → new ≡ backups ++ x ∷ [] → AreEmpty backups → ((m s : ℕ) → replica_at x m s ≡ None) → AreEmpty new
+pub pushed_empty : (backups new : List MemoryBackup) (x : MemoryBackup) → new ≡ backups ++ x ∷ [] → AreEmpty backups
+    → ((m s : ℕ) → replica_at x m s ≡ None) → AreEmpty new
 pushed_empty backups new x is held fresh = subst AreEmpty (sym is) (more_empty backups x held fresh)
 
 -- what a fleet of such backups is
 abbrev fleet_of : List MemoryBackup → FleetState
-fleet_of backups = record { backups = length backups; picture = picture_of backups; takes = 0; end = no_limit; faults = 0 }
+fleet_of backups =
+    record { backups = length backups; picture = picture_of backups; takes = 0; end = no_limit; faults = 0 }
 
-pub empty_fleet : (n : ℕ) (backups : List MemoryBackup) → length backups ≡ n → AreEmpty backups → fleet_of backups ≡ new_fleet n
-empty_fleet n backups count empty = λ i. record { backups = count i; picture = λ b m s. empty b m s i; takes = 0; end = no_limit; faults = 0 }
+pub empty_fleet : (n : ℕ) (backups : List MemoryBackup) → length backups ≡ n → AreEmpty backups
+    → fleet_of backups ≡ new_fleet n
+empty_fleet n backups count empty =
+    λ i. record { backups = count i; picture = λ b m s. empty b m s i; takes = 0; end = no_limit; faults = 0 }
 
-pub pushed_count : (backups new : List MemoryBackup) (x : MemoryBackup) (n : ℕ) → new ≡ backups ++ x ∷ [] → length backups ≡ n → length new ≡ n + 1
+pub pushed_count : (backups new : List MemoryBackup) (x : MemoryBackup) (n : ℕ) → new ≡ backups ++ x ∷ []
+    → length backups ≡ n → length new ≡ n + 1
 pushed_count backups new x n is count =
     let longer : length new ≡ length backups + 1 = ap length is ∙ length-append backups (x ∷ []) in
     omega (arith, longer, count)

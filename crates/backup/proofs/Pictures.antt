@@ -1,5 +1,6 @@
 -- What a change of one backup makes of the picture.
-use Rattle.std.proofs.Common.{◌≡◌, ℕ, zero, suc, ◌+◌, ◌<◌, List, [], ◌∷◌, length, Bool, true, false, ◌==◌, ◌&&◌, cond, not, Option, None, Some, Err, Result, set, length-set, refl, sym, ◌∙◌, ap, ◌↔◌, arith}
+use Rattle.std.proofs.Common.{◌≡◌, ℕ, zero, suc, ◌+◌, ◌<◌, List, [], ◌∷◌, length, Bool, true, false, ◌==◌, ◌&&◌, cond}
+use Rattle.std.proofs.Common.{not, Option, None, Some, Err, Result, set, length-set, refl, sym, ◌∙◌, ap, ◌↔◌, arith}
 use mathlib.Core.Path.{fun_ext}
 use Rattle.std.specs.List.{slice_get}
 use Rattle.std.specs.Option.{IsSome}
@@ -17,7 +18,8 @@ use Rattle.backup.specs.Shelf.{replica_at}
 use Rattle.backup.specs.State.{replica_on, picture_of, lost}
 
 -- one backup becomes another
-pub slice_get-set : (backups : List MemoryBackup) (b : ℕ) (new : MemoryBackup) (c : ℕ) → b < length backups → slice_get (set backups b new) c ≡ cond (b == c) (Some new) (slice_get backups c)
+pub slice_get-set : (backups : List MemoryBackup) (b : ℕ) (new : MemoryBackup) (c : ℕ) → b < length backups
+    → slice_get (set backups b new) c ≡ cond (b == c) (Some new) (slice_get backups c)
 slice_get-set [] b new c within = absurd (omega arith)
 slice_get-set (x ∷ xs) zero new zero within = refl
 slice_get-set (x ∷ xs) zero new (suc c) within = rw (eqb-zero-suc c) refl
@@ -31,27 +33,33 @@ pub record Change (backups : List MemoryBackup) (b : ℕ) (old new : MemoryBacku
 
 at_tests : (backups : List MemoryBackup) (b : ℕ) (old new : MemoryBackup) (m s : ℕ) → Change backups b old new m s
     → (c n t : ℕ) (x y : Bool) → (b == c) ≡ x → ((m == n) && (s == t)) ≡ y
-    → replica_on (cond x (Some new) (slice_get backups c)) n t ≡ cond (x && y) (replica_at new m s) (replica_on (slice_get backups c) n t)
+    → replica_on (cond x (Some new) (slice_get backups c)) n t
+    ≡ cond (x && y) (replica_at new m s) (replica_on (slice_get backups c) n t)
 at_tests backups b old new m s change c n t false y e d = refl
 at_tests backups b old new m s change c n t true true e d =
     let tests = and_parts (m == n) (s == t) d in
-    ap (λ k. replica_at new k t) (sym (eqb-true m n tests.0)) ∙ ap (λ k. replica_at new m k) (sym (eqb-true s t tests.1))
+    ap (λ k. replica_at new k t) (sym (eqb-true m n tests.0))
+    ∙ ap (λ k. replica_at new m k) (sym (eqb-true s t tests.1))
 at_tests backups b old new m s change c n t true false e d =
     let same : b ≡ c = eqb-true b c e in
     rw (← same, change.is) (change.others n t d)
 
 changed_at : (backups : List MemoryBackup) (b : ℕ) (old new : MemoryBackup) (m s : ℕ) → Change backups b old new m s
-    → (c n t : ℕ) → picture_of (set backups b new) c n t ≡ with_replica (picture_of backups) b m s (replica_at new m s) c n t
+    → (c n t : ℕ) → picture_of (set backups b new) c n t
+    ≡ with_replica (picture_of backups) b m s (replica_at new m s) c n t
 changed_at backups b old new m s change c n t =
-    rw (slice_get-set backups b new c (slice_get_within backups b old change.is)) (at_tests backups b old new m s change c n t (b == c) ((m == n) && (s == t)) refl refl)
+    rw (slice_get-set backups b new c (slice_get_within backups b old change.is))
+    (at_tests backups b old new m s change c n t (b == c) ((m == n) && (s == t)) refl refl)
 
-pub picture_of-set : (backups : List MemoryBackup) (b : ℕ) (old new : MemoryBackup) (m s : ℕ) → Change backups b old new m s
+pub picture_of-set : (backups : List MemoryBackup) (b : ℕ) (old new : MemoryBackup) (m s : ℕ)
+    → Change backups b old new m s
     → picture_of (set backups b new) ≡ with_replica (picture_of backups) b m s (replica_at new m s)
 picture_of-set backups b old new m s change =
     fun_ext (λ c. fun_ext (λ n. fun_ext (λ t. changed_at backups b old new m s change c n t)))
 
 kept_at : (backups : List MemoryBackup) (b : ℕ) (old : MemoryBackup) (m s : ℕ) → slice_get backups b ≡ Some old
-    → (r : Option Replica) → r ≡ replica_at old m s → (c n t : ℕ) (x y : Bool) → (b == c) ≡ x → ((m == n) && (s == t)) ≡ y
+    → (r : Option Replica) → r ≡ replica_at old m s → (c n t : ℕ) (x y : Bool) → (b == c) ≡ x
+    → ((m == n) && (s == t)) ≡ y
     → cond (x && y) r (replica_on (slice_get backups c) n t) ≡ replica_on (slice_get backups c) n t
 kept_at backups b old m s is r same c n t false y e d = refl
 kept_at backups b old m s is r same c n t true false e d = refl
@@ -63,30 +71,36 @@ kept_at backups b old m s is r same c n t true true e d =
     rw (← here, is, ← master, ← segment) same
 
 unchanged_at : (backups : List MemoryBackup) (b : ℕ) (old new : MemoryBackup) (m s : ℕ) → Change backups b old new m s
-    → replica_at new m s ≡ replica_at old m s → (c n t : ℕ) → picture_of (set backups b new) c n t ≡ picture_of backups c n t
+    → replica_at new m s ≡ replica_at old m s → (c n t : ℕ)
+    → picture_of (set backups b new) c n t ≡ picture_of backups c n t
 unchanged_at backups b old new m s change same c n t =
-    changed_at backups b old new m s change c n t ∙ kept_at backups b old m s change.is (replica_at new m s) same c n t (b == c) ((m == n) && (s == t)) refl refl
+    changed_at backups b old new m s change c n t
+    ∙ kept_at backups b old m s change.is (replica_at new m s) same c n t (b == c) ((m == n) && (s == t)) refl refl
 
 -- a backup that becomes one with the same replicas changes nothing
-pub picture_of-same : (backups : List MemoryBackup) (b : ℕ) (old new : MemoryBackup) (m s : ℕ) → Change backups b old new m s
+pub picture_of-same : (backups : List MemoryBackup) (b : ℕ) (old new : MemoryBackup) (m s : ℕ)
+    → Change backups b old new m s
     → replica_at new m s ≡ replica_at old m s → picture_of (set backups b new) ≡ picture_of backups
-picture_of-same backups b old new m s change same = fun_ext (λ c. fun_ext (λ n. fun_ext (λ t. unchanged_at backups b old new m s change same c n t)))
+picture_of-same backups b old new m s change same =
+    fun_ext (λ c. fun_ext (λ n. fun_ext (λ t. unchanged_at backups b old new m s change same c n t)))
 
 -- a fleet with these backups and counts
 abbrev pub fleet_of : List MemoryBackup → ℕ → ℕ → ℕ → FleetState
-fleet_of backups takes end faults = record { backups = length backups; picture = picture_of backups; takes = takes; end = end; faults = faults }
+fleet_of backups takes end faults =
+    record { backups = length backups; picture = picture_of backups; takes = takes; end = end; faults = faults }
 
 emptied_at : (old : Option MemoryBackup) (new : MemoryBackup) (n t : ℕ) (x : Bool) → replica_at new n t ≡ None
     → replica_on (cond x (Some new) old) n t ≡ cond (not x) (replica_on old n t) None
 emptied_at old new n t false empty = refl
 emptied_at old new n t true empty = empty
 
-lost_at : (backups : List MemoryBackup) (b : ℕ) (new : MemoryBackup) → b < length backups → ((m s : ℕ) → replica_at new m s ≡ None)
+lost_at : (backups : List MemoryBackup) (b : ℕ) (new : MemoryBackup) → b < length backups
+    → ((m s : ℕ) → replica_at new m s ≡ None)
     → (c n t : ℕ) → picture_of (set backups b new) c n t ≡ left_on (λ d. not (b == d)) (picture_of backups) c n t
 lost_at backups b new within empty c n t =
     rw (slice_get-set backups b new c within) (emptied_at (slice_get backups c) new n t (b == c) (empty n t))
 
--- where the backup becomes one that holds nothing, the fleet has lost what it held
+-- if the backup becomes one that holds nothing, the fleet has lost what it held
 pub lost_by : (backups : List MemoryBackup) (b : ℕ) (new : MemoryBackup) (takes end faults : ℕ) → b < length backups
     → ((m s : ℕ) → replica_at new m s ≡ None)
     → fleet_of (set backups b new) takes end faults ≡ lost (fleet_of backups takes end faults) b
@@ -96,39 +110,66 @@ lost_by backups b new takes end faults within empty =
     rw (length-set, left) refl
 
 -- what the backup does is what the fleet does
-pub taken_by : (backups : List MemoryBackup) (b : ℕ) (old new : MemoryBackup) (op : OpValue) (takes end faults : ℕ) → Change backups b old new op.master op.segment
+pub taken_by : (backups : List MemoryBackup) (b : ℕ) (old new : MemoryBackup) (op : OpValue) (takes end faults : ℕ)
+    → Change backups b old new op.master op.segment
     → effect op.act (replica_at old op.master op.segment) ≡ Some (replica_at new op.master op.segment)
     → taken (fleet_of backups takes end faults) b op ≡ Some (fleet_of (set backups b new) (takes + 1) end faults)
 taken_by backups b old new op takes end faults change done =
-    rw (lt-ltb b (length backups) (slice_get_within backups b old change.is), change.is, done, length-set, picture_of-set backups b old new op.master op.segment change) refl
+    rw (
+      lt-ltb b (length backups) (slice_get_within backups b old change.is),
+      change.is,
+      done,
+      length-set,
+      picture_of-set backups b old new op.master op.segment change,
+    ) refl
 
--- where the op doesn't fit the backup's replica, it doesn't fit the fleet; and the other way round
-pub taken-effect : (backups : List MemoryBackup) (b : ℕ) (old : MemoryBackup) (op : OpValue) (takes end faults : ℕ) → slice_get backups b ≡ Some old
-    → taken (fleet_of backups takes end faults) b op ≡ with_effect (fleet_of backups takes end faults) b op (effect op.act (replica_at old op.master op.segment))
-taken-effect backups b old op takes end faults is = rw (lt-ltb b (length backups) (slice_get_within backups b old is), is) refl
+-- an op fits the fleet exactly if it fits the backup's replica
+pub taken-effect : (backups : List MemoryBackup) (b : ℕ) (old : MemoryBackup) (op : OpValue) (takes end faults : ℕ)
+    → slice_get backups b ≡ Some old
+    → taken (fleet_of backups takes end faults) b op
+    ≡ with_effect (fleet_of backups takes end faults) b op (effect op.act (replica_at old op.master op.segment))
+taken-effect backups b old op takes end faults is =
+    rw (lt-ltb b (length backups) (slice_get_within backups b old is), is) refl
 
 -- what the backup refuses, the fleet refuses
-pub refused_by : (backups : List MemoryBackup) (b : ℕ) (old new : MemoryBackup) (op : OpValue) (takes end faults : ℕ) (fault : TakeFault) → Change backups b old new op.master op.segment
+pub refused_by : (backups : List MemoryBackup) (b : ℕ) (old new : MemoryBackup) (op : OpValue) (takes end faults : ℕ)
+    (fault : TakeFault) → Change backups b old new op.master op.segment
     → Acts op.act (replica_at old op.master op.segment) (Err fault) (replica_at new op.master op.segment)
     → Refuses (fleet_of backups takes end faults) b op fault (fleet_of (set backups b new) takes end faults)
 refused_by backups b old new op takes end faults take_fault.NoMemory change acts =
     rw (length-set, picture_of-same backups b old new op.master op.segment change acts.1) refl
-refused_by backups b old new op takes end faults take_fault.Wrong change acts =
-    (taken-effect backups b old op takes end faults change.is ∙ ap (with_effect (fleet_of backups takes end faults) b op) acts.0, rw (length-set, picture_of-same backups b old new op.master op.segment change acts.1) refl)
+refused_by backups b old new op takes end faults take_fault.Wrong change acts = (
+  taken-effect backups b old op takes end faults change.is
+      ∙ ap (with_effect (fleet_of backups takes end faults) b op) acts.0,
+  rw (length-set, picture_of-same backups b old new op.master op.segment change acts.1) refl,
+)
 refused_by backups b old new op takes end faults take_fault.Fault change acts = absurd acts
 refused_by backups b old new op takes end faults take_fault.Spent change acts = absurd acts
 
-fits : (f : FleetState) (b : ℕ) (op : OpValue) (e : Option (Option Replica)) → IsSome e → with_effect f b op e ≡ None → ⊥
+fits : (f : FleetState) (b : ℕ) (op : OpValue) (e : Option (Option Replica)) → IsSome e → with_effect f b op e ≡ None
+    → ⊥
 fits f b op None some none = absurd (false≢true some)
 fits f b op (Some r) some none = (cc)
 
--- a fleet refuses an op as Wrong exactly where its backup does
-pub wrong_by : (backups : List MemoryBackup) (b : ℕ) (old new : MemoryBackup) (op : OpValue) (takes end faults : ℕ) (fault : TakeFault) → Change backups b old new op.master op.segment
+-- a fleet refuses an op as Wrong exactly if its backup does
+pub wrong_by : (backups : List MemoryBackup) (b : ℕ) (old new : MemoryBackup) (op : OpValue) (takes end faults : ℕ)
+    (fault : TakeFault) → Change backups b old new op.master op.segment
     → takes < end → Acts op.act (replica_at old op.master op.segment) (Err fault) (replica_at new op.master op.segment)
-    → ◌≡◌ {A = Result Unit TakeFault} (Err fault) (Err take_fault.Wrong) ↔ ((takes < end) × (taken (fleet_of backups takes end faults) b op ≡ None))
-wrong_by backups b old new op takes end faults take_fault.NoMemory change left acts =
-    (λ e. (cc), λ h. absurd (fits (fleet_of backups takes end faults) b op (effect op.act (replica_at old op.master op.segment)) acts.0 (sym (taken-effect backups b old op takes end faults change.is) ∙ h.1)))
-wrong_by backups b old new op takes end faults take_fault.Wrong change left acts =
-    (λ e. (left, taken-effect backups b old op takes end faults change.is ∙ ap (with_effect (fleet_of backups takes end faults) b op) acts.0), λ h. refl)
+    → ◌≡◌ {A = Result Unit TakeFault} (Err fault) (Err take_fault.Wrong)
+    ↔ ((takes < end) × (taken (fleet_of backups takes end faults) b op ≡ None))
+wrong_by backups b old new op takes end faults take_fault.NoMemory change left acts = (
+  λ e. (cc),
+  λ h. absurd (fits (fleet_of backups takes end faults) b op
+      (effect op.act (replica_at old op.master op.segment)) acts.0
+      (sym (taken-effect backups b old op takes end faults change.is) ∙ h.1)),
+)
+wrong_by backups b old new op takes end faults take_fault.Wrong change left acts = (
+  λ e. (
+    left,
+    taken-effect backups b old op takes end faults change.is
+        ∙ ap (with_effect (fleet_of backups takes end faults) b op) acts.0,
+  ),
+  λ h. refl,
+)
 wrong_by backups b old new op takes end faults take_fault.Fault change left acts = absurd acts
 wrong_by backups b old new op takes end faults take_fault.Spent change left acts = absurd acts

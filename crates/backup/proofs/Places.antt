@@ -5,7 +5,7 @@ use Rattle.std.specs.Cmp.{IsTotalOrder, unsigned_tied, tied_then, nat_cmp_total,
 use Rattle.std.proofs.lemmas.Map.Lookups.{CmpEqualImpliesEq, exact_pairs, exact_unsigned}
 use Rattle.backup.specs.Shelf.{place_cmp}
 
--- two places tie where both numbers are the same
+-- two places tie if both numbers are the same
 pub is_eq-place_cmp : (a b m s : ℕ) → is_eq (ordering_then (nat_cmp a m) (nat_cmp b s)) ≡ ((a == m) && (b == s))
 is_eq-place_cmp a b m s =
     let e : is_eq (nat_cmp a m) ≡ (a == m) = unsigned_tied a m in

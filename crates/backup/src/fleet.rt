@@ -83,7 +83,7 @@ impl Fleet for MemoryFleet {
 
     ghost state = { fleet_state };
 
-    /// Hands an op to a backup. Spent is answered before Wrong, and NoMemory only where the op fits. No take ends in a
+    /// Hands an op to a backup. Spent is answered before Wrong, and NoMemory only if the op fits. No take ends in a
     /// fault.
     fn take(&mut self, backup: u64, op: &Op<'_>) -> Result<(), TakeFault>
         ensures gives { TakeGives (fleet_state self.old) backup (shown_op op.now) result (fleet_state self.new) }

@@ -1,7 +1,7 @@
 //! Backups that hold replicas in memory.
 //!
-//! `MemoryFleet` keeps the promises of `replica::Fleet`, and never ends a take in a fault. `specs/State.antt` says what
-//! its backups hold as a picture.
+//! `MemoryFleet` keeps the promises of `replica::Fleet`, and never ends a take in a fault. `specs/State.antt` defines
+//! the picture of what its backups hold.
 #![tactic(auto)]
 
 mod fleet;

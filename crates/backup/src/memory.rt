@@ -26,7 +26,7 @@ impl MemoryBackup {
         }
     }
 
-    /// Does what an op asks. It is refused as Wrong where it doesn't fit, else as NoMemory.
+    /// Does what an op asks. The op is refused as Wrong if it doesn't fit, else as NoMemory.
     pub fn take(&mut self, alloc: Global, op: &Op<'_>) -> Result<(), TakeFault>
         ensures named { ActsAt (shown_act op.now.act) op.now.master op.now.segment self.old result self.new }
         ensures others { KeepsOthers op.now.master op.now.segment self.old self.new }

@@ -184,7 +184,7 @@ module _ (pass : Pass) (rest : List Place) (next head : ℕ) (no_victim : IsAmon
 
     module _ (is : Then [] st) (segment : ℕ) (k : Key)
         (named : (p : Place) → index k ≡ Some p → segment ≡ p.segment) where
-      -- a key that is absent then was so before, where this one is present
+      -- a key that is absent then was so before, if this one is present
       was_absent : (contents : Contents) (x : Versioned) (q : Key) → with_contents contents k (Some x) q ≡ None
           → (q ≡ k → ⊥) × (contents q ≡ None)
       was_absent contents x q none =

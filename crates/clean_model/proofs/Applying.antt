@@ -114,12 +114,13 @@ module _ (d : LogData) (m : Memory) (p : Picture) (segment : ℕ) (r : Record) (
       (texts_changed grown_log log.texts from m.pass n.index to.contents stage.tracked)
 
   around : IsAround (log_set_of e n log.texts) m.pass (state_of e).contents (state_of e).safe d.next
-  around = subst (λ (st : State). IsAround (log_set_of e n log.texts) m.pass st.contents st.safe d.next) state_is (record {
-    below = stage.below;
-    named_below = stage.named_below;
-    versions = λ k h s f l. stage.versions k h s f (told_in grown_log log.texts from s f l);
-    texted = texted;
-  })
+  around = subst (λ (st : State). IsAround (log_set_of e n log.texts) m.pass st.contents st.safe d.next) state_is
+      (record {
+        below = stage.below;
+        named_below = stage.named_below;
+        versions = λ k h s f l. stage.versions k h s f (told_in grown_log log.texts from s f l);
+        texted = texted;
+      })
 
   -- ---- survivors
 

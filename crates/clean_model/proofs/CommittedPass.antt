@@ -21,7 +21,7 @@ module _ (log : LogSet) (pass : Pass) (index : Index) (contents : Contents) (lef
   was_in : (s : ℕ) (e : Entry) → SegmentHas after s e → SegmentHas log s e
   was_in s e m = record { counts = less.from s m.counts; among = m.among }
 
-  -- a tombstone that names a segment that stays stands in one
+  -- a tombstone that names a segment that stays is in one
   grave_left : (t : TombstoneValue) → IsAmong t.segment log.ids → ImagesHave log.ids log.image (Tombstone t)
       → ImagesHave left log.image (Tombstone t)
   grave_left t named m = elim (among_tells m.0 pass.victims) [

@@ -30,7 +30,7 @@ module _ (log : LogSet) (pass : Pass) (index : Index) (contents : Contents) (fir
   later : (p : Place) → (first ≡ p → ⊥) → IsAmong p (first ∷ rest) → IsAmong p rest
   later p not m = elim m [ inl same ↦ absurd (not same) | inr l ↦ l ]
 
-  -- one entry stands there
+  -- one entry is there
   one_first : (e f : Entry) (p : Place) → IsFirst e → first ≡ p → StandsAt log.image p f → e ≡ f
   one_first e f p here same at =
       at_one (log.image first.segment) first.position e f here
@@ -76,7 +76,7 @@ module _ (log : LogSet) (pass : Pass) (index : Index) (contents : Contents) (fir
     was_at p f in_victim at = at_from log.image s _ p.segment p.position f
         (member_differs pass.victims p.segment s in_victim (open_pass.disjoint s survivor)) at
 
-  -- ---- an object that lives where the index says, moved
+  -- ---- a live object, at its place in the index, moved
 
   module _ (s : ℕ) (survivor : IsAmong s pass.survivors) (k : Key) (x : Versioned) (present : contents k ≡ Some x)
       (indexed : index k ≡ Some first) (moved : Index) (to : IsSet index moved k (Some (next_place log.image s))) where

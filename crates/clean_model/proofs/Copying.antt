@@ -11,7 +11,7 @@ use Rattle.entry.specs.declared.entry.Entry.{Entry}
 use Rattle.entry.specs.declared.entry.Entry.TheVariants.{Header, Digest, Safe, Object, Tombstone}
 use Rattle.entry.specs.Bag.{IsAmong}
 use Rattle.entry.specs.Meaning.{IsOfKey, version_of, object_at}
-use Rattle.versioned_map.proofs.Keys.{key_eq-tells}
+use Rattle.entry.proofs.KeyOrder.{key_eq_tells}
 use Rattle.replica.specs.Picture.{Picture}
 use Rattle.log_model.specs.Data.{Start, LogData, new_of, state_of}
 use Rattle.clean_model.specs.Compaction.{has, is_place}
@@ -30,11 +30,11 @@ use Rattle.clean_model.proofs.TrackedBags.{found_at, one_object}
 
 pub place_set : (index : Index) (k : Key) (x : Option Place) → IsSet index (with_place index k x) k x
 place_set index k x = record {
-  here = elim (key_eq-tells k k) as (λ _. with_place index k x k ≡ x) [
+  here = elim (key_eq_tells k k) as (λ _. with_place index k x k ≡ x) [
     | inl t ↦ (let e = t.0 in rw e refl)
     | inr f ↦ absurd (f.1 refl)
   ];
-  there = λ q other. elim (key_eq-tells q k) as (λ _. with_place index k x q ≡ index q) [
+  there = λ q other. elim (key_eq_tells q k) as (λ _. with_place index k x q ≡ index q) [
     | inl t ↦ absurd (other t.1)
     | inr f ↦ (let e = f.0 in rw e refl)
   ];

@@ -116,7 +116,7 @@ module _ (log new : LogSet) (more : IsMore log new) where
           (elim b.names [ inl e ↦ inl e | inr c ↦ inr (recopied s b.grave.segment o c) ]);
     }
 
-    -- where no victim's tombstone names what comes
+    -- no victim's tombstone names what comes
     pub more_passing : (index : Index) (rest : List Place) → IsPassing log.ids log.image pass index rest
         → ((p : Place) (t : TombstoneValue) → IsAmong p.segment pass.victims
         → StandsAt log.image p (Tombstone t) → IsAmong t.segment new.ids

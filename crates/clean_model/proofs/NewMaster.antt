@@ -24,7 +24,8 @@ module _ (c : LogConfig) (p : Picture) (may : MayBegin c p) where
   one : (s : ℕ) → IsAmong s (log_ids (fresh c) (first_memory c)) → 1 ≡ s
   one s l = elim l [ inl same ↦ same | inr never ↦ absurd never ]
 
-  no_entry : (s : ℕ) (e : Entry) (k : Key) → IsOfKey k e → SegmentHas (log_set_of (fresh c) (first_memory c) log.texts) s e
+  no_entry : (s : ℕ) (e : Entry) (k : Key) → IsOfKey k e
+      → SegmentHas (log_set_of (fresh c) (first_memory c) log.texts) s e
       → ⊥
   no_entry s e k at m = elim m.among as (λ _. ⊥) [
     | inl a ↦ no_keys c.master first_start e k a at

@@ -28,7 +28,7 @@ use Rattle.clean_model.proofs.SealedSurvivors.{still_sealed, none_sealed}
 use Rattle.clean_model.proofs.CommittedPass.{committed}
 use Rattle.clean_model.proofs.Premises.{IsLess}
 
--- where the log holds the same texts, and survivors' replicas are as they were
+-- the log holds the same texts, and survivors' replicas are as they were
 module _ (d : LogData) (m : Memory) (p q : Picture) (i : IsIntact d m p)
     (same : (c s : ℕ) → IsAmong s m.pass.survivors → q c d.config.master s ≡ p c d.config.master s) where
   abbrev log : LogSet

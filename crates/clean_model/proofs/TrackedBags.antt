@@ -8,7 +8,7 @@ use Rattle.entry.specs.declared.entry.Entry.TheVariants.{Object, Tombstone}
 use Rattle.entry.specs.Bag.{IsAmong}
 use Rattle.entry.specs.Meaning.{Versioned, Contents, IsOfKey, object_at, IsMeaning, IsClean}
 use Rattle.versioned_map.specs.Membership.{IsMeaningBy}
-use Rattle.versioned_map.proofs.Keys.{key_eq-tells}
+use Rattle.entry.proofs.KeyOrder.{key_eq_tells}
 use Rattle.versioned_map.proofs.Meanings.{from_membership}
 use Rattle.clean_model.specs.Memory.{Place, Index, Images, LogSet, Pass, ImageHas, ImagesHave, SegmentHas, LogHas}
 use Rattle.clean_model.specs.Memory.{StandsAt}
@@ -28,7 +28,7 @@ pub of_other : (k q : Key) (f : Entry) → k ≡ q → IsOfKey k f → IsOfKey q
 of_other k q f same at = subst (λ (z : Key). IsOfKey z f) same at
 
 pub key_tells : (a b : Key) → (a ≡ b) ⊎ (a ≡ b → ⊥)
-key_tells a b = elim (key_eq-tells a b) [ inl h ↦ inl h.1 | inr h ↦ inr h.1 ]
+key_tells a b = elim (key_eq_tells a b) [ inl h ↦ inl h.1 | inr h ↦ inr h.1 ]
 
 pub object_is : (o : ObjectValue) (k : Key) (x : Versioned) → o.key ≡ k → o.version ≡ x.version → o.value ≡ x.value
     → Object o ≡ object_at k x
@@ -40,7 +40,7 @@ one_object o p same = cc
 pub one_object_key : (o p : ObjectValue) → Object o ≡ Object p → o.key ≡ p.key
 one_object_key o p same = ap (λ (z : ObjectValue). z.key) (one_object o p same)
 
--- an object that is buried is so elsewhere, where its tombstone stands and names what it may
+-- an object that is buried is so elsewhere, if its tombstone is there and names what it may
 pub buried_again : (ids more : List ℕ) (image other : Images) (pass next : Pass) (s : ℕ) (o : ObjectValue)
     (b : IsBuried ids image pass s o) → ImagesHave more other (Tombstone b.grave)
     → ((b.grave.segment ≡ s) ⊎ IsCopied other next s b.grave.segment o) → IsBuried more other next s o

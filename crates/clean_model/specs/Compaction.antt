@@ -17,7 +17,7 @@ abbrev pub is_place : Option Place → ℕ → ℕ → Bool
 is_place None s i = false
 is_place (Some p) s i = (p.segment == s) && (p.position == i)
 
--- An object is kept where the index names its place, a tombstone where the segment that it names is in the log set; an
+-- An object is kept if the index names its place, a tombstone if the segment that it names is in the log set. An
 -- opening stays.
 abbrev pub kept : List ℕ → Index → ℕ → ℕ → Entry → Bool
 kept ids index s i (entry.Header h) = true
@@ -41,7 +41,7 @@ kept_before ids index s i (e ∷ es) zero = 0
 kept_before ids index s i (e ∷ es) (suc n) =
     if kept ids index s i e then suc (kept_before ids index s (suc i) es n) else kept_before ids index s (suc i) es n
 
--- where what stood at a place stands after compaction of a segment with these entries
+-- the place that an entry has after compaction of a segment with these entries, from the place that it had
 abbrev pub moved_place : List ℕ → Index → ℕ → List Entry → Option Place → Option Place
 moved_place ids index s es None = None
 moved_place ids index s es (Some p) =

@@ -69,7 +69,7 @@ abbrev pub IsCleanRun : CleanWorld → List CleanEvent → CleanWorld → Type 0
 IsCleanRun w [] v = v ≡ w
 IsCleanRun w (e ∷ es) v = (u : CleanWorld) × CleanBecomes e w u × IsCleanRun u es v
 
--- What is told of a stop: memory and backups are covered, the picture is sound, and what is durable is on the backups.
+-- What holds at a stop: memory and backups are covered, the picture is sound, and what is durable is on the backups.
 pub record IsCleanStop (w : CleanWorld) : Type 0 where
   pub covered : IsCovered w.knows w.memory w.picture
   pub sound : IsSound w.knows w.picture
@@ -79,7 +79,7 @@ pub record IsCleanStop (w : CleanWorld) : Type 0 where
 
 -- ---- laws
 
--- All is intact after each list of events, in any order, where it was before.
+-- All is intact after each list of events, in any order, if it was before.
 abbrev pub RunsStayIntact : Type 0
 RunsStayIntact = (w v : CleanWorld) (es : List CleanEvent) → IsIntact w.knows w.memory w.picture → IsCleanRun w es v
     → IsIntact v.knows v.memory v.picture

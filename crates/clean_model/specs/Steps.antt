@@ -41,7 +41,7 @@ compacted d m s = record m {
   index = moved_index (log_ids d m) m.images m.index s;
 }
 
--- A segment of the log set is compacted, where no pass has it.
+-- A segment of the log set is compacted; no pass has it.
 pub record MayCompact (d : LogData) (m : Memory) (s : ℕ) : Type 0 where
   pub counts : IsAmong s (log_ids d m)
   pub no_survivor : IsAmong s m.pass.survivors → ⊥
@@ -95,12 +95,12 @@ is_copied ids index p (entry.Tombstone t) = kept ids index p.segment p.position 
 abbrev pub with_copy : Memory → List Place → ℕ → Entry → Memory
 with_copy m rest s e = record m { images = grown m.images s e; index = index_moved m s e; rest = rest }
 
--- memory once the entry at the cursor is copied where it is kept, or passed over where it isn't
+-- memory once the entry at the cursor is copied if it is kept, and else passed over
 abbrev pub copy_done : LogData → Memory → Place → List Place → ℕ → Entry → Memory
 copy_done d m first rest s e =
     if is_copied (log_ids d m) m.index first e then with_copy m rest s e else record m { rest = rest }
 
--- The cursor stands before the entry, of a victim, and this is a survivor.
+-- The cursor is before the entry, a victim's, and this is a survivor.
 pub record MayCopy (d : LogData) (m : Memory) (first : Place) (rest : List Place) (s : ℕ) (e : Entry) : Type 0 where
   pub cursor : m.rest ≡ first ∷ rest
   pub victim : IsAmong first.segment m.pass.victims
@@ -134,7 +134,7 @@ recorded d m segment r = record m {
   index = index_with m.images m.index d.head.start.id (unit_now d segment r);
 }
 
--- the segment that a tombstone names is that where the index finds the object
+-- the segment that a tombstone names is where the index finds the object
 abbrev pub IsNamed : Memory → ℕ → Record → Type 0
 IsNamed m segment r = (p : Place) → m.index (command_key r.command) ≡ Some p → segment ≡ p.segment
 
@@ -182,7 +182,7 @@ pub record MayCommit (d : LogData) (m : Memory) (n : Start) : Type 0 where
 abbrev pub finished : Memory → Memory
 finished m = record m { pass = no_pass; commits = false; waiting = m.pass.victims ++ m.waiting }
 
--- memory by the new head before an op and after it: where a roll has ended that was a commit, the pass has ended
+-- memory after an op, by the new head before and after it: if a commit's roll has ended, so has its pass
 abbrev pub ended : Option Start → Option Start → Memory → Memory
 ended (Some n) None m = if m.commits then finished m else m
 ended (Some n) (Some x) m = m

@@ -1,5 +1,6 @@
 -- What a parse of a command gives for an option whose value is a number in a range.
-use Rattle.std.proofs.Common.{◌&&◌, ◌||◌, ◌==◌, ◌≡◌, ◌∙◌, ◌<◌, ap, ap₂, not, ℕ, Bool, true, false, List, [], ◌∷◌, length, map, Option, Some, None, refl, sym, subst, inl, inr, arith, codes}
+use Rattle.std.proofs.Common.{◌&&◌, ◌||◌, ◌==◌, ◌≡◌, ◌∙◌, ◌<◌, ap, ap₂, not, ℕ, Bool, true, false, List, [], ◌∷◌}
+use Rattle.std.proofs.Common.{length, map, Option, Some, None, refl, sym, subst, inl, inr, arith, codes}
 use Rattle.std.specs.Prelude.{option_map, slice_get, unwrap_or}
 use Rattle.std.specs.Borrow.{Bor}
 use Rattle.std.specs.List.{All, list_all, slice_index_or}
@@ -12,7 +13,8 @@ use Rattle.std.proofs.lemmas.Slice.Eq.{bytes_eq-Decides}
 use Rattle.clap.specs.Built.{IsAuto, SameRules}
 use Rattle.clap.specs.Facts.{Entry, EntryPasses, PassesArg, parser_of_value}
 use Rattle.clap.specs.Values.{IsUnsignedIn}
-use Rattle.clap.specs.Words.{Accepts, App, IsParsedFrom, Rule, Text, args_of, found_of, groups_of, matched_of, one_text, parser_of, read_as, reading_of, rule_of}
+use Rattle.clap.specs.Words.{Accepts, App, IsParsedFrom, Rule, Text, args_of, found_of, groups_of}
+use Rattle.clap.specs.Words.{matched_of, one_text, parser_of, read_as, reading_of, rule_of}
 use Rattle.clap.specs.declared.builder.arg.Arg.{Arg}
 use Rattle.clap.specs.declared.builder.command.Command.{Command}
 use Rattle.clap.specs.declared.builder.value_parser.Reading.{Reading}
@@ -32,15 +34,15 @@ takes_range least most _ = false
 abbrev pub obeys : NumberOption → Rule → Bool
 obeys o r = not (bytes_eq r.id o.name) || takes_range o.least o.most r.parser
 
--- what the rules of a command say of an option: no rule of its name takes anything else, and it is
--- none of the names that clap adds
+-- under the option's name the rules of a command take its numbers alone; the name is none that clap adds
 pub record IsOptionOf (o : NumberOption) (rules : List Rule) : Type 0 where
   pub obeyed : list_all (obeys o) rules ≡ true
   pub named : bytes_eq [] o.name ≡ false
   pub not_help : bytes_eq (codes "help") o.name ≡ false
   pub not_version : bytes_eq (codes "version") o.name ≡ false
 
-range_is : (least most : ℕ) (p : Option ValueParser) → takes_range least most p ≡ true → p ≡ Some (parser.Unsigned least most)
+range_is : (least most : ℕ) (p : Option ValueParser) → takes_range least most p ≡ true
+    → p ≡ Some (parser.Unsigned least most)
 range_is least most (Some (parser.Unsigned low high)) h =
     let both = and_parts (low == least) (high == most) h in
     ap₂ (λ a b. Some (parser.Unsigned a b)) (eqb-true low least both.0) (eqb-true high most both.1)
@@ -127,7 +129,8 @@ entry_number c o no_groups named all e name pass t is =
     written = elim pass.4 [
       | inl group ↦ absurd (no_group group)
       | inr any ↦
-          let same : bytes_eq any.1.id.now o.name ≡ true = subst (λ (w : Text). bytes_eq any.1.id.now w ≡ true) name any.4.0 in
+          let same : bytes_eq any.1.id.now o.name ≡ true =
+          subst (λ (w : Text). bytes_eq any.1.id.now w ≡ true) name any.4.0 in
           let range : parser_of any.1 ≡ parser.Unsigned o.least o.most =
           ap parser_of_value (all any.0 any.1 any.2 any.3 same) in
           sym any.4.1 ∙ ap reading_of range
@@ -149,4 +152,5 @@ text_number app c m p is o has t read = go (matched_of (found_of m) o.name) refl
         let text : option_map (λ v. read_as x.reading v.now) (slice_get x.vals.items 0) ≡ Some t = rw found at read in
         entry_number p.built o (p.from.plain is.plain).1 has.named (all_take app c m p is o has)
         got.0 ((bytes_eq-Decides got.0.0.now o.name).0 got.2) got.3 t
-        (subst (λ (y : MatchedArg). option_map (λ v. read_as y.reading v.now) (slice_get y.vals.items 0) ≡ Some t) (sym got.1) text)
+        (subst (λ (y : MatchedArg). option_map (λ v. read_as y.reading v.now) (slice_get y.vals.items 0) ≡ Some t)
+        (sym got.1) text)

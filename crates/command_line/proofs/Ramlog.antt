@@ -1,5 +1,6 @@
 -- The program's command: how it grows, that clap's exact rules apply to it, and what its options are.
-use Rattle.std.proofs.Common.{◌||◌, ◌≡◌, ◌∙◌, ap, ap₂, true, false, [], ◌∷◌, inl, inr, length, ℕ, List, Option, Some, None, refl, sym, subst, arith, drop, ◌+◌, ◌<◌, ◌≤◌, slice_index_or, codes}
+use Rattle.std.proofs.Common.{◌||◌, ◌≡◌, ◌∙◌, ap, ap₂, true, false, [], ◌∷◌, inl, inr, length, ℕ, List, Option, Some}
+use Rattle.std.proofs.Common.{None, refl, sym, subst, arith, drop, ◌+◌, ◌<◌, ◌≤◌, slice_index_or, codes}
 use Rattle.std.proofs.lemmas.List.{at_drop_more, drop_all}
 use Rattle.std.proofs.lemmas.List.Elements.{All-nil}
 use Rattle.std.specs.Prelude.{Ok, Err, IsErr, Result, unwrap_or}
@@ -11,15 +12,20 @@ use Rattle.std.specs.List.{All, fold}
 use Rattle.clap.specs.Simple.{app_of_fields}
 use Rattle.clap.specs.declared.builder.command.Command.TheOpen.{Command-F}
 use Rattle.clap.specs.declared.builder.command.Command.TheViews.{out-Command}
-use Rattle.clap.specs.Words.{AddsArg, App, FailsBy, HasKind, HasMatchesOf, IsParsedFrom, IsPlain, IsPlainArg, Kinds, Row, Text, app_of, args_of, fault_of, found_of, groups_of, is_simple, is_simple_and_free, matches_of, new_app, one_of, one_text, rule_of, with_rule}
+use Rattle.clap.specs.Words.{AddsArg, App, FailsBy, HasKind, HasMatchesOf, IsParsedFrom, IsPlain, IsPlainArg}
+use Rattle.clap.specs.Words.{Kinds, Row, Text, app_of, args_of, fault_of, found_of, groups_of, is_simple}
+use Rattle.clap.specs.Words.{is_simple_and_free, matches_of, new_app, one_of, one_text, rule_of, with_rule}
 use Rattle.clap.specs.declared.builder.arg.Arg.{Arg}
 use Rattle.clap.specs.declared.builder.command.Command.{Command}
 use Rattle.clap.specs.declared.parser.matches.ArgMatches.{ArgMatches}
 use Rattle.clap.proofs.CallerLemmas.{added_plain}
 use Rattle.clap.proofs.OnLiterals.{clap_on_literals}
 use Rattle.clap.proofs.WalkLemmas.{one_text-rows}
-use Rattle.command_line.specs.CommandLine.{HasNumber, HasOptions, IsCommand, IsDefault, IsNumberIn, NumberOption, ReadsNumber, default_options, number_rule, ramlog, with_version, ramlog_faults, ramlog_matches}
-use Rattle.command_line.specs.CommandLine.{backups, replicas, step, segment, seglet, seglets, tables, history, bytes, objects}
+use Rattle.command_line.specs.CommandLine.{HasNumber, HasOptions, IsCommand, IsDefault, IsNumberIn}
+use Rattle.command_line.specs.CommandLine.{NumberOption, ReadsNumber, default_options, number_rule}
+use Rattle.command_line.specs.CommandLine.{ramlog, with_version, ramlog_faults, ramlog_matches}
+use Rattle.command_line.specs.CommandLine.{backups, replicas, step, segment, seglet, seglets}
+use Rattle.command_line.specs.CommandLine.{tables, history, bytes, objects}
 use Rattle.command_line.specs.declared.number_option.NumberOption as code
 use Rattle.command_line.specs.declared.settings.Options.{Options}
 use Rattle.command_line.proofs.Numbers.{IsOptionOf, text_number}
@@ -66,13 +72,16 @@ pub record Growing (c : Command) (left : List code.NumberOption) : Type 0 where
 
 pub growing : (old new : Command) (a : Arg) (options : List code.NumberOption) (i : ℕ) (o : code.NumberOption)
     → Growing old (drop i options) → i < length options → AddsArg old a new
-    → rule_of a ≡ number_rule (slice_index_or options i o).name.now (slice_index_or options i o).least (slice_index_or options i o).most
+    → rule_of a ≡ number_rule (slice_index_or options i o).name.now (slice_index_or options i o).least
+    (slice_index_or options i o).most
     → IsPlainArg a → a.global ≡ false → Growing new (drop (i + 1) options)
 growing old new a options i o is under added rule plain local =
     let next = slice_index_or options i o in
     let left = at_drop_more (fold with_listed (app_of old)) options i o under in
     record {
-      shape = ap (λ app. fold with_listed app (drop (i + 1) options)) (added.shape local ∙ ap (with_rule (app_of old)) rule) ∙ (sym left ∙ is.shape);
+      shape =
+          ap (λ app. fold with_listed app (drop (i + 1) options)) (added.shape local ∙ ap (with_rule (app_of old)) rule)
+          ∙ (sym left ∙ is.shape);
       plain = added_plain old new a added is.plain plain;
       local = added.globals ∙ ap₂ (λ b d. b || d) is.local local;
     }
@@ -89,7 +98,8 @@ grown c options i is over =
 
 -- the command before its options
 pub opening : (new old : Command) (t : Texts) (options : List code.NumberOption)
-    → app_of old ≡ new_app (codes "ramlog") → (args_of old ≡ []) × (groups_of old ≡ []) → (out-Command old).has_globals ≡ false
+    → app_of old ≡ new_app (codes "ramlog") → (args_of old ≡ []) × (groups_of old ≡ [])
+    → (out-Command old).has_globals ≡ false
     → out-Command new ≡ with_texts (out-Command old) t
     → fold with_listed (with_version (new_app (codes "ramlog"))) options ≡ ramlog → Growing new options
 opening new old t options app empty local same whole = record {
@@ -118,7 +128,8 @@ pub is_free : (c : Command) → IsCommand ramlog c → is_simple_and_free (app_o
 is_free c is = ap is_simple_and_free is.shape ∙ is_free_ramlog
 
 -- and they are the program's
-pub faults_are : (c : Command) (words : List Text) → IsCommand ramlog c → fault_of (app_of c) words ≡ ramlog_faults words
+pub faults_are : (c : Command) (words : List Text) → IsCommand ramlog c
+    → fault_of (app_of c) words ≡ ramlog_faults words
 unfolding ramlog_faults
 faults_are c words is = ap (λ a. fault_of a words) is.shape
 
@@ -127,16 +138,19 @@ text_is : (c : Command) (m : ArgMatches) (words : List Text) → IsCommand ramlo
     → (name : Text) → one_text (found_of m) name ≡ one_of name (ramlog_matches words)
 unfolding ramlog_matches
 text_is c m words is has name =
-    one_text-rows (found_of m) name ∙ ap (one_of name) ((has (ap is_simple is.shape ∙ is_simple_ramlog)).0 ∙ ap (λ a. matches_of a words) is.shape)
+    one_text-rows (found_of m) name
+    ∙ ap (one_of name) ((has (ap is_simple is.shape ∙ is_simple_ramlog)).0 ∙ ap (λ a. matches_of a words) is.shape)
 
 -- the number that is read of an option is its number in the exact matches
 pub has_number : (c : Command) (m : ArgMatches) (words : List Text) → IsCommand ramlog c → IsParsedFrom c m
     → HasMatchesOf (app_of c) words m → (o : NumberOption) → IsOptionOf o ramlog.top.rules
     → (n : ℕ) → ReadsNumber o.default (one_text (found_of m) o.name) n → HasNumber o (ramlog_matches words) n
 has_number c m words is p has o known n number =
-    go (one_text (found_of m) o.name) (one_of o.name (ramlog_matches words)) refl (text_is c m words is has o.name) number
+    go (one_text (found_of m) o.name) (one_of o.name (ramlog_matches words)) refl (text_is c m words is has o.name)
+    number
   where
-    go : (read text : Option Text) → one_text (found_of m) o.name ≡ read → read ≡ text → ReadsNumber o.default read n → IsNumberIn o text n
+    go : (read text : Option Text) → one_text (found_of m) o.name ≡ read → read ≡ text → ReadsNumber o.default read n
+        → IsNumberIn o text n
     go None None e same h = h
     go None (Some u) e same h = cc
     go (Some t) None e same h = cc
@@ -198,16 +212,29 @@ no_faults w = refl
 
 -- options without matches are the defaults
 are_defaults : (o : Options) → HasOptions [] o → o ≡ default_options
-are_defaults o has = rw (has.backups, has.replicas, has.step, has.segment, has.seglet, has.seglets, has.tables, has.history, has.bytes, has.objects) refl
+are_defaults o has =
+    rw (
+      has.backups,
+      has.replicas,
+      has.step,
+      has.segment,
+      has.seglet,
+      has.seglets,
+      has.tables,
+      has.history,
+      has.bytes,
+      has.objects,
+    ) refl
 
 -- so the name alone gives the defaults
-pub bare_options : (words : List (Bor Text)) (o : Options) → length words ≡ 1 → HasOptions (ramlog_matches (texts words)) o
+pub bare_options : (words : List (Bor Text)) (o : Options) → length words ≡ 1
+    → HasOptions (ramlog_matches (texts words)) o
     → o ≡ default_options
 bare_options (w ∷ []) o one has = are_defaults o (subst (λ (rows : List Row). HasOptions rows o) (no_matches w.now) has)
 bare_options [] o one has = absurd (omega arith)
 bare_options (v ∷ w ∷ words) o one has = absurd (omega arith)
 
--- and is refused for want of memory alone
+-- and is refused only if memory runs out
 pub bare_refusal : (words : List (Bor Text)) (r : Result Options Error) → length words ≡ 1 → IsErr r
     → FailsBy (ramlog_faults (texts words)) r → IsDefault r
 bare_refusal (w ∷ []) (Err e) one err fails = elim (subst (λ (k : Kinds). HasKind k e) (no_faults w.now) fails) [

@@ -1,10 +1,12 @@
 -- The command line: which options there are, what number each one has, and which words are refused.
-use Rattle.std.specs.Prelude.{◌≡◌, ◌<◌, ◌≤◌, ◌^◌, ℕ, List, [], ◌∷◌, Option, Some, None, Result, MatchResult, codes, true, false}
+use Rattle.std.specs.Prelude.{◌≡◌, ◌<◌, ◌≤◌, ◌^◌, ℕ, List, [], ◌∷◌, Option, Some}
+use Rattle.std.specs.Prelude.{None, Result, MatchResult, codes, true, false}
 use Rattle.std.specs.List.{fold}
 use Rattle.std.specs.Str.Parse.{IsNumeral, digits_value, without_leading_plus}
 use Rattle.clap.specs.declared.builder.command.Command.{Command}
 use Rattle.clap.specs.declared.builder.command.Command.TheViews.{out-Command}
-use Rattle.clap.specs.Words.{App, IsPlain, Kinds, Row, Rule, Text, app_of, fault_of, kind_of, matches_of, new_app, new_rule, one_of, with_rule}
+use Rattle.clap.specs.Words.{App, IsPlain, Kinds, Row, Rule, Text, app_of, fault_of, kind_of}
+use Rattle.clap.specs.Words.{matches_of, new_app, new_rule, one_of, with_rule}
 use Rattle.clap.specs.declared.builder.ArgAction.TheVariants.{Set}
 use Rattle.clap.specs.declared.builder.value_parser.ValueParser.TheVariants as parser
 use Rattle.clap.specs.declared.error.Error.{Error}
@@ -74,11 +76,11 @@ ramlog = fold with_option (with_version (new_app (codes "ramlog")))
 unfoldable pub ramlog_matches : List Text → List Row
 ramlog_matches words = matches_of ramlog words
 
--- the kinds of error with which clap refuses the words: none where it takes them
+-- the kinds of error with which clap refuses the words: none if it takes them
 unfoldable pub ramlog_faults : List Text → Kinds
 ramlog_faults words = fault_of ramlog words
 
--- n is the number that the option's text writes, in its range, or its default where there is no text
+-- n is the number that the option's text writes, in its range, or its default if there is no text
 abbrev pub IsNumberIn : NumberOption → Option Text → ℕ → Type 0
 IsNumberIn option None n = n ≡ option.default
 IsNumberIn option (Some text) n = IsNumeral 10 (without_leading_plus text)
@@ -124,7 +126,7 @@ default_options = record {
 abbrev pub IsDefault : Result Options Error → Type 0
 IsDefault result = MatchResult result (λ o. o ≡ default_options) (λ e. kind_of e ≡ OutOfMemory)
 
--- n is the number that the text writes, where it writes one of 64 bits, or the default where there is no text
+-- n is the number that the text writes, if it writes one of 64 bits, or the default if there is no text
 abbrev pub ReadsNumber : ℕ → Option Text → ℕ → Type 0
 ReadsNumber default None n = n ≡ default
 ReadsNumber default (Some text) n = IsNumeral 10 (without_leading_plus text)

@@ -1,4 +1,4 @@
-//! What the help says beside the options.
+//! What the help shows beside the options.
 
 /// The version that `--version` prints.
 pub(crate) const VERSION: &str = "0.1.0";

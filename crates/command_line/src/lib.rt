@@ -1,5 +1,5 @@
-//! The command line of the program: ten options that each take a number. `options` reads them from the words, and its
-//! contract says which numbers they have and when the words are refused. The crate uses `clap` alone.
+//! The command line of the program: ten options that each take a number. `options` reads them from the words; its
+//! contract gives their numbers, and when the words are refused. The crate uses `clap` alone.
 #![tactic(auto)]
 
 mod help;

@@ -117,7 +117,7 @@ impl NumberOption {
             .help(self.help)
     }
 
-    /// The option's number, or its default where the words don't name it.
+    /// The option's number, or its default if the words don't name it.
     pub(crate) fn number(self, matches: &ArgMatches<'_>) -> u64
         ensures { ReadsNumber self.default (one_text (found_of matches.now) self.name.now) result }
     {

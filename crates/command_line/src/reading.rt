@@ -30,13 +30,12 @@ fn command<'a>(alloc: Global) -> Result<Command<'a>, AllocError>
 
 /// Reads the words of the command line, of which the first is the program's name and isn't read.
 ///
-/// The error is clap's: its text is what the program prints, and its exit code is 2, or 0 if `--help` or `--version` was
-/// asked for.
+/// The error is clap's: its text is what the program prints, and its exit code is 2, or 0 if `--help` or `--version`
+/// was asked for.
 pub fn options<'a>(alloc: Global, words: &'a [&'a str]) -> Result<Options, Error>
     // each field is the number of its option's entry in clap's matches, or the default without one
     ensures reads { IfOk result (HasOptions (ramlog_matches (texts words.entry.now))) }
-    // the words are taken only where clap finds no fault in them; the error is of the kind that it
-    // finds, or says that memory ran out
+    // the words are taken only if clap finds no fault in them; the error is of the fault's kind, or memory ran out
     ensures refuses { FailsBy (ramlog_faults (texts words.entry.now)) result }
     // the program's name alone gives the defaults, unless memory runs out
     ensures bare { length words.entry.now ≡ 1 → IsDefault result }

@@ -1,6 +1,6 @@
 //! What a run of the program is set to.
 
-/// What the command line says.
+/// The numbers of the options.
 #[derive(Clone, Copy, PartialEq, Eq)]
 pub struct Options {
     /// How many backups the fleet has. From 1 to 64, 3 by default.

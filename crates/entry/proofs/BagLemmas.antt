@@ -1,20 +1,22 @@
 -- Members of lists.
-use Rattle.std.proofs.Common.{◌≡◌, ℕ, zero, suc, ◌<◌, List, [], ◌∷◌, ◌++◌, length, map, get_or, refl, sym, ap, ◌⊎◌, inl, inr, arith}
+use Rattle.std.proofs.Common.{◌≡◌, ℕ, zero, suc, ◌<◌, List, [], ◌∷◌, ◌++◌, length}
+use Rattle.std.proofs.Common.{map, get_or, refl, sym, ap, ◌⊎◌, inl, inr, arith}
 use Rattle.std.specs.Prelude.{Contains}
 use Rattle.std.specs.List.Sorted.{IsPermutation}
-use Rattle.std.proofs.lemmas.List.Elements.{Contains-append_left, Contains-append_right, Contains-append_cases, Contains-push_cases}
+use Rattle.std.proofs.lemmas.List.Elements.{Contains-append_left, Contains-append_right, Contains-append_cases}
+use Rattle.std.proofs.lemmas.List.Elements.{Contains-push_cases}
 use Rattle.std.proofs.lemmas.List.Sorted.{Contains-permutation}
 use Rattle.entry.specs.Bag.{IsAmong}
 
 -- ---- places
 
--- a member stands at some place
+-- a member is at some place
 pub among_place : {X : Type 0} (x : X) (xs : List X) → IsAmong x xs → Contains xs x
 among_place x [] m = absurd m
 among_place x (y ∷ ys) (inl e) = (0, omega arith, e)
 among_place x (y ∷ ys) (inr m) = let at = among_place x ys m in let lt = at.1 in (suc at.0, omega arith, at.2)
 
--- what stands at a place is a member
+-- what is at a place is a member
 pub among_at : {X : Type 0} (xs : List X) (i : ℕ) (x : X) → i < length xs → x ≡ get_or xs i x → IsAmong x xs
 among_at [] i x lt is = absurd (omega arith)
 among_at (y ∷ ys) zero x lt is = inl (sym is)
@@ -62,7 +64,8 @@ among_image f [] x m = m
 among_image f (y ∷ ys) x (inl e) = inl (ap f e)
 among_image f (y ∷ ys) x (inr m) = inr (among_image f ys x m)
 
-pub among_images : {X Y : Type 0} (f : X → Y) (xs : List X) (y : Y) → IsAmong y (map f xs) → (x : X) × IsAmong x xs × (f x ≡ y)
+pub among_images : {X Y : Type 0} (f : X → Y) (xs : List X) (y : Y) → IsAmong y (map f xs)
+    → (x : X) × IsAmong x xs × (f x ≡ y)
 among_images f [] y m = absurd m
 among_images f (x ∷ xs) y (inl e) = (x, inl refl, e)
 among_images f (x ∷ xs) y (inr m) = let there = among_images f xs y m in (there.0, inr there.1, there.2)

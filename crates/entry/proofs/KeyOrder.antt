@@ -12,7 +12,8 @@ use Rattle.entry.specs.Order.{key_cmp, key_eq, key_cmp_total, key_eq_ties}
 
 pub key_eq_decides : (a b : Key) → Decides (key_eq a b) (a ≡ b)
 key_eq_decides a b =
-    Decides-like (key_eq a b) (λ h. λ i. record { table = h.0 i; bytes = h.1 i }) (λ h. (ap (λ (k : Key). k.table) h, ap (λ (k : Key). k.bytes) h))
+    Decides-like (key_eq a b) (λ h. λ i. record { table = h.0 i; bytes = h.1 i })
+    (λ h. (ap (λ (k : Key). k.table) h, ap (λ (k : Key). k.bytes) h))
     (Decides-and _ _ (Decides-eqb a.table b.table) (bytes_decides a.bytes b.bytes))
 
 -- either the one key or two

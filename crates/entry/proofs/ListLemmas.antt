@@ -1,7 +1,8 @@
 -- What holds of each element of a list, and elements by their places.
 use Rattle.std.proofs.Common.{◌≡◌, ℕ, zero, suc, List, [], ◌∷◌, ◌++◌, length, Some, refl, ap, ◌⊎◌, inl, inr}
 use Rattle.std.specs.List.{AllByRecursion, slice_get}
-use Rattle.std.proofs.lemmas.List.Elements.{All-from_recursion, recursion_from_All, All-append, All-push, All-weaker, All-contains}
+use Rattle.std.proofs.lemmas.List.Elements.{All-from_recursion, recursion_from_All, All-append}
+use Rattle.std.proofs.lemmas.List.Elements.{All-push, All-weaker, All-contains}
 use Rattle.entry.specs.Bag.{IsAmong}
 use Rattle.entry.proofs.BagLemmas.{among_place}
 
@@ -9,7 +10,8 @@ use Rattle.entry.proofs.BagLemmas.{among_place}
 
 module _ {X : Type 0} (P : X → Type 0) where
   pub all_append : (xs ys : List X) → AllByRecursion P xs → AllByRecursion P ys → AllByRecursion P (xs ++ ys)
-  all_append xs ys a b = recursion_from_All P (xs ++ ys) (All-append P xs ys (All-from_recursion P xs a) (All-from_recursion P ys b))
+  all_append xs ys a b =
+      recursion_from_All P (xs ++ ys) (All-append P xs ys (All-from_recursion P xs a) (All-from_recursion P ys b))
 
   pub all_split : (xs ys : List X) → AllByRecursion P (xs ++ ys) → AllByRecursion P xs × AllByRecursion P ys
   all_split [] ys all = (tt, all)
@@ -31,7 +33,8 @@ module _ {X : Type 0} (P : X → Type 0) where
 
 -- ---- the element at a place
 
-pub slice_get_left : {X : Type 0} (xs ys : List X) (i : ℕ) (x : X) → slice_get xs i ≡ Some x → slice_get (xs ++ ys) i ≡ Some x
+pub slice_get_left : {X : Type 0} (xs ys : List X) (i : ℕ) (x : X) → slice_get xs i ≡ Some x
+    → slice_get (xs ++ ys) i ≡ Some x
 slice_get_left [] ys i x is = absurd (cc)
 slice_get_left (z ∷ zs) ys zero x is = is
 slice_get_left (z ∷ zs) ys (suc i) x is = slice_get_left zs ys i x is
@@ -45,4 +48,5 @@ pub slice_get_push : {X : Type 0} (xs : List X) (y : X) (i : ℕ) (x : X) → sl
 slice_get_push [] y zero x is = inr (refl, cc)
 slice_get_push [] y (suc i) x is = absurd (cc)
 slice_get_push (z ∷ zs) y zero x is = inl is
-slice_get_push (z ∷ zs) y (suc i) x is = elim (slice_get_push zs y i x is) [ inl before ↦ inl before | inr last ↦ inr (ap suc last.0, last.1) ]
+slice_get_push (z ∷ zs) y (suc i) x is =
+    elim (slice_get_push zs y i x is) [ inl before ↦ inl before | inr last ↦ inr (ap suc last.0, last.1) ]

@@ -1,5 +1,6 @@
 -- What is spelled passes the tests of a reader.
-use Rattle.std.proofs.Common.{◌≡◌, ℕ, suc, ◌+◌, ◌^◌, ◌<◌, ◌≤◌, true, List, [], ◌∷◌, ◌++◌, length, None, refl, sym, append_assoc, arith}
+use Rattle.std.proofs.Common.{◌≡◌, ℕ, suc, ◌+◌, ◌^◌, ◌<◌, ◌≤◌, true, List, [], ◌∷◌}
+use Rattle.std.proofs.Common.{◌++◌, length, None, refl, sym, append_assoc, arith}
 use Rattle.std.specs.Prelude.{slice_index, nat_lt}
 use Rattle.std.specs.List.{flat_map}
 use Rattle.std.specs.List.Sorted.{IsStrictlyIncreasing}
@@ -12,19 +13,22 @@ use Rattle.entry.specs.declared.entry.Entry.{Entry}
 use Rattle.entry.specs.declared.entry.Entry.TheVariants as entry
 use Rattle.entry.specs.declared.kind.Kind.TheVariants as kind
 use Rattle.entry.specs.Limits.{IsSafeVersion, AreIds}
-use Rattle.entry.specs.Format.{number_bytes, number_at, role_byte, spelling, IsHeader, IsObject, IsTombstone, IsEntry, whole_len, are_fields, has_order, ids_at, rises, fault_in, first_fault}
+use Rattle.entry.specs.Format.{number_bytes, number_at, role_byte, spelling, IsHeader, IsObject, IsTombstone, IsEntry}
+use Rattle.entry.specs.Format.{whole_len, are_fields, has_order, ids_at, rises, fault_in, first_fault}
 use Rattle.entry.proofs.Numbers.{length-number_bytes, number_at-front, number_at-past}
 use Rattle.entry.proofs.SpellingLemmas.{length-header, length-digest, length-safe, length-object, length-tombstone}
 use Rattle.entry.proofs.ReadingLemmas.{no_fault, within, role_fits, object_fields, tombstone_fields}
 
--- a number that stands behind a front
-pub field : (k at n : ℕ) (front rest bytes : List ℕ) → bytes ≡ front ++ (number_bytes k n ++ rest) → length front ≡ at → n < 256 ^ k → number_at k at bytes ≡ n
+-- a number behind a front
+pub field : (k at n : ℕ) (front rest bytes : List ℕ) → bytes ≡ front ++ (number_bytes k n ++ rest) → length front ≡ at
+    → n < 256 ^ k → number_at k at bytes ≡ n
 field k at n front rest bytes is len fits =
     let place : at ≡ length front + 0 = omega arith in
     rw (is, place, number_at-past) (number_at-front k n rest fits)
 
--- a byte that stands behind a front
-pub byte_there : (front rest bytes : List ℕ) (b at : ℕ) → bytes ≡ front ++ b ∷ rest → length front ≡ at → slice_index bytes at ≡ b
+-- a byte behind a front
+pub byte_there : (front rest bytes : List ℕ) (b at : ℕ) → bytes ≡ front ++ b ∷ rest → length front ≡ at
+    → slice_index bytes at ≡ b
 byte_there front rest bytes b at is len = rw (is, ← len) (go front) where
   go : (front : List ℕ) → slice_index (front ++ b ∷ rest) (length front) ≡ b
   go [] = refl
@@ -41,44 +45,56 @@ rises-from_increasing (x ∷ y ∷ ys) rise =
     next : (k : ℕ) → k + 1 < length (y ∷ ys) → slice_index (y ∷ ys) k < slice_index (y ∷ ys) (k + 1)
     next k lt = let place : suc k + 1 ≡ suc (k + 1) = omega arith in rw place at (rise (suc k) (omega arith))
 
--- the ids that stand behind a front
-pub ids_there : (ids front rest : List ℕ) (at : ℕ) → length front ≡ at → ((i : ℕ) → slice_index ids i < 2 ^ 64) → ids_at (length ids) at (front ++ (flat_map (number_bytes 8) ids ++ rest)) ≡ ids
+-- the ids behind a front
+pub ids_there : (ids front rest : List ℕ) (at : ℕ) → length front ≡ at → ((i : ℕ) → slice_index ids i < 2 ^ 64)
+    → ids_at (length ids) at (front ++ (flat_map (number_bytes 8) ids ++ rest)) ≡ ids
 ids_there [] front rest at len fits = refl
 ids_there (n ∷ ns) front rest at len fits =
     let more = flat_map (number_bytes 8) ns ++ rest in
-    let inner : number_bytes 8 n ++ flat_map (number_bytes 8) ns ++ rest ≡ number_bytes 8 n ++ more = append_assoc (number_bytes 8 n) (flat_map (number_bytes 8) ns) rest in
-    let outer : front ++ number_bytes 8 n ++ more ≡ front ++ (number_bytes 8 n ++ more) = append_assoc front (number_bytes 8 n) more in
-    let first : number_at 8 at (front ++ (number_bytes 8 n ++ more)) ≡ n = field 8 at n front more (front ++ (number_bytes 8 n ++ more)) refl len (fits 0) in
-    let longer : length (front ++ number_bytes 8 n) ≡ at + 8 = simp (length-append, length-number_bytes) (omega arith) in
-    let others : ids_at (length ns) (at + 8) (front ++ (number_bytes 8 n ++ more)) ≡ ns = rw (← outer) (ids_there ns (front ++ number_bytes 8 n) rest (at + 8) longer (λ i. fits (suc i))) in
+    let inner : number_bytes 8 n ++ flat_map (number_bytes 8) ns ++ rest ≡ number_bytes 8 n ++ more =
+    append_assoc (number_bytes 8 n) (flat_map (number_bytes 8) ns) rest in
+    let outer : front ++ number_bytes 8 n ++ more ≡ front ++ (number_bytes 8 n ++ more) =
+    append_assoc front (number_bytes 8 n) more in
+    let first : number_at 8 at (front ++ (number_bytes 8 n ++ more)) ≡ n =
+    field 8 at n front more (front ++ (number_bytes 8 n ++ more)) refl len (fits 0) in
+    let longer : length (front ++ number_bytes 8 n) ≡ at + 8 =
+    simp (length-append, length-number_bytes) (omega arith) in
+    let others : ids_at (length ns) (at + 8) (front ++ (number_bytes 8 n ++ more)) ≡ ns =
+    rw (← outer) (ids_there ns (front ++ number_bytes 8 n) rest (at + 8) longer (λ i. fits (suc i))) in
     rw (inner, first, others) refl
 
-pub header_passes : (h : Header) (rest : List ℕ) → IsHeader h → fault_in kind.Header (spelling (entry.Header h) ++ rest) ≡ None
+pub header_passes : (h : Header) (rest : List ℕ) → IsHeader h
+    → fault_in kind.Header (spelling (entry.Header h) ++ rest) ≡ None
 header_passes h rest fits =
     let text = spelling (entry.Header h) ++ rest in
     let len = length-header h in
     let all = length-append (spelling (entry.Header h)) rest in
     let front = 1 ∷ number_bytes 8 h.master ++ number_bytes 8 h.segment in
     let front_len : length front ≡ 17 = simp (length-append, length-number_bytes) refl in
-    let role : slice_index text 17 ≡ role_byte h.role = byte_there front rest text (role_byte h.role) 17 (simp append_assoc) front_len in
+    let role : slice_index text 17 ≡ role_byte h.role =
+    byte_there front rest text (role_byte h.role) 17 (simp append_assoc) front_len in
     let fields : are_fields kind.Header text ≡ true = le-leb (slice_index text 17) 1 (rw role (role_fits h.role)) in
     no_fault kind.Header text (omega arith) fields (omega arith) refl
 
-pub digest_passes : (ids : List ℕ) (rest : List ℕ) → AreIds ids → fault_in kind.Digest (spelling (entry.Digest ids) ++ rest) ≡ None
+pub digest_passes : (ids : List ℕ) (rest : List ℕ) → AreIds ids
+    → fault_in kind.Digest (spelling (entry.Digest ids) ++ rest) ≡ None
 digest_passes ids rest fits =
     let text = spelling (entry.Digest ids) ++ rest in
     let len = length-digest ids in
     let all = length-append (spelling (entry.Digest ids)) rest in
     let front = 2 ∷ number_bytes 4 (length ids) in
     let front_len : length front ≡ 5 = simp length-number_bytes refl in
-    let parts : text ≡ front ++ (flat_map (number_bytes 8) ids ++ rest) = append_assoc front (flat_map (number_bytes 8) ids) rest in
-    let count : number_at 4 1 text ≡ length ids = field 4 1 (length ids) (2 ∷ []) (flat_map (number_bytes 8) ids ++ rest) text parts refl fits.count in
+    let parts : text ≡ front ++ (flat_map (number_bytes 8) ids ++ rest) =
+    append_assoc front (flat_map (number_bytes 8) ids) rest in
+    let count : number_at 4 1 text ≡ length ids =
+    field 4 1 (length ids) (2 ∷ []) (flat_map (number_bytes 8) ids ++ rest) text parts refl fits.count in
     let ids_are : ids_at (length ids) 5 text ≡ ids = rw parts (ids_there ids front rest 5 front_len fits.each) in
     let whole : whole_len kind.Digest text ≤ length text = rw count (omega arith) in
     let order : has_order kind.Digest text ≡ true = rw (count, ids_are) (rises-from_increasing ids fits.rise) in
     no_fault kind.Digest text (omega arith) refl whole order
 
-pub safe_passes : (n : ℕ) (rest : List ℕ) → IsSafeVersion n → fault_in kind.Safe (spelling (entry.Safe n) ++ rest) ≡ None
+pub safe_passes : (n : ℕ) (rest : List ℕ) → IsSafeVersion n
+    → fault_in kind.Safe (spelling (entry.Safe n) ++ rest) ≡ None
 safe_passes n rest fits =
     let text = spelling (entry.Safe n) ++ rest in
     let len = length-safe n in
@@ -87,7 +103,8 @@ safe_passes n rest fits =
     let version : number_at 8 1 text ≡ n = field 8 1 n (3 ∷ []) rest text refl refl (omega arith) in
     no_fault kind.Safe text (omega arith) (rw version (within 1 (2 ^ 62 + 1) n fits.least greatest)) (omega arith) refl
 
-pub object_passes : (o : Object) (rest : List ℕ) → IsObject o → fault_in kind.Object (spelling (entry.Object o) ++ rest) ≡ None
+pub object_passes : (o : Object) (rest : List ℕ) → IsObject o
+    → fault_in kind.Object (spelling (entry.Object o) ++ rest) ≡ None
 object_passes o rest fits =
     let text = spelling (entry.Object o) ++ rest in
     let n = o.version in
@@ -103,14 +120,21 @@ object_passes o rest fits =
     let b = a ++ number_bytes 8 n in
     let c = b ++ number_bytes 2 k in
     let last = o.key.bytes ++ (o.value ++ rest) in
-    let n-is : number_at 8 9 text ≡ n = field 8 9 n a (number_bytes 2 k ++ (number_bytes 4 v ++ last)) text (simp append_assoc) (simp length-number_bytes refl) (omega arith) in
-    let k-is : number_at 2 17 text ≡ k = field 2 17 k b (number_bytes 4 v ++ last) text (simp append_assoc) (simp (length-append, length-number_bytes) refl) (omega arith) in
-    let v-is : number_at 4 19 text ≡ v = field 4 19 v c last text (simp append_assoc) (simp (length-append, length-number_bytes) refl) (omega arith) in
-    let fields = object_fields text n k v (sym n-is) (sym k-is) (sym v-is) fits.version not_empty key_limit value_limit in
+    let n-is : number_at 8 9 text ≡ n =
+    field 8 9 n a (number_bytes 2 k ++ (number_bytes 4 v ++ last)) text (simp append_assoc)
+    (simp length-number_bytes refl) (omega arith) in
+    let k-is : number_at 2 17 text ≡ k =
+    field 2 17 k b (number_bytes 4 v ++ last) text (simp append_assoc)
+    (simp (length-append, length-number_bytes) refl) (omega arith) in
+    let v-is : number_at 4 19 text ≡ v =
+    field 4 19 v c last text (simp append_assoc) (simp (length-append, length-number_bytes) refl) (omega arith) in
+    let fields =
+    object_fields text n k v (sym n-is) (sym k-is) (sym v-is) fits.version not_empty key_limit value_limit in
     let whole : whole_len kind.Object text ≤ length text = rw (k-is, v-is) (omega arith) in
     no_fault kind.Object text (omega arith) fields whole refl
 
-pub tombstone_passes : (t : Tombstone) (rest : List ℕ) → IsTombstone t → fault_in kind.Tombstone (spelling (entry.Tombstone t) ++ rest) ≡ None
+pub tombstone_passes : (t : Tombstone) (rest : List ℕ) → IsTombstone t
+    → fault_in kind.Tombstone (spelling (entry.Tombstone t) ++ rest) ≡ None
 tombstone_passes t rest fits =
     let text = spelling (entry.Tombstone t) ++ rest in
     let n = t.version in
@@ -123,8 +147,11 @@ tombstone_passes t rest fits =
     let a = 5 ∷ number_bytes 8 t.key.table in
     let b = a ++ number_bytes 8 n ++ number_bytes 8 t.segment in
     let last = t.key.bytes ++ rest in
-    let n-is : number_at 8 9 text ≡ n = field 8 9 n a (number_bytes 8 t.segment ++ (number_bytes 2 k ++ last)) text (simp append_assoc) (simp length-number_bytes refl) (omega arith) in
-    let k-is : number_at 2 25 text ≡ k = field 2 25 k b last text (simp append_assoc) (simp (length-append, length-number_bytes) refl) (omega arith) in
+    let n-is : number_at 8 9 text ≡ n =
+    field 8 9 n a (number_bytes 8 t.segment ++ (number_bytes 2 k ++ last)) text (simp append_assoc)
+    (simp length-number_bytes refl) (omega arith) in
+    let k-is : number_at 2 25 text ≡ k =
+    field 2 25 k b last text (simp append_assoc) (simp (length-append, length-number_bytes) refl) (omega arith) in
     let fields = tombstone_fields text n k (sym n-is) (sym k-is) fits.version not_empty key_limit in
     let whole : whole_len kind.Tombstone text ≤ length text = rw k-is (omega arith) in
     no_fault kind.Tombstone text (omega arith) fields whole refl

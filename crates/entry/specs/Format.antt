@@ -1,5 +1,7 @@
 -- The format of entries: the spelling of each, and the tests of a reader in their order.
-use Rattle.std.specs.Prelude.{◌≡◌, ℕ, zero, suc, ◌+◌, ◌*◌, ◌<◌, ◌≤◌, ◌^◌, List, [], ◌∷◌, ◌++◌, length, take, drop, slice_index, Option, Some, None, is_none, IsSomeAnd, Bool, true, not, ◌==◌, ◌&&◌, nat_lt, nat_le, if◌then◌else◌}
+use Rattle.std.specs.Prelude.{◌≡◌, ℕ, zero, suc, ◌+◌, ◌*◌, ◌<◌, ◌≤◌, ◌^◌, List, [], ◌∷◌, ◌++◌, length}
+use Rattle.std.specs.Prelude.{take, drop, slice_index, Option, Some, None, is_none, IsSomeAnd, Bool}
+use Rattle.std.specs.Prelude.{true, not, ◌==◌, ◌&&◌, nat_lt, nat_le, if◌then◌else◌}
 use Rattle.std.specs.List.{flat_map}
 use Rattle.std.specs.Int.{bytes_high_first}
 use Rattle.byteorder.specs.Endian.{big_number}
@@ -24,7 +26,7 @@ use Rattle.entry.specs.Limits.{IsVersion, IsSafeVersion, IsValue, AreIds}
 unfoldable pub number_bytes : ℕ → ℕ → List ℕ
 number_bytes count n = bytes_high_first count n
 
--- the number that this many bytes from a place on spell
+-- the number that this many bytes spell, from a place on
 unfoldable pub number_at : ℕ → ℕ → List ℕ → ℕ
 number_at count at bytes = big_number count (drop at bytes)
 
@@ -91,7 +93,7 @@ kind_byte kind.Safe = 3
 kind_byte kind.Object = 4
 kind_byte kind.Tombstone = 5
 
--- the bytes of the fixed part
+-- how many bytes the fixed part has
 abbrev pub fixed_len : Kind → ℕ
 fixed_len kind.Header = 18
 fixed_len kind.Digest = 5
@@ -99,7 +101,7 @@ fixed_len kind.Safe = 9
 fixed_len kind.Object = 23
 fixed_len kind.Tombstone = 27
 
--- the bytes of the whole entry, as its fixed part says
+-- how many bytes the whole entry has, by its fixed part
 abbrev pub whole_len : Kind → List ℕ → ℕ
 whole_len kind.Header bytes = 18
 whole_len kind.Digest bytes = 5 + 8 * number_at 4 1 bytes
@@ -121,7 +123,7 @@ are_fields kind.Object bytes =
     && nat_le (number_at 4 19 bytes) 2097152
 are_fields kind.Tombstone bytes = is_within 1 (2 ^ 62) (number_at 8 9 bytes) && is_within 1 1024 (number_at 2 25 bytes)
 
--- the ids that stand from a place on
+-- the ids in the bytes from a place on
 abbrev pub ids_at : ℕ → ℕ → List ℕ → List ℕ
 ids_at zero at bytes = []
 ids_at (suc count) at bytes = number_at 8 at bytes ∷ ids_at count (at + 8) bytes
@@ -140,7 +142,7 @@ has_order kind.Safe bytes = true
 has_order kind.Object bytes = true
 has_order kind.Tombstone bytes = true
 
--- the fault that the first failing test names, where the kind is known
+-- of a known kind: the fault that the first failing test names
 abbrev pub fault_in : Kind → List ℕ → Option EntryFault
 fault_in k bytes =
     if nat_lt (length bytes) (fixed_len k) then Some Short
@@ -158,7 +160,7 @@ abbrev pub first_fault : List ℕ → Option EntryFault
 first_fault [] = Some Short
 first_fault (byte ∷ fields) = fault_of_kind (kind_of byte) (byte ∷ fields)
 
--- ---- what stands at the front
+-- ---- what is at the front
 
 -- the role of a byte
 abbrev pub role_of : ℕ → Role
@@ -169,9 +171,13 @@ role_of (suc n) = Survivor
 abbrev pub part_of : ℕ → ℕ → List ℕ → List ℕ
 part_of count at bytes = take count (drop at bytes)
 
--- the entry of this kind whose fields stand in the bytes
+-- the entry of this kind whose fields are in the bytes
 abbrev pub entry_of : Kind → List ℕ → Entry
-entry_of kind.Header bytes = entry.Header (record { master = number_at 8 1 bytes; segment = number_at 8 9 bytes; role = role_of (slice_index bytes 17) })
+entry_of kind.Header bytes = entry.Header (record {
+  master = number_at 8 1 bytes;
+  segment = number_at 8 9 bytes;
+  role = role_of (slice_index bytes 17);
+})
 entry_of kind.Digest bytes = entry.Digest (ids_at (number_at 4 1 bytes) 5 bytes)
 entry_of kind.Safe bytes = entry.Safe (number_at 8 1 bytes)
 entry_of kind.Object bytes = entry.Object (record {
@@ -189,7 +195,7 @@ abbrev pub front_of_kind : Option Kind → List ℕ → Option (Entry × ℕ)
 front_of_kind None bytes = None
 front_of_kind (Some k) bytes = if is_none (fault_in k bytes) then Some (entry_of k bytes, whole_len k bytes) else None
 
--- the entry at the front of the bytes, and how many bytes it takes; None where a test fails
+-- the entry at the front of the bytes, and how many bytes it takes; None if a test fails
 abbrev pub front_of : List ℕ → Option (Entry × ℕ)
 front_of [] = None
 front_of (byte ∷ fields) = front_of_kind (kind_of byte) (byte ∷ fields)
@@ -210,8 +216,8 @@ HoldsList (entry.Safe version) = ⊥
 HoldsList (entry.Object o) = Unit {0}
 HoldsList (entry.Tombstone t) = Unit {0}
 
--- What a reader may answer in place of an entry: the fault that the first failing test names. Want of memory comes
--- only where no test fails and the entry holds a list.
+-- What a reader may answer in place of an entry: the fault that the first failing test names. NoMemory comes only if no
+-- test fails and the entry holds a list.
 abbrev pub MayFail : List ℕ → EntryFault → Type 0
 MayFail bytes Short = first_fault bytes ≡ Some Short
 MayFail bytes UnknownKind = first_fault bytes ≡ Some UnknownKind
@@ -220,6 +226,7 @@ MayFail bytes NoMemory = IsSomeAnd (front_of bytes) (λ front. HoldsList front.0
 
 -- ---- a law
 
--- No spelling begins the spelling of another entry: what stands after it doesn't matter.
+-- No spelling begins the spelling of another entry, whatever comes after it.
 abbrev pub SpellingsArePrefixFree : Type 0
-SpellingsArePrefixFree = (a b : Entry) (x y : List ℕ) → IsEntry a → IsEntry b → spelling a ++ x ≡ spelling b ++ y → (a ≡ b) × (x ≡ y)
+SpellingsArePrefixFree = (a b : Entry) (x y : List ℕ) → IsEntry a → IsEntry b → spelling a ++ x ≡ spelling b ++ y
+    → (a ≡ b) × (x ≡ y)

@@ -1,5 +1,5 @@
--- What a collection of objects and tombstones means: of each key its entry of greatest rank. A collection is a word on
--- entries, true of those that are in it; only objects and tombstones count.
+-- What a collection of objects and tombstones means: for each key, its entry of greatest rank. A collection is a word
+-- on entries, true of those that are in it; only objects and tombstones count.
 use Rattle.std.specs.Prelude.{◌≡◌, ℕ, ◌+◌, ◌*◌, ◌≤◌, ◌↔◌, max, List, [], ◌∷◌, Option, Some, None, if◌then◌else◌}
 use Rattle.entry.specs.declared.key.Key.{Key}
 use Rattle.entry.specs.declared.entry.Object.{Object}
@@ -53,13 +53,14 @@ pub record IsTop (k : Key) (bag : Entry → Type 0) (e : Entry) : Type 0 where
 abbrev pub object_at : Key → Versioned → Entry
 object_at k x = entry.Object (record { key = k; version = x.version; value = x.value })
 
--- the contents have at each key its entry of greatest rank where that is an object, and nothing else
+-- the contents have at each key its entry of greatest rank, if that is an object, and nothing else
 abbrev pub IsMeaning : (Entry → Type 0) → Contents → Type 0
 IsMeaning bag contents = (k : Key) (x : Versioned) → (contents k ≡ Some x) ↔ IsTop k bag (object_at k x)
 
 -- no two different objects share key and version
 abbrev pub IsClean : (Entry → Type 0) → Type 0
-IsClean bag = (o p : Object) → bag (entry.Object o) → bag (entry.Object p) → o.key ≡ p.key → o.version ≡ p.version → o.value ≡ p.value
+IsClean bag = (o p : Object) → bag (entry.Object o) → bag (entry.Object p) → o.key ≡ p.key → o.version ≡ p.version
+    → o.value ≡ p.value
 
 -- ---- lists
 

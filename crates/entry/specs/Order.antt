@@ -19,6 +19,6 @@ pub key_cmp_total : IsTotalOrder key_cmp
 key_cmp_total =
     then_total (on_total (λ (k : Key). k.table) nat_cmp_total) (on_total (λ (k : Key). k.bytes) nat_list_cmp_total)
 
--- two keys are the same exactly where neither stands before the other
+-- two keys are the same exactly if neither comes before the other
 pub key_eq_ties : (a b : Key) → key_eq a b ≡ eq_by_cmp key_cmp a b
 key_eq_ties a b = both_tied _ _ _ _ (unsigned_ties a.table b.table) (texts_ties a.bytes b.bytes)

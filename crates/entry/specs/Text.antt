@@ -1,5 +1,6 @@
 -- Texts of segments: the spellings of their entries one after the other, in an order that is allowed.
-use Rattle.std.specs.Prelude.{◌≡◌, ℕ, zero, suc, List, [], ◌∷◌, ◌++◌, length, drop, filter, Bool, true, false, ◌==◌, ◌&&◌, Option, Some, None}
+use Rattle.std.specs.Prelude.{◌≡◌, ℕ, zero, suc, List, [], ◌∷◌, ◌++◌, length, drop, filter}
+use Rattle.std.specs.Prelude.{Bool, true, false, ◌==◌, ◌&&◌, Option, Some, None}
 use Rattle.std.specs.Option.{option_map_or}
 use Rattle.std.specs.List.{flat_map, AllByRecursion}
 use Rattle.entry.specs.declared.entry.Role.{Role}
@@ -63,12 +64,13 @@ pub record IsTextOf (bytes : List ℕ) (es : List Entry) : Type 0 where
 
 -- ---- the entries of a text
 
--- the entries that stand in the bytes one after the other, at most this many
+-- the entries in the bytes, one after the other, at most this many
 abbrev pub entries_within : ℕ → List ℕ → List Entry
 entries_within zero bytes = []
-entries_within (suc count) bytes = option_map_or (λ (front : Entry × ℕ). front.0 ∷ entries_within count (drop front.1 bytes)) (front_of bytes) []
+entries_within (suc count) bytes =
+    option_map_or (λ (front : Entry × ℕ). front.0 ∷ entries_within count (drop front.1 bytes)) (front_of bytes) []
 
--- the entries that stand in the bytes one after the other
+-- the entries in the bytes, one after the other
 abbrev pub entries_in : List ℕ → List Entry
 entries_in bytes = entries_within (length bytes) bytes
 
@@ -85,7 +87,7 @@ abbrev pub opening_of : List Entry → Option Opening
 opening_of (entry.Header h ∷ entry.Digest ids ∷ entry.Safe version ∷ rest) = Some (record { ids = ids; safe = version })
 opening_of _ = None
 
--- the opening of a head; None where the bytes bear no digest
+-- the opening of a head; None if the bytes have no digest
 abbrev pub opening_in : List ℕ → Option Opening
 opening_in bytes = opening_of (entries_in bytes)
 

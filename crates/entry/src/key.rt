@@ -59,7 +59,7 @@ pub struct Key {
 }
 
 impl Key {
-    /// Where the bytes are neither empty nor too long, only want of memory refuses them.
+    /// Bytes that are neither empty nor too long are refused only if memory runs out.
     pub fn new(alloc: Global, table: u64, bytes: &[u8]) -> Result<Key, KeyFault>
         ensures ok { IfOk result (λ key. (key.table ≡ table) × (key.bytes ≡ bytes.now)) }
         ensures empty { IsErrOf result KeyFault.Empty ↔ (length bytes.now ≡ 0) }

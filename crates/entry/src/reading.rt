@@ -1,7 +1,9 @@
 //! Reading entries.
 
-ghost use Rattle.std.specs.Prelude.{◌≡◌, ◌+◌, ◌*◌, ◌≤◌, ◌<◌, ◌++◌, ℕ, List, Some, length, slice_index, IfOk, IfErr, IsOkAnd, MatchResult};
-ghost use Rattle.entry.specs.Format.{Begins, MayFail, IsEntry, spelling, number_at, kind_byte, ids_at, rises, first_fault, front_of};
+ghost use Rattle.std.specs.Prelude.{◌≡◌, ◌+◌, ◌*◌, ◌≤◌, ◌<◌, ◌++◌, ℕ, List, Some, length};
+ghost use Rattle.std.specs.Prelude.{slice_index, IfOk, IfErr, IsOkAnd, MatchResult};
+ghost use Rattle.entry.specs.Format.{Begins, MayFail, IsEntry, spelling, number_at, kind_byte};
+ghost use Rattle.entry.specs.Format.{ids_at, rises, first_fault, front_of};
 ghost use Rattle.entry.specs.View.{shown, Reads};
 
 use crate::entry::{Entry, Header, Role};
@@ -200,8 +202,9 @@ pub fn read_entry(alloc: Global, bytes: &[u8]) -> Result<(Entry, usize), EntryFa
     ensures found { IfOk result (λ read. Begins bytes.now read.0 read.1) }
     // What is spelled at the front is read, unless memory runs out.
     ensures complete { (entry : Entry) (rest : List ℕ) → IsEntry entry → bytes.now ≡ spelling entry ++ rest →
-        MatchResult result (λ read. (read.0 ≡ entry) × (read.1 ≡ length (spelling entry))) (λ fault. fault ≡ EntryFault.NoMemory) }
-    // A fault is the one that the first failing test names. Want of memory comes only where no test fails.
+        MatchResult result (λ read. (read.0 ≡ entry) × (read.1 ≡ length (spelling entry)))
+        (λ fault. fault ≡ EntryFault.NoMemory) }
+    // A fault is the one that the first failing test names. NoMemory comes only if no test fails.
     ensures fault { IfErr result (λ fault. MayFail bytes.now fault) }
 {
     match EntryRef::read(bytes) {

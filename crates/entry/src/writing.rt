@@ -1,6 +1,7 @@
 //! Writing entries.
 
-ghost use Rattle.std.specs.Prelude.{◌≡◌, ◌+◌, ◌*◌, ◌<◌, ◌≤◌, ◌^◌, [], ◌∷◌, ◌++◌, length, vec_len, vec_capacity, OnOk, OnErr};
+ghost use Rattle.std.specs.Prelude.{◌≡◌, ◌+◌, ◌*◌, ◌<◌, ◌≤◌, ◌^◌, [], ◌∷◌, ◌++◌, length};
+ghost use Rattle.std.specs.Prelude.{vec_len, vec_capacity, OnOk, OnErr};
 ghost use Rattle.std.specs.List.{flat_map};
 ghost use Rattle.entry.specs.Format.{spelling, number_bytes, IsEntry};
 ghost use Rattle.entry.specs.View.{shown_key, shown_object, shown_tombstone};
@@ -47,7 +48,7 @@ fn put_u16(out: &mut Vec<u8>, number: u16)
     out.extend_from_slice(&bytes).unwrap()
 }
 
-/// Appends a key's or a value's bytes, where there is room for them.
+/// Appends a key's or a value's bytes, if there is room for them.
 fn put_bytes(out: &mut Vec<u8>, bytes: &[u8])
     requires { vec_len out.old + length bytes.now ≤ vec_capacity out.old }
     ensures items { out.new.items ≡ out.old.items ++ bytes.now }
@@ -57,7 +58,7 @@ fn put_bytes(out: &mut Vec<u8>, bytes: &[u8])
     out.extend_from_slice(bytes).unwrap()
 }
 
-/// Appends the number of one byte, where there is room for it.
+/// Appends the number of one byte, if there is room for it.
 fn put_u8(out: &mut Vec<u8>, number: u8)
     requires { vec_len out.old + 1 ≤ vec_capacity out.old }
     ensures items { out.new.items ≡ out.old.items ++ number ∷ [] }
@@ -67,7 +68,7 @@ fn put_u8(out: &mut Vec<u8>, number: u8)
     out.push(number).unwrap()
 }
 
-/// Appends ids, where there is room for them.
+/// Appends ids, if there is room for them.
 fn put_ids(out: &mut Vec<u8>, ids: &[u64])
     requires { vec_len out.old + 8 * length ids.now ≤ vec_capacity out.old }
     ensures { out.new.items ≡ out.old.items ++ flat_map (number_bytes 8) ids.now }
@@ -80,7 +81,8 @@ fn put_ids(out: &mut Vec<u8>, ids: &[u64])
 fn put_object(out: &mut Vec<u8>, key: &KeyRef, version: Version, value: &[u8])
     requires limit { length value.now ≤ 2097152 }
     requires room { vec_len out.old + (23 + length key.now.bytes.now + length value.now) ≤ vec_capacity out.old }
-    ensures items { out.new.items ≡ out.old.items ++ spelling (Entry.Object (record { key = shown_key key.now; version = version; value = value.now })) }
+    ensures items { out.new.items ≡ out.old.items ++
+        spelling (Entry.Object (record { key = shown_key key.now; version = version; value = value.now })) }
     ensures capacity { vec_capacity out.old ≤ vec_capacity out.new }
 {
     put_u8(out, 4);
@@ -94,7 +96,8 @@ fn put_object(out: &mut Vec<u8>, key: &KeyRef, version: Version, value: &[u8])
 
 fn put_tombstone(out: &mut Vec<u8>, key: &KeyRef, version: Version, segment: u64)
     requires { vec_len out.old + (27 + length key.now.bytes.now) ≤ vec_capacity out.old }
-    ensures items { out.new.items ≡ out.old.items ++ spelling (Entry.Tombstone (record { key = shown_key key.now; version = version; segment = segment })) }
+    ensures items { out.new.items ≡ out.old.items ++
+        spelling (Entry.Tombstone (record { key = shown_key key.now; version = version; segment = segment })) }
     ensures capacity { vec_capacity out.old ≤ vec_capacity out.new }
 {
     put_u8(out, 5);
@@ -105,7 +108,7 @@ fn put_tombstone(out: &mut Vec<u8>, key: &KeyRef, version: Version, segment: u64
     put_bytes(out, key.bytes);
 }
 
-/// Appends the spelling, where there is room for it.
+/// Appends the spelling, if there is room for it.
 fn put_entry(out: &mut Vec<u8>, entry: &Entry)
     requires { vec_len out.old + length (spelling entry.now) ≤ vec_capacity out.old }
     ensures { out.new.items ≡ out.old.items ++ spelling entry.now }
@@ -163,9 +166,11 @@ impl<'a> ObjectRef<'a> {
 
     /// Appends the spelling.
     pub fn write(&self, out: &mut Vec<u8>) -> Result<(), NoMemory>
-        ensures ok { OnOk result (out.new.items ≡ out.old.items ++ spelling (Entry.Object (shown_object self.now))) }
+        ensures ok { OnOk result
+            (out.new.items ≡ out.old.items ++ spelling (Entry.Object (shown_object self.now))) }
         ensures err { OnErr result (out.new.items ≡ out.old.items) }
-        ensures full { OnErr result (vec_capacity out.old < vec_len out.old + length (spelling (Entry.Object (shown_object self.now)))) }
+        ensures full { OnErr result
+            (vec_capacity out.old < vec_len out.old + length (spelling (Entry.Object (shown_object self.now)))) }
         ensures capacity { vec_capacity out.old ≤ vec_capacity out.new }
     {
         out.reserve(self.spelled_len())?;
@@ -189,9 +194,11 @@ impl<'a> TombstoneRef<'a> {
 
     /// Appends the spelling.
     pub fn write(&self, out: &mut Vec<u8>) -> Result<(), NoMemory>
-        ensures ok { OnOk result (out.new.items ≡ out.old.items ++ spelling (Entry.Tombstone (shown_tombstone self.now))) }
+        ensures ok { OnOk result
+            (out.new.items ≡ out.old.items ++ spelling (Entry.Tombstone (shown_tombstone self.now))) }
         ensures err { OnErr result (out.new.items ≡ out.old.items) }
-        ensures full { OnErr result (vec_capacity out.old < vec_len out.old + length (spelling (Entry.Tombstone (shown_tombstone self.now)))) }
+        ensures full { OnErr result
+            (vec_capacity out.old < vec_len out.old + length (spelling (Entry.Tombstone (shown_tombstone self.now)))) }
         ensures capacity { vec_capacity out.old ≤ vec_capacity out.new }
     {
         out.reserve(self.spelled_len())?;

@@ -20,7 +20,7 @@ use Rattle.log_model.proofs.SameTexts.{still_new, still_older}
 use Rattle.log_model.proofs.Segments.{both_of_tablets, units_all}
 use Rattle.log_model.proofs.Texts.{text_there, text_other}
 
--- where a roll is under way nothing is appended
+-- while a roll is under way nothing is appended
 pub quiet : (d : LogData) (unit : List Entry) → MayAppend d unit → (n : Start) → new_of d.phase ≡ Some n → unit ≡ []
 quiet d unit may n is_new = elim may.fits as (λ _. unit ≡ []) [
   | inl none ↦ none

@@ -1,4 +1,4 @@
--- A command that is applied stands in the log with its unit.
+-- A command that is applied is in the log, with its unit.
 use Rattle.std.proofs.Common.{◌≡◌, ℕ, suc, ◌≤◌, inl, inr, true, List, [], ◌∷◌, ◌++◌, length, take, Some, sym, ap}
 use Rattle.std.proofs.Common.{subst, ◌∙◌, arith, append_assoc}
 use Rattle.std.proofs.lemmas.List.{append-nil, length-append, take_all}

@@ -111,7 +111,7 @@ module _ (d : LogData) (texts : Texts) (p : Picture) (held : IsLogHeld d texts p
           ∙ ap (λ (es : List Entry). flat_map (λ (h : Holding). data_in h.bytes) c.others ++ es)
           (append-nil (data_in c.head.bytes))
 
-      -- a choice whose head bears this
+      -- a choice whose head has this opening
       module _ (n : Start) (bears : opening_in c.head.bytes ≡ Some (opening_for n)) where
         opening : c.opening ≡ opening_for n
         opening = same_Some c.opening (opening_for n) (sym choice.opening ∙ bears)

@@ -48,7 +48,7 @@ module _ (d : LogData) (p : Picture) (kept : IsKept d p) where
   none_all fewer =
       let t : nat_lt (length d.head.taken) d.config.replicas ≡ true = grind (arith, nat_tests) in rw t refl
 
-  -- a durable unit of the head stands before the first that some replica lacks
+  -- a durable unit of the head is before the first that some replica lacks
   place_before : (place : ℕ) (u : LogUnit) → slice_get us place ≡ Some u → u.number < durable_of d
       → place < everywhere d
   place_before place u is lt = elim (cases_lt place (everywhere d)) as (λ _. place < everywhere d) [

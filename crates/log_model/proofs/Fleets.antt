@@ -11,7 +11,8 @@ use Rattle.log_model.specs.Ops.{LogOp, op_of, taken}
 use Rattle.log_model.proofs.NextOp.{next_is_kept}
 
 -- a fleet that has the backup takes what its picture takes
-pub fleet_takes : (f : FleetState) (o : LogOp) (master : ℕ) (q : Picture) → o.backup < f.backups → taken f.picture master o ≡ Some q
+pub fleet_takes : (f : FleetState) (o : LogOp) (master : ℕ) (q : Picture) → o.backup < f.backups
+    → taken f.picture master o ≡ Some q
     → fleet_taken f o.backup (op_of master o) ≡ Some (with_taken f q)
 fleet_takes f o master q lt is =
     let within : nat_lt o.backup f.backups ≡ true = grind (arith, nat_tests) in

@@ -45,7 +45,7 @@ module _ (d : LogData) (texts : Texts) (p : Picture) (held : IsLogHeld d texts p
   abbrev closed : ℕ
   closed = closed_of d.phase
 
-  -- where a replica of the head lacks something, nothing of it is closed
+  -- if a replica of the head lacks something, nothing of it is closed
   open_yet : (IsWhole d.config.replicas d.head → ⊥) → closed ≡ 0
   open_yet lacks = elim (stage d.config.replicas d.phase) as (λ _. closed ≡ 0) [
     | inl x ↦ (elim (cases_lt (opened_of d.config.replicas d.phase) d.config.replicas) as (λ _. closed ≡ 0) [
@@ -60,7 +60,7 @@ module _ (d : LogData) (texts : Texts) (p : Picture) (held : IsLogHeld d texts p
       ≡ record { bytes = text_of (head_entries master d.head count); is_open = true }
   open_replica j count shut = let t : nat_lt j closed ≡ false = grind (arith, nat_tests) in rw t refl
 
-  -- ---- a replica has these units where it is changed, and the others are as they were
+  -- ---- the changed replica has these units, and the others are as they were
   module _ (ks : List ℕ) (j n b : ℕ) (home : IsHomeAt d id j b) (at : slice_get ks j ≡ Some n)
       (few : length ks ≤ d.config.replicas) (within : n ≤ length d.head.units)
       (lacks : IsWhole d.config.replicas d.head → ⊥)

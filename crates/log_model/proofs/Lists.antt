@@ -1,4 +1,4 @@
--- What stands at a place of a list that grew or in which one place was set, members of lists of ids, and options.
+-- What is at a place of a list that grew or in which one place was set, members of lists of ids, and options.
 use Rattle.std.proofs.Common.{◌≡◌, ℕ, zero, suc, ◌<◌, ◌⊎◌, inl, inr, Bool, true, false, cond, List, [], ◌∷◌, ◌++◌}
 use Rattle.std.proofs.Common.{length, Some, refl, sym, ap, arith}
 use Rattle.std.specs.Prelude.{Option, None, IsSome, IsSomeAnd, filter, slice_get, slice_set}
@@ -56,7 +56,7 @@ pub all_below : (n : ℕ) (ids : List ℕ) → ((s : ℕ) → IsAmong s ids → 
 all_below n [] each = tt
 all_below n (s ∷ ids) each = (each s (inl refl), all_below n ids (λ z m. each z (inr m)))
 
--- two lists are one where they are with one more element each
+-- two lists are one if they are with one more element each
 pub same_front : (xs ys : List ℕ) (x y : ℕ) → xs ++ x ∷ [] ≡ ys ++ y ∷ [] → xs ≡ ys
 same_front [] [] x y e = refl
 same_front [] (z ∷ ys) x y e = let n = ap length e in let parts = length-append ys (y ∷ []) in absurd (omega arith)

@@ -9,7 +9,8 @@ use Rattle.entry.specs.Meaning.{Versioned, IsOfKey, version_of, rank_of, among, 
 use Rattle.entry.proofs.BagLemmas.{among_push}
 use Rattle.versioned_map.specs.Represents.{Represents}
 use Rattle.versioned_map.specs.Versioned.{State, with_contents}
-use Rattle.versioned_map.proofs.Keys.{key_eq-tells, at_key, at_other}
+use Rattle.entry.proofs.KeyOrder.{key_eq_tells}
+use Rattle.versioned_map.proofs.Keys.{at_key, at_other}
 use Rattle.versioned_map.proofs.Represented.{bound-push}
 use Rattle.versioned_map.proofs.Tops.{one_key, raised, raised_clean, object_leaves}
 use Rattle.log_model.specs.Adopt.{with_loaded, LoadedIsRepresented}
@@ -27,7 +28,7 @@ module _ (recorded : ℕ) (bag : List Entry) (st : State) (o : Object) (r : Repr
 
   below_more : (q : Key) (f : Entry) → with_contents st.contents o.key x q ≡ None → among (bag ++ e ∷ []) f
       → IsOfKey q f → version_of f < st.safe
-  below_more q f gone m at = elim (key_eq-tells q o.key) as (λ _. version_of f < st.safe) [
+  below_more q f gone m at = elim (key_eq_tells q o.key) as (λ _. version_of f < st.safe) [
     | inl t ↦ (let never : x ≡ None = sym (at_key st.contents o.key x q t.1) ∙ gone in absurd (cc))
     | inr t ↦ elim (among_push f bag e m) as (λ _. version_of f < st.safe) [
       | inl l ↦ r.below q f (sym (at_other st.contents o.key x q t.1) ∙ gone) l at

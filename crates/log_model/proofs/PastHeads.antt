@@ -80,7 +80,7 @@ history_applied d past segment r have =
 
 -- ---- texts
 
--- where a text is changed that is no earlier head's
+-- a text is changed that is no earlier head's
 module _ (d : LogData) (texts : Texts) (past : List Head) (s : ℕ) (es : List Entry) (is : IsPast d texts past)
     (other : (h : Head) → IsAmong h past → h.start.id ≡ s → ⊥) where
   pub past_text : (h : Head) → IsAmong h past
@@ -114,7 +114,7 @@ id_taken_is_past d texts p past es held is = record {
       (λ h m same. let lt = is.older h m in let less = held.logged.head.next in omega arith);
 }
 
--- a survivor bears no digest
+-- a survivor has no digest
 pub sealed_is_past : SealedIsPast
 sealed_is_past d texts p past o es seals is = record {
   units = is.units;
@@ -126,7 +126,7 @@ sealed_is_past d texts p past o es seals is = record {
 
 -- ---- an op
 
--- where the head in force stays
+-- the head in force stays
 past_steady : (d : LogData) (texts : Texts) (past : List Head) (ks : List ℕ) (ph : Phase) → IsPast d texts past
     → IsPast (record d { head = record d.head { taken = ks }; phase = ph }) texts past
 past_steady d texts past ks ph is = record {

@@ -1,4 +1,4 @@
--- What stands in the replicas of a log that is held.
+-- What the replicas of a log hold.
 use Rattle.std.proofs.Common.{◌≡◌, ℕ, ◌<◌, ◌≤◌, ◌⊎◌, inl, inr, List, [], length, Some, refl, sym, ap, subst, ◌∙◌, arith}
 use Rattle.std.specs.Prelude.{IsSome, filter, get_or, slice_get}
 use Rattle.std.proofs.lemmas.Option.{same_Some, slice_get-get_or, slice_get_within}
@@ -20,7 +20,7 @@ use Rattle.log_model.proofs.Fronts.{front_in}
 use Rattle.log_model.proofs.Lists.{below_at, some_given, some_is, among_data}
 use Rattle.log_model.proofs.Segments.{reads_opening, reads_data, is_text, front_segment, front_data}
 
--- what a head's digest says
+-- the opening of a head
 abbrev pub opening_for : Start → Opening
 opening_for n = record { ids = ids_of n; safe = n.safe }
 
@@ -72,7 +72,7 @@ module _ (d : LogData) (texts : Texts) (p : Picture) (held : IsLogHeld d texts p
         ∙ reads_data d.config id (head_entries master d.head is.count) (head_segment is.count)
         ∙ front_data d.config d.head is.count (head_segment is.count)
 
-  -- where the head was opened on all homes, each holds a replica of it
+  -- if the head was opened on all homes, each holds a replica of it
   pub home_held : d.config.replicas ≤ length d.head.taken → (b : ℕ) (home : IsHome d id b)
       → (count : ℕ) × (slice_get d.head.taken home.0 ≡ Some count)
       × (p b master id ≡ Some (head_replica master d.head (closed_of d.phase) home.0 count))
@@ -85,7 +85,7 @@ module _ (d : LogData) (texts : Texts) (p : Picture) (held : IsLogHeld d texts p
         mir.head home.0 (get_or d.head.taken home.0 0) b home.1 at,
       )
 
-  -- and where it is whole, all its units
+  -- and all its units, if it is whole
   pub whole_held : IsWhole d.config.replicas d.head → (b : ℕ) (home : IsHome d id b)
       → p b master id ≡ Some (head_replica master d.head (closed_of d.phase) home.0 (length d.head.units))
   whole_held whole b home =
@@ -153,7 +153,7 @@ module _ (d : LogData) (texts : Texts) (p : Picture) (held : IsLogHeld d texts p
       subst (λ (t : ℕ). IsTextOfSegment r.bytes master t) (sym is.1) (new_text is.0 b r is.2)
   any_text b s r (inr (inr is)) = older_text s r is
 
-  -- a replica bears what its segment's text does
+  -- a replica has the opening of its segment's text
   pub any_bears : (b s : ℕ) (r : Replica) → IsReplica d texts b s r → opening_in r.bytes ≡ opening_of (texts s)
   any_bears b s r (inl is) = head_bears b r is.1 ∙ sym (ap opening_of (ap texts is.0 ∙ log.head.text))
   any_bears b s r (inr (inl is)) =
@@ -172,7 +172,7 @@ module _ (d : LogData) (texts : Texts) (p : Picture) (held : IsLogHeld d texts p
   any_in b s r e (inr (inr is)) m =
       among_data e (texts s) (subst (λ (es : List Entry). among es e) (older_data s r is) m)
 
-  -- ---- which bear a digest
+  -- ---- which have a digest
 
   -- a replica of the head, of the new head, or of an older one
   abbrev pub Bearing : ℕ → ℕ → Type 0

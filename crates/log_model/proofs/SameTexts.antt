@@ -1,4 +1,4 @@
--- What holds of a segment holds where its text is the same, and ids were taken since.
+-- What holds of a segment still holds if its text is the same and ids were taken since.
 use Rattle.std.proofs.Common.{◌≡◌, ℕ, ◌≤◌, List, sym, ap, subst, ◌∙◌, arith}
 use Rattle.std.specs.Prelude.{IsSome}
 use Rattle.entry.specs.declared.entry.Entry.{Entry}

@@ -88,7 +88,7 @@ start_segment c n segment limit = record {
   keys = λ e k m at. absurd (no_keys c.master n e k m at);
 }
 
--- behind the opening stand objects and tombstones
+-- behind the opening come objects and tombstones
 start_order : (master : ℕ) (n : Start) (es : List Entry) → is_whole (start_entries master n ++ es) ≡ true
     → (ends_with n.id (ids_of n) ≡ true) × (are_data es ≡ true)
 start_order master n es e = and_parts (ends_with n.id (ids_of n)) (are_data es) e
@@ -126,7 +126,7 @@ units_parts us count =
 pub units_all : (us : List LogUnit) → take (length us) us ≡ us
 units_all us = take_all (length us) us (omega arith)
 
--- a head's front is a segment's text where the whole is
+-- a head's front is a segment's text if the whole is
 pub front_segment : (c : LogConfig) (h : Head) (count : ℕ)
     → IsSegmentOf c h.start.id (head_entries c.master h (length h.units))
     → IsSegmentOf c h.start.id (head_entries c.master h count)

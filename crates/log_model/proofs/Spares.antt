@@ -22,7 +22,7 @@ use Rattle.log_model.proofs.Pictures.{either, elsewhere, left_before, taken_is}
 use Rattle.log_model.proofs.SameTexts.{still_older}
 use Rattle.log_model.proofs.Texts.{text_there, text_other}
 
--- where texts and replicas of one such segment change
+-- texts and replicas of one such segment change
 module _ (d : LogData) (texts other : Texts) (p : Picture) (b s : ℕ) (x : Option Replica) (mir : IsMirrored d texts p)
     (free : IsFree d s) (same : (t : ℕ) → (t ≡ s → ⊥) → other t ≡ texts t)
     (own : (c : ℕ) (r : Replica) → with_replica p b d.config.master s x c d.config.master s ≡ Some r

@@ -1,4 +1,4 @@
--- Where both survive, what is left has a choice.
+-- If both survive, what is left has a choice.
 use Rattle.std.proofs.Common.{◌≡◌, ℕ, zero, suc, ◌<◌, ◌≤◌, ◌⊎◌, inl, inr, Bool, true, false, cond, List, [], ◌∷◌, ◌++◌}
 use Rattle.std.proofs.Common.{length, map, Some, refl, sym, ap, subst, ◌∙◌, arith}
 use Rattle.std.specs.Prelude.{Option, None, IsSome, IsSomeAnd, slice_get, nat_lt}
@@ -72,7 +72,7 @@ head_left Home p master keep (inl newest) = elim newest.2 [
 ]
 head_left Home p master keep (inr none) = none.1
 
--- where one head was opened on all its homes, a head as new is left
+-- if one head was opened on all its homes, a head as new is left
 newer_left : (Home : ℕ → ℕ → Type 0) (p : Shown) (master : ℕ) (keep : ℕ → Bool) (s : ℕ)
     → IsOpened Home p master s → HeadSurvives Home p master keep → (t : ℕ) × (s ≤ t) × IsHeadLeft p master keep t
 newer_left Home p master keep s opened (inl newest) =
@@ -149,7 +149,8 @@ record HeadFound (d : LogData) (p : Picture) (keep : ℕ → Bool) : Type 0 wher
   others : (id b : ℕ) → IsAmong id n.others → IsHome d id b → (q : Replica) × (p b d.config.master id ≡ Some q)
   below : (id : ℕ) → IsAmong id n.others → id < n.id
 
-module _ (d : LogData) (p : Picture) (keep : ℕ → Bool) (survive : BothSurvive (IsHome d) (shown_by p) d.config.master keep)
+module _ (d : LogData) (p : Picture) (keep : ℕ → Bool)
+    (survive : BothSurvive (IsHome d) (shown_by p) d.config.master keep)
     (h : HeadFound d p keep) where
   -- one replica of each other id is left
   other_left : (id : ℕ) → IsAmong id h.n.others → Found p d.config.master keep id
@@ -251,7 +252,7 @@ module _ (d : LogData) (texts : Texts) (p : Picture) (held : IsLogHeld d texts p
         below = λ s m. below_at n.id n.others s (log.new n is_new).below m;
       }
 
-  -- the head in force, open, where no replica of a new one is left
+  -- the head in force, open, if no replica of a new one is left
   old_found : NoNew → closed ≡ 0 → (b : ℕ) (r : Replica) → keep b ≡ true → IsHeadReplica d.config d.head closed b r
       → HeadFound d p keep
   old_found no_new shut b r is_kept is =
@@ -274,7 +275,7 @@ module _ (d : LogData) (texts : Texts) (p : Picture) (held : IsLogHeld d texts p
         below = λ s m. below_at id d.head.start.others s log.head.below m;
       }
 
-  -- a head that is left is that in force, where no replica of a new one is left and it isn't older
+  -- a head that is left is that in force, if no replica of a new one is left and it isn't older
   old_left : NoNew → (t : ℕ) → id ≤ t → IsHeadLeft (shown_by p) master keep t
       → (b : ℕ) × (r : Replica) × (keep b ≡ true) × IsHeadReplica d.config d.head closed b r
   old_left no_new t le left = elim (bearing d texts p held left.0 t left.2)
@@ -291,7 +292,8 @@ module _ (d : LogData) (texts : Texts) (p : Picture) (held : IsLogHeld d texts p
       holds p master b id r (opening_for d.head.start) there.2 (head_bears d texts p held b r
       (record { j = home.0; count = there.0; home = home.1; taken = there.1; same = refl }))
 
-  new_opened : (n : Start) → new_of d.phase ≡ Some n → d.config.replicas ≤ opened → IsOpened (IsHome d) (shown_by p) master n.id
+  new_opened : (n : Start) → new_of d.phase ≡ Some n → d.config.replicas ≤ opened
+      → IsOpened (IsHome d) (shown_by p) master n.id
   new_opened n is_new enough b home =
       let size = slice_get_within (d.config.homes n.id) home.0 b home.1 in
       let all = held.placed.count n.id in
@@ -301,7 +303,8 @@ module _ (d : LogData) (texts : Texts) (p : Picture) (held : IsLogHeld d texts p
       (record { is_new = is_new; j = home.0; home = home.1; opened = below; same = refl }))
 
   -- a head that survives leaves the one in force or a newer one
-  not_older : HeadSurvives (IsHome d) (shown_by p) master keep → (t : ℕ) × (id ≤ t) × IsHeadLeft (shown_by p) master keep t
+  not_older : HeadSurvives (IsHome d) (shown_by p) master keep
+      → (t : ℕ) × (id ≤ t) × IsHeadLeft (shown_by p) master keep t
   not_older survives = elim (cases_lt (length d.head.taken) d.config.replicas)
       as (λ _. (t : ℕ) × (id ≤ t) × IsHeadLeft (shown_by p) master keep t) [
         | inl fewer ↦ (
@@ -312,7 +315,7 @@ module _ (d : LogData) (texts : Texts) (p : Picture) (held : IsLogHeld d texts p
         | inr enough ↦ newer_left (IsHome d) (shown_by p) master keep id (head_opened enough) survives
       ]
 
-  -- where all replicas of a new head were opened one of them is left
+  -- if all replicas of a new head were opened, one of them is left
   all_opened : HeadSurvives (IsHome d) (shown_by p) master keep → NoNew → (n : Start) → new_of d.phase ≡ Some n
       → (opened < d.config.replicas → ⊥) → ⊥
   all_opened survives no_new n is_new all = elim (cases_lt opened d.config.replicas) as (λ _. ⊥) [

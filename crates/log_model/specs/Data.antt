@@ -124,7 +124,7 @@ state_after d count = after d.opening (take count (commands_of d.history))
 abbrev pub state_of : LogData → State
 state_of d = after d.opening (commands_of d.history)
 
--- how many records come before the one whose unit is at this place; all of them, where there is none
+-- how many records come before the one whose unit is at this place; all of them, if there is none
 abbrev pub records_before : List LogUnit → ℕ → ℕ → ℕ
 records_before [] all place = all
 records_before (u ∷ us) all zero = u.number

@@ -23,7 +23,7 @@ heads_of past d = past ++ d.head ∷ []
 abbrev pub units_in : List Head → List LogUnit
 units_in hs = flat_map (λ (h : Head). h.units) hs
 
--- a record's unit before these, where it appended one
+-- a record's unit before these, if it appended one
 abbrev pub with_first : ℕ → List Entry → List LogUnit → List LogUnit
 with_first number [] us = us
 with_first number (e ∷ es) us = record { number = number; entries = e ∷ es } ∷ us

@@ -86,7 +86,7 @@ abbrev pub RollingIsHeld : Type 0
 RollingIsHeld = (d : LogData) (texts : Texts) (p : Picture) (n : Start) → IsLogHeld d texts p → IsRoll d p n
     → IsLogHeld (rolling d n) (texts_rolling d texts n) p
 
--- The new head's base stands for the present state where it did before.
+-- The new head's base stands for the present state if it did before.
 abbrev pub RollingIsStanding : Type 0
 RollingIsStanding = (d : LogData) (texts : Texts) (p : Picture) (n : Start) → IsLogHeld d texts p → IsRoll d p n
     → IsStanding d texts → Represents n.safe (base_of texts n.others) (state_of d)
@@ -102,7 +102,7 @@ abbrev pub RollingIsKept : Type 0
 RollingIsKept = (d : LogData) (p : Picture) (n : Start) (kept : IsKept d p) → IsRoll d p n
     → Represents n.safe (base_of kept.texts n.others) (state_of d) → IsKept (rolling d n) p
 
--- An ordinary roll is one.
+-- A log is kept when an ordinary roll begins.
 abbrev pub OrdinaryIsRoll : Type 0
 OrdinaryIsRoll = (d : LogData) (p : Picture) (kept : IsKept d p) → MayRoll d
     → IsRoll d p (next_start d)
@@ -115,7 +115,7 @@ abbrev pub IdTakenIsHeld : Type 0
 IdTakenIsHeld = (d : LogData) (texts : Texts) (p : Picture) (es : List Entry) → IsLogHeld d texts p
     → IsLogHeld (id_taken d) (texts_taken d texts es) p
 
--- It is in no base, so these stand for what they did.
+-- Its id is in no base, so the texts stand for what they did.
 abbrev pub IdTakenIsStanding : Type 0
 IdTakenIsStanding = (d : LogData) (texts : Texts) (p : Picture) (es : List Entry) → IsLogHeld d texts p
     → IsStanding d texts → IsStanding (id_taken d) (texts_taken d texts es)
@@ -150,7 +150,7 @@ abbrev pub NextIsStanding : Type 0
 NextIsStanding = (d e : LogData) (texts : Texts) (o : LogOp) → IsStanding d texts → IsNext d o e
     → IsStanding e texts
 
--- The heads before stay as they are; where the roll ends, the old head joins them.
+-- The heads before stay as they are; if the roll ends, the old head joins them.
 abbrev pub NextIsPast : Type 0
 NextIsPast = (d e : LogData) (texts : Texts) (p : Picture) (past : List Head) (o : LogOp) → IsLogHeld d texts p
     → IsPast d texts past → IsNext d o e
@@ -165,7 +165,7 @@ NextIsKept = (d e : LogData) (p : Picture) (o : LogOp) → IsKept d p → IsNext
 abbrev pub with_taken : FleetState → Picture → FleetState
 with_taken f q = record f { picture = q; takes = f.takes + 1 }
 
--- Where the backups of a fleet hold a log, its next op fits: the fleet has a state with it taken, which keeps the log.
+-- If the backups of a fleet hold a log, its next op fits, and the fleet with the op taken keeps the log.
 abbrev pub NextFits : Type 0
 NextFits = (d e : LogData) (f : FleetState) (o : LogOp) → IsKept d f.picture → IsNext d o e → o.backup < f.backups
     → (q : Picture) × (fleet_taken f o.backup (op_of d.config.master o) ≡ Some (with_taken f q)) × IsKept e q
@@ -175,7 +175,7 @@ abbrev pub NextIsNeverWrong : Type 0
 NextIsNeverWrong = (d e : LogData) (f g : FleetState) (o : LogOp) → IsKept d f.picture → IsNext d o e
     → o.backup < f.backups → Refuses f o.backup (op_of d.config.master o) take_fault.Wrong g → ⊥
 
--- Where nobody knows that an op was taken, the picture is sound for what the master knew.
+-- If an op was taken and nobody knows it, the picture is sound for what the master knew.
 abbrev pub NextIsSound : Type 0
 NextIsSound = (d e : LogData) (p q : Picture) (o : LogOp) → IsKept d p → IsNext d o e
     → taken p d.config.master o ≡ Some q → IsSound d q

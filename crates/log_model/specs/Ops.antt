@@ -15,7 +15,7 @@ pub record LogOp : Type 0 where
 abbrev pub op_of : ℕ → LogOp → OpValue
 op_of master o = record { master = master; segment = o.segment; act = o.act }
 
--- the picture with the op taken; None where it doesn't fit
+-- the picture with the op taken; None if it doesn't fit
 abbrev pub taken : Picture → ℕ → LogOp → Option Picture
 taken p master o =
     option_map (λ (r : Option Replica). with_replica p o.backup master o.segment r)

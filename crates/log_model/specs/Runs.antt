@@ -33,7 +33,7 @@ abbrev pub IsLogRun : LogWorld → List LogEvent → LogWorld → Type 0
 IsLogRun w [] v = v ≡ w
 IsLogRun w (e ∷ es) v = (u : LogWorld) × LogBecomes e w u × IsLogRun u es v
 
--- What is told of a stop: the picture is sound, and what is durable is on the backups.
+-- What holds at a stop: the picture is sound, and what is durable is on the backups.
 pub record IsLogStop (w : LogWorld) : Type 0 where
   pub sound : IsSound w.knows w.picture
   pub past : List Head
@@ -42,7 +42,7 @@ pub record IsLogStop (w : LogWorld) : Type 0 where
 
 -- ---- law
 
--- So it is at each stop of each run from a master that is kept, as a new one is, and one that took over a recovered
--- map.
+-- The same holds at each stop of each run from a master that is kept, as a new one is, and one that took over a
+-- recovered map.
 abbrev pub LogRunsAreSound : Type 0
 LogRunsAreSound = (v w : LogWorld) (es : List LogEvent) → IsKept v.knows v.picture → IsLogRun v es w → IsLogStop w

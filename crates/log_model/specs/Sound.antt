@@ -25,7 +25,7 @@ IsSurvivingChoice d p keep c = IsShownChoice (survivors keep (shown_by p)) d.con
 abbrev pub HasChoice : LogData → Picture → (ℕ → Bool) → Type 0
 HasChoice d p keep = (c : Choice) × IsSurvivingChoice d p keep c
 
--- the replicas of a segment bear one digest
+-- the replicas of a segment have one digest
 abbrev pub BearOneDigest : Picture → ℕ → Type 0
 BearOneDigest p master = (b c s : ℕ) (r q : Replica) → p b master s ≡ Some r → p c master s ≡ Some q
     → opening_in r.bytes ≡ opening_in q.bytes
@@ -47,5 +47,5 @@ pub record IsSound (d : LogData) (p : Picture) : Type 0 where
   pub clean : (keep : ℕ → Bool) (c : Choice) → IsSurvivingChoice d p keep c → IsClean (among (bag_of c))
   pub keys : (keep : ℕ → Bool) (c : Choice) → IsSurvivingChoice d p keep c → AreOfTablets d.config (bag_of c)
   pub prefix : (keep : ℕ → Bool) (c : Choice) → IsSurvivingChoice d p keep c → (count : ℕ) × IsPrefix d c count
-  -- where both survive there is a choice
+  -- if both survive there is a choice
   pub choice : (keep : ℕ → Bool) → BothSurvive (IsHome d) (shown_by p) d.config.master keep → HasChoice d p keep

@@ -15,13 +15,13 @@ pub record IsFree (d : LogData) (s : ℕ) : Type 0 where
   pub new : (n : Start) → new_of d.phase ≡ Some n → s ≡ n.id → ⊥
   pub others : IsOther d s → ⊥
 
--- A replica of a survivor, with this text, is sealed where there is none; the log has older segments.
+-- A replica of a survivor, with this text, is sealed; there was none, and the log has older segments.
 pub record Seals (d : LogData) (texts : Texts) (p : Picture) (o : LogOp) (es : List Entry) : Type 0 where
   pub free : IsFree d o.segment
   pub older : d.head.start.others ≡ [] → ⊥
   pub next : o.segment < d.next
   pub segment : IsSegmentOf d.config o.segment es
-  -- it bears no digest, nor did it before
+  -- it has no digest, nor did it before
   pub bore : opening_of (texts o.segment) ≡ None
   pub bears : opening_of es ≡ None
   -- the other replicas of it have this text

@@ -41,7 +41,7 @@ pub record MayBegin (c : LogConfig) (p : Picture) : Type 0 where
 
 -- ---- a command
 
--- the units with that of the record of this number, where it appended one
+-- the units with that of the record of this number, if it appended one
 abbrev pub with_unit : List LogUnit → ℕ → List Entry → List LogUnit
 with_unit us number [] = us
 with_unit us number (e ∷ es) = us ++ record { number = number; entries = e ∷ es } ∷ []
@@ -50,7 +50,7 @@ with_unit us number (e ∷ es) = us ++ record { number = number; entries = e ∷
 abbrev pub unit_now : LogData → ℕ → Record → List Entry
 unit_now d segment r = unit_of (state_of d) segment r.command
 
--- the master with this history, and with the unit at the head's end where it is something
+-- the master with this history, and with the unit at the head's end if there is one
 abbrev pub with_appended : LogData → List Record → List Entry → LogData
 with_appended d history unit = record d {
   history = history;

@@ -15,13 +15,14 @@ pub record AreAll (p : Picture) (asked : List ℕ) (hs : List Holding) : Type 0 
   pub only : (h : Holding) → IsAmong h hs → (is_kept asked h.backup ≡ true) × IsHeld p h
   pub all : (h : Holding) → is_kept asked h.backup ≡ true → IsHeld p h → IsAmong h hs
 
--- they are what is left of the picture where the others are gone
+-- they are what is left of the picture if the others are gone
 pub left-shown : (p : Picture) (asked : List ℕ) (hs : List Holding) → AreAll p asked hs → (h : Holding)
     → IsAmong h hs ↔ IsHeld (left_on (is_kept asked) p) h
 left-shown p asked hs are h =
     (λ m. rw (are.only h m).0 (are.only h m).1, left (is_kept asked h.backup) refl)
   where
-    left : (b : Bool) → is_kept asked h.backup ≡ b → (if b then p h.backup h.master h.segment else None) ≡ Some (record { bytes = h.bytes; is_open = h.is_open })
+    left : (b : Bool) → is_kept asked h.backup ≡ b
+        → (if b then p h.backup h.master h.segment else None) ≡ Some (record { bytes = h.bytes; is_open = h.is_open })
         → IsAmong h hs
     left true is held = are.all h is held
     left false gone held = absurd (cc)
@@ -55,18 +56,26 @@ same_test a b e = grind (arith, nat_tests)
 test_same : (a b : ℕ) → (a == b) ≡ true → a ≡ b
 test_same a b e = grind (arith, nat_tests)
 
-pub all-more : (p : Picture) (kept : List ℕ) (i k : ℕ) (hs more both : List Holding) → i < length kept → k ≡ get_or kept i 0 → both ≡ hs ++ more →
-    ((h : Holding) → IsAmong h more ↔ ((h.backup ≡ k) × IsHeld p h)) → AreAll p (take i kept) hs → AreAll p (take (i + 1) kept) both
+pub all-more : (p : Picture) (kept : List ℕ) (i k : ℕ) (hs more both : List Holding) → i < length kept
+    → k ≡ get_or kept i 0 → both ≡ hs ++ more →
+    ((h : Holding) → IsAmong h more ↔ ((h.backup ≡ k) × IsHeld p h)) → AreAll p (take i kept) hs
+    → AreAll p (take (i + 1) kept) both
 all-more p kept i k hs more both lt is joined shown old =
-    let seam : take (i + 1) kept ≡ take i kept ++ k ∷ [] = (take_at_read kept i 0 lt).1 ∙ ap (λ x. take i kept ++ x ∷ []) (sym is) in
+    let seam : take (i + 1) kept ≡ take i kept ++ k ∷ [] =
+    (take_at_read kept i 0 lt).1 ∙ ap (λ x. take i kept ++ x ∷ []) (sym is) in
     rw (seam, joined) (record {
       only = λ h m. (let push = kept-push (take i kept) k h.backup in
           elim (among_either h hs more m) as (λ _. (is_kept (take i kept ++ k ∷ []) h.backup ≡ true) × IsHeld p h) [
             | inl l ↦ (let o = old.only h l in (push ∙ or_left _ _ o.0, o.1))
-            | inr r ↦ (let o = (shown h).0 r in (push ∙ or_right (is_kept (take i kept) h.backup) _ (same_test k h.backup (sym o.0)), o.1))
+            | inr r ↦ (let o = (shown h).0 r in (
+              push ∙ or_right (is_kept (take i kept) h.backup) _
+                  (same_test k h.backup (sym o.0)),
+              o.1,
+            ))
           ]);
-      all = λ h asked held. elim (or_cases (is_kept (take i kept) h.backup) (k == h.backup) (sym (kept-push (take i kept) k h.backup) ∙ asked)) [
-        | inl l ↦ among_left h hs more (old.all h l held)
-        | inr r ↦ among_right h hs more ((shown h).1 (sym (test_same k h.backup r), held))
-      ];
+      all = λ h asked held. elim (or_cases (is_kept (take i kept) h.backup) (k == h.backup)
+          (sym (kept-push (take i kept) k h.backup) ∙ asked)) [
+            | inl l ↦ among_left h hs more (old.all h l held)
+            | inr r ↦ among_right h hs more ((shown h).1 (sym (test_same k h.backup r), held))
+          ];
     })

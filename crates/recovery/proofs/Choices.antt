@@ -19,14 +19,17 @@ use Rattle.recovery.specs.Recovered.{Shows}
 -- ---- bags
 
 -- the segments of a plan hold the objects and tombstones of the replicas that were chosen
-pub bag-of-plan : (hs : List Holding) (m : ℕ) (c : Choice) (plan : Plan) → IsPlanOf hs m c plan → segments_bag plan.segments ≡ bag_of c
+pub bag-of-plan : (hs : List Holding) (m : ℕ) (c : Choice) (plan : Plan) → IsPlanOf hs m c plan
+    → segments_bag plan.segments ≡ bag_of c
 bag-of-plan hs m c plan is =
-    ap segments_bag is.segments ∙ flat_map-map (filter is_data) (λ (h : Holding). entries_in h.bytes) (c.others ++ c.head ∷ [])
+    ap segments_bag is.segments
+    ∙ flat_map-map (filter is_data) (λ (h : Holding). entries_in h.bytes) (c.others ++ c.head ∷ [])
 
 -- ---- choices
 
 -- only the master's replicas count for a choice
-pub choice-of-same : (holds also : Holding → Type 0) (m : ℕ) (c : Choice) → ((h : Holding) → h.master ≡ m → holds h ↔ also h) →
+pub choice-of-same : (holds also : Holding → Type 0) (m : ℕ) (c : Choice)
+    → ((h : Holding) → h.master ≡ m → holds h ↔ also h) →
     IsChoice holds 0 m c → IsChoice also 0 m c
 choice-of-same holds also m c same choice = record {
   held = (same c.head choice.of_master).0 choice.held;
@@ -56,7 +59,8 @@ module _ (hs : List Holding) (m : ℕ) (d : LogData) (p : Picture) (keep : ℕ �
   -- what is chosen in the inventory is chosen among what survives
   pub surviving-choice : (c : Choice) → IsChoiceOf hs m c → IsSurvivingChoice d p keep c
   surviving-choice c choice =
-      subst (λ n. IsShownChoice (survivors keep (shown_by p)) n c) (sym is) (choice-of-same (λ h. IsAmong h hs) (IsHeld (left_on keep p)) m c shows choice)
+      subst (λ n. IsShownChoice (survivors keep (shown_by p)) n c) (sym is)
+      (choice-of-same (λ h. IsAmong h hs) (IsHeld (left_on keep p)) m c shows choice)
 
   -- and back
   pub shown-choice : (c : Choice) → IsSurvivingChoice d p keep c → IsChoiceOf hs m c
@@ -74,15 +78,17 @@ module _ (hs : List Holding) (m : ℕ) (d : LogData) (p : Picture) (keep : ℕ �
     pub shown-good : (h : Holding) → h.master ≡ m → IsAmong h hs → IsGood h
     shown-good h of among =
         let text : IsTextOfSegment h.bytes h.master h.segment =
-        subst (λ n. IsTextOfSegment h.bytes n h.segment) (is ∙ sym of) (sound.texts h.backup h.segment _ (shown-held h of among)) in
+        subst (λ n. IsTextOfSegment h.bytes n h.segment) (is ∙ sym of)
+        (sound.texts h.backup h.segment _ (shown-held h of among)) in
         record { segment = text.text; header = text.header }
 
-    -- the replicas of a segment bear one digest
+    -- the replicas of a segment have one digest
     pub shown-agree : AgreeOnDigest hs m
     shown-agree id g h o q newest ga ha gi hi go ho =
         let same_segment : h.segment ≡ g.segment = hi.1 ∙ sym gi.1 in
         let one : opening_in g.bytes ≡ opening_in h.bytes =
-        sound.digests g.backup h.backup h.segment _ _ (ap (p g.backup d.config.master) same_segment ∙ shown-held g gi.0.0 ga)
+        sound.digests g.backup h.backup h.segment _ _ (ap (p g.backup d.config.master) same_segment
+        ∙ shown-held g gi.0.0 ga)
         (shown-held h hi.0.0 ha) in
         let same : o ≡ q = cc in
         ap (λ (x : Opening). x.ids) same

@@ -21,7 +21,8 @@ use Rattle.recovery.specs.Kept.{is_kept}
 use Rattle.recovery.specs.Recovered.{IsRecovered, IsLossOrMemory, IsWant}
 use Rattle.recovery.proofs.Recoveries.{IsSomePrefix, IsSomeLoss}
 
-run_keeps : (old new : World) (steps : List Step) (answers : List (Result StepAnswer Refusal)) → IsRun old steps answers new
+run_keeps : (old new : World) (steps : List Step) (answers : List (Result StepAnswer Refusal))
+    → IsRun old steps answers new
     → new.knows.config ≡ old.knows.config
 run_keeps old new [] [] run = ap (λ (w : World). w.knows.config) run
 run_keeps old new [] (a ∷ rest) run = absurd run
@@ -29,7 +30,8 @@ run_keeps old new (s ∷ ss) [] run = absurd run
 run_keeps old new (s ∷ ss) (a ∷ rest) run = run_keeps run.0 new ss rest run.3 ∙ run.2.keeps.config
 
 module _ (start stop : World) (steps : List Step) (kept : List ℕ) (answers : List (Result StepAnswer Refusal))
-    (ran : IsRun start steps answers stop) (left : FleetState) (same : left ≡ stop.fleet) (valid : IsValid stop.knows left) where
+    (ran : IsRun start steps answers stop) (left : FleetState) (same : left ≡ stop.fleet)
+    (valid : IsValid stop.knows left) where
   of_master : stop.knows.config.master ≡ start.knows.config.master
   of_master = ap (λ (c : Config). c.master) (run_keeps start stop steps answers ran)
 
@@ -52,12 +54,14 @@ module _ (start stop : World) (steps : List Step) (kept : List ℕ) (answers : L
 
     loss : (r : Result Rebuilt RecoveryFault) → IfErr r (IsSomeLoss hs start.knows.config.master)
         → IfErr r (λ e. IsLossOrMemory e
-        × (BothSurvive (IsHome (log_of stop.knows)) (shown_by left.picture) stop.knows.config.master (is_kept kept) → IsWant e))
+        × (BothSurvive (IsHome (log_of stop.knows)) (shown_by left.picture) stop.knows.config.master (is_kept kept)
+        → IsWant e))
     loss (Ok b) is = tt
     loss (Err e) is = is (log_of stop.knows) left.picture (is_kept kept) valid.sound of_master (λ h of. shown h)
 
-  -- where there was no memory for an inventory, nothing is said to be lost
-  pub drilled_without : (e : RecoveryFault) → IsLossOrMemory e → IsWant e → IsDrill start steps kept answers (Err e) left
+  -- if memory for an inventory ran out, nothing is named as lost
+  pub drilled_without : (e : RecoveryFault) → IsLossOrMemory e → IsWant e
+      → IsDrill start steps kept answers (Err e) left
   drilled_without e is want = record {
     stop = stop;
     run = ran;

@@ -1,4 +1,4 @@
--- What is recovered of a sound state, and what a refusal says of it.
+-- What is recovered of a sound state, and what a refusal means.
 use Rattle.std.proofs.Common.{◌≡◌, ℕ, max, inl, Bool, List, ◌∷◌, refl, sym, ap, subst, ◌∙◌, take}
 use Rattle.entry.specs.Bag.{IsAmong}
 use Rattle.entry.specs.Meaning.{IsMeaning, IsClean, among, bound_of, contents_of}
@@ -30,7 +30,9 @@ use Rattle.recovery.proofs.Choices.{bag-of-plan, surviving-choice, shown-choice,
 
 -- a prefix of the commands, whatever the sound state is that the inventory shows a part of
 abbrev pub IsSomePrefix : List Holding → ℕ → Rebuilt → Type 0
-IsSomePrefix hs m r = (d : LogData) (p : Picture) (keep : ℕ → Bool) → IsSound d p → d.config.master ≡ m → Shows hs (survivors keep (shown_by p)) m →
+IsSomePrefix hs m r =
+    (d : LogData) (p : Picture) (keep : ℕ → Bool) → IsSound d p → d.config.master ≡ m
+    → Shows hs (survivors keep (shown_by p)) m →
     (count : ℕ) × IsRecovered d count r
 
 pub rebuilt-prefix : (hs : List Holding) (m : ℕ) (c : Choice) (plan : Plan) (r : Rebuilt) →
@@ -42,12 +44,15 @@ rebuilt-prefix hs m c plan r planned rebuilt d p keep sound is shows =
     let meaning : IsMeaning (among (bag_of c)) (contents_of r.objects) =
     subst (λ es. IsMeaning (among es) (contents_of r.objects)) bag rebuilt.meaning in
     let safe : r.safe ≡ max c.opening.safe (bound_of (bag_of c)) =
-    rebuilt.safe ∙ ap (λ n. max n (bound_of (segments_bag plan.segments))) planned.safe ∙ ap (λ es. max c.opening.safe (bound_of es)) bag in (
+    rebuilt.safe ∙ ap (λ n. max n (bound_of (segments_bag plan.segments))) planned.safe
+    ∙ ap (λ es. max c.opening.safe (bound_of es)) bag in (
       found.0,
       record {
         durable = prefix.durable;
         within = prefix.within;
-        exactly = one_contents (among (bag_of c)) (contents_of r.objects) (state_after d found.0).contents meaning prefix.meaning;
+        exactly =
+            one_contents (among (bag_of c)) (contents_of r.objects) (state_after d found.0).contents meaning
+            prefix.meaning;
         order = rebuilt.order;
         safe = subst (IsSafeAfter (d.opening) (take found.0 (commands_of d.history))) (sym safe) prefix.safe;
       },
@@ -55,14 +60,16 @@ rebuilt-prefix hs m c plan r planned rebuilt d p keep sound is shows =
 
 -- ---- what is refused
 
--- whatever the sound state is that the inventory shows a part of, a loss, or want of memory, and this alone where both survive
+-- whatever sound state the inventory shows a part of: a loss, or memory ran out, and the latter alone if both survive
 abbrev pub IsSomeLoss : List Holding → ℕ → RecoveryFault → Type 0
-IsSomeLoss hs m e = (d : LogData) (p : Picture) (keep : ℕ → Bool) → IsSound d p → d.config.master ≡ m → Shows hs (survivors keep (shown_by p)) m →
+IsSomeLoss hs m e =
+    (d : LogData) (p : Picture) (keep : ℕ → Bool) → IsSound d p → d.config.master ≡ m
+    → Shows hs (survivors keep (shown_by p)) m →
     IsLossOrMemory e × (BothSurvive (IsHome d) (shown_by p) d.config.master keep → IsWant e)
 
 module _ (hs : List Holding) (m : ℕ) (d : LogData) (p : Picture) (keep : ℕ → Bool)
     (sound : IsSound d p) (is : d.config.master ≡ m) (shows : Shows hs (survivors keep (shown_by p)) m) where
-  -- where there is nothing to choose, not both survive
+  -- if there is nothing to choose, not both survive
   not-both : ((c : Choice) → IsChoiceOf hs m c → ⊥) → BothSurvive (IsHome d) (shown_by p) d.config.master keep → ⊥
   not-both none both =
       let some = sound.choice keep both in
@@ -72,25 +79,30 @@ module _ (hs : List Holding) (m : ℕ) (d : LogData) (p : Picture) (keep : ℕ �
   none-bad : (backup id : ℕ) → IsFirstBad hs m backup id → ⊥
   none-bad backup id first =
       let there : IsAmong first.bad hs =
-      subst (IsAmong first.bad) (sym first.place) (among_right first.bad first.before (first.bad ∷ first.after) (inl refl)) in
+      subst (IsAmong first.bad) (sym first.place) (among_right first.bad first.before (first.bad ∷ first.after)
+      (inl refl)) in
       first.is_bad (shown-good hs m d p keep is shows sound first.bad first.of_master there)
 
   pub plan-loss : (e : PlanFault) → IsPlanFault hs m e → NamesLoss hs m e →
       IsPlanLoss e × (BothSurvive (IsHome d) (shown_by p) d.config.master keep → IsPlanWant e)
   plan-loss plan_fault.NoHead says loss = (tt, λ both. absurd (not-both loss both))
   plan-loss (plan_fault.HeadClosed id) says loss = (tt, λ both. absurd (not-both loss both))
-  plan-loss (plan_fault.Missing id) says loss = (tt, λ both. absurd (not-both (loss.1 (shown-agree hs m d p keep is shows sound)) both))
+  plan-loss (plan_fault.Missing id) says loss =
+      (tt, λ both. absurd (not-both (loss.1 (shown-agree hs m d p keep is shows sound)) both))
   plan-loss (plan_fault.BadReplica backup id) says loss = absurd (none-bad backup id says)
   plan-loss plan_fault.NoMemory says loss = (tt, λ both. tt)
 
   -- the log that was chosen is clean
-  pub replay-want : (c : Choice) (plan : Plan) (e : ReplayFault) → IsPlanOf hs m c plan → IsRefusal plan.segments e → IsReplayWant e
+  pub replay-want : (c : Choice) (plan : Plan) (e : ReplayFault) → IsPlanOf hs m c plan → IsRefusal plan.segments e
+      → IsReplayWant e
   replay-want c plan replay_fault.NoMemory planned says = tt
   replay-want c plan replay_fault.Clash planned says =
-      let clean : IsClean (among (bag_of c)) = sound.clean keep c (surviving-choice hs m d p keep is shows c planned.choice) in
+      let clean : IsClean (among (bag_of c)) =
+      sound.clean keep c (surviving-choice hs m d p keep is shows c planned.choice) in
       absurd (says (subst (λ es. IsClean (among es)) (sym (bag-of-plan hs m c plan planned)) clean))
 
-pub refused-plan : (hs : List Holding) (m : ℕ) (e : PlanFault) → IsPlanFault hs m e → NamesLoss hs m e → IsSomeLoss hs m (fault.Plan e)
+pub refused-plan : (hs : List Holding) (m : ℕ) (e : PlanFault) → IsPlanFault hs m e → NamesLoss hs m e
+    → IsSomeLoss hs m (fault.Plan e)
 refused-plan hs m e says loss d p keep sound is shows = plan-loss hs m d p keep sound is shows e says loss
 
 pub refused-replay : (hs : List Holding) (m : ℕ) (c : Choice) (plan : Plan) (e : ReplayFault) →

@@ -16,8 +16,8 @@ use Rattle.recovery.specs.Kept.{is_kept}
 use Rattle.recovery.specs.Recovered.{IsRecovered, IsLossOrMemory, IsWant}
 
 -- The steps were taken from this start, and left this fleet. Whichever backups are kept: what is recovered is exactly
--- the map after a prefix that holds each durable command. A refusal names the loss that hides the log, or memory ran out,
--- and only memory if the head and the segments survive.
+-- the map after a prefix that holds each durable command. A refusal names the loss that hides the log, or memory ran
+-- out, and only memory if the head and the segments survive.
 pub record IsDrill (start : World) (steps : List Step) (kept : List ℕ) (answers : List (Result StepAnswer Refusal))
     (recovered : Result Rebuilt RecoveryFault) (left : FleetState) : Type 0 where
   pub stop : World

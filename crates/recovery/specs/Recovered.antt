@@ -41,7 +41,7 @@ pub record IsRecovered (d : LogData) (count : ℕ) (r : Rebuilt) : Type 0 where
 abbrev pub IsAcknowledged : List ℕ → ℕ → Type 0
 IsAcknowledged answered place = (later : ℕ) × IsAmong later answered × (place ≤ later)
 
--- Where durable records alone are answered, each acknowledged one is among those that are recovered.
+-- If durable records alone are answered, each acknowledged one is among those that are recovered.
 abbrev pub AcknowledgedAreRecovered : Type 0
 AcknowledgedAreRecovered = (d : LogData) (count : ℕ) (r : Rebuilt) (answered : List ℕ) → IsRecovered d count r
     → ((place : ℕ) → IsAmong place answered → place < durable_of d)
@@ -49,7 +49,7 @@ AcknowledgedAreRecovered = (d : LogData) (count : ℕ) (r : Rebuilt) (answered :
 
 -- ---- refusals
 
--- a lost head or segment, or want of memory
+-- a lost head or segment, or memory ran out
 abbrev pub IsPlanLoss : PlanFault → Type 0
 IsPlanLoss plan_fault.NoHead = Unit {0}
 IsPlanLoss (plan_fault.HeadClosed id) = Unit {0}
@@ -86,7 +86,7 @@ abbrev pub IsRebuiltFrom : List Holding → ℕ → Rebuilt → Type 0
 IsRebuiltFrom inventory master r =
     (plan : PlanValue) × IsPlan inventory master plan × IsRebuilt plan.segments plan.safe r
 
--- The fault stands in the inventory: there is no plan of it, or the log of its plan is refused.
+-- The inventory has the fault: there is no plan of it, or the log of its plan is refused.
 abbrev pub IsRefusedFrom : List Holding → ℕ → RecoveryFault → Type 0
 IsRefusedFrom inventory master (Plan fault) = IsPlanFault inventory master fault × NamesLoss inventory master fault
 IsRefusedFrom inventory master (Replay fault) =

@@ -21,8 +21,8 @@ pub struct Drill<F> {
     pub fleet: F,
 }
 
-/// Lets a master take any steps, stops it, and recovers it from what these backups hold, and from nothing else. If there
-/// is no memory for the answers, the master comes back as it was.
+/// Lets a master take any steps, stops it, and recovers it from what these backups hold, and from nothing else. If
+/// memory for the answers runs out, the master comes back as it was.
 pub fn run_drill<F: Fleet>(
     alloc: Global,
     master: Master<F>,

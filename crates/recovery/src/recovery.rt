@@ -42,11 +42,11 @@ pub fn recover(alloc: Global, inventory: &Inventory, master: u64) -> Result<Rebu
     ensures ok { IfOk result (λ r. (d : LogData) (p : Picture) (keep : ℕ → Bool) →
         IsSound d p → d.config.master ≡ master → Shows inventory.now (survivors keep (shown_by p)) master →
         (count : ℕ) × IsRecovered d count r) }
-    // Of such a state only a lost head or segment is named, or want of memory, and a loss only where it hides the log.
+    // Of such a state a fault is a lost head or segment, or memory ran out; and a loss comes only if it hides the log.
     ensures refused { IfErr result (λ e. (d : LogData) (p : Picture) (keep : ℕ → Bool) →
         IsSound d p → d.config.master ≡ master → Shows inventory.now (survivors keep (shown_by p)) master →
         IsLossOrMemory e × (BothSurvive (IsHome d) (shown_by p) d.config.master keep → IsWant e)) }
-    // Of any inventory what comes back, or the fault, stands in it.
+    // Of any inventory: what comes back, or the fault, follows from it.
     ensures rebuilt { IfOk result (IsRebuiltFrom inventory.now master) }
     ensures fault { IfErr result (IsRefusedFrom inventory.now master) }
 {

@@ -1,5 +1,6 @@
 -- Preferred replicas of growing lists.
-use Rattle.std.proofs.Common.{◌≡◌, ℕ, ◌<◌, inl, inr, Bool, true, false, cond, List, [], ◌∷◌, ◌++◌, refl, sym, ap, subst, ◌∙◌, arith, append_assoc, take, get_or, ◌+◌, ⊎_elim}
+use Rattle.std.proofs.Common.{◌≡◌, ℕ, ◌<◌, inl, inr, Bool, true, false, cond, List, [], ◌∷◌, ◌++◌, refl}
+use Rattle.std.proofs.Common.{sym, ap, subst, ◌∙◌, arith, append_assoc, take, get_or, ◌+◌, ⊎_elim}
 use Rattle.std.specs.Prelude.{Option, Some, None, nat_lt, ◌==◌, ◌&&◌, ◌||◌, ◌⊎◌, length}
 use Rattle.std.proofs.lemmas.Bool.Decides.{nat_tests}
 use Rattle.std.proofs.lemmas.Bool.{cases_eq}
@@ -58,7 +59,8 @@ module _ where
   prefers-asym false k b true l c e = refl
   prefers-asym false k b false l c e = backup-asym b c e
 
-  prefers-weak : (x : Bool) (k b : ℕ) (y : Bool) (l c : ℕ) (z : Bool) (m d : ℕ) → prefers x k b y l c ≡ true → prefers z m d y l c ≡ false → prefers x k b z m d ≡ true
+  prefers-weak : (x : Bool) (k b : ℕ) (y : Bool) (l c : ℕ) (z : Bool) (m d : ℕ) → prefers x k b y l c ≡ true
+      → prefers z m d y l c ≡ false → prefers x k b z m d ≡ true
   prefers-weak true k b true l c true m d e f = longer-weak k b l c m d e f
   prefers-weak true k b true l c false m d e f = absurd (cc)
   prefers-weak true k b false l c z m d e f = absurd (cc)
@@ -71,36 +73,47 @@ preferred-asym : (a b : Holding) → is_preferred a b ≡ true → is_preferred 
 preferred-asym a b e = prefers-asym a.is_open (length a.bytes) a.backup b.is_open (length b.bytes) b.backup e
 
 preferred-weak : (a b c : Holding) → is_preferred a b ≡ true → is_preferred c b ≡ false → is_preferred a c ≡ true
-preferred-weak a b c e f = prefers-weak a.is_open (length a.bytes) a.backup b.is_open (length b.bytes) b.backup c.is_open (length c.bytes) c.backup e f
+preferred-weak a b c e f =
+    prefers-weak a.is_open (length a.bytes) a.backup b.is_open (length b.bytes) b.backup c.is_open (length c.bytes)
+    c.backup e f
 
 -- ---- one more replica
 
 module _ (P : Holding → Type 0) where
   -- one that is no candidate changes nothing
-  pub best-skip : (hs : List Holding) (h : Holding) (o : Option Holding) → (P h → ⊥) → IsBest P hs o → IsBest P (hs ++ h ∷ []) o
-  best-skip hs h None not best = λ g i p. ⊎_elim (λ a. best g a p) (λ b. ⊎_elim (λ e. not (subst P (sym e) p)) (λ n. n) b) (among-append g hs (h ∷ []) i)
+  pub best-skip : (hs : List Holding) (h : Holding) (o : Option Holding) → (P h → ⊥) → IsBest P hs o
+      → IsBest P (hs ++ h ∷ []) o
+  best-skip hs h None not best =
+      λ g i p. ⊎_elim (λ a. best g a p) (λ b. ⊎_elim (λ e. not (subst P (sym e) p)) (λ n. n) b)
+      (among-append g hs (h ∷ []) i)
   best-skip hs h (Some b) not best = record {
     before = best.before;
     after = best.after ++ h ∷ [];
     place = ap (λ (l : List Holding). l ++ h ∷ []) best.place ∙ append_assoc best.before (b ∷ best.after) (h ∷ []);
     candidate = best.candidate;
     earlier = best.earlier;
-    later = λ g i p. ⊎_elim (λ a. best.later g a p) (λ r. ⊎_elim (λ e. absurd (not (subst P (sym e) p))) (λ n. absurd n) r) (among-append g best.after (h ∷ []) i);
+    later =
+        λ g i p. ⊎_elim (λ a. best.later g a p) (λ r. ⊎_elim (λ e. absurd (not (subst P (sym e) p))) (λ n. absurd n) r)
+        (among-append g best.after (h ∷ []) i);
   }
 
   -- a candidate that isn't preferred changes nothing
-  kept : (hs : List Holding) (h b : Holding) → is_preferred h b ≡ false → IsPreferred P hs b → IsPreferred P (hs ++ h ∷ []) b
+  kept : (hs : List Holding) (h b : Holding) → is_preferred h b ≡ false → IsPreferred P hs b
+      → IsPreferred P (hs ++ h ∷ []) b
   kept hs h b not best = record {
     before = best.before;
     after = best.after ++ h ∷ [];
     place = ap (λ (l : List Holding). l ++ h ∷ []) best.place ∙ append_assoc best.before (b ∷ best.after) (h ∷ []);
     candidate = best.candidate;
     earlier = best.earlier;
-    later = λ g i p. ⊎_elim (λ a. best.later g a p) (λ r. ⊎_elim (λ e. ap (λ x. is_preferred x b) (sym e) ∙ not) (λ n. absurd n) r) (among-append g best.after (h ∷ []) i);
+    later =
+        λ g i p. ⊎_elim (λ a. best.later g a p) (λ r. ⊎_elim (λ e. ap (λ x. is_preferred x b) (sym e) ∙ not)
+        (λ n. absurd n) r) (among-append g best.after (h ∷ []) i);
   }
 
   -- one that is preferred is preferred to all before it
-  replaced : (hs : List Holding) (h b : Holding) → P h → is_preferred h b ≡ true → IsPreferred P hs b → IsPreferred P (hs ++ h ∷ []) h
+  replaced : (hs : List Holding) (h b : Holding) → P h → is_preferred h b ≡ true → IsPreferred P hs b
+      → IsPreferred P (hs ++ h ∷ []) h
   replaced hs h b p is best = record {
     before = hs;
     after = [];
@@ -109,12 +122,14 @@ module _ (P : Holding → Type 0) where
     earlier = λ g i q.
         ⊎_elim
         (λ a. preferred-weak h b g is (preferred-asym b g (best.earlier g a q)))
-        (λ r. ⊎_elim (λ e. subst (λ x. is_preferred h x ≡ true) e is) (λ a. preferred-weak h b g is (best.later g a q)) r)
+        (λ r. ⊎_elim (λ e. subst (λ x. is_preferred h x ≡ true) e is) (λ a. preferred-weak h b g is (best.later g a q))
+        r)
         (among-append g best.before (b ∷ best.after) (subst (IsAmong g) best.place i));
     later = λ g i q. absurd i;
   }
 
-  pub best-more : (hs : List Holding) (h : Holding) (o : Option Holding) → P h → IsBest P hs o → IsBest P (hs ++ h ∷ []) (Some (better o h))
+  pub best-more : (hs : List Holding) (h : Holding) (o : Option Holding) → P h → IsBest P hs o
+      → IsBest P (hs ++ h ∷ []) (Some (better o h))
   best-more hs h None p best = record {
     before = hs;
     after = [];
@@ -132,7 +147,8 @@ module _ (P : Holding → Type 0) where
 -- ---- lists that a loop goes over
 
 -- an element joins those before it
-pub take-more : {X : Type 0} (xs : List X) (i : ℕ) (x : X) → i < length xs → x ≡ get_or xs i x → take (i + 1) xs ≡ take i xs ++ x ∷ []
+pub take-more : {X : Type 0} (xs : List X) (i : ℕ) (x : X) → i < length xs → x ≡ get_or xs i x
+    → take (i + 1) xs ≡ take i xs ++ x ∷ []
 take-more xs i x lt is = (take_at_read xs i x lt).1 ∙ ap (λ y. take i xs ++ y ∷ []) (sym is)
 
 -- ---- the best of each segment

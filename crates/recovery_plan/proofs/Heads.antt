@@ -1,5 +1,6 @@
 -- Good replicas and heads of growing lists.
-use Rattle.std.proofs.Common.{◌≡◌, ℕ, zero, suc, ◌<◌, ◌≤◌, max, inl, inr, List, [], ◌∷◌, ◌++◌, take, drop, length, get_or, refl, sym, ap, subst, ◌∙◌, arith, ⊎_elim}
+use Rattle.std.proofs.Common.{◌≡◌, ℕ, zero, suc, ◌<◌, ◌≤◌, max, inl, inr, List, [], ◌∷◌, ◌++◌, take}
+use Rattle.std.proofs.Common.{drop, length, get_or, refl, sym, ap, subst, ◌∙◌, arith, ⊎_elim}
 use Rattle.std.specs.Prelude.{Option, Some, None, unwrap_or}
 use Rattle.std.specs.Prelude.{◌⊎◌}
 use Rattle.std.proofs.lemmas.Bool.{cases_lt}
@@ -17,7 +18,8 @@ among-at (y ∷ xs) zero x lt is = inl (sym is)
 among-at (y ∷ xs) (suc i) x lt is = inr (among-at xs i x (omega arith) is)
 
 -- the list, split at a place
-pub split-at : {X : Type 0} (xs : List X) (i : ℕ) (x : X) → i < length xs → x ≡ get_or xs i x → xs ≡ take i xs ++ x ∷ drop (suc i) xs
+pub split-at : {X : Type 0} (xs : List X) (i : ℕ) (x : X) → i < length xs → x ≡ get_or xs i x
+    → xs ≡ take i xs ++ x ∷ drop (suc i) xs
 split-at [] i x lt is = absurd (omega arith)
 split-at (y ∷ xs) zero x lt is = ap (λ z. z ∷ xs) (sym is)
 split-at (y ∷ xs) (suc i) x lt is = ap (λ l. y ∷ l) (split-at xs i x (omega arith) is)
@@ -25,24 +27,33 @@ split-at (y ∷ xs) (suc i) x lt is = ap (λ l. y ∷ l) (split-at xs i x (omega
 module _ (m : ℕ) (hs : List Holding) (h : Holding) where
   pub good-more : AreGood m hs → (h.master ≡ m → IsGood h) → AreGood m (hs ++ h ∷ [])
   good-more all good g i master =
-      ⊎_elim (λ a. all g a master) (λ r. ⊎_elim (λ e. subst IsGood e (good (ap (λ (x : Holding). x.master) e ∙ master))) (λ n. absurd n) r) (among-append g hs (h ∷ []) i)
+      ⊎_elim (λ a. all g a master)
+      (λ r. ⊎_elim (λ e. subst IsGood e (good (ap (λ (x : Holding). x.master) e ∙ master))) (λ n. absurd n) r)
+      (among-append g hs (h ∷ []) i)
 
   -- one that is no head changes nothing
-  pub newest-skip : (o : Option ℕ) → (IsUsableHeadOf least_head m h → ⊥) → IsNewestOf m hs o → IsNewestOf m (hs ++ h ∷ []) o
-  newest-skip None not none = λ g i head. ⊎_elim (λ a. none g a head) (λ r. ⊎_elim (λ e. not (subst (IsUsableHeadOf least_head m) (sym e) head)) (λ n. n) r) (among-append g hs (h ∷ []) i)
+  pub newest-skip : (o : Option ℕ) → (IsUsableHeadOf least_head m h → ⊥) → IsNewestOf m hs o
+      → IsNewestOf m (hs ++ h ∷ []) o
+  newest-skip None not none =
+      λ g i head. ⊎_elim (λ a. none g a head) (λ r. ⊎_elim (λ e. not (subst (IsUsableHeadOf least_head m) (sym e) head))
+      (λ n. n) r) (among-append g hs (h ∷ []) i)
   newest-skip (Some id) not newest = record {
     head = newest.head;
     among = among-left newest.head hs (h ∷ []) newest.among;
     is_head = newest.is_head;
     segment = newest.segment;
-    greatest = λ g i head. ⊎_elim (λ a. newest.greatest g a head) (λ r. ⊎_elim (λ e. absurd (not (subst (IsUsableHeadOf least_head m) (sym e) head))) (λ n. absurd n) r) (among-append g hs (h ∷ []) i);
+    greatest =
+        λ g i head. ⊎_elim (λ a. newest.greatest g a head)
+        (λ r. ⊎_elim (λ e. absurd (not (subst (IsUsableHeadOf least_head m) (sym e) head))) (λ n. absurd n) r)
+        (among-append g hs (h ∷ []) i);
   }
 
   last : IsAmong h (hs ++ h ∷ [])
   last = among-right h hs (h ∷ []) (inl refl)
 
   -- a head is the newest, or the one before it is
-  pub newest-more : (o : Option ℕ) → IsUsableHeadOf least_head m h → IsNewestOf m hs o → IsNewestOf m (hs ++ h ∷ []) (Some (max h.segment (unwrap_or o 0)))
+  pub newest-more : (o : Option ℕ) → IsUsableHeadOf least_head m h → IsNewestOf m hs o
+      → IsNewestOf m (hs ++ h ∷ []) (Some (max h.segment (unwrap_or o 0)))
   newest-more None head none =
       let is : h.segment ≡ max h.segment 0 = omega arith in
       record {
@@ -51,14 +62,17 @@ module _ (m : ℕ) (hs : List Holding) (h : Holding) where
         is_head = head;
         segment = is;
         greatest = λ g i p.
-            ⊎_elim (λ a. absurd (none g a p)) (λ r. ⊎_elim (λ e. let same : h.segment ≡ g.segment = ap (λ (x : Holding). x.segment) e in omega arith) (λ n. absurd n) r) (among-append g hs (h ∷ []) i);
+            ⊎_elim (λ a. absurd (none g a p))
+            (λ r. ⊎_elim (λ e. let same : h.segment ≡ g.segment = ap (λ (x : Holding). x.segment) e in omega arith)
+            (λ n. absurd n) r) (among-append g hs (h ∷ []) i);
       }
   newest-more (Some id) head newest = chosen (cases_lt id h.segment)
     where
       below : (g : Holding) → IsAmong g (hs ++ h ∷ []) → IsUsableHeadOf least_head m g → g.segment ≤ max h.segment id
       below g i p =
           ⊎_elim (λ a. let le : g.segment ≤ id = newest.greatest g a p in omega arith)
-          (λ r. ⊎_elim (λ e. let same : h.segment ≡ g.segment = ap (λ (x : Holding). x.segment) e in omega arith) (λ n. absurd n) r) (among-append g hs (h ∷ []) i)
+          (λ r. ⊎_elim (λ e. let same : h.segment ≡ g.segment = ap (λ (x : Holding). x.segment) e in omega arith)
+          (λ n. absurd n) r) (among-append g hs (h ∷ []) i)
 
       chosen : (id < h.segment) ⊎ (h.segment ≤ id) → IsNewest m (hs ++ h ∷ []) (max h.segment id)
       chosen (inl lt) = record { head = h; among = last; is_head = head; segment = omega arith; greatest = below }
@@ -71,7 +85,8 @@ module _ (m : ℕ) (hs : List Holding) (h : Holding) where
       }
 
 -- the first that isn't good
-pub first-bad : (hs : List Holding) (m i : ℕ) (h : Holding) → i < length hs → h ≡ get_or hs i h → AreGood m (take i hs) → h.master ≡ m → (IsGood h → ⊥) →
+pub first-bad : (hs : List Holding) (m i : ℕ) (h : Holding) → i < length hs → h ≡ get_or hs i h → AreGood m (take i hs)
+    → h.master ≡ m → (IsGood h → ⊥) →
     IsFirstBad hs m h.backup h.segment
 first-bad hs m i h lt is good master bad = record {
   before = take i hs;

@@ -1,5 +1,6 @@
 -- What is found, id by id.
-use Rattle.std.proofs.Common.{◌≡◌, ℕ, zero, suc, ◌<◌, ◌+◌, List, [], ◌∷◌, ◌++◌, map, take, length, get_or, refl, sym, ap, subst, ◌∙◌, arith}
+use Rattle.std.proofs.Common.{◌≡◌, ℕ, zero, suc, ◌<◌, ◌+◌, List, [], ◌∷◌, ◌++◌, map, take}
+use Rattle.std.proofs.Common.{length, get_or, refl, sym, ap, subst, ◌∙◌, arith}
 use Rattle.std.specs.Prelude.{Option, Some, None, IsSome}
 use Rattle.std.specs.Borrow.{Bor}
 use Rattle.std.specs.List.{AllByRecursion, slice_get}
@@ -15,22 +16,28 @@ get-at (y ∷ xs) zero x e = cc
 get-at (y ∷ xs) (suc i) x e = get-at xs i x e
 
 module _ (look : ℕ → Option (Bor Holding)) where
-  pub found-more : (ids : List ℕ) (i id : ℕ) (vs ws : List (Bor Holding)) (v : Bor Holding) → AreFound look (take i ids) vs → i < length ids →
+  pub found-more : (ids : List ℕ) (i id : ℕ) (vs ws : List (Bor Holding)) (v : Bor Holding)
+      → AreFound look (take i ids) vs → i < length ids →
       get_or ids i 0 ≡ id → Some v ≡ look id → ws ≡ vs ++ v ∷ [] → AreFound look (take (i + 1) ids) ws
   found-more ids i id vs ws v found lt at is all =
       let wrap : Bor Holding → Option (Bor Holding) = λ h. Some h in
-      let seam : take (i + 1) ids ≡ take i ids ++ id ∷ [] = (take_at_read ids i 0 lt).1 ∙ ap (λ n. take i ids ++ n ∷ []) at in
-      ap (map wrap) all ∙ map-append wrap vs (v ∷ []) ∙ (λ k. found k ++ is k ∷ []) ∙ sym (map-append look (take i ids) (id ∷ [])) ∙ ap (map look) (sym seam)
+      let seam : take (i + 1) ids ≡ take i ids ++ id ∷ [] =
+      (take_at_read ids i 0 lt).1 ∙ ap (λ n. take i ids ++ n ∷ []) at in
+      ap (map wrap) all ∙ map-append wrap vs (v ∷ []) ∙ (λ k. found k ++ is k ∷ [])
+      ∙ sym (map-append look (take i ids) (id ∷ [])) ∙ ap (map look) (sym seam)
 
   -- each id of which something was found has something
-  pub found-each : (ids : List ℕ) (vs : List (Bor Holding)) → AreFound look ids vs → (k : ℕ) → k < length ids → IsSome (look (get_or ids k 0))
+  pub found-each : (ids : List ℕ) (vs : List (Bor Holding)) → AreFound look ids vs → (k : ℕ) → k < length ids
+      → IsSome (look (get_or ids k 0))
   found-each [] vs found k lt = absurd (omega arith)
   found-each (id ∷ ids) [] found k lt = absurd (cc)
   found-each (id ∷ ids) (v ∷ vs) found zero lt = let e : Some v ≡ look id = cc in subst IsSome e refl
-  found-each (id ∷ ids) (v ∷ vs) found (suc k) lt = let rest : AreFound look ids vs = cc in found-each ids vs rest k (omega arith)
+  found-each (id ∷ ids) (v ∷ vs) found (suc k) lt =
+      let rest : AreFound look ids vs = cc in found-each ids vs rest k (omega arith)
 
   -- the first that isn't found
-  pub lacking-first : (ids : List ℕ) (i id : ℕ) (vs : List (Bor Holding)) → AreFound look (take i ids) vs → i < length ids →
+  pub lacking-first : (ids : List ℕ) (i id : ℕ) (vs : List (Bor Holding)) → AreFound look (take i ids) vs
+      → i < length ids →
       get_or ids i 0 ≡ id → None ≡ look id → IsFirstLacking look ids id
   lacking-first ids i id vs found lt at none = record {
     place = i;
@@ -44,7 +51,8 @@ module _ (look : ℕ → Option (Bor Holding)) where
   }
 
 -- what holds of all that are lent holds of each
-pub all-at : (P : Holding → Type 0) (hs : List (Bor Holding)) (i : ℕ) (b : Bor Holding) → AllByRecursion P (lent hs) → i < length hs → b ≡ get_or hs i b → P b.now
+pub all-at : (P : Holding → Type 0) (hs : List (Bor Holding)) (i : ℕ) (b : Bor Holding) → AllByRecursion P (lent hs)
+    → i < length hs → b ≡ get_or hs i b → P b.now
 all-at P [] i b all lt is = absurd (omega arith)
 all-at P (h ∷ hs) zero b all lt is = subst (λ (x : Bor Holding). P x.now) (sym is) all.0
 all-at P (h ∷ hs) (suc i) b all lt is = all-at P hs i b all.1 (omega arith) is

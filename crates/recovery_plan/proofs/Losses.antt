@@ -10,12 +10,14 @@ use Rattle.recovery_plan.specs.declared.chosen.Plan.{Plan}
 use Rattle.recovery_plan.specs.declared.fault.PlanFault.{PlanFault}
 use Rattle.recovery_plan.specs.declared.fault.PlanFault.TheVariants.{NoHead, HeadClosed, Missing, BadReplica, NoMemory}
 use Rattle.recovery_plan.specs.Good.{IsOpenHead, IsNewest}
-use Rattle.recovery_plan.specs.Planned.{IsChoiceOf, IsHeadTaken, IsMissing, IsLost, IsPlanFault, IsLaterFault, NamesLoss}
+use Rattle.recovery_plan.specs.Planned.{IsChoiceOf, IsHeadTaken, IsMissing, IsLost}
+use Rattle.recovery_plan.specs.Planned.{IsPlanFault, IsLaterFault, NamesLoss}
 use Rattle.recovery_plan.proofs.Bests.{among-append}
 use Rattle.recovery_plan.proofs.Plans.{preferred-among}
 
 -- the head of a choice is the newest
-chosen-newest : (hs : List Holding) (m : ℕ) (c : Choice) (id : ℕ) → IsChoiceOf hs m c → IsNewest m hs id → c.head.segment ≡ id
+chosen-newest : (hs : List Holding) (m : ℕ) (c : Choice) (id : ℕ) → IsChoiceOf hs m c → IsNewest m hs id
+    → c.head.segment ≡ id
 chosen-newest hs m c id choice newest =
     let bears : IsSome (opening_in c.head.bytes) = subst IsSome (sym choice.opening) refl in
     let most : c.head.segment ≤ id = newest.greatest c.head choice.held (choice.of_master, bears, choice.usable) in
@@ -24,9 +26,13 @@ chosen-newest hs m c id choice newest =
     omega arith
 
 -- an open replica of it
-chosen-open : (hs : List Holding) (m : ℕ) (c : Choice) (id : ℕ) → IsChoiceOf hs m c → IsNewest m hs id → IsOpenHead m id c.head
-chosen-open hs m c id choice newest =
-    ((choice.of_master, subst IsSome (sym choice.opening) refl, choice.usable), chosen-newest hs m c id choice newest, choice.is_open)
+chosen-open : (hs : List Holding) (m : ℕ) (c : Choice) (id : ℕ) → IsChoiceOf hs m c → IsNewest m hs id
+    → IsOpenHead m id c.head
+chosen-open hs m c id choice newest = (
+  (choice.of_master, subst IsSome (sym choice.opening) refl, choice.usable),
+  chosen-newest hs m c id choice newest,
+  choice.is_open,
+)
 
 -- a segment of which nothing is left isn't among the others
 not-other : (hs others : List Holding) (m : ℕ) (o : Opening) (id : ℕ)
@@ -36,11 +42,13 @@ not-other hs [] m o id all lost among = among
 not-other hs (h ∷ others) m o id all lost (inl e) = lost h all.0.0 (all.0.1, e)
 not-other hs (h ∷ others) m o id all lost (inr among) = not-other hs others m o id all.1 lost among
 
-not-listed : (hs : List Holding) (m id : ℕ) (c : Choice) → IsLost hs m c.opening id → IsChoiceOf hs m c → IsAmong id c.opening.ids → ⊥
+not-listed : (hs : List Holding) (m id : ℕ) (c : Choice) → IsLost hs m c.opening id → IsChoiceOf hs m c
+    → IsAmong id c.opening.ids → ⊥
 not-listed hs m id c lost choice among =
     ⊎_elim (not-other hs c.others m c.opening id choice.others lost)
     (λ r. ⊎_elim (λ e. lost c.head choice.held ((choice.of_master, tt), e)) (λ n. n) r)
-    (among-append id (map (λ (h : Holding). h.segment) c.others) (c.head.segment ∷ []) (subst (IsAmong id) (sym choice.ids) among))
+    (among-append id (map (λ (h : Holding). h.segment) c.others) (c.head.segment ∷ [])
+    (subst (IsAmong id) (sym choice.ids) among))
 
 missing-means : (hs : List Holding) (m id : ℕ) → IsMissing hs m id → NamesLoss hs m (Missing id)
 missing-means hs m id missing = (
@@ -62,12 +70,14 @@ later-means hs m NoHead f = absurd f
 later-means hs m (HeadClosed id) f = absurd f
 later-means hs m (BadReplica b id) f = absurd f
 
-pub losses : (hs : List Holding) (m : ℕ) (r : Result Plan PlanFault) → IfErr r (λ fault. IsLaterFault hs m fault) → IfErr r (λ fault. NamesLoss hs m fault)
+pub losses : (hs : List Holding) (m : ℕ) (r : Result Plan PlanFault) → IfErr r (λ fault. IsLaterFault hs m fault)
+    → IfErr r (λ fault. NamesLoss hs m fault)
 losses hs m (Ok p) f = tt
 losses hs m (Err fault) f = later-means hs m fault f
 
 -- what may come once it is known which head is taken is a fault
-pub fault_of : (hs : List Holding) (master : ℕ) (head : Holding) → IsHeadTaken hs master head → (fault : PlanFault) → IsLaterFault hs master fault → IsPlanFault hs master fault
+pub fault_of : (hs : List Holding) (master : ℕ) (head : Holding) → IsHeadTaken hs master head → (fault : PlanFault)
+    → IsLaterFault hs master fault → IsPlanFault hs master fault
 fault_of hs master head taken (Missing id) later = later
 fault_of hs master head taken NoMemory later = (head, taken)
 fault_of hs master head taken (BadReplica backup id) later = absurd later

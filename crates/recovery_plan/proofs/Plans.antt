@@ -1,5 +1,6 @@
 -- A plan from what was found.
-use Rattle.std.proofs.Common.{◌≡◌, ℕ, ◌+◌, ◌-◌, ◌<◌, inl, List, [], ◌∷◌, ◌++◌, map, take, length, get_or, refl, sym, ap, subst, ◌∙◌, arith}
+use Rattle.std.proofs.Common.{◌≡◌, ℕ, ◌+◌, ◌-◌, ◌<◌, inl, List, [], ◌∷◌, ◌++◌, map, take}
+use Rattle.std.proofs.Common.{length, get_or, refl, sym, ap, subst, ◌∙◌, arith}
 use Rattle.std.specs.Prelude.{Option, Some, None, IsSome}
 use Rattle.std.specs.Borrow.{Bor}
 use Rattle.std.specs.Option.{option_copied}
@@ -27,13 +28,14 @@ taken-good hs m h t = t.good h (preferred-among (IsOpenHead m h.segment) hs h t.
 
 -- ---- the replicas that were found
 
--- what is said of each of them
+-- what holds of each of them
 pub record IsTaken (hs : List Holding) (m : ℕ) (o : Opening) (h : Holding) : Type 0 where
   pub among : IsAmong h hs
   pub other : IsUsableOf m o h
   pub preferred : IsPreferred (IsReplicaOf m o h.segment) hs h
 
-module _ (hs : List Holding) (m : ℕ) (look : ℕ → Option (Bor Holding)) (best : ArePreferred m hs look) (o : Opening) where
+module _ (hs : List Holding) (m : ℕ) (look : ℕ → Option (Bor Holding)) (best : ArePreferred m hs look)
+    (o : Opening) where
   found-one : (id : ℕ) (v : Bor Holding) → Some v ≡ look id → (v.now.segment ≡ id) × IsTaken hs m o v.now
   found-one id v is =
       let p : IsPreferred (IsReplicaOf m o id) hs v.now =
@@ -47,7 +49,8 @@ module _ (hs : List Holding) (m : ℕ) (look : ℕ → Option (Bor Holding)) (be
         },
       )
 
-  pub found-ids : (ids : List ℕ) (vs : List (Bor Holding)) → AreFound look ids vs → map (λ (h : Holding). h.segment) (lent vs) ≡ ids
+  pub found-ids : (ids : List ℕ) (vs : List (Bor Holding)) → AreFound look ids vs
+      → map (λ (h : Holding). h.segment) (lent vs) ≡ ids
   found-ids [] [] found = refl
   found-ids [] (v ∷ vs) found = absurd (cc)
   found-ids (id ∷ ids) [] found = absurd (cc)
@@ -56,7 +59,8 @@ module _ (hs : List Holding) (m : ℕ) (look : ℕ → Option (Bor Holding)) (be
       let rest : AreFound look ids vs = cc in
       λ k. (found-one id v e).0 k ∷ found-ids ids vs rest k
 
-  pub found-taken : (ids : List ℕ) (vs : List (Bor Holding)) → AreFound look ids vs → AllByRecursion (IsTaken hs m o) (lent vs)
+  pub found-taken : (ids : List ℕ) (vs : List (Bor Holding)) → AreFound look ids vs
+      → AllByRecursion (IsTaken hs m o) (lent vs)
   found-taken ids [] found = tt
   found-taken [] (v ∷ vs) found = absurd (cc)
   found-taken (id ∷ ids) (v ∷ vs) found =
@@ -97,18 +101,21 @@ module _ (hs : List Holding) (m : ℕ) (look : ℕ → Option (Bor Holding)) (be
 
 -- ---- all that are chosen
 
-pub all-map : (P Q : Holding → Type 0) (f : (h : Holding) → P h → Q h) (hs : List Holding) → AllByRecursion P hs → AllByRecursion Q hs
+pub all-map : (P Q : Holding → Type 0) (f : (h : Holding) → P h → Q h) (hs : List Holding) → AllByRecursion P hs
+    → AllByRecursion Q hs
 all-map P Q f [] all = tt
 all-map P Q f (h ∷ hs) all = (f h all.0, all-map P Q f hs all.1)
 
-all-push : (P : Holding → Type 0) (hs : List Holding) (h : Holding) → AllByRecursion P hs → P h → AllByRecursion P (hs ++ h ∷ [])
+all-push : (P : Holding → Type 0) (hs : List Holding) (h : Holding) → AllByRecursion P hs → P h
+    → AllByRecursion P (hs ++ h ∷ [])
 all-push P [] h all p = (p, tt)
 all-push P (g ∷ hs) h all p = (all.0, all-push P hs h all.1 p)
 
 pub lent-push : (vs ws : List (Bor Holding)) (b : Bor Holding) → ws ≡ vs ++ b ∷ [] → lent ws ≡ lent vs ++ b.now ∷ []
 lent-push vs ws b e = ap lent e ∙ map-append (λ (x : Bor Holding). x.now) vs (b ∷ [])
 
-pub chosen-good : (hs : List Holding) (m : ℕ) (head : Holding) (o : Opening) (vs ws : List (Bor Holding)) (b : Bor Holding)
+pub chosen-good : (hs : List Holding) (m : ℕ) (head : Holding) (o : Opening) (vs ws : List (Bor Holding))
+    (b : Bor Holding)
     → IsHeadTaken hs m head → AllByRecursion (IsTaken hs m o) (lent vs) → b.now ≡ head → ws ≡ vs ++ b ∷ []
     → AllByRecursion IsGood (lent ws)
 chosen-good hs m head o vs ws b taken all is e =
@@ -119,7 +126,8 @@ chosen-good hs m head o vs ws b taken all is e =
 
 -- what was found is a choice
 pub found-choice : (hs : List Holding) (m : ℕ) (head : Holding) (o : Opening) (others : List Holding)
-    → IsHeadTaken hs m head → opening_in head.bytes ≡ Some o → AllByRecursion (IsTaken hs m o) others → map (λ (h : Holding). h.segment) others ≡ take (length o.ids - 1) o.ids →
+    → IsHeadTaken hs m head → opening_in head.bytes ≡ Some o → AllByRecursion (IsTaken hs m o) others
+    → map (λ (h : Holding). h.segment) others ≡ take (length o.ids - 1) o.ids →
     IsChoiceOf hs m (record { opening = o; head = head; others = others })
 found-choice hs m head o others taken opened all ids =
     let head_is = taken.preferred.candidate in
@@ -134,7 +142,9 @@ found-choice hs m head o others taken opened all ids =
       opening = opened;
       usable = head_is.0.2;
       newest = taken.newest.greatest;
-      others = all-map (IsTaken hs m o) (λ (h : Holding). IsAmong h hs × IsUsableOf m o h) (λ h t. (t.among, t.other)) others all;
+      others =
+          all-map (IsTaken hs m o)
+          (λ (h : Holding). IsAmong h hs × IsUsableOf m o h) (λ h t. (t.among, t.other)) others all;
       ids = ap (λ l. l ++ head.segment ∷ []) ids ∙ sym last;
     }
 
@@ -142,7 +152,8 @@ found-choice hs m head o others taken opened all ids =
 pub found-plan : (hs : List Holding) (m : ℕ) (head : Holding) (o : Opening) (look : ℕ → Option (Bor Holding))
     (vs ws : List (Bor Holding)) (b : Bor Holding) (p : Plan)
     → IsHeadTaken hs m head → opening_in head.bytes ≡ Some o → ArePreferred m hs look →
-    AreFound look (take (length o.ids - 1) o.ids) vs → b.now ≡ head → ws ≡ vs ++ b ∷ [] → p.segments ≡ map (λ (h : Holding). entries_in h.bytes) (lent ws) → p.safe ≡ o.safe →
+    AreFound look (take (length o.ids - 1) o.ids) vs → b.now ≡ head → ws ≡ vs ++ b ∷ []
+    → p.segments ≡ map (λ (h : Holding). entries_in h.bytes) (lent ws) → p.safe ≡ o.safe →
     IsPlanOf hs m (record { opening = o; head = head; others = lent vs }) p
 found-plan hs m head o look vs ws b p taken opened best found is e segments safe =
     let all = found-taken hs m look best o (take (length o.ids - 1) o.ids) vs found in
@@ -152,8 +163,11 @@ found-plan hs m head o look vs ws b p taken opened best found is e segments safe
       good = taken.good;
       head = taken.preferred;
       others =
-          all-map (IsTaken hs m o) (λ (h : Holding). IsPreferred (IsReplicaOf m o h.segment) hs h) (λ h t. t.preferred) (lent vs)
+          all-map (IsTaken hs m o)
+          (λ (h : Holding). IsPreferred (IsReplicaOf m o h.segment) hs h) (λ h t. t.preferred) (lent vs)
           all;
-      segments = segments ∙ ap (map (λ (h : Holding). entries_in h.bytes)) (lent-push vs ws b e ∙ ap (λ x. lent vs ++ x ∷ []) is);
+      segments =
+          segments ∙ ap (map (λ (h : Holding). entries_in h.bytes))
+          (lent-push vs ws b e ∙ ap (λ x. lent vs ++ x ∷ []) is);
       safe = safe;
     }

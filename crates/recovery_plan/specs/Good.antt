@@ -21,7 +21,7 @@ AreGood master hs = (h : Holding) → IsAmong h hs → h.master ≡ master → I
 abbrev pub least_head : ℕ
 least_head = 0
 
--- an open replica of this segment of the master, which bears a digest
+-- an open replica of this segment of the master, which has a digest
 abbrev pub IsOpenHead : ℕ → ℕ → Holding → Type 0
 IsOpenHead master id h = IsUsableHeadOf least_head master h × (h.segment ≡ id) × (h.is_open ≡ true)
 
@@ -29,7 +29,7 @@ IsOpenHead master id h = IsUsableHeadOf least_head master h × (h.segment ≡ id
 abbrev pub IsReplicaOf : ℕ → Opening → ℕ → Holding → Type 0
 IsReplicaOf master opening id h = IsUsableOf master opening h × (h.segment ≡ id)
 
--- some replica that bears a digest is of this segment, and none is of a greater one
+-- some replica that has a digest is of this segment, and none is of a greater one
 pub record IsNewest (master : ℕ) (hs : List Holding) (id : ℕ) : Type 0 where
   pub head : Holding
   pub among : IsAmong head hs
@@ -37,7 +37,7 @@ pub record IsNewest (master : ℕ) (hs : List Holding) (id : ℕ) : Type 0 where
   pub segment : head.segment ≡ id
   pub greatest : (h : Holding) → IsAmong h hs → IsUsableHeadOf least_head master h → h.segment ≤ id
 
--- the newest head; None where no replica bears a digest
+-- the newest head; None if no replica has a digest
 abbrev pub IsNewestOf : ℕ → List Holding → Option ℕ → Type 0
 IsNewestOf master hs None = (h : Holding) → IsAmong h hs → IsUsableHeadOf least_head master h → ⊥
 IsNewestOf master hs (Some id) = IsNewest master hs id

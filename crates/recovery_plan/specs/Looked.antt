@@ -9,7 +9,7 @@ use Rattle.recovery_plan.specs.declared.fault.PlanFault.TheVariants.{Missing, No
 use Rattle.recovery_plan.specs.Good.{IsReplicaOf}
 use Rattle.recovery_plan.specs.Preferred.{IsBest}
 
--- the replicas, without where they lie in memory
+-- the replicas, whatever their places in memory
 abbrev pub lent : List (Bor Holding) → List Holding
 lent hs = map (λ (h : Bor Holding). h.now) hs
 

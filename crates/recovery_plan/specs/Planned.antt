@@ -45,7 +45,7 @@ abbrev pub IsBadFault : List Holding → ℕ → PlanFault → Type 0
 IsBadFault hs master (BadReplica backup id) = IsFirstBad hs master backup id
 IsBadFault hs master _ = ⊥
 
--- all replicas are well, and none bears a digest
+-- all replicas are well, and none has a digest
 pub record HasNoHead (hs : List Holding) (master : ℕ) : Type 0 where
   pub good : AreGood master hs
   pub no_head : (h : Holding) → IsAmong h hs → IsUsableHeadOf least_head master h → ⊥
@@ -80,7 +80,7 @@ pub record IsMissing (hs : List Holding) (master id : ℕ) : Type 0 where
   pub lost : IsLost hs master opening id
   pub lowest : (n : ℕ) → IsAmong n opening.ids → n < id → IsHere hs master opening n
 
--- what each fault says of the replicas, in the order of the tests
+-- what holds of the replicas for each fault, in the order of the tests
 abbrev pub IsPlanFault : List Holding → ℕ → PlanFault → Type 0
 IsPlanFault hs master (BadReplica backup id) = IsFirstBad hs master backup id
 IsPlanFault hs master NoHead = HasNoHead hs master
@@ -96,13 +96,13 @@ IsLaterFault hs master _ = ⊥
 
 -- ---- what a fault means
 
--- the open replicas of the newest head bear one digest
+-- the open replicas of the newest head have one digest
 abbrev pub AgreeOnDigest : List Holding → ℕ → Type 0
 AgreeOnDigest hs master = (id : ℕ) (g h : Holding) (o q : Opening) → IsNewest master hs id
     → IsAmong g hs → IsAmong h hs → IsOpenHead master id g → IsOpenHead master id h
     → opening_in g.bytes ≡ Some o → opening_in h.bytes ≡ Some q → o.ids ≡ q.ids
 
--- If the master's replicas are well, a loss is named only where there is no choice: at once for a lost head; for a lost
+-- If the master's replicas are well, a loss is named only if there is no choice: at once for a lost head. For a lost
 -- segment no choice takes a head whose digest lists it, so there is none if the open heads agree.
 abbrev pub NamesLoss : List Holding → ℕ → PlanFault → Type 0
 NamesLoss hs master NoHead = (c : Choice) → IsChoiceOf hs master c → ⊥

@@ -1,5 +1,6 @@
 -- Which replica of a segment is taken.
-use Rattle.std.specs.Prelude.{◌≡◌, ◌==◌, ◌&&◌, ◌||◌, List, ◌∷◌, ◌++◌, length, Bool, true, false, Option, Some, None, nat_lt, if◌then◌else◌}
+use Rattle.std.specs.Prelude.{◌≡◌, ◌==◌, ◌&&◌, ◌||◌, List, ◌∷◌, ◌++◌, length, Bool, true}
+use Rattle.std.specs.Prelude.{false, Option, Some, None, nat_lt, if◌then◌else◌}
 use Rattle.entry.specs.Bag.{IsAmong}
 use Rattle.replica.specs.declared.holding.Holding.{Holding}
 
@@ -21,12 +22,12 @@ pub record IsPreferred (IsCandidate : Holding → Type 0) (hs : List Holding) (h
   pub earlier : (g : Holding) → IsAmong g before → IsCandidate g → is_preferred h g ≡ true
   pub later : (g : Holding) → IsAmong g after → IsCandidate g → is_preferred g h ≡ false
 
--- the preferred one; None where no candidate is in the list
+-- the preferred one; None if no candidate is in the list
 abbrev pub IsBest : (Holding → Type 0) → List Holding → Option Holding → Type 0
 IsBest IsCandidate hs None = (h : Holding) → IsAmong h hs → IsCandidate h → ⊥
 IsBest IsCandidate hs (Some h) = IsPreferred IsCandidate hs h
 
--- the later of two replicas where it is preferred, and else the earlier one
+-- the later of two replicas if it is preferred, and else the earlier one
 abbrev pub better : Option Holding → Holding → Holding
 better None later = later
 better (Some best) later = if is_preferred later best then later else best

@@ -11,7 +11,7 @@ use crate::preferred::better_of;
 use crate::reading::bears_digest;
 use replica::Holding;
 
-/// The newest head of a master, whose replicas are all well; None where no replica bears a digest.
+/// The newest head of a master, whose replicas are all well; None if no replica has a digest.
 pub(crate) fn newest_head(holdings: &[Holding], master: u64) -> Result<Option<u64>, PlanFault>
     ensures good { IfOk result (λ newest. AreGood master holdings.now) }
     ensures newest { IfOk result (λ newest. IsNewestOf master holdings.now newest) }

@@ -1,8 +1,9 @@
 //! Which replicas a recovery reads: the newest log among an inventory, or the loss that hides it.
 //!
 //! The layer above uses `plan` alone. With Ok the plan is a choice of the newest log, which takes the preferred replica
-//! of each segment (`IsPlanOf`). A fault is one of the inventory (`IsPlanFault`), and if it names a loss, there is nothing to
-//! choose (`NamesLoss`). The crate rests on `segment`, which reads replicas, and on `replica`, which defines a choice.
+//! of each segment (`IsPlanOf`). A fault is one of the inventory (`IsPlanFault`), and if it names a loss, there is
+//! nothing to choose (`NamesLoss`). The crate uses `segment`, which reads replicas, and `replica`, which defines a
+//! choice.
 #![tactic(auto)]
 
 mod chosen;

@@ -19,7 +19,8 @@ pub(crate) fn others<'a>(
     digest: &DigestRef<'_>,
 ) -> Result<Vec<&'a Holding>, PlanFault>
     requires { 0 < length (shown_ids digest.now) }
-    ensures found { IfOk result (λ others. AreFound (get nat_cmp best.now) (without_last (shown_ids digest.now)) others.items) }
+    ensures found { IfOk result (λ others.
+        AreFound (get nat_cmp best.now) (without_last (shown_ids digest.now)) others.items) }
     ensures fault { IfErr result (λ fault. IsLack (get nat_cmp best.now) (shown_ids digest.now) fault) }
 {
     let mut others: Vec<&'a Holding> = Vec::new(alloc);

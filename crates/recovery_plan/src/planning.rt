@@ -41,9 +41,9 @@ fn plan_from(
 pub fn plan(alloc: Global, inventory: &Inventory, master: u64) -> Result<Plan, PlanFault>
     // The plan is a choice of the newest log, and takes the preferred replicas.
     ensures ok { IfOk result (λ plan. (c : Choice) × IsPlanOf inventory.now master c plan) }
-    // A fault stands in the inventory: it is the first that the tests find.
+    // A fault is the first that the tests find in the inventory.
     ensures fault { IfErr result (λ fault. IsPlanFault inventory.now master fault) }
-    // A loss is named only where there is nothing to choose.
+    // A loss is named only if there is nothing to choose.
     ensures loss { IfErr result (λ fault. NamesLoss inventory.now master fault) }
 {
     let holdings = inventory.as_slice();

@@ -31,7 +31,7 @@ fn prefers(a: &Holding, b: &Holding) -> bool
     }
 }
 
-// The later replica where it is preferred to the best before it, and else that one.
+// The later replica if it is preferred to the best before it, and else that one.
 pub(crate) fn better_of<'a>(best: Option<&'a Holding>, later: &'a Holding) -> &'a Holding
     ensures { result.now ≡ better (option_copied best.entry) later.entry.now }
 {

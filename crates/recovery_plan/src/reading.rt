@@ -16,7 +16,7 @@ use replica::Holding;
 use segment::SegmentRef;
 use std::alloc::{AllocError, Global};
 
-/// The segment of a replica, where that is well.
+/// The segment of a replica, if the replica is well.
 pub(crate) fn segment_in<'a>(holding: &'a Holding) -> Option<SegmentRef<'a>>
     ensures good { IfSome result (λ segment. IsGood holding.entry.now) }
     ensures entries { IfSome result (λ segment. entries_of segment ≡ entries_in holding.entry.now.bytes) }
@@ -35,7 +35,7 @@ pub(crate) fn segment_in<'a>(holding: &'a Holding) -> Option<SegmentRef<'a>>
     }
 }
 
-/// Whether a replica bears a digest; None where it isn't well.
+/// Whether a replica has a digest; None if it isn't well.
 pub(crate) fn bears_digest(holding: &Holding) -> Option<bool>
     ensures good { IfSome result (λ bears. IsGood holding.now) }
     ensures bears { IfSome result (λ bears. bears ≡ is_some (opening_in holding.now.bytes)) }

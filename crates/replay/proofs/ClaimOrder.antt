@@ -1,5 +1,6 @@
 -- Claims in order.
-use Rattle.std.proofs.Common.{◌≡◌, ℕ, suc, ◌+◌, ◌*◌, ◌<◌, ◌≤◌, Bool, true, false, cond, List, [], ◌∷◌, get_or, map, refl, ap, subst, ◌∙◌, inl, inr, arith}
+use Rattle.std.proofs.Common.{◌≡◌, ℕ, suc, ◌+◌, ◌*◌, ◌<◌, ◌≤◌, Bool, true, false, cond, List}
+use Rattle.std.proofs.Common.{[], ◌∷◌, get_or, map, refl, ap, subst, ◌∙◌, inl, inr, arith}
 use Rattle.std.specs.Cmp.{IsTotalOrder, bool_cmp_total}
 use Rattle.std.specs.Cmp.Lexicographic.{slice_cmp}
 use Rattle.std.specs.List.Sorted.{IsSortedBy}
@@ -16,9 +17,10 @@ claim_cmp-total : IsTotalOrder claim_cmp
 claim_cmp-total =
     then_total (on_total (λ (c : Claimed). c.key) key_cmp_total)
     (then_total (on_total (λ (c : Claimed). c.version) nat_cmp_total)
-    (then_total (on_total (λ (c : Claimed). c.dead) bool_cmp_total) (on_total (λ (c : Claimed). c.value) nat_list_cmp_total)))
+    (then_total (on_total (λ (c : Claimed). c.dead) bool_cmp_total)
+    (on_total (λ (c : Claimed). c.value) nat_list_cmp_total)))
 
--- the one stands before the other, or the two are the same
+-- the one comes before the other, or the two are the same
 abbrev pub Precedes : Claimed → Claimed → Type 0
 Precedes c d = is_gt (claim_cmp c d) ≡ false
 
@@ -63,7 +65,7 @@ abbrev pub Rises : List Claimed → Type 0
 Rises [] = Unit {0}
 Rises (c ∷ cs) = ((d : Claimed) → IsAmong d cs → Precedes c d) × Rises cs
 
--- the one's claim stands before the other's
+-- the one's claim comes before the other's
 abbrev pub before_by : {X : Type 0} → (X → Claimed) → X → X → Bool
 before_by view x y = is_lt (claim_cmp (view x) (view y))
 
@@ -73,10 +75,12 @@ module _ {X : Type 0} (view : X → Claimed) where
 
   sorted-tail : (x : X) (xs : List X) → IsSortedBy lt (x ∷ xs) → IsSortedBy lt xs
   sorted-tail x xs h k d low more =
-      let here : lt (get_or (x ∷ xs) (k + 1 + 1) d) (get_or (x ∷ xs) (k + 1) d) ≡ false = h (k + 1) d (omega arith) (omega arith) in
+      let here : lt (get_or (x ∷ xs) (k + 1 + 1) d) (get_or (x ∷ xs) (k + 1) d) ≡ false =
+      h (k + 1) d (omega arith) (omega arith) in
       let one : k + 1 ≡ suc k = omega arith in
       let two : k + 1 + 1 ≡ suc (k + 1) = omega arith in
-      subst (λ j. lt (get_or (x ∷ xs) j d) (get_or xs k d) ≡ false) two (subst (λ i. lt (get_or (x ∷ xs) (k + 1 + 1) d) (get_or (x ∷ xs) i d) ≡ false) one here)
+      subst (λ j. lt (get_or (x ∷ xs) j d) (get_or xs k d) ≡ false) two
+      (subst (λ i. lt (get_or (x ∷ xs) (k + 1 + 1) d) (get_or (x ∷ xs) i d) ≡ false) one here)
 
   precedes-from : (c d : Claimed) (o : Ordering) → claim_cmp c d ≡ o → is_lt (claim_cmp d c) ≡ false → is_gt o ≡ false
   precedes-from c d Less e h = refl
@@ -91,7 +95,8 @@ module _ {X : Type 0} (view : X → Claimed) where
   Rises-from_sorted (x ∷ []) h = (λ d m. absurd m, tt)
   Rises-from_sorted (x ∷ y ∷ xs) h =
       let next = Rises-from_sorted (y ∷ xs) (sorted-tail x (y ∷ xs) h) in
-      let first : Precedes (view x) (view y) = precedes-from (view x) (view y) _ refl (h 0 x (omega arith) (omega arith)) in (
+      let first : Precedes (view x) (view y) =
+      precedes-from (view x) (view y) _ refl (h 0 x (omega arith) (omega arith)) in (
         λ d m. elim m as (λ _. Precedes (view x) d) [
           | inl e ↦ subst (λ f. Precedes (view x) f) e first
           | inr later ↦ upto claim_cmp-total (view x) (view y) d first (next.0 d later)

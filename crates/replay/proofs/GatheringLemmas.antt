@@ -1,5 +1,6 @@
 -- The claims of segments, one segment after the other.
-use Rattle.std.proofs.Common.{◌≡◌, ℕ, ◌+◌, ◌<◌, List, [], ◌∷◌, ◌++◌, length, drop, get_or, map, refl, sym, ap, ◌∙◌, append_assoc}
+use Rattle.std.proofs.Common.{◌≡◌, ℕ, ◌+◌, ◌<◌, List, [], ◌∷◌, ◌++◌, length, drop}
+use Rattle.std.proofs.Common.{get_or, map, refl, sym, ap, ◌∙◌, append_assoc}
 use Rattle.std.specs.Prelude.{filter, Option, Some, None, Result, Ok, Err, false, if◌then◌else◌}
 use Rattle.std.specs.Result.{is_ok, is_err}
 use Rattle.std.specs.List.{cons_option}
@@ -27,9 +28,11 @@ claims_of-data (entry.Safe version ∷ es) = claims_of-data es
 claims_of-data (entry.Object o ∷ es) = (let rest = claims_of-data es in cc)
 claims_of-data (entry.Tombstone t ∷ es) = (let rest = claims_of-data es in cc)
 
-pub gathered_more : (segments : List (List Entry)) (i : ℕ) (es left : List Entry) (was now : List Claimed) → i < length segments →
+pub gathered_more : (segments : List (List Entry)) (i : ℕ) (es left : List Entry) (was now : List Claimed)
+    → i < length segments →
     es ≡ get_or segments i es → left ≡ [] →
-    now ++ claims_of left ≡ was ++ claims_of es → was ++ claims_of (segments_bag (drop i segments)) ≡ claims_of (segments_bag segments) →
+    now ++ claims_of left ≡ was ++ claims_of es
+    → was ++ claims_of (segments_bag (drop i segments)) ≡ claims_of (segments_bag segments) →
     now ++ claims_of (segments_bag (drop (i + 1) segments)) ≡ claims_of (segments_bag segments)
 gathered_more segments i es left was now lt at none inner outer =
     let rest : List (List Entry) = drop (i + 1) segments in
@@ -38,7 +41,8 @@ gathered_more segments i es left was now lt at none inner outer =
     ∙ ap (λ (fs : List Entry). claims_of (segments_bag (fs ∷ rest))) (sym at)
     ∙ claims_of-append (filter is_data es) (segments_bag rest)
     ∙ ap (λ (cs : List Claimed). cs ++ claims_of (segments_bag rest)) (claims_of-data es) in
-    let whole : now ≡ was ++ claims_of es = sym (append-nil now) ∙ ap (λ (fs : List Entry). now ++ claims_of fs) (sym none) ∙ inner in
+    let whole : now ≡ was ++ claims_of es =
+    sym (append-nil now) ∙ ap (λ (fs : List Entry). now ++ claims_of fs) (sym none) ∙ inner in
     ap (λ (cs : List Claimed). cs ++ claims_of (segments_bag rest)) whole
     ∙ append_assoc was (claims_of es) (claims_of (segments_bag rest))
     ∙ ap (λ (cs : List Claimed). was ++ cs) (sym front)
@@ -47,18 +51,22 @@ gathered_more segments i es left was now lt at none inner outer =
 pub entry_passed : (e : Entry) (es left : List Entry) (was total : List Claimed) → es ≡ e ∷ left → None ≡ claim_of e →
     was ++ claims_of es ≡ total → was ++ claims_of left ≡ total
 entry_passed e es left was total first none held =
-    ap (λ (cs : List Claimed). was ++ cs) (sym (ap claims_of first ∙ ap (λ (c : Option Claimed). cons_option c (claims_of left)) (sym none))) ∙ held
+    ap (λ (cs : List Claimed). was ++ cs)
+    (sym (ap claims_of first ∙ ap (λ (c : Option Claimed). cons_option c (claims_of left)) (sym none))) ∙ held
 
-pub entry_claimed : (e : Entry) (es left : List Entry) (x : Claim) (old new : List Claim) (total : List Claimed) → es ≡ e ∷ left →
+pub entry_claimed : (e : Entry) (es left : List Entry) (x : Claim) (old new : List Claim) (total : List Claimed)
+    → es ≡ e ∷ left →
     Some (claimed x) ≡ claim_of e → new ≡ old ++ x ∷ [] →
     map claimed old ++ claims_of es ≡ total →
     map claimed new ++ claims_of left ≡ total
 entry_claimed e es left x old new total first some pushed held =
     ap (λ (cs : List Claimed). cs ++ claims_of left) (ap (map claimed) pushed ∙ map-append claimed old (x ∷ []))
     ∙ append_assoc (map claimed old) (claimed x ∷ []) (claims_of left)
-    ∙ ap (λ (cs : List Claimed). map claimed old ++ cs) (sym (ap claims_of first ∙ ap (λ (c : Option Claimed). cons_option c (claims_of left)) (sym some)))
+    ∙ ap (λ (cs : List Claimed). map claimed old ++ cs)
+    (sym (ap claims_of first ∙ ap (λ (c : Option Claimed). cons_option c (claims_of left)) (sym some)))
     ∙ held
 
-pub pushed_by : {T E X : Type 0} (r : Result T E) (new more old : List X) → false ≡ is_err r → new ≡ if is_ok r then more else old → new ≡ more
+pub pushed_by : {T E X : Type 0} (r : Result T E) (new more old : List X) → false ≡ is_err r
+    → new ≡ if is_ok r then more else old → new ≡ more
 pushed_by (Ok x) new more old fine is = is
 pushed_by (Err y) new more old fine is = absurd (cc)

@@ -1,5 +1,6 @@
 -- What a scan over sorted claims finds.
-use Rattle.std.proofs.Common.{◌≡◌, ℕ, ◌+◌, ◌*◌, ◌≤◌, Bool, true, false, cond, List, [], ◌∷◌, map, refl, sym, ap, subst, ◌∙◌, inl, inr, arith}
+use Rattle.std.proofs.Common.{◌≡◌, ℕ, ◌+◌, ◌*◌, ◌≤◌, Bool, true, false, cond, List, []}
+use Rattle.std.proofs.Common.{◌∷◌, map, refl, sym, ap, subst, ◌∙◌, inl, inr, arith}
 use Rattle.std.specs.Prelude.{not, ◌||◌, ◌==◌, nat_eq}
 use Rattle.std.specs.Cmp.Lexicographic.{pointwise}
 use Rattle.std.specs.List.Sorted.{IsStrictlySortedBy}
@@ -23,13 +24,15 @@ pub tops-among : (cs : List Claimed) (c : Claimed) → IsAmong c (tops cs) → I
 tops-among [] c m = m
 tops-among (x ∷ xs) c m = by_last (tops-among xs c) (is_last x xs) m
   where
-    by_last : (IsAmong c (tops xs) → IsAmong c xs) → (b : Bool) → IsAmong c (cond b (x ∷ tops xs) (tops xs)) → IsAmong c (x ∷ xs)
+    by_last : (IsAmong c (tops xs) → IsAmong c xs) → (b : Bool) → IsAmong c (cond b (x ∷ tops xs) (tops xs))
+        → IsAmong c (x ∷ xs)
     by_last before true (inl e) = inl e
     by_last before true (inr later) = inr (before later)
     by_last before false later = inr (before later)
 
 -- no claim of its key follows the last
-apart : (x : Claimed) (xs : List Claimed) (d : Claimed) → Rises (x ∷ xs) → is_last x xs ≡ true → IsAmong d xs → x.key ≡ d.key → ⊥
+apart : (x : Claimed) (xs : List Claimed) (d : Claimed) → Rises (x ∷ xs) → is_last x xs ≡ true → IsAmong d xs
+    → x.key ≡ d.key → ⊥
 apart x [] d up last m same = m
 apart x (y ∷ ys) d up last m same =
     let first : Precedes x y = up.0 y (inl refl) in
@@ -41,11 +44,14 @@ apart x (y ∷ ys) d up last m same =
     let no : is_last x (y ∷ ys) ≡ false = ap not yes in
     absurd (cc)
 
-pub tops-highest : (cs : List Claimed) (c d : Claimed) → Rises cs → IsAmong c (tops cs) → IsAmong d cs → d.key ≡ c.key → rank d ≤ rank c
+pub tops-highest : (cs : List Claimed) (c d : Claimed) → Rises cs → IsAmong c (tops cs) → IsAmong d cs → d.key ≡ c.key
+    → rank d ≤ rank c
 tops-highest [] c d up m n same = absurd m
-tops-highest (x ∷ xs) c d up m n same = by_last (λ later at. tops-highest xs c d up.1 later at same) (is_last x xs) refl m n
+tops-highest (x ∷ xs) c d up m n same =
+    by_last (λ later at. tops-highest xs c d up.1 later at same) (is_last x xs) refl m n
   where
-    behind : (IsAmong c (tops xs) → IsAmong d xs → rank d ≤ rank c) → IsAmong c (tops xs) → IsAmong d (x ∷ xs) → rank d ≤ rank c
+    behind : (IsAmong c (tops xs) → IsAmong d xs → rank d ≤ rank c) → IsAmong c (tops xs) → IsAmong d (x ∷ xs)
+        → rank d ≤ rank c
     behind before later (inl e) =
         let h = ranks-up x c (up.0 c (tops-among xs c later)) (ap (λ (z : Claimed). z.key) e ∙ same) in
         subst (λ (z : Claimed). rank z ≤ rank c) e h
@@ -54,8 +60,10 @@ tops-highest (x ∷ xs) c d up m n same = by_last (λ later at. tops-highest xs 
     by_last : (IsAmong c (tops xs) → IsAmong d xs → rank d ≤ rank c) → (b : Bool) → is_last x xs ≡ b →
         IsAmong c (cond b (x ∷ tops xs) (tops xs)) → IsAmong d (x ∷ xs) →
         rank d ≤ rank c
-    by_last before true last (inl e) (inl f) = let one : c ≡ d = sym e ∙ f in subst (λ (z : Claimed). rank z ≤ rank c) one (omega arith)
-    by_last before true last (inl e) (inr l) = absurd (apart x xs d up last l (ap (λ (z : Claimed). z.key) e ∙ sym same))
+    by_last before true last (inl e) (inl f) =
+        let one : c ≡ d = sym e ∙ f in subst (λ (z : Claimed). rank z ≤ rank c) one (omega arith)
+    by_last before true last (inl e) (inr l) =
+        absurd (apart x xs d up last l (ap (λ (z : Claimed). z.key) e ∙ sym same))
     by_last before true last (inr later) at = behind before later at
     by_last before false last later at = behind before later at
 
@@ -72,7 +80,8 @@ pub tops-some : (cs : List Claimed) (d : Claimed) → IsAmong d cs → HasTop (t
 tops-some [] d m = absurd m
 tops-some (x ∷ xs) d m = by_last (λ e at. tops-some xs e at) (is_last x xs) refl m
   where
-    by_last : ((e : Claimed) → IsAmong e xs → HasTop (tops xs) e.key) → (b : Bool) → is_last x xs ≡ b → IsAmong d (x ∷ xs) →
+    by_last : ((e : Claimed) → IsAmong e xs → HasTop (tops xs) e.key) → (b : Bool) → is_last x xs ≡ b
+        → IsAmong d (x ∷ xs) →
         HasTop (cond b (x ∷ tops xs) (tops xs)) d.key
     by_last before true last (inl e) = (x, inl refl, ap (λ (z : Claimed). z.key) e)
     by_last before true last (inr l) = let c = before d l in (c.0, inr c.1, c.2)
@@ -101,36 +110,42 @@ objects_in-among (x ∷ xs) o m = by_dead (objects_in-among xs o) x.dead refl m
     by_dead before false dead (inl e) = (x, inl refl, dead, e)
     by_dead before false dead (inr l) = later (before l)
 
-pub objects_in-has : (cs : List Claimed) (c : Claimed) → IsAmong c cs → c.dead ≡ false → IsAmong (object_of c) (objects_in cs)
+pub objects_in-has : (cs : List Claimed) (c : Claimed) → IsAmong c cs → c.dead ≡ false
+    → IsAmong (object_of c) (objects_in cs)
 objects_in-has [] c m alive = m
 objects_in-has (x ∷ xs) c (inl e) alive =
     let at : x.dead ≡ false = ap (λ (z : Claimed). z.dead) e ∙ alive in
     rw at (inl (ap object_of e))
 objects_in-has (x ∷ xs) c (inr l) alive = kept x.dead (objects_in-has xs c l alive)
   where
-    kept : (b : Bool) → IsAmong (object_of c) (objects_in xs) → IsAmong (object_of c) (cond b (objects_in xs) (object_of x ∷ objects_in xs))
+    kept : (b : Bool) → IsAmong (object_of c) (objects_in xs)
+        → IsAmong (object_of c) (cond b (objects_in xs) (object_of x ∷ objects_in xs))
     kept true h = h
     kept false h = inr h
 
 abbrev pub keys_of : List Object → List Key
 keys_of os = map (λ (o : Object). o.key) os
 
-module _ (x : Claimed) (xs : List Claimed) (up : Rises (x ∷ xs)) (rest : IsStrictlySortedBy key_cmp (keys_of (objects_in (tops xs)))) where
+module _ (x : Claimed) (xs : List Claimed) (up : Rises (x ∷ xs))
+    (rest : IsStrictlySortedBy key_cmp (keys_of (objects_in (tops xs)))) where
   above : is_last x xs ≡ true → (k : Key) → IsAmong k (keys_of (objects_in (tops xs))) → key_cmp x.key k ≡ Less
   above last k m =
       let o = among_images (λ (o : Object). o.key) (objects_in (tops xs)) k m in
       let c = objects_in-among (tops xs) o.0 o.1 in
       let among : IsAmong c.0 xs = tops-among xs c.0 c.1 in
       let key : c.0.key ≡ k = ap (λ (z : Object). z.key) c.3 ∙ o.2 in
-      subst (λ (j : Key). key_cmp x.key j ≡ Less) key (key_cmp_less x.key c.0.key (keys-up x c.0 (up.0 c.0 among)) (apart x xs c.0 up last among))
+      subst (λ (j : Key). key_cmp x.key j ≡ Less) key (key_cmp_less x.key c.0.key (keys-up x c.0 (up.0 c.0 among))
+      (apart x xs c.0 up last among))
 
   sorted-dead : (b : Bool) → is_last x xs ≡ true →
       IsStrictlySortedBy key_cmp (keys_of (cond b (objects_in (tops xs)) (object_of x ∷ objects_in (tops xs))))
   unfolding IsStrictlySortedBy
   sorted-dead true last = rest
-  sorted-dead false last = (all_from_among (λ k. key_cmp x.key k ≡ Less) (keys_of (objects_in (tops xs))) (above last), rest)
+  sorted-dead false last =
+      (all_from_among (λ k. key_cmp x.key k ≡ Less) (keys_of (objects_in (tops xs))) (above last), rest)
 
-  sorted-last : (b : Bool) → is_last x xs ≡ b → IsStrictlySortedBy key_cmp (keys_of (objects_in (cond b (x ∷ tops xs) (tops xs))))
+  sorted-last : (b : Bool) → is_last x xs ≡ b
+      → IsStrictlySortedBy key_cmp (keys_of (objects_in (cond b (x ∷ tops xs) (tops xs))))
   sorted-last true last = sorted-dead x.dead last
   sorted-last false last = rest
 
@@ -189,7 +204,8 @@ module _ (x : Claimed) (xs : List Claimed) (up : Rises (x ∷ xs)) (none : next_
       let same = level x.version d.version y.version x.dead d.dead y.dead v r.first r.second low high in
       record { key = key; version = same.0; first = r.first; second = same.1 }
     where
-      level : (v w u : ℕ) (a b e : Bool) → v ≡ w → a ≡ false → b ≡ false → cond a (2 * v + 1) (2 * v) ≤ cond e (2 * u + 1) (2 * u) →
+      level : (v w u : ℕ) (a b e : Bool) → v ≡ w → a ≡ false → b ≡ false
+          → cond a (2 * v + 1) (2 * v) ≤ cond e (2 * u + 1) (2 * u) →
           cond e (2 * u + 1) (2 * u) ≤ cond b (2 * w + 1) (2 * w) →
           (v ≡ u) × (e ≡ false)
       level v w u false false false p q t low high = (omega arith, refl)
@@ -197,7 +213,8 @@ module _ (x : Claimed) (xs : List Claimed) (up : Rises (x ∷ xs)) (none : next_
       level v w u true b e p q t low high = absurd (cc)
       level v w u false true e p q t low high = absurd (cc)
 
-pub rivals-agree : (x : Claimed) (xs : List Claimed) (d : Claimed) → Rises (x ∷ xs) → next_clashes x xs ≡ false → has_clash xs ≡ false →
+pub rivals-agree : (x : Claimed) (xs : List Claimed) (d : Claimed) → Rises (x ∷ xs) → next_clashes x xs ≡ false
+    → has_clash xs ≡ false →
     IsAmong d xs → Rival x d → x.value ≡ d.value
 rivals-agree x [] d up first rest m r = absurd m
 rivals-agree x (y ∷ ys) d up first rest (inl e) r =
@@ -205,14 +222,21 @@ rivals-agree x (y ∷ ys) d up first rest (inl e) r =
     rival-value x y at first ∙ ap (λ (z : Claimed). z.value) e
 rivals-agree x (y ∷ ys) d up first rest (inr l) r =
     let one : Rival x y = rival-first x (y ∷ ys) up first y d (up.0 y (inl refl)) (up.1.0 d l) r in
-    let other : Rival y d = record { key = sym one.key ∙ r.key; version = sym one.version ∙ r.version; first = one.second; second = r.second } in
+    let other : Rival y d =
+    record {
+      key = sym one.key ∙ r.key;
+      version = sym one.version ∙ r.version;
+      first = one.second;
+      second = r.second;
+    } in
     let both = or_parts (next_clashes y ys) (has_clash ys) rest in
     rival-value x y one first ∙ rivals-agree y ys d up.1 both.0 both.1 l other
 
 rival-back : (c d : Claimed) → Rival c d → Rival d c
 rival-back c d r = record { key = sym r.key; version = sym r.version; first = r.second; second = r.first }
 
-pub unclashed : (cs : List Claimed) (c d : Claimed) → Rises cs → has_clash cs ≡ false → IsAmong c cs → IsAmong d cs → Rival c d → c.value ≡ d.value
+pub unclashed : (cs : List Claimed) (c d : Claimed) → Rises cs → has_clash cs ≡ false → IsAmong c cs → IsAmong d cs
+    → Rival c d → c.value ≡ d.value
 unclashed [] c d up none m n r = absurd m
 unclashed (x ∷ xs) c d up none (inl e) (inl f) r = ap (λ (z : Claimed). z.value) (sym e ∙ f)
 unclashed (x ∷ xs) c d up none (inl e) (inr l) r =
@@ -220,8 +244,10 @@ unclashed (x ∷ xs) c d up none (inl e) (inr l) r =
     sym (ap (λ (z : Claimed). z.value) e) ∙ rivals-agree x xs d up both.0 both.1 l (subst (λ z. Rival z d) (sym e) r)
 unclashed (x ∷ xs) c d up none (inr l) (inl f) r =
     let both = or_parts (next_clashes x xs) (has_clash xs) none in
-    sym (rivals-agree x xs c up both.0 both.1 l (subst (λ z. Rival z c) (sym f) (rival-back c d r))) ∙ ap (λ (z : Claimed). z.value) f
-unclashed (x ∷ xs) c d up none (inr l) (inr m) r = unclashed xs c d up.1 (or_parts (next_clashes x xs) (has_clash xs) none).1 l m r
+    sym (rivals-agree x xs c up both.0 both.1 l (subst (λ z. Rival z c) (sym f) (rival-back c d r)))
+    ∙ ap (λ (z : Claimed). z.value) f
+unclashed (x ∷ xs) c d up none (inr l) (inr m) r =
+    unclashed xs c d up.1 (or_parts (next_clashes x xs) (has_clash xs) none).1 l m r
 
 -- two claims of the list clash
 abbrev pub HasRivals : List Claimed → Type 0
@@ -235,6 +261,7 @@ clash-found (x ∷ xs) h = by_first (clash-found xs) (next_clashes x xs) refl h
     clashed [] e = absurd (cc)
     clashed (y ∷ ys) e = (x, y, inl refl, inr (inl refl), e)
 
-    by_first : (has_clash xs ≡ true → HasRivals xs) → (b : Bool) → next_clashes x xs ≡ b → (b || has_clash xs) ≡ true → HasRivals (x ∷ xs)
+    by_first : (has_clash xs ≡ true → HasRivals xs) → (b : Bool) → next_clashes x xs ≡ b → (b || has_clash xs) ≡ true
+        → HasRivals (x ∷ xs)
     by_first before true e h = clashed xs e
     by_first before false e h = let p = before h in (p.0, p.1, inr p.2, inr p.3, p.4)

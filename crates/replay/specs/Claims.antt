@@ -1,5 +1,6 @@
 -- What objects and tombstones claim of their keys.
-use Rattle.std.specs.Prelude.{◌≡◌, ℕ, ◌+◌, max, List, [], ◌∷◌, Option, Some, None, Bool, true, false, not, ◌==◌, ◌&&◌, ◌||◌, nat_eq, if◌then◌else◌, ⊤}
+use Rattle.std.specs.Prelude.{◌≡◌, ℕ, ◌+◌, max, List, [], ◌∷◌, Option, Some, None, Bool, true}
+use Rattle.std.specs.Prelude.{false, not, ◌==◌, ◌&&◌, ◌||◌, nat_eq, if◌then◌else◌, ⊤}
 use Rattle.std.specs.List.{filter_map}
 use Rattle.std.specs.Ordering.{nat_cmp, bool_cmp, ordering_then}
 use Rattle.std.specs.declared.cmp.Ordering.{Ordering}
@@ -21,7 +22,7 @@ pub record Claimed : Type 0 where
   pub dead : Bool
   pub value : List ℕ
 
--- what a claim in the program's memory says
+-- a claim in the program's memory, by its values
 abbrev pub claimed : Claim → Claimed
 claimed c = record { key = shown_key c.key; version = c.version; dead = c.dead; value = c.value.now }
 
@@ -52,7 +53,8 @@ bound_of_claims (c ∷ cs) = max (c.version + 1) (bound_of_claims cs)
 abbrev pub claim_cmp : Claimed → Claimed → Ordering
 claim_cmp a b =
     ordering_then (key_cmp a.key b.key)
-    (ordering_then (nat_cmp a.version b.version) (ordering_then (bool_cmp a.dead b.dead) (slice_cmp nat_cmp a.value b.value)))
+    (ordering_then (nat_cmp a.version b.version)
+    (ordering_then (bool_cmp a.dead b.dead) (slice_cmp nat_cmp a.value b.value)))
 
 -- objects of one key and version with different values
 abbrev pub is_clash : Claimed → Claimed → Bool

@@ -1,4 +1,4 @@
-//! What an object or a tombstone says of its key.
+//! What an object or a tombstone claims of its key.
 
 ghost use Rattle.std.specs.Prelude.{◌≡◌, IfOk};
 ghost use Rattle.std.specs.Option.{option_map};
@@ -10,7 +10,7 @@ use entry::{EntryRef, KeyRef, NoMemory, Object, ObjectRef, Version};
 use std::alloc::Global;
 
 /// A key's value as of a version, or its end. Claims are ordered by key, then by version, and of one version the
-/// tombstone's stands last.
+/// tombstone's is last.
 #[derive(Clone, Copy, PartialEq, Eq, PartialOrd, Ord)]
 pub struct Claim<'a> {
     pub key: KeyRef<'a>,
@@ -55,7 +55,7 @@ impl<'a> Claim<'a> {
         same_key && same_version && !self.dead && !other.dead && !same_value
     }
 
-    /// The object that a claim which is not a tombstone's stands for.
+    /// The object of a claim that is not a tombstone's.
     pub fn to_object(&self, alloc: Global) -> Result<Object, NoMemory>
         ensures object { IfOk result (λ object. object ≡ object_of (claimed self.now)) }
         ensures valid { IsObject (object_of (claimed self.now)) }

@@ -12,7 +12,7 @@ use entry::{Object, Row, SafeVersion};
 use recovery_plan::Plan;
 use std::alloc::Global;
 
-/// Objects, in an order that whoever makes the list says.
+/// Objects, in an order that the maker of the list promises.
 pub type Objects = Row<Object>;
 
 /// What a log stands for.
@@ -25,7 +25,7 @@ pub struct Rebuilt {
 }
 
 /// The objects that the plan's segments mean, in memory of their own. Two values of one key and version are a Clash,
-/// even where a later version covers them. For n entries it takes n log n steps.
+/// even if a later version covers them. For n entries it takes n log n steps.
 pub fn rebuild_plain(alloc: Global, plan: &Plan) -> Result<Rebuilt, ReplayFault>
     ensures ok { IfOk result (IsRebuilt plan.now.segments plan.now.safe) }
     ensures clean { OnOk result (IsClean (among (segments_bag plan.now.segments))) }

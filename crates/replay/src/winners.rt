@@ -2,7 +2,8 @@
 
 ghost use Rattle.std.specs.Prelude.{◌≡◌, max, map, true, false, All, IfOk, IfErr, OnOk};
 ghost use Rattle.entry.specs.Format.{IsObject};
-ghost use Rattle.replay.specs.Claims.{claimed, bound_of_claims, has_clash, is_last, next_clashes, objects_in, tops, IsRefusedFor};
+ghost use Rattle.replay.specs.Claims.{claimed, bound_of_claims, has_clash, is_last, next_clashes};
+ghost use Rattle.replay.specs.Claims.{objects_in, tops, IsRefusedFor};
 
 use crate::claim::Claim;
 use crate::fault::ReplayFault;
@@ -37,7 +38,7 @@ fn is_last(claim: &Claim<'_>, later: &[Claim<'_>]) -> Result<bool, ReplayFault>
     }
 }
 
-/// The objects of the last claims of their keys, where no two neighbours clash.
+/// The objects of the last claims of their keys, if no two neighbours clash.
 pub fn winners(alloc: Global, claims: &[Claim<'_>]) -> Result<Vec<Object>, ReplayFault>
     ensures objects { IfOk result (λ objects. objects.items ≡ objects_in (tops (map claimed claims.now))) }
     ensures valid { IfOk result (λ objects. All IsObject objects.items) }

@@ -24,7 +24,7 @@ pub record Choice : Type 0 where
 abbrev pub bag_of : Choice → List Entry
 bag_of c = flat_map (λ (h : Holding). data_in h.bytes) (c.others ++ c.head ∷ [])
 
--- a replica of the master that bears a digest, and that may be used
+-- a replica of the master that has a digest, and that may be used
 abbrev pub IsUsableHeadOf : ℕ → ℕ → Holding → Type 0
 IsUsableHeadOf least master h = (h.master ≡ master) × IsSome (opening_in h.bytes) × IsUsableHead least h.segment
 
@@ -32,7 +32,7 @@ IsUsableHeadOf least master h = (h.master ≡ master) × IsSome (opening_in h.by
 abbrev pub IsUsableOf : ℕ → Opening → Holding → Type 0
 IsUsableOf master opening h = (h.master ≡ master) × IsUsableReplica opening h
 
--- A choice of a master's newest log, from the replicas that are held, where this is the least head that may be used.
+-- A choice of a master's newest log, from the replicas that are held, if this is the least head that may be used.
 pub record IsChoice (holds : Holding → Type 0) (least master : ℕ) (c : Choice) : Type 0 where
   pub held : holds c.head
   pub of_master : c.head.master ≡ master

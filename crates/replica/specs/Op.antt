@@ -1,4 +1,4 @@
--- What a master asks of a backup, without where its bytes lie in memory.
+-- What a master asks of a backup, whatever the place of its bytes in memory.
 use Rattle.std.specs.Prelude.{ℕ, List}
 use Rattle.replica.specs.declared.op.Op.{Op}
 use Rattle.replica.specs.declared.op.Act.{Act}

@@ -35,7 +35,7 @@ pub record Shown : Type 0 where
 abbrev pub shown_by : Picture → Shown
 shown_by p = record { holds = p; least = 0 }
 
--- what is shown where these backups are left
+-- what is shown if these backups are left
 abbrev pub survivors : (ℕ → Bool) → Shown → Shown
 survivors keep s = record { holds = left_on keep s.holds; least = s.least }
 

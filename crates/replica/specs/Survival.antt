@@ -1,5 +1,4 @@
--- Which losses leave a master's log to a recovery. Where the replicas of a segment belong, its homes, is a word of the
--- layer above.
+-- Which losses leave a master's log to a recovery. The layer above names the homes of a segment's replicas.
 use Rattle.std.specs.Prelude.{◌≡◌, ℕ, ◌<◌, ◌≤◌, ◌⊎◌, Bool, true, Some, IsSome, IsSomeAnd}
 use Rattle.entry.specs.Bag.{IsAmong}
 use Rattle.entry.specs.Text.{Opening, opening_in}
@@ -7,7 +6,7 @@ use Rattle.replica.specs.declared.holding.Holding.{Holding}
 use Rattle.replica.specs.Choice.{IsUsableHead, IsUsableReplica}
 use Rattle.replica.specs.Picture.{Replica, Shown, IsHeld}
 
--- the backup holds a replica of the segment that bears a digest, and may be used as a head
+-- the backup holds a replica of the segment that has a digest, and may be used as a head
 pub record HoldsHead (shown : Shown) (master b s : ℕ) : Type 0 where
   pub bears : IsSomeAnd (shown.holds b master s) (λ (r : Replica). IsSome (opening_in r.bytes))
   pub usable : IsUsableHead shown.least s
@@ -58,7 +57,7 @@ SegmentsSurvive IsHome shown master keep = (s : ℕ) (opening : Opening) → IsN
     (id : ℕ) → IsAmong id opening.ids → (id ≡ s → ⊥)
     → (b : ℕ) × IsHome id b × (keep b ≡ true) × IsUsableOn shown master opening id b
 
--- both the head and the segments survive where these backups are left
+-- both the head and the segments survive if these backups are left
 pub record BothSurvive (IsHome : ℕ → ℕ → Type 0) (shown : Shown) (master : ℕ) (keep : ℕ → Bool) : Type 0 where
   pub head : HeadSurvives IsHome shown master keep
   pub segments : SegmentsSurvive IsHome shown master keep

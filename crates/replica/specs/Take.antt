@@ -1,11 +1,12 @@
 -- What an op does to a fleet.
-use Rattle.std.specs.Prelude.{◌≡◌, ℕ, ◌+◌, ◌-◌, ◌^◌, ◌<◌, ◌⊎◌, ◌==◌, ◌&&◌, ◌++◌, length, min, true, false, Option, Some, None, Result, Ok, Err, nat_lt, if◌then◌else◌}
+use Rattle.std.specs.Prelude.{◌≡◌, ℕ, ◌+◌, ◌-◌, ◌^◌, ◌<◌, ◌⊎◌, ◌==◌, ◌&&◌, ◌++◌, length, min, true}
+use Rattle.std.specs.Prelude.{false, Option, Some, None, Result, Ok, Err, nat_lt, if◌then◌else◌}
 use Rattle.replica.specs.declared.op.TakeFault.{TakeFault}
 use Rattle.replica.specs.declared.op.TakeFault.TheVariants as take_fault
 use Rattle.replica.specs.Op.{ActValue, Open, Extend, Close, Seal, Free, OpValue}
 use Rattle.replica.specs.Picture.{Replica, FleetState, with_replica}
 
--- what the act makes of the replica that it names; None where it doesn't fit
+-- what the act makes of the replica that it names; None if it doesn't fit
 abbrev pub effect : ActValue → Option Replica → Option (Option Replica)
 effect (Open bytes) None = Some (Some (record { bytes = bytes; is_open = true }))
 effect (Open bytes) (Some r) = None
@@ -30,7 +31,7 @@ with_effect f b op (Some r) = Some (record {
   faults = f.faults;
 })
 
--- the fleet after the op; None where there is no such backup or the op doesn't fit
+-- the fleet after the op; None if there is no such backup or the op doesn't fit
 abbrev pub taken : FleetState → ℕ → OpValue → Option FleetState
 taken f b op =
     if nat_lt b f.backups then with_effect f b op (effect op.act (f.picture b op.master op.segment)) else None

@@ -5,9 +5,9 @@ use thiserror::Error;
 /// What an op does to the replica that it names. Its bytes lie with the master.
 #[derive(Clone, Copy)]
 pub enum Act<'a> {
-    /// An open replica with these bytes comes, where there was none.
+    /// Makes an open replica with these bytes, if there was none.
     Open(&'a [u8]),
-    /// The bytes are appended to an open replica of the length `at`, in bytes.
+    /// Appends the bytes to an open replica of the length `at`, in bytes.
     Extend { at: usize, bytes: &'a [u8] },
     /// The open replica is closed.
     Close,

@@ -1,5 +1,6 @@
 -- What a reader expects, and with what segments begin.
-use Rattle.std.proofs.Common.{◌≡◌, ℕ, zero, suc, ◌+◌, Bool, true, false, List, [], ◌∷◌, ◌++◌, length, Some, refl, ap, ◌∙◌, append_assoc, eq-eqb, arith}
+use Rattle.std.proofs.Common.{◌≡◌, ℕ, zero, suc, ◌+◌, Bool, true, false, List, [], ◌∷◌, ◌++◌}
+use Rattle.std.proofs.Common.{length, Some, refl, ap, ◌∙◌, append_assoc, eq-eqb, arith}
 use Rattle.std.specs.List.{slice_get}
 use Rattle.std.specs.Prelude.{◌==◌, ◌&&◌}
 use Rattle.std.proofs.lemmas.List.{append-nil}
@@ -19,7 +20,9 @@ survivor = record { master = 0; segment = 0; role = Survivor }
 -- something makes it whole
 completion : (x : Expected) → (more : List Entry) × (completes x more ≡ true)
 completion expected.Header = (entry.Header survivor ∷ [], refl)
-completion (expected.Digest segment) = let same : (segment == segment) ≡ true = eq-eqb segment segment refl in (entry.Digest (segment ∷ []) ∷ entry.Safe 1 ∷ [], rw same refl)
+completion (expected.Digest segment) =
+    let same : (segment == segment) ≡ true = eq-eqb segment segment refl in
+    (entry.Digest (segment ∷ []) ∷ entry.Safe 1 ∷ [], rw same refl)
 completion expected.Safe = (entry.Safe 1 ∷ [], refl)
 completion expected.Data = ([], refl)
 
@@ -29,10 +32,12 @@ IsBeginning-from_expects before x expects = let more = completion x in (more.0, 
 pub Expects-start : Expects [] expected.Header
 Expects-start more = refl
 
-pub Expects-step : (before : List Entry) (x y : Expected) (e : Entry) → Expects before x → ((more : List Entry) → completes x (e ∷ more) ≡ completes y more) → Expects (before ++ e ∷ []) y
+pub Expects-step : (before : List Entry) (x y : Expected) (e : Entry) → Expects before x
+    → ((more : List Entry) → completes x (e ∷ more) ≡ completes y more) → Expects (before ++ e ∷ []) y
 Expects-step before x y e expects allowed more = rw append_assoc (expects (e ∷ more) ∙ allowed more)
 
-pub not_beginning : (before : List Entry) (x : Expected) (e : Entry) → Expects before x → ((more : List Entry) → completes x (e ∷ more) ≡ false) → IsBeginning (before ++ e ∷ []) → ⊥
+pub not_beginning : (before : List Entry) (x : Expected) (e : Entry) → Expects before x
+    → ((more : List Entry) → completes x (e ∷ more) ≡ false) → IsBeginning (before ++ e ∷ []) → ⊥
 not_beginning before x e expects refused (more, whole) =
     let same : is_whole (before ++ (e ∷ more)) ≡ true = rw append_assoc at whole in
     let not : is_whole (before ++ (e ∷ more)) ≡ false = expects (e ∷ more) ∙ refused more in
@@ -47,8 +52,10 @@ pub are_data-append : (xs ys : List Entry) → are_data ys ≡ true → are_data
 are_data-append [] ys d = d
 are_data-append (x ∷ xs) ys d = ap (λ (b : Bool). is_data x && b) (are_data-append xs ys d)
 
-is_head_rest-append : (segment : ℕ) (xs ys : List Entry) → are_data ys ≡ true → is_head_rest segment xs ≡ true → is_head_rest segment (xs ++ ys) ≡ true
-is_head_rest-append segment (entry.Digest ids ∷ entry.Safe version ∷ rest) ys d whole = rw (are_data-append rest ys d) whole
+is_head_rest-append : (segment : ℕ) (xs ys : List Entry) → are_data ys ≡ true → is_head_rest segment xs ≡ true
+    → is_head_rest segment (xs ++ ys) ≡ true
+is_head_rest-append segment (entry.Digest ids ∷ entry.Safe version ∷ rest) ys d whole =
+    rw (are_data-append rest ys d) whole
 is_head_rest-append segment _ ys d whole = absurd (cc)
 
 pub is_whole-append : (xs ys : List Entry) → are_data ys ≡ true → is_whole xs ≡ true → is_whole (xs ++ ys) ≡ true
@@ -60,7 +67,8 @@ is_whole-append _ ys d whole = absurd (cc)
 
 -- ---- the last id of a digest
 
-pub ends_with-last : (id : ℕ) (ids : List ℕ) (k x : ℕ) → k + 1 ≡ length ids → slice_get ids k ≡ Some x → ends_with id ids ≡ (x == id)
+pub ends_with-last : (id : ℕ) (ids : List ℕ) (k x : ℕ) → k + 1 ≡ length ids → slice_get ids k ≡ Some x
+    → ends_with id ids ≡ (x == id)
 ends_with-last id [] k x len is = absurd (omega arith)
 ends_with-last id (y ∷ []) zero x len is = let same : y ≡ x = cc in rw same refl
 ends_with-last id (y ∷ []) (suc k) x len is = absurd (omega arith)

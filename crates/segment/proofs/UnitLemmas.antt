@@ -1,5 +1,6 @@
 -- Units, and what they leave behind a segment's entries.
-use Rattle.std.proofs.Common.{◌≡◌, ℕ, zero, suc, ◌+◌, ◌*◌, ◌<◌, ◌≤◌, true, List, [], ◌∷◌, ◌++◌, length, take, drop, map, get_or, refl, sym, ap, ◌∙◌, append_assoc, arith}
+use Rattle.std.proofs.Common.{◌≡◌, ℕ, zero, suc, ◌+◌, ◌*◌, ◌<◌, ◌≤◌, true, List, [], ◌∷◌, ◌++◌, length}
+use Rattle.std.proofs.Common.{take, drop, map, get_or, refl, sym, ap, ◌∙◌, append_assoc, arith}
 use Rattle.std.specs.Prelude.{Result, Ok, Err, OnErr}
 use Rattle.std.specs.Result.{IsOk}
 use Rattle.std.specs.List.{flat_map, AllByRecursion}
@@ -21,10 +22,12 @@ use Rattle.segment.proofs.RowLemmas.{text_of-append}
 use Rattle.segment.proofs.OrderLemmas.{is_whole-append}
 
 -- each of a unit is an object or a tombstone
-pub is_data-at : (es : List EntryRef) (i : ℕ) (x : EntryRef) → i < length es → x ≡ get_or es i x → are_data (map shown es) ≡ true → is_data (shown x) ≡ true
+pub is_data-at : (es : List EntryRef) (i : ℕ) (x : EntryRef) → i < length es → x ≡ get_or es i x
+    → are_data (map shown es) ≡ true → is_data (shown x) ≡ true
 is_data-at [] i x lt is d = absurd (omega arith)
 is_data-at (e ∷ es) zero x lt is d = rw is (and_parts (is_data (shown e)) (are_data (map shown es)) d).0
-is_data-at (e ∷ es) (suc i) x lt is d = is_data-at es i x (omega arith) is (and_parts (is_data (shown e)) (are_data (map shown es)) d).1
+is_data-at (e ∷ es) (suc i) x lt is d =
+    is_data-at es i x (omega arith) is (and_parts (is_data (shown e)) (are_data (map shown es)) d).1
 
 -- the text up to an entry, and that entry's, are no longer than the whole
 pub text-at : (es : List EntryRef) (i : ℕ) (x : EntryRef) → i < length es → x ≡ get_or es i x
@@ -36,11 +39,12 @@ text-at es i x lt is =
     let last : length (spelling (shown x)) ≡ length (f (get_or es i x)) = ap (λ (e : EntryRef). length (f e)) is in
     omega (arith, length-flat_map-take f es i x lt, ap length part, ap length whole)
 
--- where an entry is written behind those before it
+-- an entry is written behind those before it
 module _ (es : List EntryRef) (i : ℕ) (x : EntryRef) (lt : i < length es) (is : x ≡ get_or es i x) where
   taken_more : text_of (map shown (take (i + 1) es)) ≡ text_of (map shown (take i es)) ++ spelling (shown x)
   taken_more =
-      ap (λ (fs : List EntryRef). text_of (map shown fs)) (take_more es i x lt ∙ ap (λ (y : EntryRef). take i es ++ y ∷ []) (sym is))
+      ap (λ (fs : List EntryRef). text_of (map shown fs))
+      (take_more es i x lt ∙ ap (λ (y : EntryRef). take i es ++ y ∷ []) (sym is))
       ∙ ap text_of (map-append shown (take i es) (x ∷ []))
       ∙ text_of-append (map shown (take i es)) (shown x ∷ [])
       ∙ ap (λ (bytes : List ℕ). text_of (map shown (take i es)) ++ bytes) (append-nil (spelling (shown x)))
@@ -50,7 +54,8 @@ module _ (es : List EntryRef) (i : ℕ) (x : EntryRef) (lt : i < length es) (is 
       at_drop_more (λ (fs : List EntryRef). text_of (map shown fs)) es i x lt
       ∙ ap (λ (y : EntryRef). spelling (shown y) ++ text_of (map shown (drop (i + 1) es))) (sym is)
 
-  pub written_more : (start old new : List ℕ) → new ≡ old ++ spelling (shown x) → old ≡ start ++ text_of (map shown (take i es)) →
+  pub written_more : (start old new : List ℕ) → new ≡ old ++ spelling (shown x)
+      → old ≡ start ++ text_of (map shown (take i es)) →
       new ≡ start ++ text_of (map shown (take (i + 1) es))
   written_more start old new one held =
       one
@@ -58,15 +63,32 @@ module _ (es : List EntryRef) (i : ℕ) (x : EntryRef) (lt : i < length es) (is 
       ∙ append_assoc start (text_of (map shown (take i es))) (spelling (shown x))
       ∙ ap (λ (bytes : List ℕ). start ++ bytes) (sym taken_more)
 
-  pub room_for : (len capacity : ℕ) → len + length (text_of (map shown (drop i es))) ≤ capacity → len + length (spelling (shown x)) ≤ capacity
-  room_for len capacity room = omega (arith, room, ap length left_more, length-append (spelling (shown x)) (text_of (map shown (drop (i + 1) es))))
+  pub room_for : (len capacity : ℕ) → len + length (text_of (map shown (drop i es))) ≤ capacity
+      → len + length (spelling (shown x)) ≤ capacity
+  room_for len capacity room =
+      omega (
+        arith,
+        room,
+        ap length left_more,
+        length-append (spelling (shown x))
+            (text_of (map shown (drop (i + 1) es))),
+      )
 
   pub room_left : (len capacity more wide : ℕ) → len + length (text_of (map shown (drop i es))) ≤ capacity →
       more ≡ len + length (spelling (shown x)) → capacity ≤ wide →
       more + length (text_of (map shown (drop (i + 1) es))) ≤ wide
-  room_left len capacity more wide room longer wider = omega (arith, room, longer, wider, ap length left_more, length-append (spelling (shown x)) (text_of (map shown (drop (i + 1) es))))
+  room_left len capacity more wide room longer wider =
+      omega (
+        arith,
+        room,
+        longer,
+        wider,
+        ap length left_more,
+        length-append (spelling (shown x)) (text_of (map shown (drop (i + 1) es))),
+      )
 
-pub longer_by : (old new part : List ℕ) (len more : ℕ) → new ≡ old ++ part → len ≡ length old → more ≡ length new → more ≡ len + length part
+pub longer_by : (old new part : List ℕ) (len more : ℕ) → new ≡ old ++ part → len ≡ length old → more ≡ length new
+    → more ≡ len + length part
 longer_by old new part len more one before after = omega (arith, ap length one, length-append old part, before, after)
 
 pub ok_unless : {T E : Type 0} (r : Result T E) (P : Type 0) → OnErr r P → (P → ⊥) → IsOk r
@@ -74,7 +96,8 @@ ok_unless (Ok v) P full not = refl
 ok_unless (Err e) P full not = absurd (not full)
 
 -- a segment's entries and a unit are a segment's entries
-pub IsTextOf-append : (bytes new : List ℕ) (unit : List Entry) → IsSegmentBytes bytes → AllByRecursion IsEntry unit → are_data unit ≡ true → new ≡ bytes ++ text_of unit → IsTextOf new (entries_in bytes ++ unit)
+pub IsTextOf-append : (bytes new : List ℕ) (unit : List Entry) → IsSegmentBytes bytes → AllByRecursion IsEntry unit
+    → are_data unit ≡ true → new ≡ bytes ++ text_of unit → IsTextOf new (entries_in bytes ++ unit)
 IsTextOf-append bytes new unit is each d longer = record {
   segment = record {
     each = all_append IsEntry (entries_in bytes) unit is.text.segment.each each;
@@ -97,15 +120,21 @@ head master segment = record { master = master; segment = segment; role = Head }
 abbrev pub head_of : ℕ → ℕ → List ℕ → ℕ → List Entry
 head_of master segment ids safe = entry.Header (head master segment) ∷ entry.Digest ids ∷ entry.Safe safe ∷ []
 
-pub IsTextOf-head : (master segment : ℕ) (ids : List ℕ) (safe : ℕ) (a b c d : List ℕ) → IsEntry (entry.Header (head master segment)) → IsEntry (entry.Digest ids) → IsEntry (entry.Safe safe)
-    → ends_with segment ids ≡ true → a ≡ [] → b ≡ a ++ spelling (entry.Header (head master segment)) → c ≡ b ++ spelling (entry.Digest ids) → d ≡ c ++ spelling (entry.Safe safe)
+pub IsTextOf-head : (master segment : ℕ) (ids : List ℕ) (safe : ℕ) (a b c d : List ℕ)
+    → IsEntry (entry.Header (head master segment)) → IsEntry (entry.Digest ids) → IsEntry (entry.Safe safe)
+    → ends_with segment ids ≡ true → a ≡ [] → b ≡ a ++ spelling (entry.Header (head master segment))
+    → c ≡ b ++ spelling (entry.Digest ids) → d ≡ c ++ spelling (entry.Safe safe)
     → IsTextOf d (head_of master segment ids safe)
 IsTextOf-head master segment ids safe a b c d header digest version last p q r s = record {
   segment = record { each = (header, (digest, (version, tt))); order = rw last refl };
-  text = three (spelling (entry.Header (head master segment))) (spelling (entry.Digest ids)) (spelling (entry.Safe safe)) a b c d p q r s;
+  text =
+      three (spelling (entry.Header (head master segment))) (spelling (entry.Digest ids)) (spelling (entry.Safe safe)) a
+      b c d p q r s;
 }
 
-pub length-head : (master segment : ℕ) (ids : List ℕ) (safe : ℕ) → length (text_of (head_of master segment ids safe)) ≡ 32 + 8 * length ids
+pub length-head : (master segment : ℕ) (ids : List ℕ) (safe : ℕ)
+    → length (text_of (head_of master segment ids safe)) ≡ 32 + 8 * length ids
 length-head master segment ids safe =
-    length-three (spelling (entry.Header (head master segment))) (spelling (entry.Digest ids)) (spelling (entry.Safe safe))
+    length-three (spelling (entry.Header (head master segment))) (spelling (entry.Digest ids))
+    (spelling (entry.Safe safe))
     ∙ rw (length-header, length-digest, length-safe) (omega arith)

@@ -1,4 +1,4 @@
--- What the bytes of a segment are, and what stands in bytes.
+-- What the bytes of a segment are, and which entry is at an offset.
 use Rattle.std.specs.Prelude.{ℕ, ◌≤◌, List, length, drop, Option}
 use Rattle.std.specs.Option.{option_map}
 use Rattle.entry.specs.declared.entry.Entry.{Entry}
@@ -9,6 +9,6 @@ pub record IsSegmentBytes (bytes : List ℕ) : Type 0 where
   pub text : IsTextOf bytes (entries_in bytes)
   pub limit : length bytes ≤ 8388608
 
--- the entry that stands at an offset
+-- the entry at an offset
 abbrev pub standing_at : ℕ → List ℕ → Option Entry
 standing_at at bytes = option_map (λ (front : Entry × ℕ). front.0) (front_of (drop at bytes))

@@ -8,7 +8,7 @@ use Rattle.entry.specs.Text.{text_of, is_whole, IsBeginning, IsSegmentText}
 use Rattle.segment.specs.declared.fault.SegmentFault.{SegmentFault}
 use Rattle.segment.specs.declared.fault.SegmentFault.TheVariants.{BadEntry, BadOrder, TooLong, NoMemory}
 
--- before the offset stand these entries, with which some segment begins
+-- these entries are before the offset, and some segment begins with them
 pub record StandBefore (bytes : List ℕ) (at : ℕ) (before : List Entry) : Type 0 where
   pub within : at ≤ length bytes
   pub text : take at bytes ≡ text_of before
@@ -19,23 +19,25 @@ pub record StandBefore (bytes : List ℕ) (at : ℕ) (before : List Entry) : Typ
 abbrev pub IsUnreadable : List ℕ → ℕ → Type 0
 IsUnreadable bytes at = (at < length bytes) × ((fault : EntryFault) × (first_fault (drop at bytes) ≡ Some fault))
 
--- at the offset stands an entry with which no segment goes on behind these
+-- an entry is at the offset with which no segment goes on behind these
 abbrev pub IsMisplaced : List ℕ → ℕ → List Entry → Type 0
-IsMisplaced bytes at before = (e : Entry) × (len : ℕ) × Begins (drop at bytes) e len × (IsBeginning (before ++ e ∷ []) → ⊥)
+IsMisplaced bytes at before =
+    (e : Entry) × (len : ℕ) × Begins (drop at bytes) e len × (IsBeginning (before ++ e ∷ []) → ⊥)
 
 -- the bytes end at the offset, and these entries are no whole segment's
 abbrev pub EndsEarly : List ℕ → ℕ → List Entry → Type 0
 EndsEarly bytes at before = (at ≡ length bytes) × (is_whole before ≡ false)
 
--- at the offset the order fails, where all before it is well
+-- the order fails at the offset, and all before it is well
 abbrev pub IsBadOrder : List ℕ → ℕ → Type 0
-IsBadOrder bytes at = (before : List Entry) × (StandBefore bytes at before) × (IsMisplaced bytes at before ⊎ EndsEarly bytes at before)
+IsBadOrder bytes at =
+    (before : List Entry) × (StandBefore bytes at before) × (IsMisplaced bytes at before ⊎ EndsEarly bytes at before)
 
--- at the offset no entry can be read, where all before it is well
+-- no entry can be read at the offset, and all before it is well
 abbrev pub IsBadEntry : List ℕ → ℕ → Type 0
 IsBadEntry bytes at = (before : List Entry) × (StandBefore bytes at before) × IsUnreadable bytes at
 
--- the fault that the first failing test names; want of memory comes only where no test fails
+-- the fault that the first failing test names; NoMemory comes only if no test fails
 abbrev pub IsSegmentFault : List ℕ → SegmentFault → Type 0
 IsSegmentFault bytes TooLong = 8388608 < length bytes
 IsSegmentFault bytes (BadEntry at) = (length bytes ≤ 8388608) × IsBadEntry bytes at

@@ -11,7 +11,7 @@ abbrev pub is_safe_rest : List Entry → Bool
 is_safe_rest (entry.Safe version ∷ rest) = are_data rest
 is_safe_rest _ = false
 
--- where this is expected, these entries make the segment whole
+-- if this is expected, these entries make the segment whole
 abbrev pub completes : Expected → List Entry → Bool
 completes expected.Header more = is_whole more
 completes (expected.Digest segment) more = is_head_rest segment more

@@ -28,9 +28,10 @@ fn ends_with_id(digest: &DigestRef, id: u64) -> bool
 }
 
 impl Expected {
-    /// What may come behind the entry; None where the entry itself may not come.
+    /// What may come behind the entry; None if the entry itself may not come.
     pub(crate) fn next(self, entry: &EntryRef) -> Option<Expected>
-        ensures allowed { IfSome result (λ next. (more : List Entry) → completes self (shown entry.now ∷ more) ≡ completes next more) }
+        ensures allowed { IfSome result (λ next. (more : List Entry) →
+            completes self (shown entry.now ∷ more) ≡ completes next more) }
         ensures refused { IfNone result ((more : List Entry) → completes self (shown entry.now ∷ more) ≡ false) }
     {
         match (self, entry) {

@@ -4,7 +4,7 @@
 //! segment, and its bytes are the text of its entries. `SegmentRef` shows the same of bytes that lie elsewhere. A
 //! reader takes the text of each segment, and of other bytes it names the first test that fails (`specs/Faults.antt`).
 //!
-//! It stands on `entry`, for entries and their spelling.
+//! It uses `entry`, for entries and their spelling.
 #![tactic(auto)]
 
 mod entries;

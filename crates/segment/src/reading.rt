@@ -60,7 +60,7 @@ pub fn read_segment(alloc: Global, bytes: &[u8]) -> Result<Segment, SegmentFault
     // The text of each segment within the limit is read, unless memory runs out.
     ensures complete { (entries : List Entry) → IsTextOf bytes.now entries → length bytes.now ≤ MAX_SEGMENT_LEN →
         MatchResult result (λ segment. segment ≡ entries) (λ fault. fault ≡ SegmentFault.NoMemory) }
-    // A fault is the one that the first failing test names. Want of memory comes only where no test fails.
+    // A fault is the one that the first failing test names. NoMemory comes only if no test fails.
     ensures fault { IfErr result (λ fault. IsSegmentFault bytes.now fault) }
 {
     match SegmentRef::read(bytes) {

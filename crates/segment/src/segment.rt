@@ -1,6 +1,7 @@
 //! Segments in memory of their own.
 
-ghost use Rattle.std.specs.Prelude.{◌≡◌, ◌+◌, ◌≤◌, ◌<◌, ◌↔◌, ◌++◌, ◌∷◌, [], List, length, map, true, IfOk, OnOk, OnErr, IsErrOf, IsSomeAnd};
+ghost use Rattle.std.specs.Prelude.{◌≡◌, ◌+◌, ◌≤◌, ◌<◌, ◌↔◌, ◌++◌, ◌∷◌, [], List, length};
+ghost use Rattle.std.specs.Prelude.{map, true, IfOk, OnOk, OnErr, IsErrOf, IsSomeAnd};
 ghost use Rattle.entry.specs.declared.entry.Entry.{Entry};
 ghost use Rattle.entry.specs.Format.{spelling, IsEntry};
 ghost use Rattle.entry.specs.Text.{text_of, IsSegment, ends_with, are_data};
@@ -63,7 +64,8 @@ impl Segment {
         requires last { ends_with id ids.now ≡ true }
         requires count { length ids.now ≤ 262144 }
         ensures { IfOk result (λ segment.
-            segment ≡ Entry.Header (record { master = master; segment = id; role = Role.Head }) ∷ Entry.Digest ids.now ∷ Entry.Safe safe ∷ []) }
+            segment ≡ Entry.Header (record { master = master; segment = id; role = Role.Head })
+            ∷ Entry.Digest ids.now ∷ Entry.Safe safe ∷ []) }
     {
         let mut bytes = Vec::with_capacity(alloc, OPENING_LEN + 8 * ids.as_slice().len())?;
         let header = Header {
@@ -78,15 +80,16 @@ impl Segment {
         Ok(Segment { bytes })
     }
 
-    /// Appends objects and tombstones, all or none of them, where the segment then has at most `limit` bytes. The
-    /// answer is the offset of the first.
+    /// Appends objects and tombstones, all or none of them, if the segment then has at most `limit` bytes. The answer
+    /// is the offset of the first.
     pub fn append(&mut self, unit: &[EntryRef<'_>], limit: usize) -> Result<usize, AppendFault>
         requires data { are_data (map shown unit.now) ≡ true }
         requires limit { limit ≤ MAX_SEGMENT_LEN }
         ensures ok { OnOk result (self.new ≡ self.old ++ map shown unit.now) }
         ensures place { IfOk result (λ at. at ≡ length (text_of self.old)) }
-        // A unit that doesn't fit is reported as such, even where memory is short.
-        ensures full { IsErrOf result AppendFault.Full ↔ (limit < length (text_of self.old) + length (text_of (map shown unit.now))) }
+        // A unit that doesn't fit is reported as such, even if memory is short.
+        ensures full { IsErrOf result AppendFault.Full ↔
+            (limit < length (text_of self.old) + length (text_of (map shown unit.now))) }
         ensures err { OnErr result (self.new ≡ self.old) }
     {
         let at = self.bytes.len();
@@ -140,11 +143,12 @@ impl Segment {
         self.view().entries()
     }
 
-    /// The entry that stands at an offset from the first byte.
+    /// The entry at an offset from the first byte.
     pub fn entry_at(&self, at: usize) -> Option<EntryRef<'_>>
         ensures standing { option_map shown result ≡ standing_at at (text_of self.entry.now) }
         // Each entry of the segment is found where it begins.
-        ensures found { (before after : List Entry) (entry : Entry) → self.entry.now ≡ before ++ entry ∷ after → at ≡ length (text_of before) →
+        ensures found { (before after : List Entry) (entry : Entry) →
+            self.entry.now ≡ before ++ entry ∷ after → at ≡ length (text_of before) →
             IsSomeAnd result (λ found. shown found ≡ entry) }
     {
         self.view().entry_at(at)

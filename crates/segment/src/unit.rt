@@ -1,6 +1,7 @@
 //! Units: objects and tombstones that are appended together.
 
-ghost use Rattle.std.specs.Prelude.{◌≡◌, ◌+◌, ◌≤◌, ◌<◌, ◌++◌, ◌↔◌, true, length, map, vec_len, vec_capacity, IfSome, IsSome, OnSome, OnOk, OnErr};
+ghost use Rattle.std.specs.Prelude.{◌≡◌, ◌+◌, ◌≤◌, ◌<◌, ◌++◌, ◌↔◌, true, length, map, vec_len};
+ghost use Rattle.std.specs.Prelude.{vec_capacity, IfSome, IsSome, OnSome, OnOk, OnErr};
 ghost use Rattle.std.specs.List.{AllByRecursion};
 ghost use Rattle.entry.specs.Format.{spelling, IsEntry};
 ghost use Rattle.entry.specs.Text.{text_of, is_data, are_data};
@@ -36,7 +37,7 @@ fn write(entry: &EntryRef, out: &mut Vec<u8>) -> Result<(), NoMemory>
     }
 }
 
-/// How many bytes the spellings of a unit have together, where they are at most this many.
+/// How many bytes the spellings of a unit have together, if they are at most this many.
 pub(crate) fn len_within(unit: &[EntryRef<'_>], room: usize) -> Option<usize>
     requires data { are_data (map shown unit.now) ≡ true }
     requires limit { room ≤ 8388608 }
@@ -54,7 +55,7 @@ pub(crate) fn len_within(unit: &[EntryRef<'_>], room: usize) -> Option<usize>
     Some(len)
 }
 
-/// Appends the spellings of a unit, where there is room for them.
+/// Appends the spellings of a unit, if there is room for them.
 pub(crate) fn write_all(unit: &[EntryRef<'_>], out: &mut Vec<u8>)
     requires data { are_data (map shown unit.now) ≡ true }
     requires room { vec_len out.old + length (text_of (map shown unit.now)) ≤ vec_capacity out.old }

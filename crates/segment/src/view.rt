@@ -29,7 +29,8 @@ impl<'a> SegmentRef<'a> {
         // What is read is the segment whose text the bytes are.
         ensures found { IfOk result (λ segment. IsTextOf bytes.entry.now (entries_of segment)) }
         // The text of each segment within the limit is read.
-        ensures complete { (entries : List Entry) → IsTextOf bytes.entry.now entries → length bytes.entry.now ≤ 8388608 →
+        ensures complete { (entries : List Entry) →
+            IsTextOf bytes.entry.now entries → length bytes.entry.now ≤ 8388608 →
             IsOkAnd result (λ segment. entries_of segment ≡ entries) }
         // A fault is the one that the first failing test names.
         ensures fault { IfErr result (λ fault. IsSegmentFault bytes.entry.now fault) }
@@ -62,7 +63,8 @@ impl<'a> SegmentRef<'a> {
 
     /// The digest of a head; None for a survivor.
     pub fn digest(&self) -> Option<DigestRef<'a>>
-        ensures { option_map shown_ids result ≡ option_map (λ (o : Opening). o.ids) (opening_of (entries_of self.entry.now)) }
+        ensures { option_map shown_ids result ≡
+            option_map (λ (o : Opening). o.ids) (opening_of (entries_of self.entry.now)) }
     {
         let mut entries = self.entries();
         entries.next();
@@ -96,11 +98,12 @@ impl<'a> SegmentRef<'a> {
         Entries { rest: self.bytes }
     }
 
-    /// The entry that stands at an offset from the first byte.
+    /// The entry at an offset from the first byte.
     pub fn entry_at(&self, at: usize) -> Option<EntryRef<'a>>
         ensures standing { option_map shown result ≡ standing_at at (text_of (entries_of self.entry.now)) }
         // Each entry of the segment is found where it begins.
-        ensures found { (before after : List Entry) (entry : Entry) → entries_of self.entry.now ≡ before ++ entry ∷ after → at ≡ length (text_of before) →
+        ensures found { (before after : List Entry) (entry : Entry) →
+            entries_of self.entry.now ≡ before ++ entry ∷ after → at ≡ length (text_of before) →
             IsSomeAnd result (λ found. shown found ≡ entry) }
     {
         if at > self.bytes.len() {

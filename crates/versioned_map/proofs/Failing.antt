@@ -1,4 +1,4 @@
--- What holds where a call fails.
+-- What holds if a call fails.
 use Rattle.std.specs.Prelude.{Result, Ok, Err, OnErr}
 
 -- what holds at all

@@ -5,7 +5,8 @@ use Rattle.std.proofs.lemmas.Bool.Decides.{nat_tests}
 use Rattle.entry.specs.declared.key.Key.{Key}
 use Rattle.entry.specs.declared.entry.Entry.{Entry}
 use Rattle.entry.specs.declared.entry.Entry.TheVariants as entry
-use Rattle.entry.specs.Meaning.{Versioned, Contents, IsOfKey, rank_of, IsTop, object_at, IsMeaning, IsClean, among, versioned}
+use Rattle.entry.specs.Meaning.{Versioned, Contents, IsOfKey, rank_of, IsTop, object_at}
+use Rattle.entry.specs.Meaning.{IsMeaning, IsClean, among, versioned}
 use Rattle.versioned_map.specs.Membership.{IsOutranked, IsMeaningBy}
 use Rattle.entry.proofs.KeyOrder.{key_eq_tells}
 
@@ -24,12 +25,14 @@ one_contents bag c d is also = λ i k. same_at bag c d is also k (c k) (d k) ref
 
 module _ (bag other : Entry → Type 0) (same : (e : Entry) → bag e ↔ other e) where
   top_carried : (k : Key) (e : Entry) → IsTop k bag e → IsTop k other e
-  top_carried k e top = record { held = (same e).0 top.held; of_key = top.of_key; highest = λ f m at. top.highest f ((same f).1 m) at }
+  top_carried k e top =
+      record { held = (same e).0 top.held; of_key = top.of_key; highest = λ f m at. top.highest f ((same f).1 m) at }
 
   pub clean_carried : IsClean bag → IsClean other
   clean_carried clean o p a b at v = clean o p ((same (entry.Object o)).1 a) ((same (entry.Object p)).1 b) at v
 
-pub meaning_carried : (bag other : Entry → Type 0) (contents : Contents) → ((e : Entry) → bag e ↔ other e) → IsMeaning bag contents
+pub meaning_carried : (bag other : Entry → Type 0) (contents : Contents) → ((e : Entry) → bag e ↔ other e)
+    → IsMeaning bag contents
     → IsMeaning other contents
 meaning_carried bag other contents same is k x = (
   λ h. top_carried bag other same k (object_at k x) ((is k x).0 h),
@@ -63,7 +66,8 @@ module _ (k : Key) (e : Entry) (es : List Entry) where
       ];
     },
   )
-  passed other (inr none) = inr (λ f m at. elim m [ inl p ↦ other (subst (λ (g : Entry). IsOfKey k g) (sym p) at) | inr l ↦ none f l at ])
+  passed other (inr none) =
+      inr (λ f m at. elim m [ inl p ↦ other (subst (λ (g : Entry). IsOfKey k g) (sym p) at) | inr l ↦ none f l at ])
 
   taken : IsOfKey k e → ((f : Entry) → among es f → IsOfKey k f → rank_of f ≤ rank_of e) → Highest k (e ∷ es)
   taken here below = inl (
@@ -91,7 +95,8 @@ module _ (k : Key) (e : Entry) (es : List Entry) where
     },
   )
 
-  chosen : IsOfKey k e → (t : Entry) → IsTop k (among es) t → (b : Bool) → nat_lt (rank_of e) (rank_of t) ≡ b → Highest k (e ∷ es)
+  chosen : IsOfKey k e → (t : Entry) → IsTop k (among es) t → (b : Bool) → nat_lt (rank_of e) (rank_of t) ≡ b
+      → Highest k (e ∷ es)
   chosen here t top true lt = stays t top (grind (arith, nat_tests))
   chosen here t top false lt =
       let le : rank_of t ≤ rank_of e = grind (arith, nat_tests) in
@@ -110,7 +115,8 @@ highest_is k (e ∷ es) = elim (of_key-tells k e) [
 
 -- ---- membership
 
-module _ (bag : List Entry) (contents : Contents) (is : IsMeaning (among bag) contents) (k : Key) (x : Versioned) (none : contents k ≡ None)
+module _ (bag : List Entry) (contents : Contents) (is : IsMeaning (among bag) contents) (k : Key) (x : Versioned)
+    (none : contents k ≡ None)
     (held : among bag (object_at k x)) where
   outranked_by : (t : Entry) → IsTop k (among bag) t → IsOutranked (among bag) k x.version
   outranked_by (entry.Header h) top = absurd top.of_key
@@ -119,17 +125,26 @@ module _ (bag : List Entry) (contents : Contents) (is : IsMeaning (among bag) co
   outranked_by (entry.Object o) top =
       let same : entry.Object o ≡ object_at k (versioned o) =
       λ i. entry.Object (record { key = top.of_key i; version = o.version; value = o.value }) in
-      let some : contents k ≡ Some (versioned o) = (is k (versioned o)).1 (subst (λ (f : Entry). IsTop k (among bag) f) same top) in absurd (cc)
-  outranked_by (entry.Tombstone u) top =
-      (entry.Tombstone u, top.held, top.of_key, let le : 2 * x.version ≤ 2 * u.version + 1 = top.highest (object_at k x) held refl in omega arith)
+      let some : contents k ≡ Some (versioned o) =
+      (is k (versioned o)).1 (subst (λ (f : Entry). IsTop k (among bag) f) same top) in absurd (cc)
+  outranked_by (entry.Tombstone u) top = (
+    entry.Tombstone u,
+    top.held,
+    top.of_key,
+    let le : 2 * x.version ≤ 2 * u.version + 1 = top.highest (object_at k x)
+        held refl in omega arith,
+  )
 
   outranked : IsOutranked (among bag) k x.version
   outranked = elim (highest_is k bag) [ inl t ↦ outranked_by t.0 t.1 | inr f ↦ absurd (f (object_at k x) held refl) ]
 
-pub by_membership : (bag : List Entry) (contents : Contents) → IsMeaning (among bag) contents → IsMeaningBy (among bag) contents
-by_membership bag contents is = record { present = λ k x h. (is k x).0 h; absent = λ k x none held. outranked bag contents is k x none held }
+pub by_membership : (bag : List Entry) (contents : Contents) → IsMeaning (among bag) contents
+    → IsMeaningBy (among bag) contents
+by_membership bag contents is =
+    record { present = λ k x h. (is k x).0 h; absent = λ k x none held. outranked bag contents is k x none held }
 
-module _ (bag : Entry → Type 0) (contents : Contents) (clean : IsClean bag) (is : IsMeaningBy bag contents) (k : Key) (x : Versioned)
+module _ (bag : Entry → Type 0) (contents : Contents) (clean : IsClean bag) (is : IsMeaningBy bag contents) (k : Key)
+    (x : Versioned)
     (top : IsTop k bag (object_at k x)) where
   had : (c : Option Versioned) → contents k ≡ c → c ≡ Some x
   had None e =
@@ -145,5 +160,6 @@ module _ (bag : Entry → Type 0) (contents : Contents) (clean : IsClean bag) (i
       (record { key = k; version = x.version; value = x.value }) t.held top.held refl same in
       λ i. Some (record { version = same i; value = value i })
 
-pub from_membership : (bag : Entry → Type 0) (contents : Contents) → IsClean bag → IsMeaningBy bag contents → IsMeaning bag contents
+pub from_membership : (bag : Entry → Type 0) (contents : Contents) → IsClean bag → IsMeaningBy bag contents
+    → IsMeaning bag contents
 from_membership bag contents clean is k x = (is.present k x, λ top. had bag contents clean is k x top (contents k) refl)

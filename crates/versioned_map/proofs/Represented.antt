@@ -1,5 +1,6 @@
 -- A unit takes a bag from what one state means to what the next means.
-use Rattle.std.proofs.Common.{◌≡◌, ℕ, ◌+◌, ◌*◌, ◌<◌, ◌≤◌, inl, inr, max, Bool, true, false, cond, zero, suc, take, List, [], ◌∷◌, ◌++◌, refl, sym}
+use Rattle.std.proofs.Common.{◌≡◌, ℕ, ◌+◌, ◌*◌, ◌<◌, ◌≤◌, inl, inr, max, Bool, true, false}
+use Rattle.std.proofs.Common.{cond, zero, suc, take, List, [], ◌∷◌, ◌++◌, refl, sym}
 use Rattle.std.proofs.Common.{subst, ◌∙◌, arith, append_assoc}
 use Rattle.std.proofs.lemmas.List.{append-nil}
 use Rattle.std.specs.Prelude.{◌↔◌, Option, Some, None}
@@ -15,7 +16,8 @@ use Rattle.versioned_map.specs.Represents.{Represents, unit_of, AreUnitsOf, join
 use Rattle.entry.proofs.KeyOrder.{key_eq_tells}
 use Rattle.versioned_map.proofs.Keys.{at_key, at_other, at_twice}
 use Rattle.versioned_map.proofs.Meanings.{clean_carried, meaning_carried}
-use Rattle.versioned_map.proofs.Tops.{one_key, rank_bound, version_bound, Leaves, raised, raised_clean, object_leaves, tombstone_leaves}
+use Rattle.versioned_map.proofs.Tops.{one_key, rank_bound, version_bound, Leaves, raised}
+use Rattle.versioned_map.proofs.Tops.{raised_clean, object_leaves, tombstone_leaves}
 
 pub bound-push : (bag : List Entry) (e : Entry) → bound_of (bag ++ e ∷ []) ≡ max (bound_of bag) (version_of e + 1)
 bound-push [] e = omega arith
@@ -23,7 +25,8 @@ bound-push (f ∷ bag) e = let h = bound-push bag e in omega arith
 
 pub bound_above : (e : Entry) (bag : List Entry) → among bag e → version_of e < bound_of bag
 bound_above e [] h = absurd h
-bound_above e (f ∷ bag) (inl p) = subst (λ (g : Entry). version_of g < max (version_of f + 1) (bound_of bag)) p (omega arith)
+bound_above e (f ∷ bag) (inl p) =
+    subst (λ (g : Entry). version_of g < max (version_of f + 1) (bound_of bag)) p (omega arith)
 bound_above e (f ∷ bag) (inr m) = let h = bound_above e bag m in omega arith
 
 pub nothing_yet : Represents 1 [] empty_state
@@ -36,17 +39,20 @@ nothing_yet = record {
 
 -- ---- one entry above all others of its key
 
--- The safe version then is between the old one and the greater of it and the entry's own next; where the key is absent
--- then, above all its versions.
+-- The safe version then is between the old one and the greater of it and the entry's own next. If the key is absent
+-- then, the safe version is above all its versions.
 record Grows (bag : List Entry) (st : State) (k : Key) (e : Entry) (x : Option Versioned) (safe : ℕ) : Type 0 where
   no_lower : st.safe ≤ safe
   own : x ≡ None → version_of e < safe
   others : (f : Entry) → among bag f → IsOfKey k f → x ≡ None → version_of f < safe
   small : safe ≤ max st.safe (version_of e + 1)
 
-module _ (recorded : ℕ) (bag : List Entry) (st : State) (k : Key) (e : Entry) (x : Option Versioned) (safe : ℕ) (r : Represents recorded bag st)
-    (leaves : Leaves k e x) (above : (f : Entry) → among bag f → IsOfKey k f → rank_of f < rank_of e) (grows : Grows bag st k e x safe) where
-  below_more : (q : Key) (f : Entry) → with_contents st.contents k x q ≡ None → among (bag ++ e ∷ []) f → IsOfKey q f → version_of f < safe
+module _ (recorded : ℕ) (bag : List Entry) (st : State) (k : Key) (e : Entry) (x : Option Versioned) (safe : ℕ)
+    (r : Represents recorded bag st)
+    (leaves : Leaves k e x) (above : (f : Entry) → among bag f → IsOfKey k f → rank_of f < rank_of e)
+    (grows : Grows bag st k e x safe) where
+  below_more : (q : Key) (f : Entry) → with_contents st.contents k x q ≡ None → among (bag ++ e ∷ []) f → IsOfKey q f
+      → version_of f < safe
   below_more q f gone m at = elim (key_eq_tells q k) as (λ _. version_of f < safe) [
     | inl t ↦ (let none : x ≡ None = sym (at_key st.contents k x q t.1) ∙ gone in
         elim (among_push f bag e m) as (λ _. version_of f < safe) [
@@ -54,7 +60,8 @@ module _ (recorded : ℕ) (bag : List Entry) (st : State) (k : Key) (e : Entry) 
           | inr p ↦ subst (λ (g : Entry). version_of g < safe) p (grows.own none)
         ])
     | inr t ↦ elim (among_push f bag e m) as (λ _. version_of f < safe) [
-      | inl l ↦ (let h = r.below q f (sym (at_other st.contents k x q t.1) ∙ gone) l at in let le = grows.no_lower in omega arith)
+      | inl l ↦ (let h = r.below q f (sym (at_other st.contents k x q t.1) ∙ gone) l at in
+          let le = grows.no_lower in omega arith)
       | inr p ↦ absurd (t.1 (one_key f k q (subst (λ (g : Entry). IsOfKey k g) p leaves.of_key) at))
     ]
   ]
@@ -72,12 +79,15 @@ module _ (recorded : ℕ) (bag : List Entry) (st : State) (k : Key) (r : Represe
   absent_above : st.contents k ≡ None → (f : Entry) → among bag f → IsOfKey k f → rank_of f < 2 * st.safe
   absent_above none f m at = rank_bound f st.safe (r.below k f none m at)
 
-  present_rank : (x : Versioned) → st.contents k ≡ Some x → (f : Entry) → among bag f → IsOfKey k f → rank_of f ≤ 2 * x.version
+  present_rank : (x : Versioned) → st.contents k ≡ Some x → (f : Entry) → among bag f → IsOfKey k f
+      → rank_of f ≤ 2 * x.version
   present_rank x some f m at = ((r.meaning k x).0 some).highest f m at
 
-  created : (value : List ℕ) → st.contents k ≡ None → Represents recorded (bag ++ object_entry k st.safe value ∷ []) (after_put st k value None)
+  created : (value : List ℕ) → st.contents k ≡ None
+      → Represents recorded (bag ++ object_entry k st.safe value ∷ []) (after_put st k value None)
   created value none =
-      one_more recorded bag st k (object_entry k st.safe value) (Some (record { version = st.safe; value = value })) (st.safe + 1) r
+      one_more recorded bag st k (object_entry k st.safe value) (Some (record { version = st.safe; value = value }))
+      (st.safe + 1) r
       (object_leaves k st.safe value) (absent_above none)
       (record { no_lower = omega arith; own = λ h. absurd (cc); others = λ f m at h. absurd (cc); small = omega arith })
 
@@ -95,7 +105,8 @@ module _ (recorded : ℕ) (bag : List Entry) (st : State) (k : Key) (r : Represe
 
 -- ---- a tombstone, and behind it a greater version
 
-module _ (recorded : ℕ) (bag : List Entry) (st : State) (k : Key) (x : Versioned) (segment : ℕ) (value : List ℕ) (r : Represents recorded bag st)
+module _ (recorded : ℕ) (bag : List Entry) (st : State) (k : Key) (x : Versioned) (segment : ℕ) (value : List ℕ)
+    (r : Represents recorded bag st)
     (some : st.contents k ≡ Some x) where
   abbrev dead : Entry
   dead = tombstone_entry k x.version segment
@@ -124,9 +135,11 @@ module _ (recorded : ℕ) (bag : List Entry) (st : State) (k : Key) (x : Version
   renewed_meaning : IsMeaning (among (buried ++ fresh ∷ [])) (with_contents st.contents k left)
   renewed_meaning =
       subst (λ (c : Contents). IsMeaning (among (buried ++ fresh ∷ [])) c) (at_twice st.contents k left None)
-      (raised buried without k fresh left (object_leaves k (x.version + 1) value) fresh_above without_represented.meaning)
+      (raised buried without k fresh left (object_leaves k (x.version + 1) value) fresh_above
+      without_represented.meaning)
 
-  renewed_below : (q : Key) (f : Entry) → with_contents st.contents k left q ≡ None → among (buried ++ fresh ∷ []) f → IsOfKey q f
+  renewed_below : (q : Key) (f : Entry) → with_contents st.contents k left q ≡ None → among (buried ++ fresh ∷ []) f
+      → IsOfKey q f
       → version_of f < st.safe
   renewed_below q f gone m at = elim (key_eq_tells q k) as (λ _. version_of f < st.safe) [
     | inl t ↦ (let never : left ≡ None = sym (at_key st.contents k left q t.1) ∙ gone in absurd (cc))
@@ -142,13 +155,17 @@ module _ (recorded : ℕ) (bag : List Entry) (st : State) (k : Key) (x : Version
   renewed_all : Represents recorded (buried ++ fresh ∷ []) (after_put st k value (Some x))
   renewed_all = record {
     meaning = renewed_meaning;
-    clean = raised_clean buried without k fresh left (object_leaves k (x.version + 1) value) fresh_above without_represented.clean;
+    clean =
+        raised_clean buried without k fresh left (object_leaves k (x.version + 1) value) fresh_above
+        without_represented.clean;
     below = renewed_below;
     safe = (let a = bound-push buried fresh in let b = bound-push bag dead in let s = r.safe in omega arith);
   }
 
   renewed : Represents recorded (bag ++ dead ∷ fresh ∷ []) (after_put st k value (Some x))
-  renewed = subst (λ (b : List Entry). Represents recorded b (after_put st k value (Some x))) (append_assoc bag (dead ∷ []) (fresh ∷ [])) renewed_all
+  renewed =
+      subst (λ (b : List Entry). Represents recorded b (after_put st k value (Some x)))
+      (append_assoc bag (dead ∷ []) (fresh ∷ [])) renewed_all
 
 -- ---- units
 
@@ -161,22 +178,27 @@ module _ (recorded : ℕ) (bag : List Entry) (st : State) (segment : ℕ) (r : R
   put_given k value None none = created recorded bag st k r value none
   put_given k value (Some x) some = renewed recorded bag st k x segment value r some
 
-  delete_given : (k : Key) (x : Option Versioned) → st.contents k ≡ x → Represents recorded (bag ++ delete_unit segment k x) (after_delete st k x)
+  delete_given : (k : Key) (x : Option Versioned) → st.contents k ≡ x
+      → Represents recorded (bag ++ delete_unit segment k x) (after_delete st k x)
   delete_given k None none = nothing_more
   delete_given k (Some x) some = ended recorded bag st k r x segment some
 
   put_if : (k : Key) (value : List ℕ) (b : Bool) →
-      Represents recorded (bag ++ cond b (put_unit st.safe segment k value (st.contents k)) []) (cond b (after_put st k value (st.contents k)) st)
+      Represents recorded (bag ++ cond b (put_unit st.safe segment k value (st.contents k)) [])
+      (cond b (after_put st k value (st.contents k)) st)
   put_if k value true = put_given k value (st.contents k) refl
   put_if k value false = nothing_more
 
-pub unit_added : (recorded : ℕ) (bag : List Entry) (st : State) (segment : ℕ) (command : Command) → Represents recorded bag st
+pub unit_added : (recorded : ℕ) (bag : List Entry) (st : State) (segment : ℕ) (command : Command)
+    → Represents recorded bag st
     → Represents recorded (bag ++ unit_of st segment command) (after_command st command)
 unit_added recorded bag st segment (Get k) r = nothing_more recorded bag st segment r
-unit_added recorded bag st segment (Put k value when) r = put_if recorded bag st segment r k value (is_met when (st.contents k))
+unit_added recorded bag st segment (Put k value when) r =
+    put_if recorded bag st segment r k value (is_met when (st.contents k))
 unit_added recorded bag st segment (Delete k) r = delete_given recorded bag st segment r k (st.contents k) refl
 
-pub units_added : (recorded : ℕ) (bag : List Entry) (st : State) (commands : List Command) (units : List (List Entry)) (count : ℕ)
+pub units_added : (recorded : ℕ) (bag : List Entry) (st : State) (commands : List Command) (units : List (List Entry))
+    (count : ℕ)
     → Represents recorded bag st → AreUnitsOf st commands units
     → Represents recorded (bag ++ joined (take count units)) (after st (take count commands))
 units_added recorded bag st commands units zero r are = nothing_more recorded bag st 0 r
@@ -186,15 +208,18 @@ units_added recorded bag st (c ∷ cs) [] (suc count) r are = absurd are
 units_added recorded bag st (c ∷ cs) (u ∷ us) (suc count) r are =
     let unit = are.0 in
     let one : Represents recorded (bag ++ u) (after_command st c) =
-    subst (λ (v : List Entry). Represents recorded (bag ++ v) (after_command st c)) (sym unit.1) (unit_added recorded bag st unit.0 c r) in
-    subst (λ (b : List Entry). Represents recorded b (after (after_command st c) (take count cs))) (append_assoc bag u (joined (take count us)))
+    subst (λ (v : List Entry). Represents recorded (bag ++ v) (after_command st c)) (sym unit.1)
+    (unit_added recorded bag st unit.0 c r) in
+    subst (λ (b : List Entry). Represents recorded b (after (after_command st c) (take count cs)))
+    (append_assoc bag u (joined (take count us)))
     (units_added recorded (bag ++ u) (after_command st c) cs us count one are.1)
 
 -- ---- members
 
 pub bound_least : (bag : List Entry) (n : ℕ) → ((e : Entry) → among bag e → version_of e < n) → bound_of bag ≤ n
 bound_least [] n all = omega arith
-bound_least (e ∷ es) n all = let here = all e (inl refl) in let rest = bound_least es n (λ f m. all f (inr m)) in omega arith
+bound_least (e ∷ es) n all =
+    let here = all e (inl refl) in let rest = bound_least es n (λ f m. all f (inr m)) in omega arith
 
 module _ (recorded : ℕ) (bag other : List Entry) (st : State) (r : Represents recorded bag st)
     (same : (e : Entry) → among bag e ↔ among other e) where
@@ -203,5 +228,7 @@ module _ (recorded : ℕ) (bag other : List Entry) (st : State) (r : Represents 
     meaning = meaning_carried (among bag) (among other) st.contents same r.meaning;
     clean = clean_carried (among bag) (among other) same r.clean;
     below = λ k e none m at. r.below k e none ((same e).1 m) at;
-    safe = (let s = r.safe in let le = bound_least bag (bound_of other) (λ e m. bound_above e other ((same e).0 m)) in omega arith);
+    safe =
+        (let s = r.safe in let le = bound_least bag (bound_of other) (λ e m. bound_above e other ((same e).0 m)) in
+        omega arith);
   }

@@ -5,7 +5,8 @@ use Rattle.entry.specs.declared.key.Key.{Key}
 use Rattle.entry.specs.declared.entry.Object.{Object}
 use Rattle.entry.specs.declared.entry.Entry.{Entry}
 use Rattle.entry.specs.declared.entry.Entry.TheVariants as entry
-use Rattle.entry.specs.Meaning.{Versioned, Contents, IsOfKey, version_of, rank_of, IsTop, object_at, IsMeaning, IsClean, among, versioned}
+use Rattle.entry.specs.Meaning.{Versioned, Contents, IsOfKey, version_of, rank_of, IsTop}
+use Rattle.entry.specs.Meaning.{object_at, IsMeaning, IsClean, among, versioned}
 use Rattle.entry.proofs.BagLemmas.{among_left, among_last, among_push}
 use Rattle.versioned_map.specs.Versioned.{with_contents}
 use Rattle.entry.proofs.KeyOrder.{key_eq_tells}
@@ -37,7 +38,7 @@ version_bound (entry.Tombstone t) n le = omega arith
 
 -- ---- one entry above all others of its key
 
--- what the entry leaves its key, where it is the highest
+-- what the entry leaves its key, if it is the highest
 pub record Leaves (k : Key) (e : Entry) (x : Option Versioned) : Type 0 where
   pub of_key : IsOfKey k e
   pub left : (y : Versioned) → (x ≡ Some y) ↔ (e ≡ object_at k y)
@@ -56,7 +57,8 @@ module _ (bag : List Entry) (contents : Contents) (k : Key) (e : Entry) (x : Opt
 
   only_top : (f : Entry) → IsTop k (among (bag ++ e ∷ [])) f → e ≡ f
   only_top f top = elim (among_push f bag e top.held) as (λ _. e ≡ f) [
-    | inl l ↦ (let lt = above f l top.of_key in let le = top.highest e (among_last bag e) leaves.of_key in absurd (omega arith))
+    | inl l ↦ (let lt = above f l top.of_key in let le = top.highest e (among_last bag e) leaves.of_key in
+        absurd (omega arith))
     | inr p ↦ p
   ]
 
@@ -81,7 +83,9 @@ module _ (bag : List Entry) (contents : Contents) (k : Key) (e : Entry) (x : Opt
 
   was_there : (q : Key) → (q ≡ k → ⊥) → (f : Entry) → IsTop q (among (bag ++ e ∷ [])) f → IsTop q (among bag) f
   was_there q other f top = record {
-    held = elim (among_push f bag e top.held) as (λ _. among bag f) [ inl l ↦ l | inr p ↦ absurd (not_here q other f top.of_key p) ];
+    held =
+        elim (among_push f bag e top.held)
+        as (λ _. among bag f) [ inl l ↦ l | inr p ↦ absurd (not_here q other f top.of_key p) ];
     of_key = top.of_key;
     highest = λ g m at. top.highest g (among_left g bag (e ∷ []) m) at;
   }
@@ -94,17 +98,21 @@ module _ (bag : List Entry) (contents : Contents) (k : Key) (e : Entry) (x : Opt
   )
 
   pub raised : IsMeaning (among bag) contents → IsMeaning (among (bag ++ e ∷ [])) (with_contents contents k x)
-  raised is q y = elim (key_eq_tells q k) as (λ _. (with_contents contents k x q ≡ Some y) ↔ IsTop q (among (bag ++ e ∷ [])) (object_at q y)) [
-    | inl t ↦ (let c = at_key contents k x q t.1 in
-        let here = subst (λ (r : Key). (x ≡ Some y) ↔ IsTop r (among (bag ++ e ∷ [])) (object_at r y)) (sym t.1) (raised_here y) in
-        (λ h. here.0 (sym c ∙ h), λ top. c ∙ here.1 top))
-    | inr t ↦ (let c = at_other contents k x q t.1 in
-        let there = raised_there is q t.1 y in
-        (λ h. there.0 (sym c ∙ h), λ top. c ∙ there.1 top))
-  ]
+  raised is q y = elim (key_eq_tells q k)
+      as (λ _. (with_contents contents k x q ≡ Some y) ↔ IsTop q (among (bag ++ e ∷ [])) (object_at q y)) [
+        | inl t ↦ (let c = at_key contents k x q t.1 in
+            let here =
+            subst (λ (r : Key). (x ≡ Some y) ↔ IsTop r (among (bag ++ e ∷ [])) (object_at r y)) (sym t.1)
+            (raised_here y) in
+            (λ h. here.0 (sym c ∙ h), λ top. c ∙ here.1 top))
+        | inr t ↦ (let c = at_other contents k x q t.1 in
+            let there = raised_there is q t.1 y in
+            (λ h. there.0 (sym c ∙ h), λ top. c ∙ there.1 top))
+      ]
 
   -- two objects of a key and version, the first of them new
-  new_alike : (o p : Object) → e ≡ entry.Object o → among bag (entry.Object p) → p.key ≡ o.key → p.version ≡ o.version → ⊥
+  new_alike : (o p : Object) → e ≡ entry.Object o → among bag (entry.Object p) → p.key ≡ o.key → p.version ≡ o.version
+      → ⊥
   new_alike o p is m at v =
       let here : o.key ≡ k = subst (λ (g : Entry). IsOfKey k g) is leaves.of_key in
       let lt : 2 * p.version < rank_of e = above (entry.Object p) m (at ∙ here) in
@@ -119,7 +127,8 @@ module _ (bag : List Entry) (contents : Contents) (k : Key) (e : Entry) (x : Opt
         ]
         | inr r ↦ elim (among_push (entry.Object p) bag e b) as (λ _. o.value ≡ p.value) [
           | inl m ↦ absurd (new_alike o p r m (sym at) (sym v))
-          | inr s ↦ (let same : entry.Object o ≡ entry.Object p = sym r ∙ s in let both : o ≡ p = cc in ap (λ (z : Object). z.value) both)
+          | inr s ↦ (let same : entry.Object o ≡ entry.Object p = sym r ∙ s in
+              let both : o ≡ p = cc in ap (λ (z : Object). z.value) both)
         ]
       ]
 
@@ -137,8 +146,10 @@ object_left k version value y = (
 )
 
 pub object_leaves : (k : Key) (version : ℕ) (value : List ℕ) →
-    Leaves k (entry.Object (record { key = k; version = version; value = value })) (Some (record { version = version; value = value }))
+    Leaves k (entry.Object (record { key = k; version = version; value = value }))
+    (Some (record { version = version; value = value }))
 object_leaves k version value = record { of_key = refl; left = object_left k version value }
 
-pub tombstone_leaves : (k : Key) (version segment : ℕ) → Leaves k (entry.Tombstone (record { key = k; version = version; segment = segment })) None
+pub tombstone_leaves : (k : Key) (version segment : ℕ)
+    → Leaves k (entry.Tombstone (record { key = k; version = version; segment = segment })) None
 tombstone_leaves k version segment = record { of_key = refl; left = λ y. (λ h. absurd (cc), λ h. absurd (cc)) }

@@ -16,7 +16,8 @@ same_key : (f e : Entry) (k q : Key) → f ≡ e → IsOfKey k f → IsOfKey q e
 same_key f e k q is own at = one_key e k q (subst (λ (g : Entry). IsOfKey k g) is own) at
 
 module _ (e : Entry) (q : Key) (at : IsOfKey q e) where
-  put_key : (safe segment : ℕ) (k : Key) (value : List ℕ) (x : Option Versioned) → among (put_unit safe segment k value x) e → q ≡ k
+  put_key : (safe segment : ℕ) (k : Key) (value : List ℕ) (x : Option Versioned)
+      → among (put_unit safe segment k value x) e → q ≡ k
   put_key safe segment k value None (inl p) = same_key _ e k q p refl at
   put_key safe segment k value None (inr m) = absurd m
   put_key safe segment k value (Some x) (inl p) = same_key _ e k q p refl at
@@ -35,5 +36,6 @@ module _ (e : Entry) (q : Key) (at : IsOfKey q e) where
   -- a unit's entries are of its command's key
   pub unit_key : (st : State) (segment : ℕ) (c : Command) → among (unit_of st segment c) e → q ≡ command_key c
   unit_key st segment (Get k) m = absurd m
-  unit_key st segment (Put k value when) m = if_key k (is_met when (st.contents k)) _ (put_key st.safe segment k value (st.contents k)) m
+  unit_key st segment (Put k value when) m =
+      if_key k (is_met when (st.contents k)) _ (put_key st.safe segment k value (st.contents k)) m
   unit_key st segment (Delete k) m = delete_key segment k (st.contents k) m

@@ -31,7 +31,8 @@ filter_data (entry.Safe version ∷ es) a = absurd (cc)
 filter_data (entry.Object o ∷ es) a = ap (λ (fs : List Entry). entry.Object o ∷ fs) (filter_data es a)
 filter_data (entry.Tombstone t ∷ es) a = ap (λ (fs : List Entry). entry.Tombstone t ∷ fs) (filter_data es a)
 
-put_data : (safe segment : ℕ) (k : Key) (value : List ℕ) (x : Option Versioned) → are_data (put_unit safe segment k value x) ≡ true
+put_data : (safe segment : ℕ) (k : Key) (value : List ℕ) (x : Option Versioned)
+    → are_data (put_unit safe segment k value x) ≡ true
 put_data safe segment k value None = refl
 put_data safe segment k value (Some x) = refl
 
@@ -45,10 +46,12 @@ if_data false unit a = refl
 
 unit_data : (st : State) (segment : ℕ) (command : Command) → are_data (unit_of st segment command) ≡ true
 unit_data st segment (Get k) = refl
-unit_data st segment (Put k value when) = if_data (is_met when (st.contents k)) _ (put_data st.safe segment k value (st.contents k))
+unit_data st segment (Put k value when) =
+    if_data (is_met when (st.contents k)) _ (put_data st.safe segment k value (st.contents k))
 unit_data st segment (Delete k) = delete_data segment k (st.contents k)
 
-joined_data : (st : State) (commands : List Command) (units : List (List Entry)) → AreUnitsOf st commands units → are_data (joined units) ≡ true
+joined_data : (st : State) (commands : List Command) (units : List (List Entry)) → AreUnitsOf st commands units
+    → are_data (joined units) ≡ true
 joined_data st [] [] are = refl
 joined_data st [] (u ∷ us) are = absurd are
 joined_data st (c ∷ cs) [] are = absurd are
@@ -59,11 +62,13 @@ joined_data st (c ∷ cs) (u ∷ us) are =
 
 pub units_data : (st : State) (commands : List Command) (units : List (List Entry)) → AreUnitsOf st commands units
     → (are_data (joined units) ≡ true) × (filter is_data (joined units) ≡ joined units)
-units_data st commands units are = let data_only = joined_data st commands units are in (data_only, filter_data (joined units) data_only)
+units_data st commands units are =
+    let data_only = joined_data st commands units are in (data_only, filter_data (joined units) data_only)
 
 -- ---- one more command
 
-after-push : (st : State) (commands : List Command) (c : Command) → after st (commands ++ c ∷ []) ≡ after_command (after st commands) c
+after-push : (st : State) (commands : List Command) (c : Command)
+    → after st (commands ++ c ∷ []) ≡ after_command (after st commands) c
 after-push st [] c = refl
 after-push st (b ∷ bs) c = after-push (after_command st b) bs c
 
@@ -77,15 +82,18 @@ pub states_pushed : (st : State) (commands : List Command) (c : Command)
     × (replies st (commands ++ c ∷ []) ≡ replies st commands ++ reply_to (after st commands) c ∷ [])
 states_pushed st commands c = (after-push st commands c, replies-push st commands c)
 
-pub units_pushed : (st : State) (commands : List Command) (units : List (List Entry)) (segment : ℕ) (command : Command) → AreUnitsOf st commands units
+pub units_pushed : (st : State) (commands : List Command) (units : List (List Entry)) (segment : ℕ) (command : Command)
+    → AreUnitsOf st commands units
     → AreUnitsOf st (commands ++ command ∷ []) (units ++ unit_of (after st commands) segment command ∷ [])
 units_pushed st [] [] segment command are = ((segment, refl), tt)
 units_pushed st [] (u ∷ us) segment command are = absurd are
 units_pushed st (c ∷ cs) [] segment command are = absurd are
-units_pushed st (c ∷ cs) (u ∷ us) segment command are = (are.0, units_pushed (after_command st c) cs us segment command are.1)
+units_pushed st (c ∷ cs) (u ∷ us) segment command are =
+    (are.0, units_pushed (after_command st c) cs us segment command are.1)
 
 -- there are as many units as commands
-pub length-units : (st : State) (commands : List Command) (units : List (List Entry)) → AreUnitsOf st commands units → length units ≡ length commands
+pub length-units : (st : State) (commands : List Command) (units : List (List Entry)) → AreUnitsOf st commands units
+    → length units ≡ length commands
 length-units st [] [] are = refl
 length-units st [] (u ∷ us) are = absurd are
 length-units st (c ∷ cs) [] are = absurd are

@@ -1,4 +1,4 @@
--- The meaning of a collection in terms of membership alone, which serves where entries are dropped or moved.
+-- The meaning of a collection in terms of membership alone, which serves once entries are dropped or moved.
 use Rattle.std.specs.Prelude.{◌≡◌, ℕ, ◌*◌, ◌<◌, List, Some, None}
 use Rattle.entry.specs.declared.key.Key.{Key}
 use Rattle.entry.specs.declared.entry.Entry.{Entry}

@@ -1,5 +1,6 @@
 -- When the entries of a log stand for a versioned map.
-use Rattle.std.specs.Prelude.{◌≡◌, ℕ, ◌<◌, ◌≤◌, ◌⊎◌, ◌↔◌, max, List, [], ◌∷◌, ◌++◌, take, filter, true, Some, None, IsSomeAnd}
+use Rattle.std.specs.Prelude.{◌≡◌, ℕ, ◌<◌, ◌≤◌, ◌⊎◌, ◌↔◌, max, List, [], ◌∷◌, ◌++◌}
+use Rattle.std.specs.Prelude.{take, filter, true, Some, None, IsSomeAnd}
 use Rattle.std.specs.List.{flat_map}
 use Rattle.entry.specs.declared.key.Key.{Key}
 use Rattle.entry.specs.declared.entry.Entry.{Entry}
@@ -81,7 +82,7 @@ StatesGoOn = (st : State) (commands : List Command) (command : Command)
     → (after st (commands ++ command ∷ []) ≡ after_command (after st commands) command)
     × (replies st (commands ++ command ∷ []) ≡ replies st commands ++ reply_to (after st commands) command ∷ [])
 
--- Only which entries the bag has counts, not their order.
+-- Bags with the same entries, in any order, represent the same state.
 abbrev pub MembersRepresent : Type 0
 MembersRepresent = (recorded : ℕ) (bag other : List Entry) (st : State) → Represents recorded bag st
     → ((e : Entry) → among bag e ↔ among other e) → Represents recorded other st
@@ -96,7 +97,7 @@ abbrev pub VersionsAreBounded : Type 0
 VersionsAreBounded = (opening : State) (commands : List Command) (count : ℕ) (k : Key) (x : Versioned)
     → (after opening (take count commands)).contents k ≡ Some x → IsBounded (after opening commands) k x.version
 
--- Where a bag represents the state after commands, the recorded version or the bag's bound, the greater, is a safe one.
+-- If a bag represents the state after commands, the greater of the recorded version and the bag's bound is a safe one.
 abbrev pub RepresentedIsSafe : Type 0
 RepresentedIsSafe = (recorded : ℕ) (bag : List Entry) (opening : State) (commands : List Command)
     → Represents recorded bag (after opening commands)

@@ -14,7 +14,7 @@ object_entry k version value = entry.Object (record { key = k; version = version
 abbrev pub tombstone_entry : Key → ℕ → ℕ → Entry
 tombstone_entry k version segment = entry.Tombstone (record { key = k; version = version; segment = segment })
 
--- a new object, behind the tombstone of the one that it takes the place of, which names that one's segment
+-- a new object, behind a tombstone of the one that it replaces; the tombstone names the segment of the old object
 abbrev pub put_unit : ℕ → ℕ → Key → List ℕ → Option Versioned → List Entry
 put_unit safe segment k value None = object_entry k safe value ∷ []
 put_unit safe segment k value (Some x) = tombstone_entry k x.version segment ∷ object_entry k (x.version + 1) value ∷ []
@@ -37,7 +37,7 @@ abbrev pub safe_after_delete : ℕ → Option Versioned → ℕ
 safe_after_delete safe None = safe
 safe_after_delete safe (Some x) = max safe (x.version + 1)
 
--- what the safe version is afterwards
+-- the safe version after the command
 abbrev pub safe_given : ℕ → Option Versioned → Command → ℕ
 safe_given safe x (Get k) = safe
 safe_given safe x (Put k value when) = if is_met when x then safe_after_put safe x else safe

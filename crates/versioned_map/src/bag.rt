@@ -26,7 +26,8 @@ fn outranks(entry: &Entry, object: &Object) -> bool
 /// Whether no entry of the bag outranks the object.
 fn is_top(bag: &[Entry], object: &Object) -> bool
     ensures { IsTrue result ↔
-        ((e : EntryValue) → among bag.now e → IsOfKey object.now.key e → rank_of e ≤ rank_of (Entry.Object object.now)) }
+        ((e : EntryValue) → among bag.now e → IsOfKey object.now.key e →
+        rank_of e ≤ rank_of (Entry.Object object.now)) }
 {
     !bag.iter().any(|entry| outranks(entry, object))
 }

@@ -10,9 +10,9 @@ use std::alloc::AllocError;
 #[derive(Clone, Copy)]
 pub enum If {
     Any,
-    /// Only where the key is absent.
+    /// Only if the key is absent.
     Absent,
-    /// Only where the key has this version.
+    /// Only if the key has this version.
     Version(u64),
 }
 

@@ -1,8 +1,10 @@
 //! Laws about versioned maps and the entries that stand for them.
 
 ghost use Rattle.versioned_map.specs.Membership.{MembershipIsMeaning, MeaningIsMembership, MeaningIsOne};
-ghost use Rattle.versioned_map.specs.Represents.{EmptyIsRepresented, UnitIsRepresented, RunIsRepresented, UnitsGoOn, UnitsAreData, StatesGoOn};
-ghost use Rattle.versioned_map.specs.Represents.{MembersRepresent, EntriesAreBounded, VersionsAreBounded, RepresentedIsSafe};
+ghost use Rattle.versioned_map.specs.Represents.{EmptyIsRepresented, UnitIsRepresented, RunIsRepresented};
+ghost use Rattle.versioned_map.specs.Represents.{UnitsGoOn, UnitsAreData, StatesGoOn};
+ghost use Rattle.versioned_map.specs.Represents.{MembersRepresent, EntriesAreBounded, VersionsAreBounded};
+ghost use Rattle.versioned_map.specs.Represents.{RepresentedIsSafe};
 
 /// Entries stand for one map.
 pub fn one_meaning()
@@ -45,7 +47,7 @@ pub fn states_go_on()
     ensures { StatesGoOn }
 {}
 
-/// The order of entries, and how often each stands there, is nothing to what they stand for.
+/// Entries stand for the same map in any order, and however often each is among them.
 pub fn members_represent()
     ensures { MembersRepresent }
 {}

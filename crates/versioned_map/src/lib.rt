@@ -1,10 +1,10 @@
-//! The versioned map: what clients ask of a store, what each command does and answers, and when the entries of a log stand for
-//! a map.
+//! The versioned map: what clients ask of a store, what each command does and answers, and when the entries of a log
+//! stand for a map.
 //!
-//! `specs/` has the definitions, which need no code: a command's step (*after_command*, *reply_to*), the folds over many
-//! (*after*, *replies*), what a command appends to a log (*unit_of*), and when a log's entries stand for a map (*Represents*).
-//! `laws` has what holds of them. `VersionedMap` and `meaning` are the plain, slow programs that meet the definitions; tests
-//! compare faster code with them. It stands on `entry`.
+//! `specs/` has the definitions, which need no code: a command's step (*after_command*, *reply_to*), the folds over
+//! many commands (*after*, *replies*), what a command appends to a log (*unit_of*), and when a log's entries stand for
+//! a map (*Represents*). `laws` has what holds of them. `VersionedMap` and `meaning` are the plain, slow programs that
+//! meet the definitions; tests compare faster code with them. The crate uses `entry`.
 #![tactic(auto)]
 
 mod bag;

@@ -1,6 +1,7 @@
 //! The versioned map as a list of its objects.
 
-ghost use Rattle.std.specs.Prelude.{◌≡◌, ◌<◌, ℕ, List, length, IfOk, IfErr, OnOk, OnErr, IfSome, IfNone, Some, None, true};
+ghost use Rattle.std.specs.Prelude.{◌≡◌, ◌<◌, ℕ, List, length, IfOk, IfErr, OnOk};
+ghost use Rattle.std.specs.Prelude.{OnErr, IfSome, IfNone, Some, None, true};
 ghost use Rattle.entry.specs.Meaning.{contents_of};
 ghost use Rattle.entry.specs.declared.key.Key.{Key as KeyValue};
 ghost use Rattle.versioned_map.specs.Versioned.{is_spent};
@@ -61,7 +62,7 @@ impl VersionedMap {
         self.safe
     }
 
-    /// Does what the command says, and answers it.
+    /// Does a command, and answers it.
     pub fn apply(&mut self, command: &Command) -> Result<Reply, ApplyFault>
         ensures reply { IfOk result (λ reply. reply ≡ reply_to (map_state self.old) command.now) }
         ensures state { OnOk result (map_state self.new ≡ after_command (map_state self.old) command.now) }

@@ -8,7 +8,8 @@ pub loop-option-init : goal.loop-option-init
 unfolding ramlog
 loop-option-init c =
     let new = c.new.ensures in
-    let same = texts_given (out-Command c.new.result) _ _ _ _ (record { about = _; after_help = _; usage = _; version = _ })
+    let same =
+    texts_given (out-Command c.new.result) _ _ _ _ (record { about = _; after_help = _; usage = _; version = _ })
     c.about.ensures c.after_help.ensures c.override_usage.ensures c.version-command.ensures in
     opening _ _ _ _ new.app (new.empty.0, new.empty.1) new.local same refl
 

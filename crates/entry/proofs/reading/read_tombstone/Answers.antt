@@ -9,5 +9,12 @@ invariant_of-key c =
     let bytes = c.args.bytes.now in
     let k = 27 + c.u16_at-key_len.result - 27 in
     let fits : IsBytes bytes = λ i. omega (arith, c.type_inv.bytes i) in
-    let len : length (take k (drop 27 bytes)) ≡ c.u16_at-key_len.result = omega (arith, length-take k (drop 27 bytes), length-drop 27 bytes) in
-    record { limits = record { not_empty = omega arith; limit = omega arith; each = IsBytes-take k (drop 27 bytes) (IsBytes-drop 27 bytes fits) } }
+    let len : length (take k (drop 27 bytes)) ≡ c.u16_at-key_len.result =
+    omega (arith, length-take k (drop 27 bytes), length-drop 27 bytes) in
+    record {
+      limits = record {
+        not_empty = omega arith;
+        limit = omega arith;
+        each = IsBytes-take k (drop 27 bytes) (IsBytes-drop 27 bytes fits);
+      };
+    }

@@ -10,4 +10,5 @@ pub returns-clause-ok : goal.returns-clause-ok
 returns-clause-ok c = rw (← c.in_ok-reserve.ensures.items) c.put_entry.ensures
 
 pub returns-in_err-reserve-clause-full : goal.returns-in_err-reserve-clause-full
-returns-in_err-reserve-clause-full c = on_err c.from_residual.result (omega (arith, c.in_err-reserve.ensures.full, c.spelled_len.ensures.len))
+returns-in_err-reserve-clause-full c =
+    on_err c.from_residual.result (omega (arith, c.in_err-reserve.ensures.full, c.spelled_len.ensures.len))

@@ -19,13 +19,16 @@ pub returns-in_err-more-clause-refused : goal.returns-in_err-more-clause-refused
 returns-in_err-more-clause-refused g c = on_err c.from_residual.result (omega (arith, c.loop-backup-test.true))
 
 pub returns-in_err-append-clause-shown : goal.returns-in_err-append-clause-shown
-returns-in_err-append-clause-shown g c = IfOk-from_err c.from_residual-in_err-append.result _ c.from_residual-in_err-append.ensures.0
+returns-in_err-append-clause-shown g c =
+    IfOk-from_err c.from_residual-in_err-append.result _ c.from_residual-in_err-append.ensures.0
 
 pub returns-in_err-append-clause-once : goal.returns-in_err-append-clause-once
-returns-in_err-append-clause-once g c = IfOk-from_err c.from_residual-in_err-append.result _ c.from_residual-in_err-append.ensures.0
+returns-in_err-append-clause-once g c =
+    IfOk-from_err c.from_residual-in_err-append.result _ c.from_residual-in_err-append.ensures.0
 
 pub returns-in_err-append-clause-refused : goal.returns-in_err-append-clause-refused
-returns-in_err-append-clause-refused g c = on_err c.from_residual-in_err-append.result (omega (arith, c.loop-backup-test.true))
+returns-in_err-append-clause-refused g c =
+    on_err c.from_residual-in_err-append.result (omega (arith, c.loop-backup-test.true))
 
 pub loop-backup-preserved : goal.loop-backup-preserved
 loop-backup-preserved g c =
@@ -36,9 +39,13 @@ loop-backup-preserved g c =
     let list = c.loop-backup.list.items in
     let more = c.in_ok-more.more.items in
     record {
-      all = all-more picture kept i (get_or kept i 0) list more c.append.new.self.items (omega arith) refl c.in_ok-append.ensures.items
+      all =
+          all-more picture kept i (get_or kept i 0) list more c.append.new.self.items (omega arith) refl
+          c.in_ok-append.ensures.items
           c.in_ok-more.ensures.shown before.all;
-      once = once-more picture kept i (get_or kept i 0) list more c.append.new.self.items (omega arith) refl c.in_ok-append.ensures.items
+      once =
+          once-more picture kept i (get_or kept i 0) list more c.append.new.self.items (omega arith) refl
+          c.in_ok-append.ensures.items
           c.in_ok-more.ensures.shown c.in_ok-more.ensures.once before.all before.once;
     }
 

@@ -2,7 +2,8 @@ use Rattle.recovery.proofs.Recoveries.{rebuilt-prefix, refused-plan, refused-rep
 use Rattle.recovery.proofs.recovery.recover.Goals as goal
 
 pub returns-in-Err-clause-refused : goal.returns-in-Err-clause-refused
-returns-in-Err-clause-refused c = refused-plan c.args.inventory.now c.args.master c.in-Err.fault c.in-Err.ensures.fault c.in-Err.ensures.loss
+returns-in-Err-clause-refused c =
+    refused-plan c.args.inventory.now c.args.master c.in-Err.fault c.in-Err.ensures.fault c.in-Err.ensures.loss
 
 pub returns-in-Err-clause-fault : goal.returns-in-Err-clause-fault
 returns-in-Err-clause-fault c = (c.in-Err.ensures.fault, c.in-Err.ensures.loss)
@@ -10,7 +11,8 @@ returns-in-Err-clause-fault c = (c.in-Err.ensures.fault, c.in-Err.ensures.loss)
 pub returns-in-Ok-rebuild_plain-clause-ok : goal.returns-in-Ok-rebuild_plain-clause-ok
 returns-in-Ok-rebuild_plain-clause-ok c =
     let found = c.in-Ok.ensures.ok in
-    rebuilt-prefix c.args.inventory.now c.args.master found.0 c.in-Ok.plan c.in-Ok-rebuild_plain.rebuilt found.1 c.in-Ok-rebuild_plain.ensures.ok
+    rebuilt-prefix c.args.inventory.now c.args.master found.0 c.in-Ok.plan c.in-Ok-rebuild_plain.rebuilt found.1
+    c.in-Ok-rebuild_plain.ensures.ok
 
 pub returns-in-Ok-rebuild_plain-clause-rebuilt : goal.returns-in-Ok-rebuild_plain-clause-rebuilt
 returns-in-Ok-rebuild_plain-clause-rebuilt c = (c.in-Ok.plan, c.in-Ok.ensures.ok, c.in-Ok-rebuild_plain.ensures.ok)
@@ -18,7 +20,8 @@ returns-in-Ok-rebuild_plain-clause-rebuilt c = (c.in-Ok.plan, c.in-Ok.ensures.ok
 pub returns-clause-refused : goal.returns-clause-refused
 returns-clause-refused c =
     let found = c.in-Ok.ensures.ok in
-    refused-replay c.args.inventory.now c.args.master found.0 c.in-Ok.plan c.in-Err-rebuild_plain.fault found.1 c.in-Err-rebuild_plain.ensures.err
+    refused-replay c.args.inventory.now c.args.master found.0 c.in-Ok.plan c.in-Err-rebuild_plain.fault found.1
+    c.in-Err-rebuild_plain.ensures.err
 
 pub returns-clause-fault : goal.returns-clause-fault
 returns-clause-fault c = (c.in-Ok.plan, c.in-Ok.ensures.ok, c.in-Err-rebuild_plain.ensures.err)

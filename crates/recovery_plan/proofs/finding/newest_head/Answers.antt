@@ -8,11 +8,13 @@ use Rattle.recovery_plan.specs.Good.{least_head}
 use Rattle.recovery_plan.proofs.Bests.{take-more}
 use Rattle.recovery_plan.proofs.Heads.{good-more, newest-more, newest-skip, first-bad}
 use Rattle.recovery_plan.proofs.finding.newest_head.Goals as goal
-use Rattle.recovery_plan.proofs.finding.newest_head.Goals.{then-holding-master+in-Some-true, then-holding-master+in-Some-false, else-holding-master}
+use Rattle.recovery_plan.proofs.finding.newest_head.Goals.{then-holding-master+in-Some-true}
+use Rattle.recovery_plan.proofs.finding.newest_head.Goals.{then-holding-master+in-Some-false, else-holding-master}
 
 pub returns-in-None-clause-fault : goal.returns-in-None-clause-fault
 returns-in-None-clause-fault c =
-    first-bad c.args.holdings.now c.args.master c.loop-holding.holding-index c.holding-item.result c.loop-holding-test.true c.holding-item.is
+    first-bad c.args.holdings.now c.args.master c.loop-holding.holding-index c.holding-item.result
+    c.loop-holding-test.true c.holding-item.is
     c.loop-holding.invariant.good c.if-holding-master.true c.in-None.ensures.bad
 
 pub loop-holding-preserved : goal.loop-holding-preserved
@@ -33,15 +35,22 @@ loop-holding-preserved c =
             newest = rw (more, is) (newest-more m before h c.loop-holding.newest head c.loop-holding.invariant.newest);
           }
       | then-holding-master+in-Some-false w ↦
-          let none : is_some (opening_in h.bytes) ≡ false = sym w.in-Some-false.ensures.bears ∙ w.in-Some-false.field-0-test in
+          let none : is_some (opening_in h.bytes) ≡ false =
+          sym w.in-Some-false.ensures.bears ∙ w.in-Some-false.field-0-test in
           let no : IsUsableHeadOf least_head m h → ⊥ = λ head. both_ways (is_some (opening_in h.bytes)) none head.1 in
           record {
             good = rw more (good-more m before h c.loop-holding.invariant.good (λ _. w.in-Some-false.ensures.good));
-            newest = rw (more, w.newest-is) (newest-skip m before h c.loop-holding.newest no c.loop-holding.invariant.newest);
+            newest =
+                rw (more, w.newest-is) (newest-skip m before h c.loop-holding.newest no
+                c.loop-holding.invariant.newest);
           }
       | else-holding-master w ↦
           record {
-            good = rw more (good-more m before h c.loop-holding.invariant.good (λ e. absurd (w.if-holding-master.false e)));
-            newest = rw (more, w.newest-is) (newest-skip m before h c.loop-holding.newest (λ head. w.if-holding-master.false head.0) c.loop-holding.invariant.newest);
+            good =
+                rw more (good-more m before h c.loop-holding.invariant.good
+                (λ e. absurd (w.if-holding-master.false e)));
+            newest =
+                rw (more, w.newest-is) (newest-skip m before h c.loop-holding.newest
+                (λ head. w.if-holding-master.false head.0) c.loop-holding.invariant.newest);
           }
     ]

@@ -11,7 +11,9 @@ use Rattle.recovery_plan.proofs.finding.open_head.Goals as goal
 use Rattle.recovery_plan.proofs.finding.open_head.Goals.{then-is_open_head, else-is_open_head}
 
 pub is_open_head-requires : goal.is_open_head-requires
-is_open_head-requires c = c.requires c.holding-item.result (among-at c.args.holdings.now c.loop-holding.holding-index c.holding-item.result c.loop-holding-test.true c.holding-item.is)
+is_open_head-requires c =
+    c.requires c.holding-item.result (among-at c.args.holdings.now c.loop-holding.holding-index c.holding-item.result
+    c.loop-holding-test.true c.holding-item.is)
 
 pub loop-holding-preserved : goal.loop-holding-preserved
 loop-holding-preserved c =
@@ -24,7 +26,10 @@ loop-holding-preserved c =
       | then-is_open_head w ↦
           let is : option_copied c.if-is_open_head.best ≡ Some (better (option_copied c.loop-holding.best) h) =
           ap option_copied w.best-is ∙ ap (λ x. Some x) w.better_of.ensures in
-          rw (more, is) (best-more P before h (option_copied c.loop-holding.best) (c.is_open_head.ensures.0 w.if-is_open_head.true) c.loop-holding.invariant)
+          rw (more, is) (best-more P before h (option_copied c.loop-holding.best)
+          (c.is_open_head.ensures.0 w.if-is_open_head.true) c.loop-holding.invariant)
       | else-is_open_head w ↦
-          rw (more, w.best-is) (best-skip P before h (option_copied c.loop-holding.best) (λ p. both_ways c.is_open_head.result w.if-is_open_head.false (c.is_open_head.ensures.1 p)) c.loop-holding.invariant)
+          rw (more, w.best-is) (best-skip P before h (option_copied c.loop-holding.best)
+          (λ p. both_ways c.is_open_head.result w.if-is_open_head.false (c.is_open_head.ensures.1 p))
+          c.loop-holding.invariant)
     ]

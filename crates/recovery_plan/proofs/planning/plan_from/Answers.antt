@@ -20,7 +20,8 @@ others-requires c =
 pub returns-in-Err-clause-fault : goal.returns-in-Err-clause-fault
 returns-in-Err-clause-fault c =
     let o : Opening = record { ids = shown_ids c.opening-safe.result.0; safe = c.opening-safe.result.1 } in
-    lack-later c.args.holdings.now c.args.master (get nat_cmp c.in_ok-best.best) c.in_ok-best.ensures o c.args.head.now c.in-Err.fault c.requires c.opening-safe.ensures
+    lack-later c.args.holdings.now c.args.master (get nat_cmp c.in_ok-best.best) c.in_ok-best.ensures o c.args.head.now
+    c.in-Err.fault c.requires c.opening-safe.ensures
     c.in-Err.ensures.fault
 
 pub copies-requires : goal.copies-requires
@@ -29,15 +30,19 @@ copies-requires c =
     let o : Opening = record { ids = ids; safe = c.opening-safe.result.1 } in
     let pushed : c.push.new.self.items ≡ c.in-Ok.others.items ++ c.args.head ∷ [] = c.in_ok-push.ensures.items in
     let all =
-    found-taken c.args.holdings.now c.args.master (get nat_cmp c.in_ok-best.best) c.in_ok-best.ensures o (take (length ids - 1) ids) c.in-Ok.others.items
+    found-taken c.args.holdings.now c.args.master (get nat_cmp c.in_ok-best.best) c.in_ok-best.ensures o
+    (take (length ids - 1) ids) c.in-Ok.others.items
     c.in-Ok.ensures.found in
-    chosen-good c.args.holdings.now c.args.master c.args.head.now o c.in-Ok.others.items c.deref.result.now c.args.head c.requires all refl (c.deref.ensures.value ∙ pushed)
+    chosen-good c.args.holdings.now c.args.master c.args.head.now o c.in-Ok.others.items c.deref.result.now c.args.head
+    c.requires all refl (c.deref.ensures.value ∙ pushed)
 
 pub returns-clause-ok : goal.returns-clause-ok
 returns-clause-ok c =
     let o : Opening = record { ids = shown_ids c.opening-safe.result.0; safe = c.opening-safe.result.1 } in
     let pushed : c.push.new.self.items ≡ c.in-Ok.others.items ++ c.args.head ∷ [] = c.in_ok-push.ensures.items in (
       _,
-      found-plan c.args.holdings.now c.args.master c.args.head.now o (get nat_cmp c.in_ok-best.best) c.in-Ok.others.items c.deref.result.now c.args.head _
-          c.requires c.opening-safe.ensures c.in_ok-best.ensures c.in-Ok.ensures.found refl (c.deref.ensures.value ∙ pushed) c.in_ok-segments.ensures refl,
+      found-plan c.args.holdings.now c.args.master c.args.head.now o (get nat_cmp c.in_ok-best.best)
+          c.in-Ok.others.items c.deref.result.now c.args.head _
+          c.requires c.opening-safe.ensures c.in_ok-best.ensures c.in-Ok.ensures.found refl
+          (c.deref.ensures.value ∙ pushed) c.in_ok-segments.ensures refl,
     )

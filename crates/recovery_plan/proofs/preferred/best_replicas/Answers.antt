@@ -18,16 +18,20 @@ loop-holding-preserved c opening id =
     take-more c.args.holdings.now c.loop-holding.holding-index h c.loop-holding-test.true c.holding-item.is in
     elim c.if-holding-master.branch [
       | then-holding-master+in_ok-insert w ↦
-          let known : w.copied-known.result ≡ get nat_cmp c.loop-holding.best h.segment = w.copied-known.ensures ∙ w.get.ensures.value in
+          let known : w.copied-known.result ≡ get nat_cmp c.loop-holding.best h.segment =
+          w.copied-known.ensures ∙ w.get.ensures.value in
           let is : w.better_of.result.now ≡ better (option_copied (get nat_cmp c.loop-holding.best h.segment)) h =
           w.better_of.ensures ∙ ap (λ o. better (option_copied o) h) known in
-          rw (w.best-is, more) (bests-more before h c.args.master opening (get nat_cmp c.loop-holding.best) (get nat_cmp w.insert.new.self) w.better_of.result
+          rw (w.best-is, more) (bests-more before h c.args.master opening (get nat_cmp c.loop-holding.best)
+          (get nat_cmp w.insert.new.self) w.better_of.result
           w.if-holding-master.true w.in_ok-insert.ensures.updates.0 is (c.loop-holding.invariant opening) id)
       | else-holding-master w ↦
-          rw (w.best-is, more) (bests-skip before h c.args.master opening (get nat_cmp c.loop-holding.best) w.if-holding-master.false (c.loop-holding.invariant opening) id)
+          rw (w.best-is, more) (bests-skip before h c.args.master opening (get nat_cmp c.loop-holding.best)
+          w.if-holding-master.false (c.loop-holding.invariant opening) id)
     ]
 
 pub returns : goal.returns
 returns c opening id =
     let all = take_all c.loop-holding.holding-index c.args.holdings.now c.loop-holding-test.false in
-    subst (λ hs. IsBest (IsReplicaOf c.args.master opening id) hs (option_copied (get nat_cmp c.loop-holding.best id))) all ((c.loop-holding.invariant opening) id)
+    subst (λ hs. IsBest (IsReplicaOf c.args.master opening id) hs (option_copied (get nat_cmp c.loop-holding.best id)))
+    all ((c.loop-holding.invariant opening) id)

@@ -4,4 +4,5 @@ use Rattle.recovery_plan.proofs.reading.copies.Goals as goal
 
 pub unreachable-requires : goal.unreachable-requires
 unreachable-requires c =
-    c.in_default.ensures.bad (all-at IsGood c.args.chosen.now c.loop-holding.holding-index c.holding-item.result c.requires c.loop-holding-test.true c.holding-item.is)
+    c.in_default.ensures.bad (all-at IsGood c.args.chosen.now c.loop-holding.holding-index c.holding-item.result
+    c.requires c.loop-holding-test.true c.holding-item.is)

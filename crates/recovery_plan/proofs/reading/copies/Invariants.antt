@@ -5,4 +5,5 @@ use Rattle.recovery_plan.specs.Looked.{lent}
 use Rattle.recovery_plan.proofs.reading.copies.Given as goal
 
 abbrev pub invariant-loop-holding : goal.invariant-loop-holding
-invariant-loop-holding l = l.segments.items ≡ map (λ (h : Holding). entries_in h.bytes) (lent (take l.holding-index l.chosen))
+invariant-loop-holding l =
+    l.segments.items ≡ map (λ (h : Holding). entries_in h.bytes) (lent (take l.holding-index l.chosen))

@@ -10,4 +10,6 @@ invariant-loop-entry l =
     map claimed l.initial.claims.items ++ claims_of (entries_left l.initial.entry-iterator)
 
 abbrev pub invariant-loop-segment : goal.invariant-loop-segment
-invariant-loop-segment l = map claimed l.claims.items ++ claims_of (segments_bag (drop l.segment-index l.segments)) ≡ claims_of (segments_bag l.segments)
+invariant-loop-segment l =
+    map claimed l.claims.items ++ claims_of (segments_bag (drop l.segment-index l.segments))
+    ≡ claims_of (segments_bag l.segments)

@@ -4,4 +4,5 @@ use Rattle.replay.proofs.winners.safe_above.Given as goal
 
 abbrev pub invariant-loop-claim : goal.invariant-loop-claim
 invariant-loop-claim l =
-    max l.greatest (bound_of_claims (map claimed (drop l.claim-index l.claims))) ≡ max l.fn.safe (bound_of_claims (map claimed l.claims))
+    max l.greatest (bound_of_claims (map claimed (drop l.claim-index l.claims)))
+    ≡ max l.fn.safe (bound_of_claims (map claimed l.claims))

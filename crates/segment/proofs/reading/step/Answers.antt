@@ -10,8 +10,11 @@ use Rattle.segment.proofs.reading.step.Goals as goal
 pub returns-in-Some-clause-walked : goal.returns-in-Some-clause-walked
 returns-in-Some-clause-walked c =
     let bytes = c.args.bytes.now in
-    let found = subst (λ (rest : List ℕ). Begins rest (shown c.in-Ok.entry) c.in-Ok.taken) (take_rest bytes c.args.at) c.in-Ok.ensures.found in
-    IsWalked-step bytes c.args.at c.args.expected c.in-Some.next (shown c.in-Ok.entry) c.in-Ok.taken c.requires.walked found c.in-Some.ensures.allowed
+    let found =
+    subst (λ (rest : List ℕ). Begins rest (shown c.in-Ok.entry) c.in-Ok.taken) (take_rest bytes c.args.at)
+    c.in-Ok.ensures.found in
+    IsWalked-step bytes c.args.at c.args.expected c.in-Some.next (shown c.in-Ok.entry) c.in-Ok.taken c.requires.walked
+    found c.in-Some.ensures.allowed
 
 pub returns-in-Some-clause-above : goal.returns-in-Some-clause-above
 returns-in-Some-clause-above c =
@@ -23,5 +26,10 @@ returns-in-Some-clause-above c =
 pub returns-in-None-clause-fault : goal.returns-in-None-clause-fault
 returns-in-None-clause-fault c =
     let bytes = c.args.bytes.now in
-    let found = subst (λ (rest : List ℕ). Begins rest (shown c.in-Ok.entry) c.in-Ok.taken) (take_rest bytes c.args.at) c.in-Ok.ensures.found in
-    (c.requires.limit, IsBadOrder-misplaced bytes c.args.at c.args.expected (shown c.in-Ok.entry) c.in-Ok.taken c.requires.walked found c.in-None.ensures.refused)
+    let found =
+    subst (λ (rest : List ℕ). Begins rest (shown c.in-Ok.entry) c.in-Ok.taken) (take_rest bytes c.args.at)
+    c.in-Ok.ensures.found in (
+      c.requires.limit,
+      IsBadOrder-misplaced bytes c.args.at c.args.expected (shown c.in-Ok.entry) c.in-Ok.taken
+          c.requires.walked found c.in-None.ensures.refused,
+    )

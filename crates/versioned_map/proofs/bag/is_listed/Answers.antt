@@ -10,5 +10,6 @@ pub returns : goal.returns
 returns c =
     let os = c.args.objects.now in
     let k = c.args.key.now in
-    any_from_yields_List (λ (o : Object). key_eq o.key k) _ _ _ c.any.ensures.ran (YieldsList-from_slice os cc) (λ x b q h. search (rules, tests))
+    any_from_yields_List (λ (o : Object). key_eq o.key k) _ _ _ c.any.ensures.ran (YieldsList-from_slice os cc)
+    (λ x b q h. search (rules, tests))
     ∙ contents_of-any os k

@@ -9,5 +9,6 @@ returns c =
     let bag = c.args.bag.now in
     let o = c.args.object.now in
     highest_from_cases bag o c.any.result
-    (cases_from_any _ _ c.any.result (λ (e : Entry). Outranks o e) (λ (e : Entry). Outranks o e → ⊥) c.any.ensures.ran (YieldsList-from_slice bag cc)
+    (cases_from_any _ _ c.any.result (λ (e : Entry). Outranks o e)
+    (λ (e : Entry). Outranks o e → ⊥) c.any.ensures.ran (YieldsList-from_slice bag cc)
     (λ x q h. search (rules, tests)) (λ x q h. search (rules, tests)))

@@ -5,8 +5,12 @@ use Rattle.entry.specs.declared.entry.Object.{Object}
 use Rattle.entry.specs.declared.entry.Entry.{Entry}
 use Rattle.entry.specs.Meaning.{among, object_at, contents_of}
 use Rattle.versioned_map.proofs.Failing.{failing_from_all}
-use Rattle.versioned_map.proofs.Listings.{IsHighest, take_next, among_next, listing_passes, listing_takes, listing_means, listed_already, highest_from_top}
-use Rattle.versioned_map.proofs.bag.meaning.Goals.{in-Object+then-is_top+then-not-is_listed+in_ok-copy_object+in_ok-push, in-Object+else-is_top, else-is_top-via-then-is_top+else-not-is_listed, else-is_top-via-else-is_top, in_default}
+use Rattle.versioned_map.proofs.Listings.{IsHighest, take_next, among_next, listing_passes, listing_takes}
+use Rattle.versioned_map.proofs.Listings.{listing_means, listed_already, highest_from_top}
+use Rattle.versioned_map.proofs.bag.meaning.Goals.{in-Object+then-is_top+then-not-is_listed+in_ok-copy_object+in_ok-push}
+use Rattle.versioned_map.proofs.bag.meaning.Goals.{in-Object+else-is_top}
+use Rattle.versioned_map.proofs.bag.meaning.Goals.{else-is_top-via-then-is_top+else-not-is_listed}
+use Rattle.versioned_map.proofs.bag.meaning.Goals.{else-is_top-via-else-is_top, in_default}
 use Rattle.versioned_map.proofs.bag.meaning.Goals as goal
 
 pub loop-entry-preserved : goal.loop-entry-preserved
@@ -36,7 +40,8 @@ loop-entry-preserved c =
           elim w.else-is_top.branch [
             | else-is_top-via-then-is_top+else-not-is_listed v ↦ (
                 let listed : v.is_listed.result ≡ is_some (contents_of os o.key) =
-                v.is_listed.ensures ∙ ap (λ (xs : List Object). is_some (contents_of xs o.key)) v.as_slice.ensures.value in
+                v.is_listed.ensures ∙ ap (λ (xs : List Object). is_some (contents_of xs o.key))
+                v.as_slice.ensures.value in
                 listed_already os o k x (sym listed ∙ v.if-not-is_listed.false) same
                 )
             | else-is_top-via-else-is_top v ↦ (
@@ -45,7 +50,8 @@ loop-entry-preserved c =
                 absurd (cc)
                 )
           ]))
-      | in_default w ↦ rw w.objects-is (listing_passes bag i os e more before (λ k x here top. absurd (w.in_default.not-Object _ here)))
+      | in_default w ↦ rw w.objects-is (listing_passes bag i os e more before
+          (λ k x here top. absurd (w.in_default.not-Object _ here)))
     ]
 
 pub returns-clause-meaning : goal.returns-clause-meaning

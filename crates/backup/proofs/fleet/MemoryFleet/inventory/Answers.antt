@@ -14,7 +14,9 @@ whole c =
     c.new.ensures ∙ sym (append-nil c.loop-backup.list.items) ∙ e
 
 ordered : (c : goal.After-new) → AreInOrder c.args.self.now.backups.items
-ordered c = recursion_from_All IsInOrder c.args.self.now.backups.items (λ k d l. c.loop-backup.invariant.ordered k d (omega arith))
+ordered c =
+    recursion_from_All IsInOrder c.args.self.now.backups.items
+    (λ k d l. c.loop-backup.invariant.ordered k d (omega arith))
 
 pub returns-clause-shown : goal.returns-clause-shown
 returns-clause-shown c = rw (whole c) (all_shown c.args.self.now.backups.items (ordered c))
@@ -28,6 +30,10 @@ loop-backup-preserved c =
     let backups = c.args.self.now.backups.items in
     let same = c.deref-memory-items.ensures.value in
     record {
-      whole = shown_more seen backups c.loop-backup.backup c.memory-item.result same c.loop-backup-test.true c.memory-item.is c.loop-backup.list.items _ _ c.in_ok-show.ensures.shown c.loop-backup.invariant.whole;
-      ordered = ordered_more seen backups c.loop-backup.backup c.memory-item.result same c.loop-backup-test.true c.memory-item.is c.in_ok-show.ensures.ordered c.loop-backup.invariant.ordered;
+      whole =
+          shown_more seen backups c.loop-backup.backup c.memory-item.result same c.loop-backup-test.true
+          c.memory-item.is c.loop-backup.list.items _ _ c.in_ok-show.ensures.shown c.loop-backup.invariant.whole;
+      ordered =
+          ordered_more seen backups c.loop-backup.backup c.memory-item.result same c.loop-backup-test.true
+          c.memory-item.is c.in_ok-show.ensures.ordered c.loop-backup.invariant.ordered;
     }

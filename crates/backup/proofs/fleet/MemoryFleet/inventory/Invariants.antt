@@ -6,6 +6,7 @@ use Rattle.backup.proofs.fleet.MemoryFleet.inventory.Given as goal
 
 abbrev pub invariant-loop-backup : goal.invariant-loop-backup
 invariant-loop-backup l = record {
-  whole : l.list.items ++ inventory_of l.backup (drop l.backup l.self.backups.items) ≡ inventory_of 0 l.self.backups.items;
+  whole : l.list.items ++ inventory_of l.backup (drop l.backup l.self.backups.items)
+      ≡ inventory_of 0 l.self.backups.items;
   ordered : (k : ℕ) (d : MemoryBackup) → k < l.backup → IsInOrder (get_or l.self.backups.items k d);
 }

@@ -13,4 +13,5 @@ returns-in-Some-clause-lost c =
     (within (goal.at.returns-in-Some-clause-lost c).In-Some) c.clear.ensures
 
 pub returns-in-Some-clause-none : goal.returns-in-Some-clause-none
-returns-in-Some-clause-none c = λ past. let less = within (goal.at.returns-in-Some-clause-none c).In-Some in absurd (omega arith)
+returns-in-Some-clause-none c =
+    λ past. let less = within (goal.at.returns-in-Some-clause-none c).In-Some in absurd (omega arith)

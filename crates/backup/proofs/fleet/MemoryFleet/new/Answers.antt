@@ -4,9 +4,15 @@ use Rattle.backup.proofs.fleet.MemoryFleet.new.Goals as goal
 
 pub loop-preserved : goal.loop-preserved
 loop-preserved c = record {
-  count = pushed_count c.loop.list.items c.push.new.self.items c.new.result c.loop.counter c.in_ok-push.ensures.items c.loop.invariant.count;
-  empty = pushed_empty c.loop.list.items c.push.new.self.items c.new.result c.in_ok-push.ensures.items c.loop.invariant.empty c.new.ensures;
+  count =
+      pushed_count c.loop.list.items c.push.new.self.items c.new.result c.loop.counter c.in_ok-push.ensures.items
+      c.loop.invariant.count;
+  empty =
+      pushed_empty c.loop.list.items c.push.new.self.items c.new.result c.in_ok-push.ensures.items
+      c.loop.invariant.empty c.new.ensures;
 }
 
 pub returns : goal.returns
-returns c = empty_fleet c.args.backups c.loop.list.items (omega (arith, c.loop.invariant.count, c.loop-test.false, c.loop.auto.counter-end)) c.loop.invariant.empty
+returns c =
+    empty_fleet c.args.backups c.loop.list.items (omega
+    (arith, c.loop.invariant.count, c.loop-test.false, c.loop.auto.counter-end)) c.loop.invariant.empty

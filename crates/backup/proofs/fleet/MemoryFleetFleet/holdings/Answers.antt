@@ -18,12 +18,15 @@ returns-clause-shown c =
     let backups = c.args.self.now.backups.items in
     let memory = c.in-Some.memory.now in
     let found = c.in-Some.ensures.lookup in
-    let is : slice_get backups c.args.backup ≡ Some memory = rw c.as_slice.ensures.value at (slice_get_read _ _ c.args.backup memory refl found.3.0 found.1) in
-    rw (whole (goal.at.returns-clause-shown c).In_ok-show) (one_shown backups c.args.backup memory is c.show.ensures.ordered)
+    let is : slice_get backups c.args.backup ≡ Some memory =
+    rw c.as_slice.ensures.value at (slice_get_read _ _ c.args.backup memory refl found.3.0 found.1) in
+    rw (whole (goal.at.returns-clause-shown c).In_ok-show)
+    (one_shown backups c.args.backup memory is c.show.ensures.ordered)
 
 pub returns-clause-rising : goal.returns-clause-rising
 returns-clause-rising c =
-    rw (whole (goal.at.returns-clause-rising c).In_ok-show) (rising_images c.args.backup c.in-Some.memory.now.replicas.entries c.show.ensures.ordered)
+    rw (whole (goal.at.returns-clause-rising c).In_ok-show)
+    (rising_images c.args.backup c.in-Some.memory.now.replicas.entries c.show.ensures.ordered)
 
 pub returns-clause-once : goal.returns-clause-once
 returns-clause-once c = IsOnce-from_rising c.show.new.list.items (returns-clause-rising c)

@@ -3,4 +3,5 @@ use Rattle.backup.specs.Shelf.{holding_of, holdings_of}
 use Rattle.backup.proofs.memory.MemoryBackup.show.Given as goal
 
 abbrev pub invariant-loop-place : goal.invariant-loop-place
-invariant-loop-place l = l.list.items ++ map (holding_of l.backup) l.place-iterator ≡ l.initial.list.items ++ holdings_of l.backup l.self
+invariant-loop-place l =
+    l.list.items ++ map (holding_of l.backup) l.place-iterator ≡ l.initial.list.items ++ holdings_of l.backup l.self

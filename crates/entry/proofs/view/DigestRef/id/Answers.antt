@@ -11,4 +11,5 @@ u64_at-requires c =
 pub returns : goal.returns
 returns c =
     let len = length-ids_at c.args.self.now.count 5 c.args.self.now.text.now in
-    rw c.u64_at.ensures (slice_get-ids_at c.args.self.now.count 5 c.args.place c.args.self.now.text.now (omega (arith, c.requires)))
+    rw c.u64_at.ensures (slice_get-ids_at c.args.self.now.count 5 c.args.place c.args.self.now.text.now
+    (omega (arith, c.requires)))

@@ -4,7 +4,7 @@ use Rattle.entry.specs.Format.{ids_at}
 use Rattle.entry.proofs.IdLemmas.{ids_at-step}
 use Rattle.entry.proofs.view.DigestRef.to_ids.Goals as goal
 
--- where no id is left, all are there
+-- if no id is left, all are there
 all-there : (xs ys text : List ℕ) (count i at : ℕ) → count ≤ i → xs ++ ids_at (count - i) at text ≡ ys → xs ≡ ys
 all-there xs ys text count i at le e = let none : count - i ≡ 0 = omega arith in sym (append-nil xs) ∙ (rw none at e)
 
@@ -20,7 +20,8 @@ pub new-requires-clause-rise : goal.new-requires-clause-rise
 new-requires-clause-rise c = rw (all-there _ _ _ _ _ _ c.loop-i-test.false c.loop-i.invariant) c.args.self.now.ids.rise
 
 pub new-requires-clause-count : goal.new-requires-clause-count
-new-requires-clause-count c = rw (all-there _ _ _ _ _ _ c.loop-i-test.false c.loop-i.invariant) c.args.self.now.ids.count
+new-requires-clause-count c =
+    rw (all-there _ _ _ _ _ _ c.loop-i-test.false c.loop-i.invariant) c.args.self.now.ids.count
 
 pub returns : goal.returns
 returns c = c.new.ensures ∙ all-there _ _ _ _ _ _ c.loop-i-test.false c.loop-i.invariant

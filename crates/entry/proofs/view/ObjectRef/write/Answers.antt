@@ -5,7 +5,8 @@ use Rattle.entry.proofs.view.ObjectRef.write.Goals as goal
 
 pub put_object-requires-clause-room : goal.put_object-requires-clause-room
 put_object-requires-clause-room c =
-    let len : c.spelled_len.result ≡ 23 + length c.args.self.now.key.bytes.now + length c.args.self.now.value.now = c.spelled_len.ensures.len ∙ length-object (shown_object c.args.self.now) in
+    let len : c.spelled_len.result ≡ 23 + length c.args.self.now.key.bytes.now + length c.args.self.now.value.now =
+    c.spelled_len.ensures.len ∙ length-object (shown_object c.args.self.now) in
     omega (arith, c.in_ok-reserve.ensures.ok)
 
 pub returns-clause-ok : goal.returns-clause-ok

@@ -5,16 +5,21 @@ use Rattle.segment.proofs.view.SegmentRef.entry_at.Goals as goal
 
 pub returns-in-Ok-clause-found : goal.returns-in-Ok-clause-found
 returns-in-Ok-clause-found c = λ before after entry is place.
-    let there = IsThere-from_split c.args.self.now.bytes.now c.args.at before after entry c.args.self.now.valid.text is place in
+    let there =
+    IsThere-from_split c.args.self.now.bytes.now c.args.at before after entry c.args.self.now.valid.text is place in
     (c.in-Ok.ensures.complete entry (text_of after) there.entry there.text).0
 
 pub returns-in-Err-clause-found : goal.returns-in-Err-clause-found
 returns-in-Err-clause-found c = λ before after entry is place.
-    let there = IsThere-from_split c.args.self.now.bytes.now c.args.at before after entry c.args.self.now.valid.text is place in
+    let there =
+    IsThere-from_split c.args.self.now.bytes.now c.args.at before after entry c.args.self.now.valid.text is place in
     c.in-Err.ensures.complete entry (text_of after) there.entry there.text
 
 pub returns-in-Ok-clause-standing : goal.returns-in-Ok-clause-standing
-returns-in-Ok-clause-standing c = standing_at-front c.args.self.now.bytes.now c.args.at (shown c.in-Ok.entry) _ c.args.self.now.valid c.in-Ok.ensures.front
+returns-in-Ok-clause-standing c =
+    standing_at-front c.args.self.now.bytes.now c.args.at (shown c.in-Ok.entry) _ c.args.self.now.valid
+    c.in-Ok.ensures.front
 
 pub returns-in-Err-clause-standing : goal.returns-in-Err-clause-standing
-returns-in-Err-clause-standing c = standing_at-fault c.args.self.now.bytes.now c.args.at c.in-Err.field-0 c.args.self.now.valid c.in-Err.ensures.fault
+returns-in-Err-clause-standing c =
+    standing_at-fault c.args.self.now.bytes.now c.args.at c.in-Err.field-0 c.args.self.now.valid c.in-Err.ensures.fault

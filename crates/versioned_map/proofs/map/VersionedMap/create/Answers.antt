@@ -11,7 +11,12 @@ use Rattle.versioned_map.proofs.map.VersionedMap.create.Goals as goal
 pub invariant_of-self-2 : goal.invariant_of-self-2
 invariant_of-self-2 c =
     let os = c.self.inside.objects.items in
-    let o : Object = record { key = c.in_ok-copy_key.field-0; version = c.in_ok-version.version; value = c.in_ok-copy_value.field-0 } in
+    let o : Object =
+    record {
+      key = c.in_ok-copy_key.field-0;
+      version = c.in_ok-version.version;
+      value = c.in_ok-copy_value.field-0;
+    } in
     let items : c.push.new.self.items ≡ os ++ o ∷ [] = c.in_ok-push.ensures.items in
     let absent : contents_of os c.args.key.now ≡ None = rw (← c.self.view_is) at c.requires in
     let key : o.key ≡ c.args.key.now = c.in_ok-copy_key.ensures in
@@ -22,7 +27,12 @@ returns c =
     let os = c.self.inside.objects.items in
     let k = c.args.key.now in
     let value = c.args.value.now in
-    let o : Object = record { key = c.in_ok-copy_key.field-0; version = c.in_ok-version.version; value = c.in_ok-copy_value.field-0 } in
+    let o : Object =
+    record {
+      key = c.in_ok-copy_key.field-0;
+      version = c.in_ok-version.version;
+      value = c.in_ok-copy_value.field-0;
+    } in
     let items : c.push.new.self.items ≡ os ++ o ∷ [] = c.in_ok-push.ensures.items in
     let absent : contents_of os k ≡ None = rw (← c.self.view_is) at c.requires in
     let version : o.version ≡ c.self.inside.safe = grind arith in
@@ -31,7 +41,8 @@ returns c =
     record {
       reply = rw (← c.self.view_is) (rw (absent, met, version) refl);
       state = rw (items, safe)
-          (map_state-push os c.self.inside.safe k value c.args.when o absent met c.in_ok-copy_key.ensures version c.in_ok-copy_value.ensures
+          (map_state-push os c.self.inside.safe k value c.args.when o absent met c.in_ok-copy_key.ensures version
+          c.in_ok-copy_value.ensures
           ∙ ap (λ (m : MapValue). after_command (map_state m) (Put k value c.args.when)) c.self.view_is);
       err = tt;
       refused = tt;

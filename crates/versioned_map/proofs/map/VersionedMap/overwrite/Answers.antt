@@ -17,15 +17,19 @@ pub returns-then-not-is_met-clause-reply : goal.returns-then-not-is_met-clause-r
 returns-then-not-is_met-clause-reply c =
     let os = c.self.inside.objects.items in
     let o = c.index.result.now in
-    let unmet : is_met c.args.when (Some (versioned o)) ≡ false = sym (c.is_met.ensures o.value) ∙ c.if-not-is_met.true in
-    rw (← c.self.view_is) (λ k at. let has = slot_has os k c.args.slot o c.self.invariant at c.index.ensures in rw (has, unmet) refl)
+    let unmet : is_met c.args.when (Some (versioned o)) ≡ false =
+    sym (c.is_met.ensures o.value) ∙ c.if-not-is_met.true in
+    rw (← c.self.view_is) (λ k at. let has = slot_has os k c.args.slot o c.self.invariant at c.index.ensures in
+    rw (has, unmet) refl)
 
 pub returns-then-not-is_met-clause-state : goal.returns-then-not-is_met-clause-state
 returns-then-not-is_met-clause-state c =
     let os = c.self.inside.objects.items in
     let o = c.index.result.now in
-    let unmet : is_met c.args.when (Some (versioned o)) ≡ false = sym (c.is_met.ensures o.value) ∙ c.if-not-is_met.true in
-    rw (← c.self.view_is) (λ k at. let has = slot_has os k c.args.slot o c.self.invariant at c.index.ensures in rw (has, unmet) refl)
+    let unmet : is_met c.args.when (Some (versioned o)) ≡ false =
+    sym (c.is_met.ensures o.value) ∙ c.if-not-is_met.true in
+    rw (← c.self.view_is) (λ k at. let has = slot_has os k c.args.slot o c.self.invariant at c.index.ensures in
+    rw (has, unmet) refl)
 
 last_version : (r : Option ℕ) (n : ℕ) → r ≡ None → IsSome r ↔ (n < 2 ^ 62) → 2 ^ 62 < n + 1
 last_version None n is valid = let no : n < 2 ^ 62 → ⊥ = λ lt. (let some = valid.1 lt in cc) in omega arith
@@ -44,7 +48,8 @@ returns-in_err-version-clause-spent c =
     let last : 2 ^ 62 < o.version + 1 = last_version c.next.result o.version none c.next.ensures.valid in
     let over : nat_lt (2 ^ 62) (o.version + 1) ≡ true = grind (arith, nat_tests) in
     rw (← c.self.view_is)
-    (if_spent c.from_residual.result _ (λ k at. let has = slot_has os k c.args.slot o c.self.invariant at c.index.ensures in rw (has, met, over) refl))
+    (if_spent c.from_residual.result _ (λ k at. let has = slot_has os k c.args.slot o c.self.invariant at
+    c.index.ensures in rw (has, met, over) refl))
 
 pub returns-clause-reply : goal.returns-clause-reply
 returns-clause-reply c =
@@ -52,19 +57,26 @@ returns-clause-reply c =
     let o = c.index.result.now in
     let met : is_met c.args.when (Some (versioned o)) ≡ true = sym (c.is_met.ensures o.value) ∙ c.if-not-is_met.false in
     let next : c.in_ok-version.version ≡ o.version + 1 = grind arith in
-    rw (← c.self.view_is) (λ k at. let has = slot_has os k c.args.slot o c.self.invariant at c.index.ensures in rw (has, met, next) refl)
+    rw (← c.self.view_is) (λ k at. let has = slot_has os k c.args.slot o c.self.invariant at c.index.ensures in
+    rw (has, met, next) refl)
 
 pub returns-clause-state : goal.returns-clause-state
 returns-clause-state c =
     let os = c.self.inside.objects.items in
     let o = c.index.result.now in
-    let p : Object = record { key = c.index_mut-object.result.now.key; version = c.in_ok-version.version; value = c.in_ok-value.value } in
+    let p : Object =
+    record {
+      key = c.index_mut-object.result.now.key;
+      version = c.in_ok-version.version;
+      value = c.in_ok-value.value;
+    } in
     let met : is_met c.args.when (Some (versioned o)) ≡ true = sym (c.is_met.ensures o.value) ∙ c.if-not-is_met.false in
     let next : p.version ≡ o.version + 1 = grind arith in
     let same = c.index_mut-object.ensures.value in
     λ k slot.
     let there : IsAtSlot os k c.args.slot = rw (← c.self.view_is) at slot in
-    map_state-set os c.self.inside.safe k c.args.value.now c.args.when c.args.slot o p c.self.invariant there c.index.ensures met
+    map_state-set os c.self.inside.safe k c.args.value.now c.args.when c.args.slot o p c.self.invariant there
+    c.index.ensures met
     (ap (λ (q : Object). q.key) same ∙ there.of_key c.index_mut-object.result.now) next c.in_ok-value.ensures
     ∙ ap (λ (m : MapValue). after_command (map_state m) (Put k c.args.value.now c.args.when)) c.self.view_is
 
@@ -74,7 +86,8 @@ returns-in_err-version-clause-refused c =
     let o = c.index.result.now in
     let met : is_met c.args.when (Some (versioned o)) ≡ true = sym (c.is_met.ensures o.value) ∙ c.if-not-is_met.false in
     rw (← c.self.view_is)
-    (failing_from_all c.from_residual.result _ (λ k at. let has = slot_has os k c.args.slot o c.self.invariant at c.index.ensures in rw has met))
+    (failing_from_all c.from_residual.result _ (λ k at. let has = slot_has os k c.args.slot o c.self.invariant at
+    c.index.ensures in rw has met))
 
 pub returns-in_err-value-clause-refused : goal.returns-in_err-value-clause-refused
 returns-in_err-value-clause-refused c =
@@ -82,4 +95,5 @@ returns-in_err-value-clause-refused c =
     let o = c.index.result.now in
     let met : is_met c.args.when (Some (versioned o)) ≡ true = sym (c.is_met.ensures o.value) ∙ c.if-not-is_met.false in
     rw (← c.self.view_is)
-    (failing_from_all c.from_residual-in_err-value.result _ (λ k at. let has = slot_has os k c.args.slot o c.self.invariant at c.index.ensures in rw has met))
+    (failing_from_all c.from_residual-in_err-value.result _
+    (λ k at. let has = slot_has os k c.args.slot o c.self.invariant at c.index.ensures in rw has met))

@@ -21,5 +21,6 @@ returns-clause-absent c =
     let os = c.args.self.now.objects in
     let k = c.args.key.now in
     none_lacks os k c.position.result _
-    (IsFirst-from_position _ _ c.position.result (λ (o : Object). key_eq o.key k ≡ true) (λ (o : Object). key_eq o.key k ≡ false) c.position.ensures.ran
+    (IsFirst-from_position _ _ c.position.result (λ (o : Object). key_eq o.key k ≡ true)
+    (λ (o : Object). key_eq o.key k ≡ false) c.position.ensures.ran
     (YieldsList-from_slice os cc) (λ x q h. search (rules, tests)) (λ x q h. search (rules, tests)))
