@@ -1,5 +1,5 @@
 -- The words of a line are words, and its text is cut into them.
-use Rattle.std.proofs.Common.{◌≡◌, ◌⊎◌, ◌∙◌, ◌+◌, ◌%◌, ◌<◌, ◌≤◌, ◌^◌, ◌++◌, ◌∷◌, [], Option, Some, None, inl, inr, ap, sym, refl, subst, ℕ, suc, List, length-append, false, arith, rules}
+use Rattle.std.proofs.Common.{◌≡◌, ◌⊎◌, ◌∙◌, ◌+◌, ◌%◌, ◌<◌, ◌≤◌, ◌^◌, ◌++◌, ◌∷◌, [], codes, Option, Some, None, inl, inr, ap, sym, refl, subst, ℕ, suc, List, length-append, false, arith, rules}
 use Rattle.std.specs.Prelude.{IfSome, IsNone}
 use Rattle.std.specs.List.{All, slice_split, join_with_byte}
 use Rattle.std.specs.Fmt.{decimal}
@@ -7,8 +7,8 @@ use Rattle.std.proofs.lemmas.Bool.Decides.{nat_tests}
 use Rattle.std.proofs.lemmas.List.Elements.{All-push, All-nil, All-cons}
 use Rattle.std.proofs.lemmas.List.Splits.{slice_split_at, slice_split_none, join_with_byte-slice_split}
 use Rattle.std.proofs.lemmas.Fmt.{decimal_by_steps}
-use Rattle.lines.specs.Grammar.{IsIdle, IsWord, LineValue, Says, Idle, shown_line}
-use Rattle.lines.specs.Words.{AreKey, AreObject, AreVersioned, AreWordsOf, ReadsWords, is_space}
+use Rattle.lines.specs.Grammar.{IsIdle, IsKeyWord, IsWord, LineValue, Says, Idle, Del, Lose, shown_line}
+use Rattle.lines.specs.Words.{AreNumber, AreWordsOf, ReadsWords, is_space}
 use Rattle.lines.specs.declared.line.Line.{Line}
 
 -- ---- words
@@ -28,47 +28,31 @@ more_digits n digits large word = record {
 pub decimal_is_word : (n : ℕ) → n < 2 ^ 64 → IsWord (decimal n)
 decimal_is_word = decimal_by_steps (λ n digits. IsWord digits) one_digit more_digits
 
--- a name, whose bytes are looked at one by one
-abbrev AreSeen : List ℕ → Type 0
-AreSeen [] = Unit {0}
-AreSeen (b ∷ bs) = (33 ≤ b) × (b ≤ 126) × AreSeen bs
+is_del : IsWord (codes "del")
+is_del = record { some = search (arith); visible = λ k d below. search (arith) }
 
-all_seen : (bytes : List ℕ) → AreSeen bytes → All IsVisible bytes
-all_seen [] seen = All-nil IsVisible
-all_seen (b ∷ bs) seen = All-cons IsVisible b bs (seen.0, seen.1) (all_seen bs seen.2)
+is_lose : IsWord (codes "lose")
+is_lose = record { some = search (arith); visible = λ k d below. search (arith) }
 
-pub name_is_word : (b : ℕ) (bs : List ℕ) → AreSeen (b ∷ bs) → IsWord (b ∷ bs)
-name_is_word b bs seen = record { some = omega arith; visible = all_seen (b ∷ bs) seen }
+-- what is behind `del`
+pub del : (words : List (List ℕ)) (table : ℕ) (key : List ℕ) (behind : List (List ℕ)) → words ≡ decimal table ∷ behind
+    → table < 2 ^ 64 → (behind ≡ key ∷ []) × IsKeyWord key → AreWordsOf (codes "del" ∷ words) (Del table key)
+del words table key behind cut small key_is = record {
+  spelled = ap (λ ws. codes "del" ∷ ws) (cut ∙ ap (λ ws. decimal table ∷ ws) key_is.0);
+  each = All-cons IsWord (codes "del") (decimal table ∷ key ∷ []) is_del
+      (All-cons IsWord (decimal table) (key ∷ []) (decimal_is_word table small)
+      (All-cons IsWord key [] key_is.1.word (All-nil IsWord)));
+  limits = (small, key_is.1);
+}
 
--- a name and what is behind it
-module _ (name : List ℕ) (is : IsWord name) where
-  pub name_alone : All IsWord (name ∷ [])
-  name_alone = All-cons IsWord name [] is (All-nil IsWord)
-
-  pub with_number : (n : ℕ) → n < 2 ^ 64 → All IsWord (name ∷ decimal n ∷ [])
-  with_number n small =
-      All-cons IsWord name (decimal n ∷ []) is (All-cons IsWord (decimal n) [] (decimal_is_word n small) (All-nil IsWord))
-
-  with_table : (table : ℕ) (words : List (List ℕ)) → table < 2 ^ 64 → All IsWord words → All IsWord (name ∷ decimal table ∷ words)
-  with_table table words small each =
-      All-cons IsWord name (decimal table ∷ words) is (All-cons IsWord (decimal table) words (decimal_is_word table small) each)
-
-  pub with_key : (rest : List (List ℕ)) (table : ℕ) (key : List ℕ) → AreKey rest table key → All IsWord (name ∷ decimal table ∷ key ∷ [])
-  with_key rest table key are = with_table table (key ∷ []) are.small (All-cons IsWord key [] are.is_key.word (All-nil IsWord))
-
-  pub with_object : (rest : List (List ℕ)) (table : ℕ) (key value : List ℕ) → AreObject rest table key value
-      → All IsWord (name ∷ decimal table ∷ key ∷ value ∷ [])
-  with_object rest table key value are =
-      with_table table (key ∷ value ∷ []) are.small
-      (All-cons IsWord key (value ∷ []) are.is_key.word (All-cons IsWord value [] are.is_value (All-nil IsWord)))
-
-  pub with_version : (rest : List (List ℕ)) (table : ℕ) (key : List ℕ) (version : ℕ) (value : List ℕ)
-      → AreVersioned rest table key version value → All IsWord (name ∷ decimal table ∷ key ∷ decimal version ∷ value ∷ [])
-  with_version rest table key version value are =
-      with_table table (key ∷ decimal version ∷ value ∷ []) are.small
-      (All-cons IsWord key (decimal version ∷ value ∷ []) are.is_key.word
-      (All-cons IsWord (decimal version) (value ∷ []) (decimal_is_word version are.small_version)
-      (All-cons IsWord value [] are.is_value (All-nil IsWord))))
+-- what is behind `lose`
+pub lose : (words : List (List ℕ)) (backup : ℕ) → AreNumber words backup → AreWordsOf (codes "lose" ∷ words) (Lose backup)
+lose words backup number = record {
+  spelled = ap (λ ws. codes "lose" ∷ ws) number.spelled;
+  each = All-cons IsWord (codes "lose") (decimal backup ∷ []) is_lose
+      (All-cons IsWord (decimal backup) [] (decimal_is_word backup number.small) (All-nil IsWord));
+  limits = number.small;
+}
 
 -- ---- cutting
 

@@ -1,10 +1,10 @@
--- How the parser takes a text apart: it is cut at each space, and the words behind a line's name have one of few shapes.
-use Rattle.std.specs.Prelude.{◌≡◌, ◌≢◌, ◌==◌, ◌<◌, ◌≤◌, ◌^◌, ℕ, Bool, List, [], ◌∷◌, length, take, slice_index}
+-- How the parser takes a text apart: it cuts the text at each space, and reads the words.
+use Rattle.std.specs.Prelude.{◌≡◌, ◌≢◌, ◌==◌, ◌<◌, ◌≤◌, ◌^◌, ℕ, Bool, List, [], ◌∷◌, length, take, slice_index, codes}
 use Rattle.std.specs.Prelude.{Option, Some, None}
 use Rattle.std.specs.Borrow.{Bor}
 use Rattle.std.specs.List.{All, slice_split}
 use Rattle.std.specs.Fmt.{decimal}
-use Rattle.lines.specs.Grammar.{IsKeyWord, IsLine, IsWord, LineValue, Idle, shown_line, words_of}
+use Rattle.lines.specs.Grammar.{IsLine, IsWord, LineValue, Idle, shown_line, words_of}
 use Rattle.lines.specs.declared.line.Line.{Line}
 
 abbrev pub is_space : ℕ → Bool
@@ -25,35 +25,21 @@ abbrev pub words_left : Option (Bor (List ℕ)) → List (List ℕ)
 words_left None = []
 words_left (Some rest) = slice_split is_space rest.now
 
--- ---- the words behind a line's name
-
--- a number
+-- the words are a number
 pub record AreNumber (words : List (List ℕ)) (n : ℕ) : Type 0 where
   pub spelled : words ≡ decimal n ∷ []
   pub small : n < 2 ^ 64
 
--- a table and a key
-pub record AreKey (words : List (List ℕ)) (table : ℕ) (key : List ℕ) : Type 0 where
-  pub spelled : words ≡ decimal table ∷ key ∷ []
-  pub small : table < 2 ^ 64
-  pub is_key : IsKeyWord key
-
--- a table, a key and a value
-pub record AreObject (words : List (List ℕ)) (table : ℕ) (key value : List ℕ) : Type 0 where
-  pub spelled : words ≡ decimal table ∷ key ∷ value ∷ []
-  pub small : table < 2 ^ 64
-  pub is_key : IsKeyWord key
-  pub is_value : IsWord value
-
--- a table, a key, a version and a value
-pub record AreVersioned (words : List (List ℕ)) (table : ℕ) (key : List ℕ) (version : ℕ) (value : List ℕ) : Type 0 where
-  pub spelled : words ≡ decimal table ∷ key ∷ decimal version ∷ value ∷ []
-  pub small : table < 2 ^ 64
-  pub is_key : IsKeyWord key
-  pub small_version : version < 2 ^ 64
-  pub is_value : IsWord value
-
--- ---- the words of a line
+-- the word is no name behind which a line has more words
+pub record IsNoLongName (word : List ℕ) : Type 0 where
+  pub put : word ≢ codes "put"
+  pub new : word ≢ codes "new"
+  pub cas : word ≢ codes "cas"
+  pub get : word ≢ codes "get"
+  pub del : word ≢ codes "del"
+  pub hex : word ≢ codes "hex"
+  pub stop : word ≢ codes "stop"
+  pub lose : word ≢ codes "lose"
 
 -- the words spell the line
 pub record Spell (words : List (List ℕ)) (line : LineValue) : Type 0 where
@@ -70,8 +56,3 @@ AreWordsOf words line = Spell words line
 abbrev pub ReadsWords : List (List ℕ) → Option Line → Type 0
 ReadsWords words None = (line : LineValue) → AreWordsOf words line → ⊥
 ReadsWords words (Some line) = AreWordsOf words (shown_line line)
-
--- the line if no word is left, or None if one is
-abbrev pub ReadsEnd : Line → List (List ℕ) → Option Line → Type 0
-ReadsEnd line words None = words ≢ []
-ReadsEnd line words (Some read) = (words ≡ []) × (read ≡ line)

@@ -1,8 +1,8 @@
 //! Parsing lines.
 
-ghost use Rattle.std.specs.Prelude.{◌≡◌, ◌∷◌, ◌↔◌, ℕ, List, IfSome, IsNone, IsTrue, codes};
+ghost use Rattle.std.specs.Prelude.{◌≡◌, ◌∷◌, ◌↔◌, ℕ, IfSome, IsNone, IsTrue, codes};
 ghost use Rattle.lines.specs.Grammar.{IsIdle, LineValue, Says, shown_line};
-ghost use Rattle.lines.specs.Words.{AreKey, AreNumber, AreObject, AreVersioned, ReadsEnd, ReadsWords};
+ghost use Rattle.lines.specs.Words.{AreNumber, IsNoLongName, ReadsWords};
 
 use crate::line::Line;
 use crate::words::Words;
@@ -32,24 +32,16 @@ fn is_idle(text: &[u8]) -> bool
 fn parse_words(mut words: Words<'_>) -> Option<Line<'_>>
     ensures { ReadsWords words.entry result }
 {
-    // The lines that come most often are first.
     match words.next_word()? {
         name if is(name, "put") => put(words),
         name if is(name, "get") => get(words),
         name if is(name, "new") => new(words),
         name if is(name, "cas") => cas(words),
         name if is(name, "del") => del(words),
-        name if is(name, "roll") => end(words, Line::Roll),
-        name if is(name, "beginroll") => end(words, Line::BeginRoll),
-        name if is(name, "push") => end(words, Line::Push),
-        name if is(name, "log") => end(words, Line::Log),
         name if is(name, "hex") => hex(words),
         name if is(name, "stop") => stop(words),
-        name if is(name, "crash") => end(words, Line::Crash),
         name if is(name, "lose") => lose(words),
-        name if is(name, "recover") => end(words, Line::Recover),
-        name if is(name, "holdings") => end(words, Line::Holdings),
-        _ => None,
+        name => only_name(name, words),
     }
 }
 
@@ -61,27 +53,37 @@ fn is(word: &[u8], text: &str) -> bool
     word == text.as_bytes()
 }
 
-/// The words behind `put`.
-fn put(words: Words<'_>) -> Option<Line<'_>>
+/// The words behind `put` as a table, a key and a value.
+#[tactic(auto, using(crate::proofs::Spelling::decimal_is_word))]
+fn put(mut words: Words<'_>) -> Option<Line<'_>>
     ensures { ReadsWords (codes "put" ∷ words.entry) result }
 {
-    let (table, key, value) = object(words)?;
+    let table = words.number()?;
+    let key = words.key()?;
+    let value = words.last()?;
     Some(Line::Put { table, key, value })
 }
 
-/// The words behind `new`.
-fn new(words: Words<'_>) -> Option<Line<'_>>
+/// The words behind `new` as a table, a key and a value.
+#[tactic(auto, using(crate::proofs::Spelling::decimal_is_word))]
+fn new(mut words: Words<'_>) -> Option<Line<'_>>
     ensures { ReadsWords (codes "new" ∷ words.entry) result }
 {
-    let (table, key, value) = object(words)?;
+    let table = words.number()?;
+    let key = words.key()?;
+    let value = words.last()?;
     Some(Line::New { table, key, value })
 }
 
-/// The words behind `cas`.
-fn cas(words: Words<'_>) -> Option<Line<'_>>
+/// The words behind `cas` as a table, a key, a version and a value.
+#[tactic(auto, using(crate::proofs::Spelling::decimal_is_word))]
+fn cas(mut words: Words<'_>) -> Option<Line<'_>>
     ensures { ReadsWords (codes "cas" ∷ words.entry) result }
 {
-    let (table, key, version, value) = versioned(words)?;
+    let table = words.number()?;
+    let key = words.key()?;
+    let version = words.number()?;
+    let value = words.last()?;
     Some(Line::Cas {
         table,
         key,
@@ -90,23 +92,27 @@ fn cas(words: Words<'_>) -> Option<Line<'_>>
     })
 }
 
-/// The words behind `get`.
-fn get(words: Words<'_>) -> Option<Line<'_>>
+/// The words behind `get` as a table and a key.
+#[tactic(auto, using(crate::proofs::Spelling::decimal_is_word))]
+fn get(mut words: Words<'_>) -> Option<Line<'_>>
     ensures { ReadsWords (codes "get" ∷ words.entry) result }
 {
-    let (table, key) = table_key(words)?;
+    let table = words.number()?;
+    let key = words.last_key()?;
     Some(Line::Get { table, key })
 }
 
-/// The words behind `del`.
-fn del(words: Words<'_>) -> Option<Line<'_>>
+/// The words behind `del` as a table and a key.
+fn del(mut words: Words<'_>) -> Option<Line<'_>>
     ensures { ReadsWords (codes "del" ∷ words.entry) result }
 {
-    let (table, key) = table_key(words)?;
+    let table = words.number()?;
+    let key = words.last_key()?;
     Some(Line::Del { table, key })
 }
 
-/// The word behind `hex`: the number of a segment.
+/// The word behind `hex` as the number of a segment.
+#[tactic(auto, using(crate::proofs::Spelling::decimal_is_word))]
 fn hex(words: Words<'_>) -> Option<Line<'_>>
     ensures { ReadsWords (codes "hex" ∷ words.entry) result }
 {
@@ -114,7 +120,8 @@ fn hex(words: Words<'_>) -> Option<Line<'_>>
     Some(Line::Hex { segment })
 }
 
-/// The word behind `stop`: how many takes are left.
+/// The word behind `stop` as how many takes are left.
+#[tactic(auto, using(crate::proofs::Spelling::decimal_is_word))]
 fn stop(words: Words<'_>) -> Option<Line<'_>>
     ensures { ReadsWords (codes "stop" ∷ words.entry) result }
 {
@@ -122,57 +129,12 @@ fn stop(words: Words<'_>) -> Option<Line<'_>>
     Some(Line::Stop { takes })
 }
 
-/// The word behind `lose`: the number of a backup.
+/// The word behind `lose` as the number of a backup.
 fn lose(words: Words<'_>) -> Option<Line<'_>>
     ensures { ReadsWords (codes "lose" ∷ words.entry) result }
 {
     let backup = only_number(words)?;
     Some(Line::Lose { backup })
-}
-
-/// The line, if no word is behind its name.
-fn end<'a>(words: Words<'a>, line: Line<'a>) -> Option<Line<'a>>
-    ensures { ReadsEnd line.entry words.entry result }
-{
-    words.end()?;
-    Some(line)
-}
-
-/// The words as a table, a key and a value.
-#[inline(always)]
-fn object(mut words: Words<'_>) -> Option<(u64, &[u8], &[u8])>
-    ensures sound { IfSome result (λ o. AreObject words.entry o.0 o.1.now o.2.now) }
-    ensures complete { IsNone result → (table : ℕ) (key value : List ℕ) → ¬ AreObject words.entry table key value }
-{
-    let table = words.number()?;
-    let key = words.key()?;
-    let value = words.last()?;
-    Some((table, key, value))
-}
-
-/// The words as a table, a key, a version and a value.
-#[inline(always)]
-fn versioned(mut words: Words<'_>) -> Option<(u64, &[u8], u64, &[u8])>
-    ensures sound { IfSome result (λ o. AreVersioned words.entry o.0 o.1.now o.2 o.3.now) }
-    ensures complete { IsNone result → (table : ℕ) (key : List ℕ) (version : ℕ) (value : List ℕ)
-        → ¬ AreVersioned words.entry table key version value }
-{
-    let table = words.number()?;
-    let key = words.key()?;
-    let version = words.number()?;
-    let value = words.last()?;
-    Some((table, key, version, value))
-}
-
-/// The words as a table and a key.
-#[inline(always)]
-fn table_key(mut words: Words<'_>) -> Option<(u64, &[u8])>
-    ensures sound { IfSome result (λ o. AreKey words.entry o.0 o.1.now) }
-    ensures complete { IsNone result → (table : ℕ) (key : List ℕ) → ¬ AreKey words.entry table key }
-{
-    let table = words.number()?;
-    let key = words.last_key()?;
-    Some((table, key))
 }
 
 /// The words as one number.
@@ -183,4 +145,22 @@ fn only_number(mut words: Words<'_>) -> Option<u64>
     let number = words.number()?;
     words.end()?;
     Some(number)
+}
+
+/// The line that has this name and no word behind it.
+fn only_name<'a>(name: &[u8], words: Words<'a>) -> Option<Line<'a>>
+    requires { IsNoLongName name.now }
+    ensures { ReadsWords (name.now ∷ words.entry) result }
+{
+    words.end()?;
+    match name {
+        name if is(name, "roll") => Some(Line::Roll),
+        name if is(name, "beginroll") => Some(Line::BeginRoll),
+        name if is(name, "push") => Some(Line::Push),
+        name if is(name, "log") => Some(Line::Log),
+        name if is(name, "crash") => Some(Line::Crash),
+        name if is(name, "recover") => Some(Line::Recover),
+        name if is(name, "holdings") => Some(Line::Holdings),
+        _ => None,
+    }
 }

@@ -1,17 +1,16 @@
 -- What a roll of a head is to the log.
-use Rattle.std.proofs.Common.{◌≡◌, ℕ, suc, ◌<◌, ◌≤◌, Bool, true, false, List, [], ◌∷◌, ◌++◌, length, refl, sym, ap, subst, ◌∙◌, arith}
+use Rattle.std.proofs.Common.{◌≡◌, ℕ, suc, ◌<◌, true, false, List, length, refl, sym, ap, subst, ◌∙◌, arith}
 use Rattle.std.specs.Prelude.{Option, Some, None, ◌==◌, if◌then◌else◌}
-use Rattle.std.proofs.lemmas.Bool.{eqb-true}
 use Rattle.std.proofs.lemmas.Bool.Decides.{nat_tests}
 use Rattle.std.proofs.lemmas.List.{append-nil}
 use Rattle.entry.specs.declared.entry.Entry.{Entry}
 use Rattle.entry.specs.Text.{Opening, text_of, opening_of, IsSegment}
-use Rattle.log_model.specs.Data.{Start, Head, Phase, Opened, Closed, ids_of, start_entries, head_entries}
+use Rattle.log_model.specs.Data.{Start, Head, Opened, Closed, ids_of, start_entries}
 use Rattle.log_model.specs.Steps.{one_opened, new_head}
 use Rattle.log_head.specs.declared.head.Roll.{Roll}
-use Rattle.log_head.specs.Head.{HeadValue, IsRollValue, digest_of}
-use Rattle.log_head.specs.Log.{but_last, start_in, start_of, phase_in, phase_of, head_of, IsImageOf, IsNewImage}
-use Rattle.log_head.specs.Steps.{fresh_roll, with_roll, with_new_replica, in_force}
+use Rattle.log_head.specs.Head.{HeadValue, digest_of}
+use Rattle.log_head.specs.Log.{start_in, start_of, phase_in, head_of, IsImageOf, IsNewImage}
+use Rattle.log_head.specs.Steps.{fresh_roll, in_force}
 use Rattle.log_head.proofs.HeadLog.{but_last_is, head_is}
 
 -- ---- a roll begins

@@ -11,19 +11,19 @@ use Rattle.versioned_map.specs.declared.command.Command.{Command}
 use Rattle.log_model.specs.Data.{LogData, durable_of}
 use Rattle.log_model.specs.Kept.{IsKept as IsLogKept}
 use Rattle.log_model.specs.Ops.{LogOp, op_of}
-use Rattle.log_model.specs.Steps.{IsNext}
-use Rattle.log_model.proofs.DurableSteps.{durable_stays_applied, durable_stays_next}
+use Rattle.log_model.specs.Steps.{IsNext, next_start}
+use Rattle.log_model.proofs.DurableSteps.{durable_stays_applied, durable_stays_rolling, durable_stays_next}
 use Rattle.log_model.proofs.Pictures.{place_tells}
 use Rattle.master_core.specs.declared.step.Refusal.{Refusal}
 use Rattle.master_core.specs.declared.step.Refusal.TheVariants as refusal
 use Rattle.master_core.specs.declared.step.Step.{Step}
-use Rattle.master_core.specs.declared.step.Step.TheVariants.{Apply, Push}
+use Rattle.master_core.specs.declared.step.Step.TheVariants.{Apply, Push, BeginRoll}
 use Rattle.master_core.specs.declared.step.StepAnswer.{StepAnswer}
-use Rattle.master_core.specs.declared.step.StepAnswer.TheVariants.{Applied, Opened, Extended}
+use Rattle.master_core.specs.declared.step.StepAnswer.TheVariants.{Applied, Opened, Extended, Closed, Rolling}
 use Rattle.master_core.specs.Causes.{dead_segment}
 use Rattle.master_core.specs.Data.{MasterData}
 use Rattle.master_core.specs.Log.{log_of}
-use Rattle.master_core.specs.Steps.{Applies, record_now}
+use Rattle.master_core.specs.Steps.{Applies, BeginsRoll, record_now}
 use Rattle.master.specs.Invariant.{IsWellKept}
 use Rattle.master.specs.Keeps.{Keeps}
 use Rattle.master.specs.Pushes.{IsNextOp, Pushes}
@@ -102,9 +102,11 @@ module _ (f : FleetState) (b : ℕ) (op : OpValue) where
 -- ---- a step
 
 is_next : (d e : LogData) (o : LogOp) (answer : StepAnswer) → IsNextOp d o answer e → IsNext d o e
-is_next d e o (Opened backup segment) is = inl is.0
+is_next d e o (Opened backup segment) is = elim is.0 as (λ _. IsNext d o e) [ inl first ↦ inl first | inr new ↦ inr (inr (inl new)) ]
 is_next d e o (Extended backup segment) is = inr (inl is.0.extends)
+is_next d e o (Closed backup segment) is = inr (inr (inr is.0))
 is_next d e o (Applied place reply) is = absurd is
+is_next d e o (Rolling segment) is = absurd is
 
 module _ (old new : World) (kept : IsWellKept old.knows old.fleet) where
   log_kept : IsLogKept (log_of old.knows) kept.before
@@ -137,6 +139,13 @@ module _ (old new : World) (kept : IsWellKept old.knows old.fleet) where
         history = (record_now d seat command ∷ [], ap (λ (l : LogData). l.history) a.log);
       }
 
+  rolled : (answer : StepAnswer) → BeginsRoll old.knows answer new.knows → new.fleet ≡ old.fleet → Keeps 1 old new
+  rolled answer b fleet =
+      let d = old.knows in
+      silent (ap (λ (x : MasterData). x.config) b.rest) (ap (λ (x : MasterData). x.history) b.rest)
+      (subst (IsBeside d.config.master old.fleet) (sym fleet) (beside_same d.config.master old.fleet))
+      (subst (λ (l : LogData). durable_of (log_of old.knows) ≤ durable_of l) (sym b.log) (durable_stays_rolling (log_of d) (next_start (log_of d))))
+
   pushed : (answer : StepAnswer) → Pushes old answer new → Keeps 1 old new
   pushed answer p =
       silent (ap (λ (d : MasterData). d.config) p.rest) (ap (λ (d : MasterData). d.history) p.rest)
@@ -161,11 +170,14 @@ module _ (old new : World) (kept : IsWellKept old.knows old.fleet) where
   failed refusal.Rolling t = absurd t
   failed refusal.Nothing t = absurd t
   failed refusal.NoTablet t = absurd t
+  failed refusal.SegmentsSpent t = absurd t
 
   step_keeps : (step : Step) (result : Result StepAnswer Refusal) → Steps old step result new → Keeps 1 old new
   step_keeps (Apply seat command) (Ok answer) t = applied seat command answer t.0 t.1
   step_keeps (Apply seat command) (Err r) t = unchanged t.0
   step_keeps Push (Ok answer) t = pushed answer t
+  step_keeps BeginRoll (Ok answer) t = rolled answer t.0 t.1
+  step_keeps BeginRoll (Err r) t = unchanged t.0
   step_keeps Push (Err r) (inl t) = unchanged t.1
   step_keeps Push (Err r) (inr t) = failed r t.1
 

@@ -1,7 +1,9 @@
 pub mod Placing
 pub mod Memories
 pub mod Starting
+pub mod LogSets
 pub mod Applied
+pub mod Rolled
 pub mod Pushed
 pub mod NextOps
 pub mod Keeping

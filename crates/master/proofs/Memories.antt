@@ -1,6 +1,6 @@
--- What memory and replicas cover depends on the head's image alone, where no pass is open.
-use Rattle.std.proofs.Common.{◌≡◌, ℕ, inl, inr, List, ◌++◌, sym, ap, subst, ◌∙◌}
-use Rattle.std.specs.Prelude.{filter}
+-- What memory and replicas cover depends on the images of the log alone, if no pass is open.
+use Rattle.std.proofs.Common.{◌≡◌, ◌⊎◌, ℕ, inl, inr, false, List, [], ◌∷◌, ◌++◌, refl, sym, ap, subst, ◌∙◌, append_assoc}
+use Rattle.std.specs.Prelude.{Option, Some, None, filter}
 use Rattle.entry.specs.declared.entry.Object.{Object}
 use Rattle.entry.specs.declared.entry.Entry.{Entry}
 use Rattle.entry.specs.declared.entry.Entry.TheVariants as entry
@@ -8,7 +8,9 @@ use Rattle.entry.specs.Bag.{IsAmong}
 use Rattle.entry.specs.Text.{is_data}
 use Rattle.entry.specs.Meaning.{Contents, IsMeaning, IsClean, object_at, among}
 use Rattle.replica.specs.Picture.{Picture}
-use Rattle.log_model.specs.Data.{LogData, ids_of, new_of, state_of}
+use Rattle.log_model.specs.Data.{Start, LogData, ids_of, new_of, state_of}
+use Rattle.log_model.specs.Steps.{GoesOn, EndsRoll}
+use Rattle.clean_model.specs.Steps.{ended, after_take}
 use Rattle.clean_model.specs.Memory.{Memory, Pass, no_pass, new_ids, log_ids}
 use Rattle.clean_model.specs.Covered.{IsInImage, IsInLogBag, image_bag, log_bag, MayName, HasGrave, IsCovered}
 
@@ -103,3 +105,26 @@ module _ (d : LogData) (m n : Memory) (p : Picture) (same : IsSame d m n) where
     log_meaning = means_same (log_bag d m p) (log_bag d n p) whole_to whole_from (state_of d).contents is.log_meaning;
     dead = λ s o there dead. grave_too d m n p same s o (is.dead s o (log_too d n m p back s (entry.Object o) there) dead);
   }
+
+-- ---- the log set through ops and rolls, if no pass is open
+
+-- an op of the head leaves the log set as it is, even if it ends a roll
+pub same_log_set : (d e : LogData) (m : Memory) → m.pass ≡ no_pass → ((n : Start) → new_of d.phase ≡ Some n → n.others ≡ ids_of d.head.start)
+    → GoesOn d e ⊎ EndsRoll d e → log_ids e m ≡ log_ids d m
+same_log_set d e m none lists (inl on) =
+    ap (λ (l : LogData). log_ids l m) on.gives
+    ∙ ap (λ (o : Option Start). ids_of d.head.start ++ (new_ids o ++ m.pass.survivors)) on.new
+same_log_set d e m none lists (inr ends) =
+    let ids = lists ends.n ends.new in
+    ap (λ (l : LogData). log_ids l m) ends.gives
+    ∙ (λ i. (ids i ++ ends.n.id ∷ []) ++ (none i).survivors)
+    ∙ append_assoc (ids_of d.head.start) (ends.n.id ∷ []) []
+    ∙ (λ i. ids_of d.head.start ++ (new_ids (sym ends.new i) ++ (sym none i).survivors))
+
+-- after the op memory is the same, for no roll is a commit
+pub same_after : (d e : LogData) (m : Memory) → m.commits ≡ false → after_take d e m ≡ m
+same_after d e m no_commit = go (new_of d.phase) (new_of e.phase) where
+  go : (o p : Option Start) → ended o p m ≡ m
+  go (Some n) None = rw no_commit refl
+  go (Some n) (Some x) = refl
+  go None p = refl

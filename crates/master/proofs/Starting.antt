@@ -1,10 +1,12 @@
 -- A new master is kept.
-use Rattle.std.proofs.Common.{◌≡◌, ℕ, ◌≤◌, inl, [], refl, sym, ap, subst}
+use Rattle.std.proofs.Common.{◌≡◌, ℕ, ◌≤◌, inl, inr, [], refl, sym, ap, subst}
+use Rattle.entry.specs.Bag.{IsAmong}
 use Rattle.std.specs.Prelude.{None}
 use Rattle.replica.specs.Picture.{FleetState}
 use Rattle.log_head.proofs.HeadLog.{head_is, image_fresh}
 use Rattle.log_head.specs.Steps.{fresh_head}
-use Rattle.log_model.specs.Data.{Ready, LogData}
+use Rattle.clean_model.specs.Memory.{log_ids}
+use Rattle.log_model.specs.Data.{Ready, LogData, start_entries}
 use Rattle.log_model.specs.Steps.{first_start, fresh}
 use Rattle.clean_model.specs.Intact.{IsIntact}
 use Rattle.clean_model.specs.Steps.{first_memory}
@@ -13,7 +15,7 @@ use Rattle.master_core.specs.declared.config.Config.{Config}
 use Rattle.master_core.specs.Config.{config_fault}
 use Rattle.master_core.specs.Data.{fresh_data}
 use Rattle.master_core.specs.Invariant.{IsCore}
-use Rattle.master_core.specs.Log.{log_config, opening_of, log_of}
+use Rattle.master_core.specs.Log.{log_config, opening_of, log_of, images_of}
 use Rattle.master.specs.Invariant.{IsWellKept}
 use Rattle.master.proofs.Placing.{placed}
 
@@ -28,9 +30,8 @@ fresh_kept c f ok core backups nothing =
     let same = log_fresh c core in
     record {
       core = core;
-      alone = ap (λ (l : LogData). l.head.start.others) same;
       memory = first_memory (log_config c);
-      memory_is = record { image = refl; pass = refl };
+      memory_is = record { images = image_at same; pass = refl; commits = refl };
       before = f.picture;
       intact = subst (λ (l : LogData). IsIntact l (first_memory (log_config c)) f.picture) (sym same)
           (fresh_is_intact (log_config c) f.picture
@@ -39,3 +40,12 @@ fresh_kept c f ok core backups nothing =
       now = inl refl;
       running = λ going. refl;
     }
+  where
+    image_at : log_of (fresh_data c) ≡ fresh (log_config c) → (s : ℕ) → IsAmong s (log_ids (log_of (fresh_data c)) (first_memory (log_config c)))
+        → start_entries c.master first_start ≡ images_of (fresh_data c) s
+    image_at same s among =
+        elim (subst (λ (l : LogData). IsAmong s (log_ids l (first_memory (log_config c)))) same among)
+        as (λ _. start_entries c.master first_start ≡ images_of (fresh_data c) s) [
+          | inl is ↦ ap (images_of (fresh_data c)) is
+          | inr none ↦ absurd none
+        ]

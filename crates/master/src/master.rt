@@ -18,8 +18,8 @@ ghost use Rattle.master.specs.Valid.{IsValid};
 ghost use Rattle.master.specs.World.{world};
 
 use entry::NoMemory;
-use master_core::{Config, Core, Look, Refusal, Shown, Step, StepAnswer};
 use log_head::Next;
+use master_core::{Config, Core, Look, Refusal, Shown, Step, StepAnswer};
 use replica::{Bench, Fleet};
 use std::alloc::Global;
 use std::marker::Model;

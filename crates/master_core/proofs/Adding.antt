@@ -51,7 +51,7 @@ pub taken_appended : (h : HeadValue) (n : ℕ) (u : List Entry) → phase_of (ap
 taken_appended h n [] = refl
 taken_appended h n (e ∷ es) = refl
 
-image_appended : (h : HeadValue) (n : ℕ) (u : List Entry) → (appended h n u).image ≡ h.image ++ u
+pub image_appended : (h : HeadValue) (n : ℕ) (u : List Entry) → (appended h n u).image ≡ h.image ++ u
 image_appended h n [] = sym (append-nil h.image)
 image_appended h n (e ∷ es) = refl
 

@@ -106,9 +106,11 @@ appended_grow h g cs unit id roll image s = by_head (h.id == s) refl
         let other : (g.id == s) ≡ true = ap (λ (n : ℕ). n == s) id ∙ is in
         (unit, rw (is, other) image)
     by_head false is =
-        let other : (g.id == s) ≡ false = ap (λ (n : ℕ). n == s) id ∙ is in
-        ([], rw (is, other) (ap (λ (o : Option Roll). unwrap_or (new_image_or o s (closed_image cs s)) []) roll
-            ∙ sym (append-nil (unwrap_or (new_image_or h.roll s (closed_image cs s)) []))))
+        let other : (g.id == s) ≡ false = ap (λ (n : ℕ). n == s) id ∙ is in (
+          [],
+          rw (is, other) (ap (λ (o : Option Roll). unwrap_or (new_image_or o s (closed_image cs s)) []) roll
+              ∙ sym (append-nil (unwrap_or (new_image_or h.roll s (closed_image cs s)) []))),
+        )
 
 -- the image of the head, and of any other segment, once the head has a unit more
 pub appended_own : (h g : HeadValue) (cs : List ClosedSegment) (unit : List Entry) (s : ℕ) → g.id ≡ h.id → g.image ≡ h.image ++ unit

@@ -67,7 +67,7 @@ module _ (d : MasterData) (core : IsCore d) where
   abbrev new : Start
   new = start_after d.head d.next d.safe
 
-  new_is : new ≡ next_start (log_of d)
+  pub new_is : new ≡ next_start (log_of d)
   new_is = λ i. record {
     id = d.next;
     others = digest_is d.config.master d.head (head_of d.head) core.image i;
@@ -138,12 +138,15 @@ module _ (d : MasterData) (core : IsCore d) where
         used = omega arith;
       };
       legal = core.legal;
-      index = (core.index.0, (let i = core.index.1 in record {
-        places = are_at_grown (images_of d) (images_of (rolling_data d)) d.places core.index.0 grow i.places;
-        distinct = i.distinct;
-        contents = i.contents;
-        safe = i.safe;
-      }));
+      index = (
+        core.index.0,
+        (let i = core.index.1 in record {
+          places = are_at_grown (images_of d) (images_of (rolling_data d)) d.places core.index.0 grow i.places;
+          distinct = i.distinct;
+          contents = i.contents;
+          safe = i.safe;
+        }),
+      );
     }
 
 -- ---- a roll goes on
@@ -190,13 +193,16 @@ module _ (d : MasterData) (core : IsCore d) (r : Roll) (is : d.head.roll ≡ Som
       next = core.next;
       roll = record { image = rolls_of.image; lists = rolls_of.lists; newer = rolls_of.newer; used = rolls_of.used };
       legal = core.legal;
-      index = (core.index.0, (let i = core.index.1 in record {
-        places = are_at_grown (images_of d) (images_of e) d.places core.index.0
-            (same_grow (image_among d.head d.closed) (image_among e.head d.closed) (same_roll d.head d.closed r q is refl refl)) i.places;
-        distinct = i.distinct;
-        contents = i.contents;
-        safe = i.safe;
-      }));
+      index = (
+        core.index.0,
+        (let i = core.index.1 in record {
+          places = are_at_grown (images_of d) (images_of e) d.places core.index.0
+              (same_grow (image_among d.head d.closed) (image_among e.head d.closed) (same_roll d.head d.closed r q is refl refl)) i.places;
+          distinct = i.distinct;
+          contents = i.contents;
+          safe = i.safe;
+        }),
+      );
     }
 
   -- ---- the last Close
@@ -237,14 +243,17 @@ module _ (d : MasterData) (core : IsCore d) (r : Roll) (is : d.head.roll ≡ Som
     next = core.next;
     roll = tt;
     legal = core.legal;
-    index = (core.index.0, (let i = core.index.1 in record {
-      places = are_at_grown (images_of d) (images_of f) d.places core.index.0
-          (same_grow (image_among d.head d.closed) (image_among f.head f.closed)
-          (closed_same d.head d.closed r is apart (no_closed d core d.head.id (omega arith)))) i.places;
-      distinct = i.distinct;
-      contents = i.contents;
-      safe = i.safe;
-    }));
+    index = (
+      core.index.0,
+      (let i = core.index.1 in record {
+        places = are_at_grown (images_of d) (images_of f) d.places core.index.0
+            (same_grow (image_among d.head d.closed) (image_among f.head f.closed)
+            (closed_same d.head d.closed r is apart (no_closed d core d.head.id (omega arith)))) i.places;
+        distinct = i.distinct;
+        contents = i.contents;
+        safe = i.safe;
+      }),
+    );
   } where
     id_is : (start_of r).id ≡ r.id
     id_is = ap (λ (l : Head). l.start.id) (sym head_then) ∙ (image_in_force d.config.master d.head r rolls_of.image values.segment).id

@@ -2,8 +2,7 @@ use Rattle.std.proofs.Common.{rules}
 use Rattle.lines.proofs.Names as names
 use Rattle.lines.proofs.parse.cas.Goals as goal
 
-pub returns-in_err-table : goal.returns-in_err-table
-returns-in_err-table c = rw c.from_residual.ensures (names.no_cas c.args.words (c.versioned.ensures.complete (search rules)))
-
-pub returns : goal.returns
-returns c = names.cas c.args.words _ _ _ _ c.in_ok-table.ensures.sound
+pub returns-in_err-version : goal.returns-in_err-version
+returns-in_err-version c =
+    rw c.from_residual-in_err-version.ensures (names.no_version c.args.words _ c.in_ok-table.table c.in_ok-key.key.now (search rules)
+    (c.number-2.ensures.complete (search rules)))

@@ -1,9 +1,6 @@
-use Rattle.std.proofs.Common.{rules}
-use Rattle.lines.proofs.Names as names
+use Rattle.std.proofs.Common.{arith}
+use Rattle.lines.proofs.Spelling as spelling
 use Rattle.lines.proofs.parse.del.Goals as goal
 
-pub returns-in_err-table : goal.returns-in_err-table
-returns-in_err-table c = rw c.from_residual.ensures (names.no_del c.args.words (c.table_key.ensures.complete (search rules)))
-
 pub returns : goal.returns
-returns c = names.del c.args.words _ _ c.in_ok-table.ensures.sound
+returns c = spelling.del c.args.words c.in_ok-table.table c.in_ok-key.key.now _ c.in_ok-table.ensures.sound (omega arith) c.in_ok-key.ensures.sound

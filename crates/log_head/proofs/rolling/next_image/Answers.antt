@@ -1,4 +1,4 @@
-use Rattle.std.proofs.Common.{◌≡◌, ◌++◌, ◌∷◌, [], true, List, ℕ, ◌∙◌, sym, subst}
+use Rattle.std.proofs.Common.{◌≡◌, true, List, ℕ, ◌∙◌, sym, subst}
 use Rattle.entry.specs.Text.{ends_with}
 use Rattle.log_head.proofs.Rolls.{ends_with_push}
 use Rattle.log_head.proofs.rolling.next_image.Goals as goal
