@@ -46,7 +46,7 @@ module _ (d e : MasterData) (old new : Node) (config : Config) (at : Position) (
         (command, asks, refl),
         elim why [
           | inl memory ↦ inl memory
-          | inr test ↦ inr (command, asks, (d, f, lived d e old new config at None of s f valid [] g.history, test))
+          | inr test ↦ inr (command, asks, inl (d, f, lived d e old new config at None of s f valid [] g.history, test))
         ],
       )),
     ),

@@ -2,6 +2,7 @@ pub mod Printed
 pub mod MasterSteps
 pub mod Standing
 pub mod Commands
+pub mod Rolls
 pub mod WhatIsLeft
 pub mod LongerLives
 pub mod Turning

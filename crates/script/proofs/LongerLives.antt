@@ -11,7 +11,7 @@ use Rattle.versioned_map.specs.Versioned.{State, after as map_after}
 use Rattle.script.specs.declared.answer.Answer.{Answer}
 use Rattle.script.specs.declared.answer.Answer.TheVariants as answer
 use Rattle.script.specs.Lives.{Life, life_to, Left, IsLeftBy, IsLeftBySpent}
-use Rattle.script.specs.Told.{Told, Position, IsRecordAt, IsIn, IsTest, IsImageAt, Tells, AreTelling}
+use Rattle.script.specs.Told.{Told, Position, IsRecordAt, IsIn, IsCause, IsImageAt, Tells, AreTelling}
 
 -- ---- a longer history tells the same
 
@@ -85,7 +85,7 @@ module _ (config : Config) (opening : State) (history more : List Record) where
     t.0,
     elim t.1 [
       | inl (inl (out, inl memory)) ↦ inl (inl (out, inl memory))
-      | inl (inl (out, inr (c, is, test))) ↦ inl (inl (out, inr (c, is, subst (λ (l : Life). IsTest config l c r) (same_front at.made within) test)))
+      | inl (inl (out, inr (c, is, cause))) ↦ inl (inl (out, inr (c, is, subst (λ (l : Life). IsCause config l c r) (same_front at.made within) cause)))
       | inl (inr (added, pushed)) ↦ inl (inr (in_longer at line None next added, pushed))
       | inr u ↦ inr u
     ],

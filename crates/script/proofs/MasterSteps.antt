@@ -4,24 +4,35 @@ use Rattle.std.proofs.lemmas.List.{append-nil}
 use Rattle.std.specs.Prelude.{Option, Some, None, Result, Ok, Err, is_none, ◌&&◌, if◌then◌else◌, unwrap_or}
 use Rattle.versioned_map.specs.declared.command.Command.{Command}
 use Rattle.versioned_map.specs.declared.command.Reply.{Reply}
+use Rattle.log_head.specs.Head.{is_open}
 use Rattle.log_model.specs.Data.{LogData}
 use Rattle.master_core.specs.declared.step.Refusal.{Refusal}
 use Rattle.master_core.specs.declared.step.Refusal.TheVariants as refusal
-use Rattle.master_core.specs.declared.step.Step.TheVariants.{Apply, Push}
+use Rattle.master_core.specs.declared.step.Step.TheVariants.{Apply, Push, BeginRoll}
 use Rattle.master_core.specs.declared.step.StepAnswer.{StepAnswer}
 use Rattle.master_core.specs.declared.step.StepAnswer.TheVariants.{Applied}
-use Rattle.master_core.specs.Causes.{is_open, is_pushed, command_refusal, early_refusal, late_refusal}
+use Rattle.master_core.specs.Causes.{is_pushed, command_refusal, roll_refusal, early_refusal, late_refusal}
 use Rattle.master_core.specs.Data.{MasterData}
 use Rattle.master.specs.Keeps.{Keeps}
 use Rattle.master.specs.Steps.{Steps, Declines, FailsTake}
 use Rattle.master.specs.World.{World}
-use Rattle.script.specs.Served.{LivesOn, IsSpent, record_of}
+use Rattle.script.specs.Served.{LivesOn, IsNotRolled, IsSpent, record_of}
 use Rattle.script.specs.Told.{is_of_push}
 
 -- ---- a master goes on
 
 pub goes_nowhere : (d : MasterData) → LivesOn d d []
 goes_nowhere d = record { config = refl; durable = omega arith; history = sym (append-nil d.history) }
+
+pub goes_further : (old mid new : MasterData) → LivesOn old mid [] → LivesOn mid new [] → LivesOn old new []
+goes_further old mid new before more =
+    let was = before.durable in
+    let is = more.durable in
+    record {
+      config = more.config ∙ before.config;
+      durable = omega arith;
+      history = more.history ∙ append-nil mid.history ∙ before.history;
+    }
 
 -- ---- a push
 
@@ -86,6 +97,40 @@ spent_push old new r h is = go (subst (λ (x : Refusal). Declines old Push x new
     go : Declines old Push refusal.Spent new → IsSpent new.fleet
     go (inl h) = absurd (tested old.knows.is_halted (is_pushed old.knows.head) h.0)
     go (inr h) = subst (λ (w : World). IsSpent w.fleet) (sym h.1.1) h.1.0
+
+-- ---- a roll that begins
+
+begun_history : (old new : World) (r : Result StepAnswer Refusal) → Steps old BeginRoll r new → new.knows.history ≡ old.knows.history
+begun_history old new (Ok a) h = ap (λ (d : MasterData). d.history) h.0.rest
+begun_history old new (Err r) h = ap (λ (w : World). w.knows.history) h.0
+
+pub begin_goes_on : (old new : World) (r : Result StepAnswer Refusal) → Steps old BeginRoll r new → Keeps 1 old new → LivesOn old.knows new.knows []
+begin_goes_on old new r begin kept = record {
+  config = kept.config;
+  durable = kept.durable;
+  history = begun_history old new r begin ∙ sym (append-nil old.knows.history);
+}
+
+-- why it was refused
+pub refused_begin : (old new : World) (r : Refusal) → Declines old BeginRoll r new → IsNotRolled old.knows r
+refused_begin old new r (same, inl test) = inl test
+refused_begin old new r (same, inr memory) = inr (ap is_of_push memory.1)
+
+-- no test refuses a roll as spent, and a roll takes nothing
+pub spent_begin : (old new : World) (r : Refusal) → Declines old BeginRoll r new → r ≡ refusal.Spent → ⊥
+spent_begin old new r h is = go (subst (λ (x : Refusal). Declines old BeginRoll x new) is h)
+  where
+    tested : (halted opened spent may : Bool) → (if halted then Some refusal.Halted else if opened then Some refusal.Rolling
+        else if spent then Some refusal.SegmentsSpent else if may then Some refusal.Full else None) ≡ Some refusal.Spent → ⊥
+    tested true opened spent may e = cc
+    tested false true spent may e = cc
+    tested false false true may e = cc
+    tested false false false true e = cc
+    tested false false false false e = cc
+
+    go : Declines old BeginRoll refusal.Spent new → ⊥
+    go (same, inl test) = tested _ _ _ _ test
+    go (same, inr memory) = let none = memory.1 in cc
 
 -- ---- a command
 

@@ -4,7 +4,7 @@ use Rattle.std.proofs.lemmas.List.{append-nil, length-append}
 use Rattle.std.proofs.Math.Seq.{take-length}
 use lib.Seq.{take-append_seam}
 use Rattle.std.specs.Prelude.{Option, Some, None, slice_get}
-use Rattle.lines.specs.Grammar.{LineValue, Put, Get}
+use Rattle.lines.specs.Grammar.{LineValue, Put, New, Cas, Get, Del}
 use Rattle.replica.specs.Picture.{FleetState}
 use Rattle.versioned_map.specs.declared.command.Command.{Command}
 use Rattle.versioned_map.specs.declared.command.Record.{Record}
@@ -126,5 +126,8 @@ up_told node config line up asks =
 
 pub asks_master : (line : LineValue) (command : Command) → command_of line ≡ Some command → is_for_master line ≡ true
 asks_master (Put table key value) command is = refl
+asks_master (New table key value) command is = refl
+asks_master (Cas table key version value) command is = refl
 asks_master (Get table key) command is = refl
+asks_master (Del table key) command is = refl
 asks_master line command is = absurd (cc)

@@ -6,20 +6,22 @@ use Rattle.replica.specs.Picture.{FleetState, left_on}
 use Rattle.versioned_map.specs.declared.command.Command.{Command}
 use Rattle.versioned_map.specs.declared.command.Record.{Record}
 use Rattle.versioned_map.specs.declared.command.Reply.{Reply}
+use Rattle.log_head.specs.Head.{is_open}
 use Rattle.log_model.specs.Data.{durable_of}
 use Rattle.master_core.specs.declared.config.Config.{Config}
 use Rattle.master_core.specs.declared.step.Refusal.{Refusal}
-use Rattle.master_core.specs.declared.step.Refusal.TheVariants.{NoMemory}
-use Rattle.master_core.specs.Causes.{command_refusal, is_open}
+use Rattle.master_core.specs.declared.step.Refusal.TheVariants.{NoMemory, Rolling, Spent}
+use Rattle.master_core.specs.Causes.{command_refusal, roll_refusal}
 use Rattle.master_core.specs.Data.{MasterData}
 use Rattle.master_core.specs.Log.{opening_of, log_of}
 use Rattle.master.specs.Valid.{IsValid}
 use Rattle.script.specs.declared.answer.Answer.{Answer}
+use Rattle.script.specs.declared.answer.Answer.TheVariants.{Refused, Stopped}
 use Rattle.script.specs.declared.node.Node.{Node}
 use Rattle.script.specs.declared.node.Node.TheVariants.{Up, Down, Changing}
 use Rattle.script.specs.declared.session.Session.{Session}
-use Rattle.script.specs.Lives.{Life, Left, is_left}
-use Rattle.script.specs.Told.{Position, at_start, is_of_push, Tells}
+use Rattle.script.specs.Lives.{Life, life_to, Left, is_left}
+use Rattle.script.specs.Told.{Position, at_start, command_of, is_of_push, IsTest, TellsNoRoll, Tells}
 
 -- a master goes on: the same configuration, no less durable, and with these records more
 pub record LivesOn (old new : MasterData) (more : List Record) : Type 0 where
@@ -45,6 +47,10 @@ abbrev pub IsUnserved : MasterData → MasterData → Command → Refusal → Ty
 IsUnserved old new command r =
     (LivesOn old new [] × ((r ≡ NoMemory) ⊎ (command_refusal old command ≡ Some r)))
     ⊎ (((reply : Reply) × LivesOn old new (record_of command reply)) × (is_of_push r ≡ true))
+
+-- a roll was refused by a test, or a push was refused
+abbrev pub IsNotRolled : MasterData → Refusal → Type 0
+IsNotRolled old r = (roll_refusal old ≡ Some r) ⊎ (is_of_push r ≡ true)
 
 -- The fleet holds of a master that is gone what its crash left, less the backups that were lost since.
 pub record IsLeftOf (d : MasterData) (l : Left) (f : FleetState) : Type 0 where
@@ -74,6 +80,16 @@ is_up (Up m) = true
 is_up (Down fleet) = false
 is_up Changing = false
 
+-- a master was dropped, and its fleet is what is left
+abbrev pub IsDropped : Node → Node → Type 0
+IsDropped old new = (d : MasterData) (f : FleetState) → IsOf old None d → fleet_of old ≡ Some f →
+    IsOf new (Some (left_now f)) d
+
+-- a refusal is the answer; or the fleet takes no more ops, and the master was dropped
+abbrev pub Refuses : Node → Refusal → Node → Answer → Type 0
+Refuses old r new answer =
+    ((answer ≡ Refused r) × (new ≡ old)) ⊎ ((answer ≡ Stopped) × (r ≡ Spent) × IsDropped old new)
+
 -- The node stands at this position for this knowledge, of a master of this configuration, and what was acknowledged is
 -- durable.
 pub record IsNodeAt (node : Node) (config : Config) (d : MasterData) (at : Position) : Type 0 where
@@ -84,6 +100,8 @@ pub record IsNodeAt (node : Node) (config : Config) (d : MasterData) (at : Posit
 
 abbrev pub life_of : MasterData → Life
 life_of d = record { opening = opening_of d; history = d.history }
+
+-- ---- lines
 
 -- What a line answers is told of the life of whatever the node stands for, and the node that is left goes on with it.
 abbrev pub AnswersLine : Node → Config → LineValue → Node → Answer → Type 0
@@ -102,3 +120,37 @@ pub record BeginsSession (config : Config) (s : Session) : Type 0 where
   pub stands : (d : MasterData) × IsNodeAt s.node config d at_start × (is_open d.head ≡ true)
   pub number : s.master ≡ config.master
   pub backups : s.backups ≡ config.backups
+
+-- ---- commands and rolls
+
+-- the node stands at this position, with the same records
+abbrev pub StaysAt : Node → Config → MasterData → Position → MasterData → Type 0
+StaysAt node config d at e = IsNodeAt node config e at × (e.history ≡ d.history)
+
+-- a test refused the command, since a roll is due or under way, and nothing was done
+abbrev pub WaitsForRoll : Node → Config → Command → Node → Type 0
+WaitsForRoll old config command new = (d : MasterData) (at : Position) → IsNodeAt old config d at →
+    (e : MasterData) × StaysAt new config d at e
+    × (at.left ≡ None) × IsTest config (life_to (life_of e) at.made) command Rolling
+
+-- a command that is served: its line is answered, or it waits for a roll
+abbrev pub Serves : Node → Command → Node → Option Answer → Type 0
+Serves old command new (Some answer) =
+    (config : Config) (line : LineValue) → command_of line ≡ Some command → AnswersLine old config line new answer
+Serves old command new None = (config : Config) → WaitsForRoll old config command new
+
+-- A roll was made and the head is open; or it was refused. No record was made.
+abbrev pub MakesRoom : Node → Config → Node → Option Answer → Type 0
+MakesRoom old config new (Some answer) = (d : MasterData) (at : Position) → IsNodeAt old config d at →
+    (e : MasterData) × (next : Position) × IsNodeAt new config e next × (e.history ≡ d.history)
+    × TellsNoRoll config (life_of e) at answer next
+MakesRoom old config new None = (d : MasterData) (at : Position) → IsNodeAt old config d at →
+    (e : MasterData) × StaysAt new config d at e × (is_open e.head ≡ true)
+
+-- A session goes on with a command's line once a roll was made, or that is refused. The line is answered of whatever the
+-- node stood for when its command had to wait.
+pub record AnswersAfterRoll (mid : Session) (line : LineValue) (new : Session) (answer : Answer) : Type 0 where
+  pub number : new.master ≡ mid.master
+  pub backups : new.backups ≡ mid.backups
+  pub answers : (old : Node) (config : Config) (command : Command) → command_of line ≡ Some command
+      → WaitsForRoll old config command mid.node → AnswersLine old config line new.node answer

@@ -6,20 +6,20 @@ use Rattle.entry.specs.declared.entry.Object.{Object}
 use Rattle.entry.specs.Meaning.{IsMeaning, among, contents_of}
 use Rattle.entry.specs.Order.{key_cmp}
 use Rattle.entry.specs.Text.{text_of}
-use Rattle.lines.specs.Grammar.{LineValue, Idle, Put, Get, Hex, Stop, Crash, Lose, Recover}
+use Rattle.lines.specs.Grammar.{LineValue, Idle, Put, New, Cas, Get, Del, Hex, Stop, Crash, Lose, Recover}
 use Rattle.replica.specs.Choice.{Choice, IsShownChoice, bag_of}
 use Rattle.replica.specs.Picture.{FleetState, shown_by, survivors}
 use Rattle.replica.specs.Survival.{BothSurvive}
 use Rattle.versioned_map.specs.declared.command.Command.{Command}
 use Rattle.versioned_map.specs.declared.command.Command.TheVariants as command
-use Rattle.versioned_map.specs.declared.command.If.TheVariants.{Any}
+use Rattle.versioned_map.specs.declared.command.If.TheVariants.{Any, Absent, Version}
 use Rattle.versioned_map.specs.declared.command.Reply.{Reply}
 use Rattle.versioned_map.specs.History.{commands_of}
 use Rattle.versioned_map.specs.Versioned.{after}
 use Rattle.master_core.specs.declared.config.Config.{Config}
 use Rattle.master_core.specs.declared.step.Refusal.{Refusal}
 use Rattle.master_core.specs.declared.step.Refusal.TheVariants as refusal
-use Rattle.master_core.specs.Causes.{command_refusal}
+use Rattle.master_core.specs.Causes.{command_refusal, roll_refusal}
 use Rattle.master_core.specs.Data.{MasterData}
 use Rattle.master_core.specs.Log.{image_of}
 use Rattle.replay.specs.declared.rebuilt.Rebuilt.{Rebuilt}
@@ -53,7 +53,10 @@ at_start = record { made = 0; acknowledged = 0; left = None }
 -- what a line asks of the map
 abbrev pub command_of : LineValue → Option Command
 command_of (Put table key value) = Some (command.Put (record { table = table; bytes = key }) value Any)
+command_of (New table key value) = Some (command.Put (record { table = table; bytes = key }) value Absent)
+command_of (Cas table key version value) = Some (command.Put (record { table = table; bytes = key }) value (Version version))
 command_of (Get table key) = Some (command.Get (record { table = table; bytes = key }))
+command_of (Del table key) = Some (command.Delete (record { table = table; bytes = key }))
 command_of _ = None
 
 -- the record at this place is of what the line asks, by seat 0, and has this reply
@@ -90,13 +93,37 @@ is_of_push refusal.Nothing = true
 is_of_push refusal.NoMemory = true
 is_of_push _ = false
 
--- A command is refused by a test, or for want of memory, and has made no record; or it made one, and then a push was
--- refused.
+-- the test by which a master that has lived this life refuses a roll
+abbrev pub IsRollTest : Config → Life → Refusal → Type 0
+IsRollTest config life r = (d : MasterData) × (f : FleetState) × HasLived config life d f × (roll_refusal d ≡ Some r)
+
+-- a roll is refused by a test, or one of its pushes is refused
+abbrev pub IsRollRefused : Config → Life → Refusal → Type 0
+IsRollRefused config life r = IsRollTest config life r ⊎ (is_of_push r ≡ true)
+
+-- A test refuses the command, or it has to wait for a roll, and the roll is refused.
+abbrev pub IsCause : Config → Life → Command → Refusal → Type 0
+IsCause config life c r =
+    IsTest config life c r ⊎ (IsTest config life c refusal.Rolling × IsRollRefused config life r)
+
+-- A command is refused for memory, by a test or with the roll that it waits for, and has made no record; or it made
+-- one, and then a push was refused.
 abbrev pub IsRefused : Config → Life → Position → LineValue → Refusal → Position → Type 0
 IsRefused config life at line r next =
     (IsOut at line None next × ((r ≡ refusal.NoMemory)
-    ⊎ ((c : Command) × (command_of line ≡ Some c) × IsTest config (life_to life at.made) c r)))
+    ⊎ ((c : Command) × (command_of line ≡ Some c) × IsCause config (life_to life at.made) c r)))
     ⊎ (IsIn life at line None next × (is_of_push r ≡ true))
+
+-- What an answer tells of a roll that wasn't made, and the position that it leads to. No record was made.
+abbrev pub TellsNoRoll : Config → Life → Position → Answer → Position → Type 0
+TellsNoRoll config life at (answer.Refused r) next = (at.left ≡ None)
+    × IsRollRefused config (life_to life at.made) r
+    × (next ≡ record { made = at.made; acknowledged = at.acknowledged; left = None })
+TellsNoRoll config life at answer.Stopped next = (at.left ≡ None)
+    × (l : Left) × IsLeftBySpent config (life_to life at.made) l
+    × (next ≡ record { made = at.made; acknowledged = at.acknowledged; left = Some l })
+TellsNoRoll config life at answer.Down next = ((l : Left) × (at.left ≡ Some l)) × (next ≡ at)
+TellsNoRoll config life at _ next = ⊥
 
 -- ---- images
 
@@ -133,7 +160,10 @@ IsLossOf config l e = IsLossOrMemory e
 -- the line works only while there is a master
 abbrev pub is_for_master : LineValue → Bool
 is_for_master (Put table key value) = true
+is_for_master (New table key value) = true
+is_for_master (Cas table key version value) = true
 is_for_master (Get table key) = true
+is_for_master (Del table key) = true
 is_for_master (Hex segment) = true
 is_for_master Crash = true
 is_for_master _ = false

@@ -1,7 +1,7 @@
 -- What one line of a script comes to.
 use Rattle.std.specs.Prelude.{◌≡◌, ◌⊎◌, ◌<◌, ◌≤◌, ◌-◌, ◌^◌, ℕ, List, [], ◌∷◌, ◌++◌, length, Bool, true, false, Option, Result, Ok, Err}
 use Rattle.std.specs.Io.KnownBytes.{Appends, Consumes, IsAtEnd, Keeps}
-use Rattle.lines.specs.Grammar.{LineValue, Says, Put}
+use Rattle.lines.specs.Grammar.{LineValue, Says, Put, New, Cas}
 use Rattle.lines.specs.Reading.{IsLineText}
 use Rattle.script.specs.declared.answer.Answer.{Answer}
 use Rattle.script.specs.declared.fault.ScriptFault.{ScriptFault}
@@ -20,6 +20,8 @@ Known = Option (List ℕ)
 -- the value of a line is one that an object may have
 abbrev pub HasValue : LineValue → Type 0
 HasValue (Put table key value) = length value ≤ 2097152
+HasValue (New table key value) = length value ≤ 2097152
+HasValue (Cas table key version value) = length value ≤ 2097152
 HasValue _ = Unit {0}
 
 -- why a line wasn't run

@@ -1,18 +1,16 @@
 //! A fleet, and the master over it where there is one.
 
-ghost use Rattle.std.specs.Prelude.{◌≡◌, ◌<◌, [], true, false, None, Some, IfOk, IfErr, IsTrue};
+ghost use Rattle.std.specs.Prelude.{◌≡◌, ◌<◌, [], true, false, None, Some, IfOk, IfErr};
 ghost use Rattle.std.specs.Option.{option_map};
 ghost use Rattle.backup.specs.State.{lost};
-ghost use Rattle.lines.specs.Grammar.{LineValue};
 ghost use Rattle.master_core.specs.declared.config.Config.{Config};
 ghost use Rattle.log_model.specs.Data.{durable_of};
-ghost use Rattle.master_core.specs.Causes.{is_open};
-ghost use Rattle.master_core.specs.Data.{MasterData};
+ghost use Rattle.log_head.specs.Head.{is_open};
 ghost use Rattle.master_core.specs.Log.{log_of};
-ghost use Rattle.replica.specs.Picture.{FleetState};
 ghost use Rattle.replica.specs.Take.{limited};
-ghost use Rattle.script.specs.Served.{LivesOn, IsServed, IsUnserved, IsSpent, IsOf, AnswersLine, fleet_of, is_up, left_now};
-ghost use Rattle.script.specs.Told.{command_of, is_of_push};
+ghost use Rattle.script.specs.Served.{LivesOn, IsServed, IsUnserved, IsNotRolled, IsSpent, AnswersLine, fleet_of, is_up};
+ghost use Rattle.script.specs.Served.{IsDropped, Refuses, Serves, MakesRoom};
+ghost use Rattle.script.specs.Told.{is_of_push};
 
 use crate::answer::Answer;
 use backup::MemoryFleet;
@@ -32,20 +30,38 @@ pub enum Node {
     Changing,
 }
 
-/// Pushes until a push is refused, and answers whether that was because nothing waits.
-pub fn push_all<F: Fleet>(master: &mut Master<F>) -> bool
+/// Pushes until nothing waits, or a push is refused.
+pub fn push_all<F: Fleet>(master: &mut Master<F>) -> Result<(), Refusal>
     ensures goes_on { LivesOn master.old.knows master.new.knows [] }
-    ensures open { IsTrue result → is_open master.new.knows.head ≡ true }
+    ensures open { IfOk result (λ _. is_open master.new.knows.head ≡ true) }
+    ensures refused { IfErr result (λ r. is_of_push r ≡ true) }
+    ensures spent { IfErr result (λ r. r ≡ Refusal.Spent → IsSpent (F.state master.new.fleet)) }
 {
     for _ in 0..u64::MAX {
         if let Err(refusal) = master.step(Step::Push) {
             return match refusal {
-                Refusal::Nothing => true,
-                _ => false,
+                Refusal::Nothing => Ok(()),
+                _ => Err(refusal),
             };
         }
     }
-    false
+    Err(Refusal::Nothing)
+}
+
+/// Begins a roll, if none is under way, and pushes until nothing waits.
+fn roll_all<F: Fleet>(master: &mut Master<F>) -> Result<(), Refusal>
+    ensures goes_on { LivesOn master.old.knows master.new.knows [] }
+    ensures open { IfOk result (λ _. is_open master.new.knows.head ≡ true) }
+    ensures refused { IfErr result (IsNotRolled master.old.knows) }
+    ensures spent { IfErr result (λ r. r ≡ Refusal.Spent → IsSpent (F.state master.new.fleet)) }
+{
+    match master.step(Step::BeginRoll) {
+        Ok(_) => push_all(master),
+        Err(refusal) => match refusal {
+            Refusal::Rolling => push_all(master),
+            _ => Err(refusal),
+        },
+    }
 }
 
 /// Pushes until the record at this place is durable, or a push is refused.
@@ -87,36 +103,62 @@ fn serve<F: Fleet>(master: &mut Master<F>, command: Command) -> Result<Reply, Re
 impl Node {
     ghost use Rattle.lines.specs.Grammar.{Hex, Stop, Crash, Lose, Recover};
 
-    /// One command, pushed until it is durable. Where the fleet takes no more ops, the master is dropped, and
-    /// the limit lifted.
+    /// One command, pushed until it is durable. It answers none if a roll is due first: then nothing was done.
     #[inline(always)]
-    pub fn serve(&mut self, command: Command) -> Answer
-        ensures { (config : Config) (line : LineValue) → command_of line ≡ Some command →
-            AnswersLine self.old config line self.new result }
+    pub fn serve(&mut self, command: Command) -> Option<Answer>
+        ensures { Serves self.old command self.new result }
     {
         let Node::Up(up) = self else {
-            return Answer::Down;
+            return Some(Answer::Down);
         };
         let outcome = serve(up, command);
         up.show_valid();
         match outcome {
-            Ok(reply) => Answer::Reply(reply),
+            Ok(reply) => Some(Answer::Reply(reply)),
             Err(refusal) => match refusal {
-                Refusal::Spent => {
-                    up.limit(u64::MAX);
-                    self.drop_master();
-                    Answer::Stopped
-                }
-                _ => Answer::Refused(refusal),
+                Refusal::Rolling => None,
+                _ => Some(self.refuse(refusal)),
             },
+        }
+    }
+
+    /// Begins a roll, if none is under way, and pushes until nothing waits. It answers none if the head is open then.
+    pub fn make_room(&mut self) -> Option<Answer>
+        ensures { (config : Config) → MakesRoom self.old config self.new result }
+    {
+        let Node::Up(up) = self else {
+            return Some(Answer::Down);
+        };
+        let outcome = roll_all(up);
+        up.show_valid();
+        match outcome {
+            Ok(()) => None,
+            Err(refusal) => Some(self.refuse(refusal)),
+        }
+    }
+
+    /// Answers a refusal. If the fleet takes no more ops, the limit is lifted, and the master is dropped.
+    fn refuse(&mut self, refusal: Refusal) -> Answer
+        requires { is_up self.old ≡ true }
+        ensures { Refuses self.old refusal self.new result }
+    {
+        match refusal {
+            Refusal::Spent => {
+                let Node::Up(up) = self else {
+                    unreachable!();
+                };
+                up.limit(u64::MAX);
+                self.drop_master();
+                Answer::Stopped
+            }
+            _ => Answer::Refused(refusal),
         }
     }
 
     /// Drops the master of a node that is up. The fleet stays as it is.
     fn drop_master(&mut self)
         requires { is_up self.old ≡ true }
-        ensures left { (d : MasterData) (f : FleetState) → IsOf self.old None d → fleet_of self.old ≡ Some f →
-            IsOf self.new (Some (left_now f)) d }
+        ensures left { IsDropped self.old self.new }
         ensures fleet { fleet_of self.new ≡ fleet_of self.old }
         ensures down { is_up self.new ≡ false }
     {
@@ -137,6 +179,7 @@ impl Node {
         match up.look(Look::Image(segment)) {
             Ok(Shown::Image(Some(bytes))) => Answer::Hex(bytes),
             Ok(Shown::Image(None)) => Answer::NotInLog(segment),
+            Ok(Shown::Digest(_)) => unreachable!(),
             Err(NoMemory) => Answer::Refused(Refusal::NoMemory),
         }
     }

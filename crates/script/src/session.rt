@@ -1,13 +1,14 @@
 //! What a script drives: a fleet, and a master over it or none.
 
-ghost use Rattle.std.specs.Prelude.{◌≡◌, ◌≤◌, length, None, IfOk, IfErr};
+ghost use Rattle.std.specs.Prelude.{◌≡◌, ◌≤◌, length, None, Some, IfOk, IfErr, IsSome};
 ghost use Rattle.lines.specs.Grammar.{IsKeyWord, IsLine, shown_line};
 ghost use Rattle.master_core.specs.Config.{config_fault};
 ghost use Rattle.master_core.specs.declared.config.Config.{Config};
 ghost use Rattle.script.specs.Configuration.{config_of};
 ghost use Rattle.script.specs.declared.session.LineFault.TheVariants as line_fault;
 ghost use Rattle.script.specs.Runs.{IsOfFleet};
-ghost use Rattle.script.specs.Served.{BeginsSession, SessionAnswers};
+ghost use Rattle.script.specs.Served.{AnswersAfterRoll, BeginsSession, SessionAnswers};
+ghost use Rattle.script.specs.Told.{command_of};
 ghost use Rattle.script.specs.Turns.{HasValue, RefusesLine};
 
 use crate::answer::Answer;
@@ -17,7 +18,7 @@ use backup::MemoryFleet;
 use command_line::Options;
 use entry::{Key, KeyFault, MAX_VALUE_LEN, NoMemory, Value};
 use lines::Line;
-use master::{Command, If, Master};
+use master::{Command, If, Master, Refusal};
 use std::alloc::Global;
 
 /// Why a line was not run.
@@ -62,7 +63,7 @@ impl Session {
             Err((fault, _)) => return Err(fault),
         };
         // A new fleet takes ops without a limit or a fault: a push is refused for want of memory alone.
-        if !push_all(&mut master) {
+        if push_all(&mut master).is_err() {
             return Err(NoMemory);
         }
         master.show_valid();
@@ -83,24 +84,83 @@ impl Session {
         ensures of_fleet { IfOk result (λ _. IsOfFleet self.old.backups (shown_line line.entry)) }
         ensures refused { IfErr result (RefusesLine self.old.backups (shown_line line.entry)) }
     {
-        let alloc = self.alloc;
         match line {
             Line::Idle => Ok(Answer::Silent),
-            Line::Put { table, key, value } => {
-                let command = put_command(alloc, table, key, value)?;
-                Ok(self.node.serve(command))
-            }
-            Line::Get { table, key } => {
-                let key = make_key(alloc, table, key)?;
-                Ok(self.node.serve(Command::Get(key)))
-            }
+            Line::Put { .. }
+            | Line::New { .. }
+            | Line::Cas { .. }
+            | Line::Get { .. }
+            | Line::Del { .. } => self.run_command(line),
             Line::Hex { segment } => Ok(self.node.hex(segment)),
             Line::Stop { takes } => Ok(self.node.stop(takes)),
             Line::Crash => Ok(self.node.crash()),
             Line::Lose { backup } if backup >= self.backups => Err(LineFault::Bad),
             Line::Lose { backup } => Ok(self.node.lose(backup)),
-            Line::Recover => Ok(self.node.recover(alloc, self.master)),
+            Line::Recover => Ok(self.node.recover(self.alloc, self.master)),
+            Line::Roll => Err(LineFault::Bad),
+            Line::BeginRoll => Err(LineFault::Bad),
+            Line::Push => Err(LineFault::Bad),
+            Line::Log => Err(LineFault::Bad),
+            Line::Holdings => Err(LineFault::Bad),
         }
+    }
+
+    /// Runs a command's line.
+    #[inline(always)]
+    fn run_command(&mut self, line: Line<'_>) -> Result<Answer, LineFault>
+        requires line { IsLine (shown_line line) }
+        requires value { HasValue (shown_line line) }
+        requires command { IsSome (command_of (shown_line line)) }
+        ensures ran { IfOk result (λ answer. SessionAnswers self.old (shown_line line.entry) self.new answer) }
+        ensures refused { IfErr result (λ fault. fault ≡ LineFault.NoMemory) }
+    {
+        let command = line_command(self.alloc, line)?;
+        match self.node.serve(command) {
+            Some(answer) => Ok(answer),
+            None => self.run_after_roll(line),
+        }
+    }
+
+    /// Makes the roll that a command's line waits for, and runs the line again.
+    #[inline(never)]
+    fn run_after_roll(&mut self, line: Line<'_>) -> Result<Answer, LineFault>
+        requires line { IsLine (shown_line line) }
+        requires value { HasValue (shown_line line) }
+        requires command { IsSome (command_of (shown_line line)) }
+        ensures ran { IfOk result (λ answer. AnswersAfterRoll self.old (shown_line line.entry) self.new answer) }
+        ensures refused { IfErr result (λ fault. fault ≡ LineFault.NoMemory) }
+    {
+        if let Some(answer) = self.node.make_room() {
+            return Ok(answer);
+        }
+        let command = line_command(self.alloc, line)?;
+        match self.node.serve(command) {
+            Some(answer) => Ok(answer),
+            None => Ok(Answer::Refused(Refusal::Rolling)),
+        }
+    }
+}
+
+/// The command of a line.
+#[inline(always)]
+fn line_command(alloc: Global, line: Line<'_>) -> Result<Command, NoMemory>
+    requires line { IsLine (shown_line line) }
+    requires value { HasValue (shown_line line) }
+    requires command { IsSome (command_of (shown_line line)) }
+    ensures { IfOk result (λ command. command_of (shown_line line.entry) ≡ Some command) }
+{
+    match line {
+        Line::Put { table, key, value } => put_command(alloc, table, key, value, If::Any),
+        Line::New { table, key, value } => put_command(alloc, table, key, value, If::Absent),
+        Line::Cas {
+            table,
+            key,
+            version,
+            value,
+        } => put_command(alloc, table, key, value, If::Version(version)),
+        Line::Get { table, key } => Ok(Command::Get(make_key(alloc, table, key)?)),
+        Line::Del { table, key } => Ok(Command::Delete(make_key(alloc, table, key)?)),
+        _ => unreachable!(),
     }
 }
 
@@ -116,13 +176,19 @@ fn make_key(alloc: Global, table: u64, bytes: &[u8]) -> Result<Key, NoMemory>
     }
 }
 
-fn put_command(alloc: Global, table: u64, key: &[u8], value: &[u8]) -> Result<Command, NoMemory>
+fn put_command(
+    alloc: Global,
+    table: u64,
+    key: &[u8],
+    value: &[u8],
+    when: If,
+) -> Result<Command, NoMemory>
     requires key { IsKeyWord key.now }
     requires value { length value.now ≤ MAX_VALUE_LEN }
     ensures { IfOk result (λ command.
-        command ≡ Command.Put (record { table = table; bytes = key.now }) value.now If.Any) }
+        command ≡ Command.Put (record { table = table; bytes = key.now }) value.now when) }
 {
     let key = make_key(alloc, table, key)?;
     let value = Vec::from_slice(alloc, value)?;
-    Ok(Command::Put(key, Value::new(value), If::Any))
+    Ok(Command::Put(key, Value::new(value), when))
 }

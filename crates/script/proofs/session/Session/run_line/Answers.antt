@@ -1,20 +1,11 @@
-use Rattle.std.proofs.Common.{refl, sym, ap, Some}
+use Rattle.std.proofs.Common.{refl}
 use Rattle.lines.specs.Grammar.{Idle}
-use Rattle.versioned_map.specs.declared.command.Command.TheVariants as command
 use Rattle.script.specs.declared.answer.Answer.TheVariants.{Silent}
 use Rattle.script.proofs.Standing.{stays_told}
 use Rattle.script.proofs.session.Session.run_line.Goals as goal
 
 pub returns-in-Idle-clause-ran : goal.returns-in-Idle-clause-ran
 returns-in-Idle-clause-ran c = rw c.in-Idle.is (record { number = refl; backups = refl; answers = λ config number. stays_told c.args.self.now.node config Idle Silent (λ d at s. (refl, refl)) })
-
-pub returns-in_ok-command-in-Put-clause-ran : goal.returns-in_ok-command-in-Put-clause-ran
-returns-in_ok-command-in-Put-clause-ran c =
-    rw c.in-Put.is (record { number = refl; backups = refl; answers = λ config number. c.serve.ensures config _ (ap Some (sym c.in_ok-command-in-Put.ensures)) })
-
-pub returns-in_ok-key-in-Get-clause-ran : goal.returns-in_ok-key-in-Get-clause-ran
-returns-in_ok-key-in-Get-clause-ran c =
-    rw c.in-Get.is (record { number = refl; backups = refl; answers = λ config number. c.serve-in-Get.ensures config _ (ap (λ k. Some (command.Get k)) (sym c.in_ok-key-in-Get.ensures)) })
 
 pub returns-in-Hex-clause-ran : goal.returns-in-Hex-clause-ran
 returns-in-Hex-clause-ran c = rw c.in-Hex.is (record { number = refl; backups = refl; answers = λ config number. c.hex.ensures config })

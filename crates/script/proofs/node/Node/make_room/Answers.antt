@@ -1,0 +1,20 @@
+use Rattle.std.proofs.Common.{[], ap, refl, subst}
+use Rattle.backup.specs.State.{fleet_state}
+use Rattle.master_core.specs.Data.{MasterData}
+use Rattle.script.specs.declared.node.Node.{Node}
+use Rattle.script.specs.declared.node.Node.TheVariants.{Up}
+use Rattle.script.specs.Served.{LivesOn, IsNotRolled, IsOf, is_up}
+use Rattle.script.proofs.Rolls.{no_roll_told}
+use Rattle.script.proofs.Standing.{is_up_none}
+use Rattle.script.proofs.node.Node.make_room.Goals as goal
+
+pub returns-in-Err : goal.returns-in-Err
+returns-in-Err c = λ config d at s.
+    let m = c.roll_all-outcome.new.master in
+    let r = c.in-Err.refusal in
+    let was : IsOf (Up c.in-Up.up) at.left d = subst (λ (n : Node). IsOf n at.left d) c.in-Up.is s.node_of in
+    let on : LivesOn d m.knows [] = subst (λ (x : MasterData). LivesOn x m.knows []) was.1 c.in-Err.ensures.goes_on in
+    let why : IsNotRolled d r = subst (λ (x : MasterData). IsNotRolled x r) was.1 c.in-Err.ensures.refused in
+    no_roll_told d m.knows c.args.self.now (Up m) c.refuse.new.self config at s (is_up_none c.args.self.now d at.left (ap is_up c.in-Up.is) s.node_of)
+    r c.refuse.result (fleet_state c.in-Up.up.fleet) (fleet_state m.fleet) was.2 (refl, refl, c.show_valid.ensures) refl c.show_valid.ensures
+    c.in-Err.ensures.spent on why c.refuse.ensures

@@ -1,0 +1,27 @@
+use Rattle.std.proofs.Common.{◌≡◌, ◌∙◌, [], ap, inr, refl, sym, subst}
+use Rattle.std.specs.Prelude.{None, Some, Option, unwrap_or}
+use Rattle.backup.specs.State.{fleet_state}
+use Rattle.master.specs.Valid.{IsValid}
+use Rattle.master.specs.World.{World}
+use Rattle.master_core.specs.Data.{MasterData}
+use Rattle.replica.specs.Picture.{FleetState, Picture}
+use Rattle.script.specs.declared.node.Node.{Node}
+use Rattle.script.specs.declared.node.Node.TheVariants.{Up}
+use Rattle.script.specs.Served.{IsOf, fleet_of}
+use Rattle.script.proofs.node.Node.refuse.Goals as goal
+
+pub returns-in-Up : goal.returns-in-Up
+returns-in-Up c = inr (
+  refl,
+  c.in-Spent.is,
+  λ d f of fleet.
+  let limited = c.limit.new.self in
+  let was : IsOf (Up c.in-Up.up) None d = subst (λ (n : Node). IsOf n None d) c.in-Up.is of in
+  let held = sym (ap fleet_of c.in-Up.is) ∙ fleet in
+  let same : limited.knows ≡ d = ap (λ (w : World). w.knows) c.limit.ensures.limited ∙ was.1 in
+  let picture : (fleet_state limited.fleet).picture ≡ f.picture =
+  ap (λ (w : World). w.fleet.picture) c.limit.ensures.limited ∙ ap (λ (o : Option FleetState). (unwrap_or o f).picture) held in
+  let valid = subst (λ (x : MasterData). IsValid x (fleet_state limited.fleet)) same c.limit.ensures.valid in
+  subst (λ (p : Picture). IsOf c.drop_master.new.self (Some (record { picture = p; lost = [] })) d) picture
+  (c.drop_master.ensures.left d (fleet_state limited.fleet) (refl, same, valid) refl),
+)
