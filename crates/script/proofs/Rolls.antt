@@ -69,8 +69,7 @@ no_roll_told d e old mid new config at s none r a f g valid of fleet now spent o
       record { made = at.made; acknowledged = at.acknowledged; left = None },
       still_stands d e old new config at None stays s on,
       on.history ∙ append-nil d.history,
-      subst (λ (x : Answer). TellsNoRoll config (life_of e) at x (record { made = at.made; acknowledged = at.acknowledged; left = None })) (sym is)
-      (
+      subst (λ (x : Answer). TellsNoRoll config (life_of e) at x (record { made = at.made; acknowledged = at.acknowledged; left = None })) (sym is) (
         none,
         elim why [
           | inl test ↦ inl (d, f, lived d e old new config at None stays s f valid [] on.history, test)
@@ -86,8 +85,7 @@ no_roll_told d e old mid new config at s none r a f g valid of fleet now spent o
       record { made = at.made; acknowledged = at.acknowledged; left = Some (left_now g) },
       stands,
       on.history ∙ append-nil d.history,
-      subst (λ (x : Answer). TellsNoRoll config (life_of e) at x (record { made = at.made; acknowledged = at.acknowledged; left = Some (left_now g) })) (sym is)
-      (
+      subst (λ (x : Answer). TellsNoRoll config (life_of e) at x (record { made = at.made; acknowledged = at.acknowledged; left = Some (left_now g) })) (sym is) (
         none,
         left_now g,
         (e, g, lived_longer d e old new config at (Some (left_now g)) gone s g now at.made stands.configured stands.made, refl, spent rest),
@@ -148,7 +146,7 @@ no_room_told old mid new config line command a asks waits makes d at s =
       told.2,
       ([], told.3 ∙ was.1.1 ∙ sym (append-nil d.history)),
       no_room_tells config (life_of told.0) at line command a told.1 asks was.2
-      (subst (λ (l : Life). IsTest config (life_to l at.made) command refusal.Rolling) same was.3) told.4,
+          (subst (λ (l : Life). IsTest config (life_to l at.made) command refusal.Rolling) same was.3) told.4,
     )
 
 -- the roll is made, and the line is answered then

@@ -31,6 +31,8 @@ fn kind(answer: &Result<StepAnswer, Refusal>) -> Kind {
         Ok(StepAnswer::Opened(backup, segment)) => ("opened", *backup, *segment),
         Ok(StepAnswer::Applied(place, _)) => ("applied", *place, 0),
         Ok(StepAnswer::Extended(backup, segment)) => ("extended", *backup, *segment),
+        Ok(StepAnswer::Closed(backup, segment)) => ("closed", *backup, *segment),
+        Ok(StepAnswer::Rolling(segment)) => ("rolling", *segment, 0),
         Err(Refusal::Nothing) => ("nothing", 0, 0),
         Err(_) => ("refused", 0, 0),
     }
