@@ -90,6 +90,20 @@ impl<F: Fleet> Master<F> {
         self.core.master()
     }
 
+    /// The number of the head in force.
+    pub fn head(&self) -> u64
+        ensures { result ≡ self.now.knows.head.id }
+    {
+        self.core.head().id()
+    }
+
+    /// The fleet, as it is.
+    pub fn fleet(&self) -> &F
+        ensures { result.now ≡ self.entry.now.fleet }
+    {
+        &self.fleet
+    }
+
     /// How many of the first records are durable: each unit of theirs was taken whole, by takes that answered Ok, by
     /// every replica of its segment.
     pub fn durable(&self) -> u64

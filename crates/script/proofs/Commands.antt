@@ -40,7 +40,7 @@ module _ (d e : MasterData) (old new : Node) (config : Config) (at : Position) (
     record { made = at.made; acknowledged = at.acknowledged; left = None },
     still_stands d e old new config at None of s g,
     ([], g.history),
-    (
+    inl (
       none,
       inl (inl (
         (command, asks, refl),
@@ -58,7 +58,7 @@ module _ (d e : MasterData) (old new : Node) (config : Config) (at : Position) (
         record { made = suc at.made; acknowledged = at.acknowledged; left = None },
         stands_longer d e old new config at None of s command reply at.acknowledged g (omega arith),
         (record_of command reply, g.history),
-        (none, inl (inr ((reply, (command, asks, record_there d e old new config at None of s command reply g), refl), pushed))),
+        inl (none, inl (inr ((reply, (command, asks, record_there d e old new config at None of s command reply g), refl), pushed))),
       )
 
   -- it was dropped, with a fleet that took no more ops
@@ -89,6 +89,6 @@ module _ (d e : MasterData) (old new : Node) (config : Config) (at : Position) (
           none,
           left_now f,
           (e, f, lived_longer d e old new config at (Some (left_now f)) of s f valid (suc at.made) stands.configured stands.made, refl, spent),
-          inr (reply, (command, asks, record_there d e old new config at (Some (left_now f)) of s command reply g), refl),
+          inr (inl (reply, (command, asks, record_there d e old new config at (Some (left_now f)) of s command reply g), refl)),
         ),
       )

@@ -7,3 +7,4 @@ pub mod WhatIsLeft
 pub mod LongerLives
 pub mod Turning
 pub mod Fronts
+pub mod Steps

@@ -11,7 +11,10 @@ use Rattle.versioned_map.specs.Versioned.{State, after as map_after}
 use Rattle.script.specs.declared.answer.Answer.{Answer}
 use Rattle.script.specs.declared.answer.Answer.TheVariants as answer
 use Rattle.script.specs.Lives.{Life, life_to, Left, IsLeftBy, IsLeftBySpent}
-use Rattle.script.specs.Told.{Told, Position, IsRecordAt, IsIn, IsCause, IsImageAt, Tells, AreTelling}
+use Rattle.master_core.specs.declared.step.Step.{Step}
+use Rattle.master_core.specs.declared.step.StepAnswer.{StepAnswer}
+use Rattle.script.specs.Told.{Told, Position, IsRecordAt, IsIn, IsRollRefused, IsCause, IsImageAt, Tells, AreTelling}
+use Rattle.script.specs.Told.{IsHeadAt, IsStepAt, IsDigestAt, AreHeldAt}
 
 -- ---- a longer history tells the same
 
@@ -33,17 +36,26 @@ module _ (config : Config) (life : Life) where
   rises : (at : Position) (line : LineValue) (a : Answer) (next : Position) → Tells config life at line a next → at.made ≤ next.made
   rises at line answer.Silent next t = as_before at next t.1
   rises at line (answer.Reply reply) next t = let made = ap (λ (p : Position). p.made) t.1.1 in omega arith
-  rises at line (answer.Refused r) next t = elim t.1 [
-    | inl (inl (out, why)) ↦ let made = ap (λ (p : Position). p.made) out.2 in omega arith
-    | inl (inr (added, pushed)) ↦ let made = ap (λ (p : Position). p.made) added.2 in omega arith
+  rises at line (answer.Refused r) next t = elim t [
+    | inl (none, inl (inl (out, why))) ↦ let made = ap (λ (p : Position). p.made) out.2 in omega arith
+    | inl (none, inl (inr (added, pushed))) ↦ let made = ap (λ (p : Position). p.made) added.2 in omega arith
+    | inl (none, inr step) ↦ let made = ap (λ (p : Position). p.made) step.1.2 in omega arith
     | inr u ↦ as_before at next u.2
   ]
+  rises at line (answer.Head id) next t = as_before at next t.3
+  rises at line (answer.Opening id) next t = as_before at next t.3
+  rises at line (answer.Extended backup segment) next t = as_before at next t.3
+  rises at line (answer.Opened backup segment) next t = as_before at next t.3
+  rises at line (answer.Closed backup segment) next t = as_before at next t.3
+  rises at line (answer.Log ids) next t = as_before at next t.3
+  rises at line (answer.Holdings hs) next t = as_before at next t.2
   rises at line (answer.Hex bytes) next t = as_before at next t.2
   rises at line (answer.NotInLog segment) next t = as_before at next t.3
   rises at line (answer.Stop takes) next t = as_before at next t.1
   rises at line answer.Stopped next t = elim t.3 [
     | inl out ↦ let made = ap (λ (p : Position). p.made) out.2 in omega arith
-    | inr added ↦ let made = ap (λ (p : Position). p.made) added.2 in omega arith
+    | inr (inl added) ↦ let made = ap (λ (p : Position). p.made) added.2 in omega arith
+    | inr (inr step) ↦ let made = ap (λ (p : Position). p.made) step.1 in omega arith
   ]
   rises at line answer.Crashed next t = let made = ap (λ (p : Position). p.made) t.4 in omega arith
   rises at line (answer.Lost backup) next t = let made = ap (λ (p : Position). p.made) t.3 in omega arith
@@ -77,19 +89,38 @@ module _ (config : Config) (opening : State) (history more : List Record) where
   in_longer : (at : Position) (line : LineValue) (left : Option Left) (next : Position) → IsIn life at line left next → IsIn longer at line left next
   in_longer at line left next (reply, there, is) = (reply, record_longer at.made line reply there, is)
 
+  step_longer : (at : Position) (is : Type 0) (s : Step) (a : StepAnswer) (next : Position) → at.made ≤ length history
+      → (at.left ≡ None) × is × IsStepAt config (life_to life at.made) s a × (next ≡ at)
+      → (at.left ≡ None) × is × IsStepAt config (life_to longer at.made) s a × (next ≡ at)
+  step_longer at is s a next within t =
+      (t.0, t.1, subst (λ (l : Life). IsStepAt config l s a) (same_front at.made within) t.2, t.3)
+
   tells_longer : (at : Position) (line : LineValue) (a : Answer) (next : Position) → at.made ≤ length history → next.made ≤ length history
       → Tells config life at line a next → Tells config longer at line a next
   tells_longer at line answer.Silent next within after t = t
   tells_longer at line (answer.Reply reply) next within after t = (t.0, (record_longer at.made line reply t.1.0, t.1.1))
-  tells_longer at line (answer.Refused r) next within after t = (
-    t.0,
-    elim t.1 [
-      | inl (inl (out, inl memory)) ↦ inl (inl (out, inl memory))
-      | inl (inl (out, inr (c, is, cause))) ↦ inl (inl (out, inr (c, is, subst (λ (l : Life). IsCause config l c r) (same_front at.made within) cause)))
-      | inl (inr (added, pushed)) ↦ inl (inr (in_longer at line None next added, pushed))
-      | inr u ↦ inr u
-    ],
-  )
+  tells_longer at line (answer.Refused r) next within after t = elim t [
+    | inl (none, inl (inl (out, inl memory))) ↦ inl (none, inl (inl (out, inl memory)))
+    | inl (none, inl (inl (out, inr (c, is, cause)))) ↦
+        inl (none, inl (inl (out, inr (c, is, subst (λ (l : Life). IsCause config l c r) (same_front at.made within) cause))))
+    | inl (none, inl (inr (added, pushed))) ↦ inl (none, inl (inr (in_longer at line None next added, pushed)))
+    | inl (none, inr step) ↦ inl (none, inr (step.0, (
+        step.1.0,
+        subst (λ (l : Life). IsRollRefused config l r) (same_front at.made within) step.1.1,
+        step.1.2,
+      )))
+    | inr u ↦ inr u
+  ]
+  tells_longer at line (answer.Head id) next within after t =
+      (t.0, t.1, subst (λ (l : Life). IsHeadAt config l id) (same_front at.made within) t.2, t.3)
+  tells_longer at line (answer.Opening id) next within after t = step_longer at _ _ _ next within t
+  tells_longer at line (answer.Extended backup segment) next within after t = step_longer at _ _ _ next within t
+  tells_longer at line (answer.Opened backup segment) next within after t = step_longer at _ _ _ next within t
+  tells_longer at line (answer.Closed backup segment) next within after t = step_longer at _ _ _ next within t
+  tells_longer at line (answer.Log ids) next within after t =
+      (t.0, t.1, subst (λ (l : Life). IsDigestAt config l ids) (same_front at.made within) t.2, t.3)
+  tells_longer at line (answer.Holdings hs) next within after t =
+      (t.0, subst (λ (l : Life). AreHeldAt config l at.left hs) (same_front at.made within) t.1, t.2)
   tells_longer at line (answer.Hex bytes) next within after t =
       (t.0, (t.1.0, t.1.1, subst (λ (l : Life). IsImageAt config l t.1.0 (Some bytes)) (same_front at.made within) t.1.2), t.2)
   tells_longer at line (answer.NotInLog segment) next within after t =
@@ -99,7 +130,11 @@ module _ (config : Config) (opening : State) (history more : List Record) where
     t.0,
     t.1,
     subst (λ (l : Life). IsLeftBySpent config l t.1) (same_front next.made after) t.2,
-    elim t.3 [ inl out ↦ inl out | inr added ↦ inr (in_longer at line (Some t.1) next added) ],
+    elim t.3 [
+      | inl out ↦ inl out
+      | inr (inl added) ↦ inr (inl (in_longer at line (Some t.1) next added))
+      | inr (inr step) ↦ inr (inr step)
+    ],
   )
   tells_longer at line answer.Crashed next within after t =
       (t.0, t.1, t.2, subst (λ (l : Life). IsLeftBy config l t.2) (same_front at.made within) t.3, t.4)

@@ -111,7 +111,7 @@ rolling_told old new config line command asks waits d at s =
       at,
       told.1.0,
       ([], told.1.1 ∙ sym (append-nil d.history)),
-      (
+      inl (
         told.2,
         inl (inl (
           (command, asks, λ i. record { made = at.made; acknowledged = at.acknowledged; left = told.2 i }),
@@ -124,7 +124,7 @@ rolling_told old new config line command asks waits d at s =
 no_room_tells : (config : Config) (life : Life) (at : Position) (line : LineValue) (command : Command) (a : Answer) (next : Position) → command_of line ≡ Some command
     → at.left ≡ None → IsTest config (life_to life at.made) command refusal.Rolling → TellsNoRoll config life at a next → Tells config life at line a next
 no_room_tells config life at line command (answer.Refused r) next asks none test t =
-    (none, inl (inl ((command, asks, t.2), inr (command, asks, inr (test, t.1)))))
+    inl (none, inl (inl ((command, asks, t.2), inr (command, asks, inr (test, t.1)))))
 no_room_tells config life at line command answer.Stopped next asks none test t = (
   none,
   t.1,

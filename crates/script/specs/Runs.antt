@@ -2,7 +2,7 @@
 use Rattle.std.specs.Prelude.{◌≡◌, ◌⊎◌, ◌<◌, ◌≤◌, ◌-◌, ◌^◌, ℕ, suc, List, [], ◌∷◌, ◌++◌, length, Option, Result, Ok, Err}
 use Rattle.std.specs.List.{All, flat_map}
 use Rattle.std.specs.Io.KnownBytes.{Appends, Consumes, IsAtEnd}
-use Rattle.lines.specs.Grammar.{LineValue, Says, Roll, BeginRoll, Push, Log, Lose, Holdings}
+use Rattle.lines.specs.Grammar.{LineValue, Says, Lose}
 use Rattle.lines.specs.Reading.{IsUnbroken, IsLineText}
 use Rattle.master_core.specs.declared.config.Config.{Config}
 use Rattle.versioned_map.specs.History.{IsLegal}
@@ -15,14 +15,9 @@ use Rattle.script.specs.Told.{Told, Position, at_start, AreTelling}
 
 -- ---- lines
 
--- A line names no backup but those of a fleet with so many. Some lines are bad lines for now.
+-- a line names no backup but those of a fleet with so many
 abbrev pub IsOfFleet : ℕ → LineValue → Type 0
 IsOfFleet backups (Lose backup) = backup < backups
-IsOfFleet backups Roll = ⊥
-IsOfFleet backups BeginRoll = ⊥
-IsOfFleet backups Push = ⊥
-IsOfFleet backups Log = ⊥
-IsOfFleet backups Holdings = ⊥
 IsOfFleet backups _ = Unit {0}
 
 -- a line that was run is one of the script

@@ -2,6 +2,9 @@
 use Rattle.std.specs.Prelude.{◌≡◌, ◌⊎◌, ℕ, ◌<◌, ◌≤◌, List, [], ◌∷◌, ◌++◌, Bool, true, false, Option, Some, None, length}
 use Rattle.backup.specs.State.{fleet_state}
 use Rattle.lines.specs.Grammar.{LineValue}
+use Rattle.std.specs.Prelude.{Result, Ok, Err}
+use Rattle.std.specs.declared.alloc.AllocError.{AllocError}
+use Rattle.replica.specs.declared.holding.Holding.{Holding}
 use Rattle.replica.specs.Picture.{FleetState, left_on}
 use Rattle.versioned_map.specs.declared.command.Command.{Command}
 use Rattle.versioned_map.specs.declared.command.Record.{Record}
@@ -16,7 +19,7 @@ use Rattle.master_core.specs.Data.{MasterData}
 use Rattle.master_core.specs.Log.{opening_of, log_of}
 use Rattle.master.specs.Valid.{IsValid}
 use Rattle.script.specs.declared.answer.Answer.{Answer}
-use Rattle.script.specs.declared.answer.Answer.TheVariants.{Refused, Stopped}
+use Rattle.script.specs.declared.answer.Answer.TheVariants.{Refused, Stopped, Holdings}
 use Rattle.script.specs.declared.node.Node.{Node}
 use Rattle.script.specs.declared.node.Node.TheVariants.{Up, Down, Changing}
 use Rattle.script.specs.declared.session.Session.{Session}
@@ -120,6 +123,11 @@ pub record BeginsSession (config : Config) (s : Session) : Type 0 where
   pub stands : (d : MasterData) × IsNodeAt s.node config d at_start × (is_open d.head ≡ true)
   pub number : s.master ≡ config.master
   pub backups : s.backups ≡ config.backups
+
+-- what backups hold, as an answer
+abbrev pub held_answer : Result (List Holding) AllocError → Answer
+held_answer (Ok hs) = Holdings hs
+held_answer (Err fault) = Refused NoMemory
 
 -- ---- commands and rolls
 

@@ -1,10 +1,11 @@
 -- What is printed. Each line ends with a line feed, byte 10; byte 32 is a space.
-use Rattle.std.specs.Prelude.{◌≡◌, ℕ, ◌/◌, ◌%◌, List, [], ◌∷◌, ◌++◌, length, false, codes, Option, Some}
+use Rattle.std.specs.Prelude.{◌≡◌, ℕ, ◌/◌, ◌%◌, List, [], ◌∷◌, ◌++◌, length, Bool, true, false, codes, Option, Some}
 use Rattle.std.specs.Prelude.{None as nothing}
 use Rattle.std.specs.List.{flat_map}
 use Rattle.std.specs.Fmt.{decimal, digit_glyph}
 use Rattle.std.specs.Io.KnownBytes.{Appends}
 use Rattle.entry.specs.declared.entry.Object.{Object}
+use Rattle.replica.specs.declared.holding.Holding.{Holding}
 use Rattle.replay.specs.declared.rebuilt.Rebuilt.{Rebuilt}
 use Rattle.recovery.specs.Texts.{recovery_fault_text}
 use Rattle.versioned_map.specs.declared.command.Reply.{Reply}
@@ -40,6 +41,28 @@ object_text o = decimal o.key.table ++ 32 ∷ o.key.bytes ++ 32 ∷ decimal o.ve
 abbrev pub rebuilt_text : Rebuilt → List ℕ
 rebuilt_text r = flat_map object_text r.objects ++ codes "recovered " ++ decimal (length r.objects) ++ 10 ∷ []
 
+-- words, the numbers of a backup and a segment
+abbrev pub op_text : List ℕ → ℕ → ℕ → List ℕ
+op_text words backup segment = words ++ decimal backup ++ 32 ∷ decimal segment ++ 10 ∷ []
+
+-- a space and a number
+abbrev pub spaced_text : ℕ → List ℕ
+spaced_text n = 32 ∷ decimal n
+
+-- the ids of a digest
+abbrev pub log_text : List ℕ → List ℕ
+log_text ids = codes "log" ++ flat_map spaced_text ids ++ 10 ∷ []
+
+abbrev pub state_text : Bool → List ℕ
+state_text true = codes " open\n"
+state_text false = codes " closed\n"
+
+-- backup, master, segment, length and state of a replica
+abbrev pub holding_text : Holding → List ℕ
+holding_text h =
+    decimal h.backup ++ 32 ∷ decimal h.master ++ 32 ∷ decimal h.segment ++ 32 ∷ decimal (length h.bytes)
+    ++ state_text h.is_open
+
 -- ---- answers
 
 abbrev pub answer_text : Answer → List ℕ
@@ -54,6 +77,13 @@ answer_text answer.Crashed = codes "crashed" ++ 10 ∷ []
 answer_text (answer.Lost backup) = codes "lost " ++ decimal backup ++ 10 ∷ []
 answer_text (answer.Recovered rebuilt) = rebuilt_text rebuilt
 answer_text (answer.NotRecovered fault) = codes "refused " ++ recovery_fault_text fault ++ 10 ∷ []
+answer_text (answer.Head id) = codes "head " ++ decimal id ++ 10 ∷ []
+answer_text (answer.Opening id) = codes "opening " ++ decimal id ++ 10 ∷ []
+answer_text (answer.Extended backup segment) = op_text (codes "extend ") backup segment
+answer_text (answer.Opened backup segment) = op_text (codes "open ") backup segment
+answer_text (answer.Closed backup segment) = op_text (codes "close ") backup segment
+answer_text (answer.Log ids) = log_text ids
+answer_text (answer.Holdings hs) = flat_map holding_text hs
 answer_text answer.Down = codes "refused Down" ++ 10 ∷ []
 answer_text answer.Up = codes "refused Up" ++ 10 ∷ []
 

@@ -1,14 +1,17 @@
 -- What the lines of a script tell of a master's life.
-use Rattle.std.specs.Prelude.{◌≡◌, ◌⊎◌, ℕ, suc, ◌≤◌, List, [], ◌∷◌, map, take, length, Bool, true, false, Option, Some, None, slice_get}
+use Rattle.std.specs.Prelude.{◌≡◌, ◌⊎◌, ◌↔◌, ℕ, suc, ◌≤◌, List, [], ◌∷◌, map, take, length, Bool, true, false, Option, Some, None, slice_get}
 use Rattle.std.specs.List.Sorted.{IsStrictlySortedBy}
 use Rattle.std.specs.Option.{option_map}
 use Rattle.entry.specs.declared.entry.Object.{Object}
 use Rattle.entry.specs.Meaning.{IsMeaning, among, contents_of}
 use Rattle.entry.specs.Order.{key_cmp}
 use Rattle.entry.specs.Text.{text_of}
-use Rattle.lines.specs.Grammar.{LineValue, Idle, Put, New, Cas, Get, Del, Hex, Stop, Crash, Lose, Recover}
+use Rattle.lines.specs.Grammar.{LineValue, Idle, Put, New, Cas, Get, Del, Roll, BeginRoll, Push, Log, Hex, Stop, Crash}
+use Rattle.lines.specs.Grammar.{Lose, Recover, Holdings}
 use Rattle.replica.specs.Choice.{Choice, IsShownChoice, bag_of}
-use Rattle.replica.specs.Picture.{FleetState, shown_by, survivors}
+use Rattle.entry.specs.Bag.{IsAmong}
+use Rattle.replica.specs.declared.holding.Holding.{Holding}
+use Rattle.replica.specs.Picture.{FleetState, left_on, IsHeld, AreHeld, shown_by, survivors}
 use Rattle.replica.specs.Survival.{BothSurvive}
 use Rattle.versioned_map.specs.declared.command.Command.{Command}
 use Rattle.versioned_map.specs.declared.command.Command.TheVariants as command
@@ -20,7 +23,14 @@ use Rattle.master_core.specs.declared.config.Config.{Config}
 use Rattle.master_core.specs.declared.step.Refusal.{Refusal}
 use Rattle.master_core.specs.declared.step.Refusal.TheVariants as refusal
 use Rattle.master_core.specs.Causes.{command_refusal, roll_refusal}
+use Rattle.log_head.specs.Head.{digest_of, is_open}
+use Rattle.master_core.specs.declared.step.Step.{Step}
+use Rattle.master_core.specs.declared.step.Step.TheVariants as step
+use Rattle.master_core.specs.declared.step.StepAnswer.{StepAnswer}
+use Rattle.master_core.specs.declared.step.StepAnswer.TheVariants as step_answer
 use Rattle.master_core.specs.Data.{MasterData}
+use Rattle.master.specs.Steps.{Accepts}
+use Rattle.master.specs.World.{World}
 use Rattle.master_core.specs.Log.{image_of}
 use Rattle.replay.specs.declared.rebuilt.Rebuilt.{Rebuilt}
 use Rattle.recovery.specs.declared.recovery.RecoveryFault.{RecoveryFault}
@@ -125,6 +135,58 @@ TellsNoRoll config life at answer.Stopped next = (at.left ≡ None)
 TellsNoRoll config life at answer.Down next = ((l : Left) × (at.left ≡ Some l)) × (next ≡ at)
 TellsNoRoll config life at _ next = ⊥
 
+-- ---- steps
+
+-- the line asks for a step that makes no record
+abbrev pub is_step : LineValue → Bool
+is_step Roll = true
+is_step BeginRoll = true
+is_step Push = true
+is_step _ = false
+
+-- the line's step was refused by a test of a roll, or as a push is
+abbrev pub IsStepRefused : Config → Life → Position → LineValue → Refusal → Position → Type 0
+IsStepRefused config life at line r next = (is_step line ≡ true) × TellsNoRoll config life at (answer.Refused r) next
+
+-- the line's step made no record, and the master is gone
+abbrev pub IsStepOut : Position → LineValue → Left → Position → Type 0
+IsStepOut at line l next = (is_step line ≡ true)
+    × (next ≡ record { made = at.made; acknowledged = at.acknowledged; left = Some l })
+
+-- the head of a master that has lived this life, which is open
+abbrev pub IsHeadAt : Config → Life → ℕ → Type 0
+IsHeadAt config life id = (d : MasterData) × (f : FleetState) × HasLived config life d f
+    × (d.head.id ≡ id) × (is_open d.head ≡ true)
+
+-- a step of this kind that a master which has lived this life takes, with its answer
+abbrev pub IsStepAt : Config → Life → Step → StepAnswer → Type 0
+IsStepAt config life step a = (old : World) × (new : World) × HasLived config life old.knows old.fleet
+    × HasLived config life new.knows new.fleet × Accepts old step a new
+
+-- ---- what is shown
+
+-- the line shows something, for which it takes memory
+abbrev pub shows : LineValue → Bool
+shows (Hex segment) = true
+shows Log = true
+shows Holdings = true
+shows _ = false
+
+-- the digest in force of a master that has lived this life
+abbrev pub IsDigestAt : Config → Life → List ℕ → Type 0
+IsDigestAt config life ids = (d : MasterData) × (f : FleetState) × HasLived config life d f
+    × (ids ≡ digest_of d.head.image)
+
+-- the replicas of the master that are left
+abbrev pub AreLeft : Config → Left → List Holding → Type 0
+AreLeft config l hs = (h : Holding) → h.master ≡ config.master
+    → IsAmong h hs ↔ IsHeld (left_on (is_left l.lost) l.picture) h
+
+-- the replicas that the backups of a master hold which has lived this life, or those that are left of it
+abbrev pub AreHeldAt : Config → Life → Option Left → List Holding → Type 0
+AreHeldAt config life None hs = (d : MasterData) × (f : FleetState) × HasLived config life d f × AreHeld hs f.picture
+AreHeldAt config life (Some l) hs = AreLeft config l hs
+
 -- ---- images
 
 -- the image of this segment that a master which has lived this life shows
@@ -164,6 +226,10 @@ is_for_master (New table key value) = true
 is_for_master (Cas table key version value) = true
 is_for_master (Get table key) = true
 is_for_master (Del table key) = true
+is_for_master Roll = true
+is_for_master BeginRoll = true
+is_for_master Push = true
+is_for_master Log = true
 is_for_master (Hex segment) = true
 is_for_master Crash = true
 is_for_master _ = false
@@ -178,9 +244,23 @@ is_for_none _ = false
 abbrev pub Tells : Config → Life → Position → LineValue → Answer → Position → Type 0
 Tells config life at line answer.Silent next = (line ≡ Idle) × (next ≡ at)
 Tells config life at line (answer.Reply reply) next = (at.left ≡ None) × IsReplied life at line reply next
-Tells config life at line (answer.Refused r) next = (at.left ≡ None)
-    × (IsRefused config life at line r next
-    ⊎ ((r ≡ refusal.NoMemory) × ((segment : ℕ) × (line ≡ Hex segment)) × (next ≡ at)))
+Tells config life at line (answer.Refused r) next =
+    ((at.left ≡ None) × (IsRefused config life at line r next ⊎ IsStepRefused config life at line r next))
+    ⊎ ((r ≡ refusal.NoMemory) × (shows line ≡ true) × (next ≡ at))
+Tells config life at line (answer.Head id) next = (at.left ≡ None) × (line ≡ Roll)
+    × IsHeadAt config (life_to life at.made) id × (next ≡ at)
+Tells config life at line (answer.Opening id) next = (at.left ≡ None) × (line ≡ BeginRoll)
+    × IsStepAt config (life_to life at.made) step.BeginRoll (step_answer.Rolling id) × (next ≡ at)
+Tells config life at line (answer.Extended backup segment) next = (at.left ≡ None) × (line ≡ Push)
+    × IsStepAt config (life_to life at.made) step.Push (step_answer.Extended backup segment) × (next ≡ at)
+Tells config life at line (answer.Opened backup segment) next = (at.left ≡ None) × (line ≡ Push)
+    × IsStepAt config (life_to life at.made) step.Push (step_answer.Opened backup segment) × (next ≡ at)
+Tells config life at line (answer.Closed backup segment) next = (at.left ≡ None) × (line ≡ Push)
+    × IsStepAt config (life_to life at.made) step.Push (step_answer.Closed backup segment) × (next ≡ at)
+Tells config life at line (answer.Log ids) next = (at.left ≡ None) × (line ≡ Log)
+    × IsDigestAt config (life_to life at.made) ids × (next ≡ at)
+Tells config life at line (answer.Holdings hs) next = (line ≡ Holdings)
+    × AreHeldAt config (life_to life at.made) at.left hs × (next ≡ at)
 Tells config life at line (answer.Hex bytes) next = (at.left ≡ None)
     × ((segment : ℕ) × (line ≡ Hex segment) × IsImageAt config (life_to life at.made) segment (Some bytes))
     × (next ≡ at)
@@ -189,7 +269,7 @@ Tells config life at line (answer.NotInLog segment) next = (at.left ≡ None)
 Tells config life at line (answer.Stop takes) next = (line ≡ Stop takes) × (next ≡ at)
 Tells config life at line answer.Stopped next = (at.left ≡ None)
     × (l : Left) × IsLeftBySpent config (life_to life next.made) l
-    × (IsOut at line (Some l) next ⊎ IsIn life at line (Some l) next)
+    × (IsOut at line (Some l) next ⊎ (IsIn life at line (Some l) next ⊎ IsStepOut at line l next))
 Tells config life at line answer.Crashed next = (at.left ≡ None) × (line ≡ Crash)
     × (l : Left) × IsLeftBy config (life_to life at.made) l
     × (next ≡ record { made = at.made; acknowledged = at.acknowledged; left = Some l })

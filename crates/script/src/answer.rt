@@ -4,12 +4,14 @@ ghost use Rattle.std.specs.Prelude.{◌≤◌, ◌++◌, ◌∷◌, [], length, 
 ghost use Rattle.std.specs.Fmt.{decimal};
 ghost use Rattle.std.specs.Io.KnownBytes.{Appends};
 ghost use Rattle.script.specs.Texts.{answer_text, hex_text, object_text, rebuilt_text, reply_text};
+ghost use Rattle.script.specs.Texts.{op_text, log_text, holding_text};
+ghost use Rattle.std.specs.List.{flat_map};
 
-use entry::{Object, Value, Version};
+use entry::{Object, Row, Value, Version};
 use itoa::write_digits;
 use master::{Refusal, Reply};
 use recovery::{Rebuilt, RecoveryFault};
-use replica::Bytes;
+use replica::{Bytes, Holding, Inventory};
 use std::io::{self, Write};
 
 /// What a line of a script answers.
@@ -32,6 +34,20 @@ pub enum Answer {
     Lost(u64),
     Recovered(Rebuilt),
     NotRecovered(RecoveryFault),
+    /// The number of the head, which is open.
+    Head(u64),
+    /// The number of the head to which a roll began.
+    Opening(u64),
+    /// The backup and the segment of a push that extended a replica.
+    Extended(u64, u64),
+    /// The backup and the segment of a push that opened a replica.
+    Opened(u64, u64),
+    /// The backup and the segment of a push that closed a replica.
+    Closed(u64, u64),
+    /// The ids of the digest in force.
+    Log(Row<u64>),
+    /// What the backups hold.
+    Holdings(Inventory),
     /// There is no master.
     Down,
     /// There is a master.
@@ -57,6 +73,13 @@ pub fn write_answer<W: Write>(writer: &mut W, answer: &Answer) -> io::Result<()>
         Answer::Lost(backup) => write_number(writer, b"lost ", *backup, b'\n'),
         Answer::Recovered(rebuilt) => write_rebuilt(writer, rebuilt),
         Answer::NotRecovered(fault) => writeln!(writer, "refused {fault}"),
+        Answer::Head(id) => write_number(writer, b"head ", *id, b'\n'),
+        Answer::Opening(id) => write_number(writer, b"opening ", *id, b'\n'),
+        Answer::Extended(backup, segment) => write_op(writer, b"extend ", *backup, *segment),
+        Answer::Opened(backup, segment) => write_op(writer, b"open ", *backup, *segment),
+        Answer::Closed(backup, segment) => write_op(writer, b"close ", *backup, *segment),
+        Answer::Log(ids) => write_log(writer, ids.as_slice()),
+        Answer::Holdings(inventory) => write_holdings(writer, inventory.as_slice()),
         Answer::Down => writer.write_all(b"refused Down\n"),
         Answer::Up => writer.write_all(b"refused Up\n"),
     }
@@ -107,6 +130,53 @@ fn write_hex<W: Write>(writer: &mut W, bytes: &[u8]) -> io::Result<()>
         write!(writer, "{byte:02x}")?;
     }
     writer.write_all(b"\n")
+}
+
+/// The line of an op: words, and the numbers of its backup and its segment.
+fn write_op<W: Write>(writer: &mut W, words: &[u8], backup: u64, segment: u64) -> io::Result<()>
+    requires { length words.now ≤ 20 }
+    ensures { OnOk result (Appends (W.contents writer.old) (W.contents writer.new)
+        (op_text words.now backup segment)) }
+{
+    write_number(writer, words, backup, b' ')?;
+    write_number(writer, b"", segment, b'\n')
+}
+
+/// The line of a digest.
+fn write_log<W: Write>(writer: &mut W, ids: &[u64]) -> io::Result<()>
+    ensures { OnOk result (Appends (W.contents writer.old) (W.contents writer.new) (log_text ids.now)) }
+{
+    writer.write_all(b"log")?;
+    for id in ids {
+        write!(writer, " {id}")?;
+    }
+    writer.write_all(b"\n")
+}
+
+/// The line of a replica.
+fn write_holding<W: Write>(writer: &mut W, holding: &Holding) -> io::Result<()>
+    ensures { OnOk result (Appends (W.contents writer.old) (W.contents writer.new) (holding_text holding.now)) }
+{
+    write_number(writer, b"", holding.backup, b' ')?;
+    write_number(writer, b"", holding.master, b' ')?;
+    write_number(writer, b"", holding.segment, b' ')?;
+    let len = holding.bytes.as_slice().len();
+    if holding.is_open {
+        writeln!(writer, "{len} open")
+    } else {
+        writeln!(writer, "{len} closed")
+    }
+}
+
+/// A line for each replica, in order.
+fn write_holdings<W: Write>(writer: &mut W, holdings: &[Holding]) -> io::Result<()>
+    ensures { OnOk result (Appends (W.contents writer.old) (W.contents writer.new)
+        (flat_map holding_text holdings.now)) }
+{
+    for holding in holdings {
+        write_holding(writer, holding)?;
+    }
+    Ok(())
 }
 
 /// The line of an object.

@@ -9,6 +9,7 @@ ghost use Rattle.log_head.specs.Head.{is_open};
 ghost use Rattle.master_core.specs.Log.{log_of};
 ghost use Rattle.replica.specs.Take.{limited};
 ghost use Rattle.script.specs.Served.{LivesOn, IsServed, IsUnserved, IsNotRolled, IsSpent, AnswersLine, fleet_of, is_up};
+ghost use Rattle.script.specs.Served.{held_answer};
 ghost use Rattle.script.specs.Served.{IsDropped, Refuses, Serves, MakesRoom};
 ghost use Rattle.script.specs.Told.{is_of_push};
 
@@ -17,7 +18,7 @@ use backup::MemoryFleet;
 use entry::NoMemory;
 use master::{Command, Look, Master, Refusal, Reply, Shown, Step, StepAnswer};
 use recovery::{PlanFault, RecoveryFault, recover};
-use replica::{Bench, Fleet};
+use replica::{Bench, Fleet, Inventory};
 use std::alloc::Global;
 use std::mem::replace;
 
@@ -100,8 +101,18 @@ fn serve<F: Fleet>(master: &mut Master<F>, command: Command) -> Result<Reply, Re
     }
 }
 
+/// What backups hold, as an answer.
+fn held(inventory: Result<Inventory, NoMemory>) -> Answer
+    ensures { result ≡ held_answer inventory }
+{
+    match inventory {
+        Ok(inventory) => Answer::Holdings(inventory),
+        Err(NoMemory) => Answer::Refused(Refusal::NoMemory),
+    }
+}
+
 impl Node {
-    ghost use Rattle.lines.specs.Grammar.{Hex, Stop, Crash, Lose, Recover};
+    ghost use Rattle.lines.specs.Grammar.{Roll, BeginRoll, Push, Log, Hex, Stop, Crash, Lose, Recover, Holdings};
 
     /// One command, pushed until it is durable. It answers none if a roll is due first: then nothing was done.
     #[inline(always)]
@@ -166,6 +177,80 @@ impl Node {
             unreachable!();
         };
         *self = Node::Down(up.crash());
+    }
+
+    /// Begins a roll, if none is under way, and pushes until the head is open.
+    pub fn roll(&mut self) -> Answer
+        ensures { (config : Config) → AnswersLine self.old config Roll self.new result }
+    {
+        if let Some(answer) = self.make_room() {
+            return answer;
+        }
+        let Node::Up(up) = self else {
+            unreachable!();
+        };
+        Answer::Head(up.head())
+    }
+
+    /// Begins a roll.
+    pub fn begin_roll(&mut self) -> Answer
+        ensures { (config : Config) → AnswersLine self.old config BeginRoll self.new result }
+    {
+        let Node::Up(up) = self else {
+            return Answer::Down;
+        };
+        up.show_valid();
+        match up.step(Step::BeginRoll) {
+            Ok(StepAnswer::Rolling(id)) => Answer::Opening(id),
+            Ok(_) => unreachable!(),
+            Err(refusal) => self.refuse(refusal),
+        }
+    }
+
+    /// Hands one op to one backup.
+    pub fn push(&mut self) -> Answer
+        ensures { (config : Config) → AnswersLine self.old config Push self.new result }
+    {
+        let Node::Up(up) = self else {
+            return Answer::Down;
+        };
+        up.show_valid();
+        match up.step(Step::Push) {
+            Ok(StepAnswer::Extended(backup, segment)) => Answer::Extended(backup, segment),
+            Ok(StepAnswer::Opened(backup, segment)) => Answer::Opened(backup, segment),
+            Ok(StepAnswer::Closed(backup, segment)) => Answer::Closed(backup, segment),
+            Ok(_) => unreachable!(),
+            Err(refusal) => self.refuse(refusal),
+        }
+    }
+
+    /// The ids of the digest in force.
+    pub fn log(&self) -> Answer
+        ensures { (config : Config) → AnswersLine self.now config Log self.now result }
+    {
+        let Node::Up(up) = self else {
+            return Answer::Down;
+        };
+        up.show_valid();
+        match up.look(Look::Digest) {
+            Ok(Shown::Digest(ids)) => Answer::Log(ids),
+            Ok(Shown::Image(_)) => unreachable!(),
+            Err(NoMemory) => Answer::Refused(Refusal::NoMemory),
+        }
+    }
+
+    /// What the backups hold.
+    pub fn holdings(&self, alloc: Global) -> Answer
+        ensures { (config : Config) → AnswersLine self.now config Holdings self.now result }
+    {
+        match self {
+            Node::Up(up) => {
+                up.show_valid();
+                held(up.fleet().inventory(alloc))
+            }
+            Node::Down(fleet) => held(fleet.inventory(alloc)),
+            Node::Changing => Answer::Down,
+        }
     }
 
     /// The image of a segment.

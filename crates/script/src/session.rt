@@ -97,11 +97,11 @@ impl Session {
             Line::Lose { backup } if backup >= self.backups => Err(LineFault::Bad),
             Line::Lose { backup } => Ok(self.node.lose(backup)),
             Line::Recover => Ok(self.node.recover(self.alloc, self.master)),
-            Line::Roll => Err(LineFault::Bad),
-            Line::BeginRoll => Err(LineFault::Bad),
-            Line::Push => Err(LineFault::Bad),
-            Line::Log => Err(LineFault::Bad),
-            Line::Holdings => Err(LineFault::Bad),
+            Line::Roll => Ok(self.node.roll()),
+            Line::BeginRoll => Ok(self.node.begin_roll()),
+            Line::Push => Ok(self.node.push()),
+            Line::Log => Ok(self.node.log()),
+            Line::Holdings => Ok(self.node.holdings(self.alloc)),
         }
     }
 
