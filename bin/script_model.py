@@ -1,52 +1,88 @@
 """What a script may print: a small model of the program, after docs/SPECIFICATION.md. It shares no code with it.
 
-`Store.outcomes` gives what a line may answer, and the store after each answer. If no memory is refused there is one
-answer. With a refusal there are more: a command that was not done, one that was done and then not pushed to all of its
-replicas, a recovery that may be run again.
+`Store.outcomes` gives what a line may print, and the store after that. If no memory is refused there is one answer. With a
+refusal there are more: the step that met it was not done, and what the line did before it stays.
 
-A store takes its bytes from the units of its log alone: the image is the opening and the units, a replica has the opening
-and the first so many units, and the map is what those units leave.
+Images and replicas are bytes, in the spelling of section 2. The master answers from a table that it keeps beside them. A
+recovery reads the replicas' bytes, and nothing else.
 """
 
 import re
-from dataclasses import dataclass, replace
+from collections import deque
+from dataclasses import dataclass, field, fields, replace
 
+MASTER = 1
 NO_LIMIT = 2**64 - 1
 # What a line prints, and what is written to standard error, if memory was refused.
 REFUSED = "refused NoMemory\n"
 NO_MEMORY = "ramlog: no memory\n"
 
-DEFAULTS = {
-    "backups": 3, "replicas": 2, "step": 1, "segment": 512, "seglet": 64,
-    "seglets": 64, "tables": 4, "history": 1048576, "bytes": 1048576, "objects": 1000000,
-}
+
+# Options (section 13).
+
+@dataclass(frozen=True)
+class Options:
+    backups: int = 3
+    replicas: int = 2
+    step: int = 1
+    segment: int = 512
+    seglet: int = 64
+    seglets: int = 64
+    tables: int = 4
+    history: int = 1048576
+    bytes: int = 1048576
+    objects: int = 1000000
 
 
 def options_of(words):
     """The options of words such as --segment=4096."""
-    options = dict(DEFAULTS)
+    names = {option.name for option in fields(Options)}
+    numbers = {}
     for word in words:
         match = re.fullmatch(r"--([a-z]+)=([0-9]+)", word)
-        if not match or match[1] not in options:
+        if not match or match[1] not in names:
             raise ValueError(f"no option of the form --NAME=N: {word}")
-        options[match[1]] = int(match[2])
-    return options
+        numbers[match[1]] = int(match[2])
+    return Options(**numbers)
 
 
 # Lines (section 11).
 
-NUMBER = rb"(0|[1-9][0-9]*)"
-KEY = rb"([!-~]{1,1024})"
-VALUE = rb"([!-~]+)"
-SHAPES = [
-    ("put", re.compile(rb"put " + NUMBER + b" " + KEY + b" " + VALUE)),
-    ("get", re.compile(rb"get " + NUMBER + b" " + KEY)),
-    ("hex", re.compile(rb"hex " + NUMBER)),
-    ("stop", re.compile(rb"stop " + NUMBER)),
-    ("lose", re.compile(rb"lose " + NUMBER)),
-    ("crash", re.compile(rb"crash")),
-    ("recover", re.compile(rb"recover")),
-]
+def word(given):
+    if not re.fullmatch(rb"[!-~]+", given):
+        raise ValueError
+    return given
+
+
+def key_word(given):
+    if len(given) > 1024:
+        raise ValueError
+    return word(given)
+
+
+def number_word(given):
+    if not re.fullmatch(rb"0|[1-9][0-9]*", given) or int(given) >= 2**64:
+        raise ValueError
+    return int(given)
+
+
+LINES = {
+    "put": (number_word, key_word, word),
+    "new": (number_word, key_word, word),
+    "cas": (number_word, key_word, number_word, word),
+    "get": (number_word, key_word),
+    "del": (number_word, key_word),
+    "roll": (),
+    "beginroll": (),
+    "push": (),
+    "log": (),
+    "hex": (number_word,),
+    "stop": (number_word,),
+    "crash": (),
+    "lose": (number_word,),
+    "recover": (),
+    "holdings": (),
+}
 
 
 def lines_of(text):
@@ -56,22 +92,38 @@ def lines_of(text):
 
 
 def parse(line, backups):
-    """A line's name and its parts, or None if it is a bad line."""
+    """A line's name and what follows it, or None if it is a bad line."""
     if len(line) > 4096:
         return None
     if line[:1] in (b"", b"#"):
         return ("idle",)
-    for name, shape in SHAPES:
-        match = shape.fullmatch(line)
-        if match:
-            parts = match.groups()
-            numbers = [int(parts[0])] if parts else []
-            if numbers and numbers[0] >= 2**64:
-                return None
-            if name == "lose" and numbers[0] >= backups:
-                return None
-            return (name, *numbers, *parts[1:])
-    return None
+    name, *words = line.split(b" ")
+    name = name.decode("latin-1")
+    if name not in LINES or len(words) != len(LINES[name]):
+        return None
+    try:
+        parts = [read(given) for read, given in zip(LINES[name], words)]
+    except ValueError:
+        return None
+    if name == "lose" and parts[0] >= backups:
+        return None
+    return (name, *parts)
+
+
+def answers_of(lines, output):
+    """Each of these parsed lines with the rows that it printed, as far as the output goes."""
+    rows = deque(output.splitlines())
+    for line in lines:
+        answer = []
+        if line[0] == "holdings":
+            while rows and re.fullmatch(r"([0-9]+ ){4}(open|closed)", rows[0]):
+                answer.append(rows.popleft())
+        elif line[0] == "recover":
+            while rows and not (answer and answer[-1].startswith(("recovered ", "refused "))):
+                answer.append(rows.popleft())
+        elif line[0] != "idle" and rows:
+            answer.append(rows.popleft())
+        yield line, answer
 
 
 # Entries (section 2).
@@ -80,176 +132,521 @@ def number(value, size):
     return value.to_bytes(size, "big")
 
 
-def object_entry(table, version, key, value):
-    return b"\x04" + number(table, 8) + number(version, 8) + number(len(key), 2) + number(len(value), 4) + key + value
+@dataclass(frozen=True)
+class Header:
+    master: int
+    segment: int
+    role: int
 
-
-def tombstone_entry(table, version, segment, key):
-    return b"\x05" + number(table, 8) + number(version, 8) + number(segment, 8) + number(len(key), 2) + key
-
-
-OPENING = (
-    b"\x01" + number(1, 8) + number(1, 8) + b"\x00"
-    + b"\x02" + number(1, 4) + number(1, 8)
-    + b"\x03" + number(1, 8)
-)
+    def spelled(self):
+        return b"\x01" + number(self.master, 8) + number(self.segment, 8) + number(self.role, 1)
 
 
 @dataclass(frozen=True)
-class Unit:
-    """What one put appended: the number of its record, its bytes, and the object that it leaves."""
+class Digest:
+    ids: tuple
 
-    record: int
-    bytes: bytes
-    key: tuple
+    def spelled(self):
+        return b"\x02" + number(len(self.ids), 4) + b"".join(number(it, 8) for it in self.ids)
+
+
+@dataclass(frozen=True)
+class Safe:
     version: int
+
+    def spelled(self):
+        return b"\x03" + number(self.version, 8)
+
+
+@dataclass(frozen=True)
+class Object:
+    table: int
+    version: int
+    key: bytes
     value: bytes
 
+    def spelled(self):
+        lengths = number(len(self.key), 2) + number(len(self.value), 4)
+        return b"\x04" + number(self.table, 8) + number(self.version, 8) + lengths + self.key + self.value
+
+    def rank(self):
+        return 2 * self.version
+
+
+@dataclass(frozen=True)
+class Tombstone:
+    table: int
+    version: int
+    segment: int
+    key: bytes
+
+    def spelled(self):
+        numbers = number(self.table, 8) + number(self.version, 8) + number(self.segment, 8)
+        return b"\x05" + numbers + number(len(self.key), 2) + self.key
+
+    def rank(self):
+        return 2 * self.version + 1
+
+
+FIXED_PARTS = {1: 18, 2: 5, 3: 9, 4: 23, 5: 27}
+
+
+def read_entry(text, at):
+    """The entry at this offset and the offset behind it, or None if no entry begins there."""
+    def part(offset, size):
+        return text[at + offset:at + offset + size]
+
+    def number_at(offset, size):
+        return int.from_bytes(part(offset, size), "big")
+
+    kind, left = text[at], len(text) - at
+    if left < FIXED_PARTS.get(kind, left + 1):
+        return None
+    length = FIXED_PARTS[kind]
+    if kind == 1:
+        entry = Header(number_at(1, 8), number_at(9, 8), number_at(17, 1))
+        fits = entry.role <= 1
+    elif kind == 2:
+        count = number_at(1, 4)
+        length += 8 * count
+        if left < length:
+            return None
+        entry = Digest(tuple(number_at(5 + 8 * place, 8) for place in range(count)))
+        fits = all(one < next_one for one, next_one in zip(entry.ids, entry.ids[1:]))
+    elif kind == 3:
+        entry = Safe(number_at(1, 8))
+        fits = 1 <= entry.version <= 2**62 + 1
+    elif kind == 4:
+        key, value = number_at(17, 2), number_at(19, 4)
+        length += key + value
+        entry = Object(number_at(1, 8), number_at(9, 8), part(23, key), part(23 + key, value))
+        fits = 1 <= entry.version <= 2**62 and 1 <= key <= 1024 and value <= 2097152
+    else:
+        key = number_at(25, 2)
+        length += key
+        entry = Tombstone(number_at(1, 8), number_at(9, 8), number_at(17, 8), part(27, key))
+        fits = 1 <= entry.version <= 2**62 and 1 <= key <= 1024
+    return (entry, at + length) if fits and left >= length else None
+
+
+# Segments (section 3).
+
+def may_follow(entries, entry):
+    """Whether an entry may come behind these in a segment."""
+    if not entries:
+        return isinstance(entry, Header)
+    if entries[0].role == 0 and len(entries) == 1:
+        return isinstance(entry, Digest) and entry.ids[-1:] == (entries[0].segment,)
+    if entries[0].role == 0 and len(entries) == 2:
+        return isinstance(entry, Safe)
+    return isinstance(entry, (Object, Tombstone))
+
+
+def read_segment(text):
+    """The entries of a segment, or None if the bytes are no segment's."""
+    entries, at = [], 0
+    if len(text) > 8388608:
+        return None
+    while at < len(text):
+        read = read_entry(text, at)
+        if read is None or not may_follow(entries, read[0]):
+            return None
+        entries.append(read[0])
+        at = read[1]
+    is_whole = entries and (len(entries) >= 3 or entries[0].role == 1)
+    return entries if is_whole else None
+
+
+# Backups (section 5).
+
+@dataclass(frozen=True)
+class Holding:
+    backup: int
+    master: int
+    segment: int
+    text: bytes
+    is_open: bool
+
+    def name(self):
+        return (self.backup, self.master, self.segment)
+
+
+@dataclass(frozen=True)
+class Fleet:
+    """What the backups hold, sorted by backup, master and segment, and how many further ops they take."""
+
+    holdings: tuple = ()
+    left: int = NO_LIMIT
+
+    def replica(self, backup, segment):
+        return next((it for it in self.holdings if it.name() == (backup, MASTER, segment)), None)
+
+    def took(self, holding):
+        """The fleet after an op that leaves this holding."""
+        others = [it for it in self.holdings if it.name() != holding.name()]
+        left = self.left if self.left == NO_LIMIT else self.left - 1
+        return Fleet(tuple(sorted([*others, holding], key=Holding.name)), left)
+
+
+# The master (sections 7 to 9).
+
+@dataclass(frozen=True)
+class Segment:
+    """The image of a segment, and of each of its units the number of its record and where it ends."""
+
+    id: int
+    text: bytes
+    units: tuple = ()
+
+
+def new_head(ids, safe):
+    """A head with the last of these ids, that has nothing but its opening."""
+    return Segment(ids[-1], Header(MASTER, ids[-1], 0).spelled() + Digest(ids).spelled() + Safe(safe).spelled())
+
+
+@dataclass(frozen=True)
+class Command:
+    kind: str
+    table: int
+    key: bytes
+    value: bytes = b""
+    # What the key has to be for a put: "any", "absent", or a version.
+    condition: object = "any"
+
+
+@dataclass(frozen=True)
+class Live:
+    """A key's version and value, and the segment that its object is in."""
+
+    version: int
+    value: bytes
+    segment: int
+
+
+@dataclass(frozen=True)
+class Master:
+    # By id. The last is the head or, while a roll is under way, the head that is being opened.
+    segments: tuple = (new_head((1,), 1),)
+    is_rolling: bool = True
+    records: int = 0
+    safe: int = 1
+    # What is live, by table and key. It follows from the segments.
+    live: dict = field(default_factory=dict, compare=False)
+
+    def log(self):
+        """The segments of the digest in force."""
+        return self.segments[:-1] if self.is_rolling and len(self.segments) > 1 else self.segments
+
+    def answer(self, command):
+        """The reply to a command, what it appends, and the value that the key has then."""
+        name = (command.table, command.key)
+        live = self.live.get(name)
+        if command.kind == "get":
+            return f"{live.version} {live.value.decode()}" if live else "none", [], live
+        if command.kind == "del":
+            return (f"ok {live.version}", [self.tombstone(name)], None) if live else ("none", [], None)
+        if command.condition != "any" and command.condition != (live.version if live else "absent"):
+            return f"mismatch {live.version if live else 'none'}", [], live
+        version = live.version + 1 if live else self.safe
+        unit = [self.tombstone(name)] if live else []
+        unit.append(Object(command.table, version, command.key, command.value))
+        return f"ok {version}", unit, Live(version, command.value, self.segments[-1].id)
+
+    def tombstone(self, name):
+        live = self.live[name]
+        return Tombstone(name[0], live.version, live.segment, name[1])
+
+    def refusal(self, command, options):
+        """The refusal of a command, apart from NoMemory, or None."""
+        if command.kind == "put" and 50 + 2 * len(command.key) + len(command.value) > options.segment // 4:
+            return "TooBig"
+        if not 1 <= command.table <= options.tables:
+            return "NoTablet"
+        if self.records >= options.history:
+            return "HistoryFull"
+        unit = self.answer(command)[1]
+        if not unit:
+            return None
+        length = sum(len(entry.spelled()) for entry in unit)
+        fits = len(self.segments[-1].text) + length <= options.segment
+        if not self.is_rolling and not fits and not self.may_roll(options):
+            return "Full"
+        return "Rolling" if self.is_rolling or not fits else None
+
+    def may_roll(self, options):
+        ids, most = len(self.segments), options.segment // 32
+        return ids + 1 <= most and ids + 1 <= most - 2 + 1
+
+    def applied(self, command):
+        """The reply to a command that isn't refused, and the master after it."""
+        reply, unit, then = self.answer(command)
+        name, live, safe = (command.table, command.key), dict(self.live), self.safe
+        if unit and command.kind == "del":
+            safe = max(safe, live[name].version + 1)
+        elif unit and name not in live:
+            safe += 1
+        if then:
+            live[name] = then
+        else:
+            live.pop(name, None)
+        head = self.segments[-1]
+        if unit:
+            text = head.text + b"".join(entry.spelled() for entry in unit)
+            head = replace(head, text=text, units=(*head.units, (self.records, len(text))))
+        segments = (*self.segments[:-1], head)
+        return reply, replace(self, segments=segments, records=self.records + 1, safe=safe, live=live)
+
+    def rolling(self):
+        """The master after the begin of a roll."""
+        ids = tuple(it.id for it in self.segments)
+        head = new_head((*ids, ids[-1] + 1), self.safe)
+        return replace(self, segments=(*self.segments, head), is_rolling=True)
+
+
+# Recovery (section 10).
+
+class Refusal(Exception):
+    """A refused recovery, with the name and the numbers of its refusal."""
+
+
+def plan(holdings, master):
+    """The entries of the segments that a recovery reads."""
+    read = []
+    for holding in holdings:
+        if holding.master != master:
+            continue
+        entries = read_segment(holding.text)
+        if entries is None or (entries[0].master, entries[0].segment) != (master, holding.segment):
+            raise Refusal(f"BadReplica {holding.backup} {holding.segment}")
+        read.append((holding, entries))
+    heads = [(holding, entries) for holding, entries in read if entries[0].role == 0]
+    if not heads:
+        raise Refusal("NoHead")
+    newest = max(holding.segment for holding, _ in heads)
+    heads = [(holding, entries) for holding, entries in heads if holding.segment == newest and holding.is_open]
+    if not heads:
+        raise Refusal(f"HeadClosed {newest}")
+    # A closed one before the open ones, and of these the longest.
+    first = lambda replica: (replica[0].is_open, -len(replica[0].text) if replica[0].is_open else 0, replica[0].backup)
+    _, head = min(heads, key=first)
+    planned = []
+    for id_ in head[1].ids[:-1]:
+        replicas = [(holding, entries) for holding, entries in read if holding.segment == id_]
+        if not replicas:
+            raise Refusal(f"Missing {id_}")
+        planned.append(min(replicas, key=first)[1])
+    return [*planned, head]
+
+
+def rebuilt(segments):
+    """The live objects of these segments, by table and key."""
+    tops, objects = {}, {}
+    for entry in (entry for entries in segments for entry in entries if isinstance(entry, (Object, Tombstone))):
+        name = (entry.table, entry.key)
+        if isinstance(entry, Object) and objects.setdefault((name, entry.version), entry.value) != entry.value:
+            raise Refusal("Clash")
+        if name not in tops or entry.rank() > tops[name].rank():
+            tops[name] = entry
+    return [tops[name] for name in sorted(tops) if isinstance(tops[name], Object)]
+
+
+# The store, line by line (section 11).
 
 @dataclass(frozen=True)
 class Store:
-    """A master over its fleet, or, if it is down, the fleet alone."""
+    """A fleet, and a master over it."""
 
-    options: dict
-    up: bool
-    records: int
-    units: tuple
-    # How many units each replica has.
-    taken: tuple
-    # How many further ops the fleet takes.
-    left: int
-    # The backups that lost all that they held.
-    lost: frozenset
-
-    def __hash__(self):
-        return hash((self.up, self.records, self.units, self.taken, self.left, self.lost))
+    options: Options
+    fleet: Fleet
+    # None if it is down.
+    master: Master
 
     @staticmethod
     def new(options):
-        return Store(options, True, 0, (), (0,) * options["replicas"], NO_LIMIT, frozenset())
+        """The store at the start of a script: its first head is open."""
+        store = Store(options, Fleet(), Master())
+        while store.next_op():
+            _, store = store.pushed()
+        return store
 
     def outcomes(self, line):
         """Each answer that the line may print, how many requests for memory it shows as refused, and the store then."""
-        return getattr(self, line[0])(*line[1:])
+        name, *parts = line
+        if name in ("lose", "recover") and self.master:
+            yield "refused Up\n", 0, self
+        elif name not in ("idle", "stop", "lose", "recover", "holdings") and not self.master:
+            yield "refused Down\n", 0, self
+        else:
+            yield from getattr(self, f"line_{name}")(*parts)
 
-    def idle(self):
+    def line_idle(self):
         yield "", 0, self
 
-    def put(self, table, key, value):
-        if not self.up:
-            yield "refused Down\n", 0, self
-            return
-        options = self.options
-        objects, safe = self.map_of(len(self.units))
-        if 50 + 2 * len(key) + len(value) > options["segment"] // 4:
-            yield "refused TooBig\n", 0, self
-        elif not 1 <= table <= options["tables"]:
-            yield "refused NoTablet\n", 0, self
-        elif self.records >= options["history"]:
-            yield "refused HistoryFull\n", 0, self
-        else:
-            present = objects.get((table, key))
-            if present:
-                version = present[0] + 1
-                unit = tombstone_entry(table, present[0], 1, key) + object_entry(table, version, key, value)
-            else:
-                version = safe
-                unit = object_entry(table, version, key, value)
-            if len(self.image()) + len(unit) > options["segment"]:
-                yield "refused Full\n", 0, self
-                return
-            yield REFUSED, 1, self
-            units = self.units + (Unit(self.records, unit, (table, key), version, value),)
-            yield from replace(self, records=self.records + 1, units=units).pushed(f"ok {version}\n")
+    def line_put(self, table, key, value):
+        return self.command(Command("put", table, key, value))
 
-    def get(self, table, key):
-        if not self.up:
-            yield "refused Down\n", 0, self
-        elif not 1 <= table <= self.options["tables"]:
-            yield "refused NoTablet\n", 0, self
-        elif self.records >= self.options["history"]:
-            yield "refused HistoryFull\n", 0, self
-        else:
-            yield REFUSED, 1, self
-            present = self.map_of(len(self.units))[0].get((table, key))
-            reply = f"{present[0]} {present[1].decode()}\n" if present else "none\n"
-            yield from replace(self, records=self.records + 1).pushed(reply)
+    def line_new(self, table, key, value):
+        return self.command(Command("put", table, key, value, "absent"))
 
-    def pushed(self, reply):
-        """The pushes after a command, until its record is durable."""
+    def line_cas(self, table, key, version, value):
+        return self.command(Command("put", table, key, value, version))
+
+    def line_get(self, table, key):
+        return self.command(Command("get", table, key))
+
+    def line_del(self, table, key):
+        return self.command(Command("del", table, key))
+
+    def command(self, command):
         store = self
-        while store.durable() < store.records:
-            if store.left == 0:
-                yield "stopped\n", 0, replace(store, up=False, left=NO_LIMIT)
+        refusal = store.master.refusal(command, self.options)
+        if refusal == "Rolling":
+            store = yield from store.rolled()
+            if not store:
                 return
-            yield REFUSED, 1, store
-            lagging = store.taken.index(min(store.taken))
-            taken = store.taken[:lagging] + (store.taken[lagging] + 1,) + store.taken[lagging + 1:]
-            left = store.left if store.left == NO_LIMIT else store.left - 1
-            store = replace(store, taken=taken, left=left)
-        yield reply, 0, store
+            refusal = store.master.refusal(command, self.options)
+        if refusal:
+            yield f"refused {refusal}\n", 0, store
+            return
+        yield REFUSED, 1, store
+        reply, master = store.master.applied(command)
+        store = replace(store, master=master)
+        while store.durable() < store.master.records:
+            store = yield from store.one_push()
+            if not store:
+                return
+        yield f"{reply}\n", 0, store
 
-    def hex(self, segment):
-        if not self.up:
-            yield "refused Down\n", 0, self
-        elif segment != 1:
-            yield f"refused NotInLog {segment}\n", 0, self
+    def line_roll(self):
+        store = yield from self.rolled()
+        if store:
+            yield f"head {store.master.segments[-1].id}\n", 0, store
+
+    def line_beginroll(self):
+        store = yield from self.begun()
+        if store:
+            yield f"opening {store.master.segments[-1].id}\n", 0, store
+
+    def line_push(self):
+        if not self.next_op():
+            yield "refused Nothing\n", 0, self
+            return
+        store = yield from self.one_push()
+        if store:
+            yield f"{self.pushed()[0]}\n", 0, store
+
+    # The parts of a line. Each yields the answers that end the line, and returns the store if the line goes on.
+
+    def begun(self):
+        if self.master.is_rolling:
+            yield "refused Rolling\n", 0, self
+        elif not self.master.may_roll(self.options):
+            yield "refused Full\n", 0, self
         else:
             yield REFUSED, 1, self
-            yield self.image().hex() + "\n", 0, self
+            return replace(self, master=self.master.rolling())
+        return None
 
-    def stop(self, takes):
-        yield f"stop {takes}\n", 0, replace(self, left=takes)
+    def rolled(self):
+        """Begins a roll if the head is open, and pushes until it is open."""
+        store = self if self.master.is_rolling else (yield from self.begun())
+        while store and store.master.is_rolling:
+            store = yield from store.one_push()
+        return store
 
-    def crash(self):
-        if self.up:
-            yield "crashed\n", 0, replace(self, up=False)
-        else:
-            yield "refused Down\n", 0, self
-
-    def lose(self, backup):
-        if self.up:
-            yield "refused Up\n", 0, self
-        else:
-            yield f"lost {backup}\n", 0, replace(self, lost=self.lost | {backup})
-
-    def recover(self):
-        if self.up:
-            yield "refused Up\n", 0, self
-            return
-        replicas = range(self.options["replicas"])
-        held = [self.taken[j] for j in replicas if self.home(j) not in self.lost]
-        if not held:
-            yield "refused NoHead\n", 0, self
-            return
+    def one_push(self):
+        if self.fleet.left == 0:
+            yield "stopped\n", 0, replace(self, master=None, fleet=replace(self.fleet, left=NO_LIMIT))
+            return None
         yield REFUSED, 1, self
-        objects, _ = self.map_of(max(held))
-        rows = [
-            f"{table} {key.decode()} {version} {value.decode()}\n"
-            for (table, key), (version, value) in sorted(objects.items())
-        ]
-        yield "".join(rows) + f"recovered {len(rows)}\n", 0, self
+        return self.pushed()[1]
 
-    def home(self, replica):
-        """The backup of a replica of segment 1."""
-        return (self.options["step"] + replica) % self.options["backups"]
+    # Pushes.
+
+    def homes(self, segment):
+        """The backups of a segment's replicas."""
+        options = self.options
+        return [(segment * options.step + place) % options.backups for place in range(options.replicas)]
+
+    def next_op(self):
+        """What the next push hands to which backup: the act, and the replica then. None if nothing waits."""
+        log, opening = self.master.log(), self.master.segments[-1]
+        head = log[-1]
+        held = [self.fleet.replica(backup, head.id) for backup in self.homes(head.id)]
+        if head is not opening or not self.master.is_rolling:
+            shortest = min(held, key=lambda replica: len(replica.text))
+            if len(shortest.text) < len(head.text):
+                end = next(end for _, end in head.units if end > len(shortest.text))
+                return "extend", replace(shortest, text=head.text[:end])
+        if not self.master.is_rolling:
+            return None
+        for backup in self.homes(opening.id):
+            if not self.fleet.replica(backup, opening.id):
+                return "open", Holding(backup, MASTER, opening.id, opening.text, True)
+        return next(("close", replace(replica, is_open=False)) for replica in held if replica.is_open)
+
+    def pushed(self):
+        """What a push prints, and the store after it."""
+        act, holding = self.next_op()
+        store = replace(self, fleet=self.fleet.took(holding))
+        old, new = self.master.log()[-1], self.master.segments[-1]
+        if self.master.is_rolling:
+            is_opened = all(store.fleet.replica(backup, new.id) for backup in self.homes(new.id))
+            is_closed = old is new or not any(store.fleet.replica(backup, old.id).is_open for backup in self.homes(old.id))
+            if is_opened and is_closed:
+                store = replace(store, master=replace(self.master, is_rolling=False))
+        return f"{act} {holding.backup} {holding.segment}", store
 
     def durable(self):
-        first = min(self.taken)
-        return self.units[first].record if first < len(self.units) else self.records
+        """How many records each replica of the log has."""
+        head = self.master.log()[-1]
+        length = min(len(self.fleet.replica(backup, head.id).text) for backup in self.homes(head.id))
+        return next((record for record, end in head.units if end > length), self.master.records)
 
-    def image(self):
-        return OPENING + b"".join(unit.bytes for unit in self.units)
+    # Lines that change nothing, and those about what is left.
 
-    def map_of(self, count):
-        """The map that the first units leave, and the version that the next new key gets."""
-        objects, safe = {}, 1
-        for unit in self.units[:count]:
-            if unit.key not in objects:
-                safe += 1
-            objects[unit.key] = (unit.version, unit.value)
-        return objects, safe
+    def line_log(self):
+        yield REFUSED, 1, self
+        yield "log" + "".join(f" {it.id}" for it in self.master.log()) + "\n", 0, self
 
+    def line_hex(self, segment):
+        image = next((it for it in self.master.segments if it.id == segment), None)
+        if not image:
+            yield f"refused NotInLog {segment}\n", 0, self
+            return
+        yield REFUSED, 1, self
+        yield f"{image.text.hex()}\n", 0, self
+
+    def line_holdings(self):
+        yield REFUSED, 1, self
+        lines = [
+            f"{it.backup} {it.master} {it.segment} {len(it.text)} {'open' if it.is_open else 'closed'}\n"
+            for it in self.fleet.holdings
+        ]
+        yield "".join(lines), 0, self
+
+    def line_stop(self, takes):
+        yield f"stop {takes}\n", 0, replace(self, fleet=replace(self.fleet, left=takes))
+
+    def line_crash(self):
+        yield "crashed\n", 0, replace(self, master=None)
+
+    def line_lose(self, backup):
+        left = tuple(it for it in self.fleet.holdings if it.backup != backup)
+        yield f"lost {backup}\n", 0, replace(self, fleet=replace(self.fleet, holdings=left))
+
+    def line_recover(self):
+        yield REFUSED, 1, self
+        try:
+            objects = rebuilt(plan(self.fleet.holdings, MASTER))
+        except Refusal as refusal:
+            yield f"refused {refusal}\n", 0, self
+            return
+        lines = [f"{it.table} {it.key.decode()} {it.version} {it.value.decode()}\n" for it in objects]
+        yield "".join(lines) + f"recovered {len(lines)}\n", 0, self
+
+
+# Runs.
 
 @dataclass(frozen=True)
 class Run:
@@ -262,17 +659,14 @@ class Run:
 
 def undisturbed(script, options):
     """How the run of a script ends if no memory is refused."""
-    store, output = Store.new(options), ""
+    store, output = Store.new(options), []
     for place, line in enumerate(lines_of(script), 1):
-        parsed = parse(line, options["backups"])
+        parsed = parse(line, options.backups)
         if parsed is None:
-            return Run(2, output, f"ramlog: bad line {place}\n")
-        for answer, refused, after in store.outcomes(parsed):
-            if not refused:
-                output += answer
-                store = after
-                break
-    return Run(0, output, "")
+            return Run(2, "".join(output), f"ramlog: bad line {place}\n")
+        answer, store = next((answer, after) for answer, refused, after in store.outcomes(parsed) if not refused)
+        output.append(answer)
+    return Run(0, "".join(output), "")
 
 
 def explain(script, options, run, most):
@@ -290,7 +684,7 @@ def explain(script, options, run, most):
             if run.status == 0 and run.errors == "":
                 found += done
             break
-        parsed = parse(lines[place], options["backups"])
+        parsed = parse(lines[place], options.backups)
         if parsed is None:
             if run.status == 2 and run.errors == f"ramlog: bad line {place + 1}\n":
                 found += done
