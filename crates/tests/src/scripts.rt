@@ -7,7 +7,7 @@ use std::str;
 use std::test::Fail;
 
 /// What the program writes, what it writes of its fault, and its exit status, one after another.
-fn ran<R: BufRead>(alloc: Global, words: &[&str], reader: &mut R) -> Result<String, Fail> {
+pub fn ran<R: BufRead>(alloc: Global, words: &[&str], reader: &mut R) -> Result<String, Fail> {
     let mut output = Vec::new(alloc);
     let mut errors = Vec::new(alloc);
     let Ok(status) = run_program(alloc, words, reader, &mut output, &mut errors) else {
@@ -19,7 +19,7 @@ fn ran<R: BufRead>(alloc: Global, words: &[&str], reader: &mut R) -> Result<Stri
 }
 
 /// The command line of the default options.
-const RAMLOG: &[&str] = &["ramlog"];
+pub const RAMLOG: &[&str] = &["ramlog"];
 
 /// A command line, a script, and what the run writes.
 const SCRIPTS: &[(&[&str], &str, &str)] = &[
@@ -53,11 +53,6 @@ const SCRIPTS: &[(&[&str], &str, &str)] = &[
         &["ramlog", "--history", "2"],
         "put 1 a x\nget 1 a\nget 1 a\n",
         "ok 1\n1 x\nrefused HistoryFull\n",
-    ),
-    (
-        RAMLOG,
-        "put 1 a xxxxxxxxxxxxxxxxxxxxxxxxxxxxxxxxxxxxxxxxxxxxxxxxxxxxxxxxxxxxxxxxxxxxxxxxxxxx\nput 1 a xxxxxxxxxxxxxxxxxxxxxxxxxxxxxxxxxxxxxxxxxxxxxxxxxxxxxxxxxxxxxxxxxxxxxxxxxxxx\nput 1 a xxxxxxxxxxxxxxxxxxxxxxxxxxxxxxxxxxxxxxxxxxxxxxxxxxxxxxxxxxxxxxxxxxxxxxxxxxxx\nput 1 a xxxxxxxxxxxxxxxxxxxxxxxxxxxxxxxxxxxxxxxxxxxxxxxxxxxxxxxxxxxxxxxxxxxxxxxxxxxx\n",
-        "ok 1\nok 2\nok 3\nrefused Full\n",
     ),
     (
         RAMLOG,
