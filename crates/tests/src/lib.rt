@@ -23,6 +23,8 @@ mod questions;
 #[cfg(test)]
 mod rebuilds;
 #[cfg(test)]
+mod rolls;
+#[cfg(test)]
 mod runs;
 #[cfg(test)]
 mod scripts;

@@ -7,7 +7,7 @@ use std::str;
 use std::test::Fail;
 
 /// What the program writes, what it writes of its fault, and its exit status, one after another.
-fn ran<R: BufRead>(alloc: Global, words: &[&str], reader: &mut R) -> Result<String, Fail> {
+pub fn ran<R: BufRead>(alloc: Global, words: &[&str], reader: &mut R) -> Result<String, Fail> {
     let mut output = Vec::new(alloc);
     let mut errors = Vec::new(alloc);
     let Ok(status) = run_program(alloc, words, reader, &mut output, &mut errors) else {
@@ -19,7 +19,7 @@ fn ran<R: BufRead>(alloc: Global, words: &[&str], reader: &mut R) -> Result<Stri
 }
 
 /// The command line of the default options.
-const RAMLOG: &[&str] = &["ramlog"];
+pub const RAMLOG: &[&str] = &["ramlog"];
 
 /// A command line, a script, and what the run writes.
 const SCRIPTS: &[(&[&str], &str, &str)] = &[
@@ -50,27 +50,9 @@ const SCRIPTS: &[(&[&str], &str, &str)] = &[
         "ok 1\nstop 1\nstopped\nlost 2\n1 a 1 x\n1 b 2 y\nrecovered 2\n",
     ),
     (
-        RAMLOG,
-        "put 1 a x\nput 1 a y\nput 1 b z\ndel 1 a\nput 1 a w\n",
-        "ok 1\nok 2\nok 2\nok 2\nok 3\n",
-    ),
-    (
-        RAMLOG,
-        "new 1 a x\nnew 1 a y\ncas 1 a 1 z\ncas 1 a 1 q\ncas 1 b 1 q\ndel 1 b\n",
-        "ok 1\nmismatch 1\nok 2\nmismatch 2\nmismatch none\nnone\n",
-    ),
-    (
         &["ramlog", "--history", "2"],
         "put 1 a x\nget 1 a\nget 1 a\n",
         "ok 1\n1 x\nrefused HistoryFull\n",
-    ),
-    (
-        RAMLOG,
-        "put 1 a xxxxxxxxxxxxxxxxxxxxxxxxxxxxxxxxxxxxxxxxxxxxxxxxxxxxxxxxxxxxxxxxxxxxxxxxxxxx\n\
-         put 1 a xxxxxxxxxxxxxxxxxxxxxxxxxxxxxxxxxxxxxxxxxxxxxxxxxxxxxxxxxxxxxxxxxxxxxxxxxxxx\n\
-         put 1 a xxxxxxxxxxxxxxxxxxxxxxxxxxxxxxxxxxxxxxxxxxxxxxxxxxxxxxxxxxxxxxxxxxxxxxxxxxxx\n\
-         put 1 a xxxxxxxxxxxxxxxxxxxxxxxxxxxxxxxxxxxxxxxxxxxxxxxxxxxxxxxxxxxxxxxxxxxxxxxxxxxx\n",
-        "ok 1\nok 2\nok 3\nok 4\n",
     ),
     (
         RAMLOG,
