@@ -4,7 +4,7 @@ ghost use Rattle.std.specs.Prelude.{◌≤◌, ◌++◌, ◌∷◌, [], length, 
 ghost use Rattle.std.specs.Fmt.{decimal};
 ghost use Rattle.std.specs.Io.KnownBytes.{Appends};
 ghost use Rattle.script.specs.Texts.{answer_text, hex_text, object_text, rebuilt_text, reply_text};
-ghost use Rattle.script.specs.Texts.{op_text, log_text, holding_text};
+ghost use Rattle.script.specs.Texts.{op_text, log_text, spaced_text, holding_text};
 ghost use Rattle.std.specs.List.{flat_map};
 
 use entry::{Object, Row, Value, Version};
@@ -147,10 +147,18 @@ fn write_log<W: Write>(writer: &mut W, ids: &[u64]) -> io::Result<()>
     ensures { OnOk result (Appends (W.contents writer.old) (W.contents writer.new) (log_text ids.now)) }
 {
     writer.write_all(b"log")?;
+    write_ids(writer, ids)?;
+    writer.write_all(b"\n")
+}
+
+/// Numbers, each after a space.
+fn write_ids<W: Write>(writer: &mut W, ids: &[u64]) -> io::Result<()>
+    ensures { OnOk result (Appends (W.contents writer.old) (W.contents writer.new) (flat_map spaced_text ids.now)) }
+{
     for id in ids {
         write!(writer, " {id}")?;
     }
-    writer.write_all(b"\n")
+    Ok(())
 }
 
 /// The line of a replica.
