@@ -1,23 +1,19 @@
 -- Commands that wait for a roll.
 use Rattle.std.proofs.Common.{◌≡◌, [], ◌++◌, refl, sym, ap, subst, inl, inr, ◌∙◌}
 use Rattle.std.proofs.lemmas.List.{append-nil}
-use Rattle.std.specs.Prelude.{Option, Some, None}
+use Rattle.std.specs.Prelude.{Some, None}
 use Rattle.lines.specs.Grammar.{LineValue}
 use Rattle.replica.specs.Picture.{FleetState}
 use Rattle.versioned_map.specs.declared.command.Command.{Command}
-use Rattle.versioned_map.specs.declared.command.Record.{Record}
-use Rattle.log_head.specs.Head.{is_open}
 use Rattle.master_core.specs.declared.config.Config.{Config}
 use Rattle.master_core.specs.declared.step.Refusal.{Refusal}
 use Rattle.master_core.specs.declared.step.Refusal.TheVariants as refusal
-use Rattle.master_core.specs.Causes.{command_refusal}
 use Rattle.master_core.specs.Data.{MasterData}
 use Rattle.master_core.specs.Log.{opening_of}
 use Rattle.master.specs.Valid.{IsValid}
 use Rattle.script.specs.declared.answer.Answer.{Answer}
 use Rattle.script.specs.declared.answer.Answer.TheVariants as answer
 use Rattle.script.specs.declared.node.Node.{Node}
-use Rattle.script.specs.declared.node.Node.TheVariants.{Up}
 use Rattle.script.specs.Lives.{Life, life_to, IsLeftBySpent}
 use Rattle.script.specs.Served.{LivesOn, IsUnserved, IsNotRolled, IsSpent, IsOf, IsNodeAt, Refuses, AnswersLine, StaysAt, WaitsForRoll, MakesRoom, fleet_of, left_now, life_of}
 use Rattle.script.specs.Told.{Position, command_of, is_of_push, IsTest, TellsNoRoll, Tells}
@@ -69,8 +65,7 @@ no_roll_told d e old mid new config at s none r a f g valid of fleet now spent o
       record { made = at.made; acknowledged = at.acknowledged; left = None },
       still_stands d e old new config at None stays s on,
       on.history ∙ append-nil d.history,
-      subst (λ (x : Answer). TellsNoRoll config (life_of e) at x (record { made = at.made; acknowledged = at.acknowledged; left = None })) (sym is)
-      (
+      subst (λ (x : Answer). TellsNoRoll config (life_of e) at x (record { made = at.made; acknowledged = at.acknowledged; left = None })) (sym is) (
         none,
         elim why [
           | inl test ↦ inl (d, f, lived d e old new config at None stays s f valid [] on.history, test)
@@ -86,8 +81,7 @@ no_roll_told d e old mid new config at s none r a f g valid of fleet now spent o
       record { made = at.made; acknowledged = at.acknowledged; left = Some (left_now g) },
       stands,
       on.history ∙ append-nil d.history,
-      subst (λ (x : Answer). TellsNoRoll config (life_of e) at x (record { made = at.made; acknowledged = at.acknowledged; left = Some (left_now g) })) (sym is)
-      (
+      subst (λ (x : Answer). TellsNoRoll config (life_of e) at x (record { made = at.made; acknowledged = at.acknowledged; left = Some (left_now g) })) (sym is) (
         none,
         left_now g,
         (e, g, lived_longer d e old new config at (Some (left_now g)) gone s g now at.made stands.configured stands.made, refl, spent rest),
@@ -148,7 +142,7 @@ no_room_told old mid new config line command a asks waits makes d at s =
       told.2,
       ([], told.3 ∙ was.1.1 ∙ sym (append-nil d.history)),
       no_room_tells config (life_of told.0) at line command a told.1 asks was.2
-      (subst (λ (l : Life). IsTest config (life_to l at.made) command refusal.Rolling) same was.3) told.4,
+          (subst (λ (l : Life). IsTest config (life_to l at.made) command refusal.Rolling) same was.3) told.4,
     )
 
 -- the roll is made, and the line is answered then

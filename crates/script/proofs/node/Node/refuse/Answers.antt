@@ -15,13 +15,13 @@ returns-in-Up c = inr (
   refl,
   c.in-Spent.is,
   λ d f of fleet.
-  let limited = c.limit.new.self in
-  let was : IsOf (Up c.in-Up.up) None d = subst (λ (n : Node). IsOf n None d) c.in-Up.is of in
-  let held = sym (ap fleet_of c.in-Up.is) ∙ fleet in
-  let same : limited.knows ≡ d = ap (λ (w : World). w.knows) c.limit.ensures.limited ∙ was.1 in
-  let picture : (fleet_state limited.fleet).picture ≡ f.picture =
-  ap (λ (w : World). w.fleet.picture) c.limit.ensures.limited ∙ ap (λ (o : Option FleetState). (unwrap_or o f).picture) held in
-  let valid = subst (λ (x : MasterData). IsValid x (fleet_state limited.fleet)) same c.limit.ensures.valid in
-  subst (λ (p : Picture). IsOf c.drop_master.new.self (Some (record { picture = p; lost = [] })) d) picture
-  (c.drop_master.ensures.left d (fleet_state limited.fleet) (refl, same, valid) refl),
+      let limited = c.limit.new.self in
+      let was : IsOf (Up c.in-Up.up) None d = subst (λ (n : Node). IsOf n None d) c.in-Up.is of in
+      let held = sym (ap fleet_of c.in-Up.is) ∙ fleet in
+      let same : limited.knows ≡ d = ap (λ (w : World). w.knows) c.limit.ensures.limited ∙ was.1 in
+      let picture : (fleet_state limited.fleet).picture ≡ f.picture =
+      ap (λ (w : World). w.fleet.picture) c.limit.ensures.limited ∙ ap (λ (o : Option FleetState). (unwrap_or o f).picture) held in
+      let valid = subst (λ (x : MasterData). IsValid x (fleet_state limited.fleet)) same c.limit.ensures.valid in
+      subst (λ (p : Picture). IsOf c.drop_master.new.self (Some (record { picture = p; lost = [] })) d) picture
+      (c.drop_master.ensures.left d (fleet_state limited.fleet) (refl, same, valid) refl),
 )
