@@ -11,7 +11,7 @@ use Rattle.master_core.specs.declared.step.Refusal.TheVariants as refusal
 use Rattle.master_core.specs.declared.step.Step.TheVariants.{Apply, Push, BeginRoll}
 use Rattle.master_core.specs.declared.step.StepAnswer.{StepAnswer}
 use Rattle.master_core.specs.declared.step.StepAnswer.TheVariants.{Applied}
-use Rattle.master_core.specs.Causes.{is_pushed, command_refusal, roll_refusal, early_refusal, late_refusal}
+use Rattle.master_core.specs.Causes.{is_pushed, command_refusal, early_refusal, late_refusal}
 use Rattle.master_core.specs.Data.{MasterData}
 use Rattle.master.specs.Keeps.{Keeps}
 use Rattle.master.specs.Steps.{Steps, Declines, FailsTake}

@@ -1,23 +1,19 @@
 -- Commands that wait for a roll.
 use Rattle.std.proofs.Common.{◌≡◌, [], ◌++◌, refl, sym, ap, subst, inl, inr, ◌∙◌}
 use Rattle.std.proofs.lemmas.List.{append-nil}
-use Rattle.std.specs.Prelude.{Option, Some, None}
+use Rattle.std.specs.Prelude.{Some, None}
 use Rattle.lines.specs.Grammar.{LineValue}
 use Rattle.replica.specs.Picture.{FleetState}
 use Rattle.versioned_map.specs.declared.command.Command.{Command}
-use Rattle.versioned_map.specs.declared.command.Record.{Record}
-use Rattle.log_head.specs.Head.{is_open}
 use Rattle.master_core.specs.declared.config.Config.{Config}
 use Rattle.master_core.specs.declared.step.Refusal.{Refusal}
 use Rattle.master_core.specs.declared.step.Refusal.TheVariants as refusal
-use Rattle.master_core.specs.Causes.{command_refusal}
 use Rattle.master_core.specs.Data.{MasterData}
 use Rattle.master_core.specs.Log.{opening_of}
 use Rattle.master.specs.Valid.{IsValid}
 use Rattle.script.specs.declared.answer.Answer.{Answer}
 use Rattle.script.specs.declared.answer.Answer.TheVariants as answer
 use Rattle.script.specs.declared.node.Node.{Node}
-use Rattle.script.specs.declared.node.Node.TheVariants.{Up}
 use Rattle.script.specs.Lives.{Life, life_to, IsLeftBySpent}
 use Rattle.script.specs.Served.{LivesOn, IsUnserved, IsNotRolled, IsSpent, IsOf, IsNodeAt, Refuses, AnswersLine, StaysAt, WaitsForRoll, MakesRoom, fleet_of, left_now, life_of}
 use Rattle.script.specs.Told.{Position, command_of, is_of_push, IsTest, TellsNoRoll, Tells}

@@ -155,8 +155,8 @@ MakesRoom old config new (Some answer) = (d : MasterData) (at : Position) → Is
 MakesRoom old config new None = (d : MasterData) (at : Position) → IsNodeAt old config d at →
     (e : MasterData) × StaysAt new config d at e × (is_open e.head ≡ true)
 
--- A session goes on with a command's line once a roll was made, or that is refused. The line is answered of whatever the
--- node stood for when its command had to wait.
+-- The same of a line whose command waits for a roll. Its answer is told of what the node stood for before the command
+-- had to wait.
 pub record AnswersAfterRoll (mid : Session) (line : LineValue) (new : Session) (answer : Answer) : Type 0 where
   pub number : new.master ≡ mid.master
   pub backups : new.backups ≡ mid.backups

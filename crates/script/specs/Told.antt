@@ -64,7 +64,8 @@ at_start = record { made = 0; acknowledged = 0; left = None }
 abbrev pub command_of : LineValue → Option Command
 command_of (Put table key value) = Some (command.Put (record { table = table; bytes = key }) value Any)
 command_of (New table key value) = Some (command.Put (record { table = table; bytes = key }) value Absent)
-command_of (Cas table key version value) = Some (command.Put (record { table = table; bytes = key }) value (Version version))
+command_of (Cas table key version value) =
+    Some (command.Put (record { table = table; bytes = key }) value (Version version))
 command_of (Get table key) = Some (command.Get (record { table = table; bytes = key }))
 command_of (Del table key) = Some (command.Delete (record { table = table; bytes = key }))
 command_of _ = None

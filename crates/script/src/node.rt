@@ -8,9 +8,9 @@ ghost use Rattle.log_model.specs.Data.{durable_of};
 ghost use Rattle.log_head.specs.Head.{is_open};
 ghost use Rattle.master_core.specs.Log.{log_of};
 ghost use Rattle.replica.specs.Take.{limited};
-ghost use Rattle.script.specs.Served.{LivesOn, IsServed, IsUnserved, IsNotRolled, IsSpent, AnswersLine, fleet_of, is_up};
+ghost use Rattle.script.specs.Served.{LivesOn, IsServed, IsUnserved, IsNotRolled, IsSpent, IsDropped, fleet_of, is_up};
+ghost use Rattle.script.specs.Served.{AnswersLine, Refuses, Serves, MakesRoom};
 ghost use Rattle.script.specs.Served.{held_answer};
-ghost use Rattle.script.specs.Served.{IsDropped, Refuses, Serves, MakesRoom};
 ghost use Rattle.script.specs.Told.{is_of_push};
 
 use crate::answer::Answer;

@@ -12,3 +12,6 @@ returns-in_default-refusal-clause-goes_on g c = push_goes_on _ _ _ _ c.loop.inva
 
 pub loop-preserved : goal.loop-preserved
 loop-preserved g c = push_goes_on _ _ _ _ c.loop.invariant c.step.ensures.gives c.step.ensures.keeps
+
+pub returns-in_default-refusal-clause-open : goal.returns-in_default-refusal-clause-open
+returns-in_default-refusal-clause-open g c = tt

@@ -1,6 +1,4 @@
 use Rattle.std.proofs.lemmas.Result.{IfOk-weaker}
-use Rattle.std.proofs.Common.{refl}
-use Rattle.lines.specs.Grammar.{shown_line}
 use Rattle.script.proofs.session.Session.run_command.Goals as goal
 
 pub returns-in-None-clause-ran : goal.returns-in-None-clause-ran
