@@ -13,6 +13,8 @@ use Rattle.script.specs.declared.answer.Answer.TheVariants as answer
 use Rattle.script.specs.Lives.{Life, life_to, Left, IsLeftBy, IsLeftBySpent}
 use Rattle.master_core.specs.declared.step.Step.{Step}
 use Rattle.master_core.specs.declared.step.StepAnswer.{StepAnswer}
+use Rattle.master_core.specs.declared.step.Step.TheVariants as step
+use Rattle.master_core.specs.declared.step.StepAnswer.TheVariants as step_answer
 use Rattle.script.specs.Told.{Told, Position, IsRecordAt, IsIn, IsRollRefused, IsCause, IsImageAt, Tells, AreTelling}
 use Rattle.script.specs.Told.{IsHeadAt, IsStepAt, IsDigestAt, AreHeldAt}
 
@@ -39,7 +41,7 @@ module _ (config : Config) (life : Life) where
   rises at line (answer.Refused r) next t = elim t [
     | inl (none, inl (inl (out, why))) ↦ let made = ap (λ (p : Position). p.made) out.2 in omega arith
     | inl (none, inl (inr (added, pushed))) ↦ let made = ap (λ (p : Position). p.made) added.2 in omega arith
-    | inl (none, inr step) ↦ let made = ap (λ (p : Position). p.made) step.1.2 in omega arith
+    | inl (none, inr refused) ↦ let made = ap (λ (p : Position). p.made) refused.1.2 in omega arith
     | inr u ↦ as_before at next u.2
   ]
   rises at line (answer.Head id) next t = as_before at next t.3
@@ -55,7 +57,7 @@ module _ (config : Config) (life : Life) where
   rises at line answer.Stopped next t = elim t.3 [
     | inl out ↦ let made = ap (λ (p : Position). p.made) out.2 in omega arith
     | inr (inl added) ↦ let made = ap (λ (p : Position). p.made) added.2 in omega arith
-    | inr (inr step) ↦ let made = ap (λ (p : Position). p.made) step.1 in omega arith
+    | inr (inr out) ↦ let made = ap (λ (p : Position). p.made) out.1 in omega arith
   ]
   rises at line answer.Crashed next t = let made = ap (λ (p : Position). p.made) t.4 in omega arith
   rises at line (answer.Lost backup) next t = let made = ap (λ (p : Position). p.made) t.3 in omega arith
@@ -104,19 +106,28 @@ module _ (config : Config) (opening : State) (history more : List Record) where
     | inl (none, inl (inl (out, inr (c, is, cause)))) ↦
         inl (none, inl (inl (out, inr (c, is, subst (λ (l : Life). IsCause config l c r) (same_front at.made within) cause))))
     | inl (none, inl (inr (added, pushed))) ↦ inl (none, inl (inr (in_longer at line None next added, pushed)))
-    | inl (none, inr step) ↦ inl (none, inr (step.0, (
-        step.1.0,
-        subst (λ (l : Life). IsRollRefused config l r) (same_front at.made within) step.1.1,
-        step.1.2,
-      )))
+    | inl (none, inr refused) ↦ inl (
+      none,
+      inr (
+        refused.0,
+        (
+          refused.1.0,
+          subst (λ (l : Life). IsRollRefused config l r) (same_front at.made within) refused.1.1,
+          refused.1.2,
+        ),
+      ),
+    )
     | inr u ↦ inr u
   ]
   tells_longer at line (answer.Head id) next within after t =
       (t.0, t.1, subst (λ (l : Life). IsHeadAt config l id) (same_front at.made within) t.2, t.3)
-  tells_longer at line (answer.Opening id) next within after t = step_longer at _ _ _ next within t
-  tells_longer at line (answer.Extended backup segment) next within after t = step_longer at _ _ _ next within t
-  tells_longer at line (answer.Opened backup segment) next within after t = step_longer at _ _ _ next within t
-  tells_longer at line (answer.Closed backup segment) next within after t = step_longer at _ _ _ next within t
+  tells_longer at line (answer.Opening id) next within after t = step_longer at _ step.BeginRoll (step_answer.Rolling id) next within t
+  tells_longer at line (answer.Extended backup segment) next within after t =
+      step_longer at _ step.Push (step_answer.Extended backup segment) next within t
+  tells_longer at line (answer.Opened backup segment) next within after t =
+      step_longer at _ step.Push (step_answer.Opened backup segment) next within t
+  tells_longer at line (answer.Closed backup segment) next within after t =
+      step_longer at _ step.Push (step_answer.Closed backup segment) next within t
   tells_longer at line (answer.Log ids) next within after t =
       (t.0, t.1, subst (λ (l : Life). IsDigestAt config l ids) (same_front at.made within) t.2, t.3)
   tells_longer at line (answer.Holdings hs) next within after t =
@@ -133,7 +144,7 @@ module _ (config : Config) (opening : State) (history more : List Record) where
     elim t.3 [
       | inl out ↦ inl out
       | inr (inl added) ↦ inr (inl (in_longer at line (Some t.1) next added))
-      | inr (inr step) ↦ inr (inr step)
+      | inr (inr out) ↦ inr (inr out)
     ],
   )
   tells_longer at line answer.Crashed next within after t =

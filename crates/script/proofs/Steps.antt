@@ -1,11 +1,13 @@
 -- Lines of steps that make no record, told of a master's life.
-use Rattle.std.proofs.Common.{◌≡◌, ℕ, true, [], ◌++◌, refl, sym, ap, subst, inl, inr, ◌∙◌}
+use Rattle.std.proofs.Common.{◌≡◌, ℕ, true, List, [], refl, sym, ap, subst, inl, inr, ◌∙◌}
 use Rattle.std.proofs.lemmas.List.{append-nil}
 use Rattle.std.specs.Prelude.{Option, Some, None}
-use Rattle.backup.specs.State.{fleet_state}
-use Rattle.lines.specs.Grammar.{LineValue, Roll}
+use Rattle.lines.specs.Grammar.{LineValue, Roll, Holdings}
+use Rattle.std.specs.Prelude.{Result, Ok, Err, IfOk}
+use Rattle.std.specs.declared.alloc.AllocError.{AllocError}
+use Rattle.replica.specs.declared.holding.Holding.{Holding}
 use Rattle.log_head.specs.Head.{is_open}
-use Rattle.replica.specs.Picture.{FleetState}
+use Rattle.replica.specs.Picture.{FleetState, AreHeld}
 use Rattle.master_core.specs.declared.config.Config.{Config}
 use Rattle.master_core.specs.declared.step.Refusal.{Refusal}
 use Rattle.master_core.specs.declared.step.Refusal.TheVariants as refusal
@@ -17,10 +19,9 @@ use Rattle.master.specs.Valid.{IsValid}
 use Rattle.script.specs.declared.answer.Answer.{Answer}
 use Rattle.script.specs.declared.answer.Answer.TheVariants as answer
 use Rattle.script.specs.declared.node.Node.{Node}
-use Rattle.script.specs.declared.node.Node.TheVariants.{Up}
-use Rattle.script.specs.Lives.{Life, life_to, IsLeftBySpent}
-use Rattle.script.specs.Served.{LivesOn, IsNotRolled, IsSpent, IsOf, IsNodeAt, Refuses, AnswersLine, MakesRoom, fleet_of, life_of}
-use Rattle.script.specs.Told.{Position, is_step, is_for_master, IsStepAt, TellsNoRoll, Tells}
+use Rattle.script.specs.Lives.{Life, life_to, HasLived, Left, IsLeftBySpent}
+use Rattle.script.specs.Served.{LivesOn, IsNotRolled, IsSpent, IsOf, IsNodeAt, Refuses, fleet_of, life_of, held_answer}
+use Rattle.script.specs.Told.{Position, is_step, is_for_master, IsStepAt, AreHeldAt, TellsNoRoll, Tells}
 use Rattle.script.proofs.Rolls.{no_roll_told}
 use Rattle.script.proofs.Standing.{Answered, still_stands, lived, lived_longer}
 
@@ -37,13 +38,6 @@ no_roll_tells config life at line answer.Stopped next step up t = (
 )
 no_roll_tells config life at line answer.Down next step up t = (t.0, up, t.1)
 no_roll_tells config life at line a next step up t = absurd t
-
--- a roll's line, if the roll isn't made
-pub no_roll_line : (old new : Node) (config : Config) (line : LineValue) (a : Answer) → is_step line ≡ true → is_for_master line ≡ true
-    → MakesRoom old config new (Some a) → AnswersLine old config line new a
-no_roll_line old new config line a step up makes d at s =
-    let t = makes d at s in
-    (t.0, t.1, t.2, ([], t.3 ∙ sym (append-nil d.history)), no_roll_tells config (life_of t.0) at line a t.1 step up t.4)
 
 -- a step that a master refuses
 pub no_step_told : (d e : MasterData) (old mid new : Node) (config : Config) (at : Position) → IsNodeAt old config d at → at.left ≡ None
@@ -73,3 +67,21 @@ module _ (d e : MasterData) (old new : Node) (config : Config) (at : Position) (
     lived_longer d e old new config at None of s g now at.made stays.configured stays.made,
     accepts,
   )
+
+  pub head_told : (id : ℕ) → id ≡ e.head.id → is_open e.head ≡ true → Answered d new config at Roll (answer.Head id)
+  head_told id same opened = (
+    e,
+    at,
+    stays,
+    ([], on.history),
+    (none, refl, (e, g, lived_longer d e old new config at None of s g now at.made stays.configured stays.made, sym same, opened), refl),
+  )
+
+-- ---- what backups hold
+
+-- what the fleet of a master holds is shown, or memory ran out
+pub held_up : (config : Config) (life : Life) (at : Position) (result : Result (List Holding) AllocError) (d : MasterData) (f : FleetState) → at.left ≡ None
+    → HasLived config (life_to life at.made) d f → IfOk result (λ hs. AreHeld hs f.picture) → Tells config life at Holdings (held_answer result) at
+held_up config life at (Err fault) d f none has shown = inr (refl, refl, refl)
+held_up config life at (Ok hs) d f none has shown =
+    (refl, subst (λ (o : Option Left). AreHeldAt config (life_to life at.made) o hs) (sym none) (d, f, has, shown), refl)

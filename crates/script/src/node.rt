@@ -183,13 +183,17 @@ impl Node {
     pub fn roll(&mut self) -> Answer
         ensures { (config : Config) → AnswersLine self.old config Roll self.new result }
     {
-        if let Some(answer) = self.make_room() {
-            return answer;
-        }
         let Node::Up(up) = self else {
-            unreachable!();
+            return Answer::Down;
         };
-        Answer::Head(up.head())
+        up.show_valid();
+        let outcome = roll_all(up);
+        up.show_valid();
+        let head = up.head();
+        match outcome {
+            Ok(()) => Answer::Head(head),
+            Err(refusal) => self.refuse(refusal),
+        }
     }
 
     /// Begins a roll.

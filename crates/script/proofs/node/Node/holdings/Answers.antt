@@ -1,0 +1,22 @@
+use Rattle.std.proofs.Common.{sym, ap, subst}
+use Rattle.std.specs.Prelude.{IfOk}
+use Rattle.backup.specs.State.{fleet_state}
+use Rattle.lines.specs.Grammar.{Holdings}
+use Rattle.replica.specs.Picture.{FleetState, AreHeld}
+use Rattle.script.specs.declared.answer.Answer.{Answer}
+use Rattle.script.specs.declared.node.Node.{Node}
+use Rattle.script.specs.declared.node.Node.TheVariants.{Up}
+use Rattle.script.specs.Served.{IsOf, life_of}
+use Rattle.script.specs.Told.{Tells}
+use Rattle.script.proofs.Standing.{stays_told, lived_longer}
+use Rattle.script.proofs.Steps.{held_up}
+use Rattle.script.proofs.node.Node.holdings.Goals as goal
+
+pub returns-in-Up : goal.returns-in-Up
+returns-in-Up c = λ config. stays_told c.args.self.now config Holdings c.held.result (λ d at s.
+    let was : IsOf (Up c.in-Up.up) at.left d = subst (λ (n : Node). IsOf n at.left d) c.in-Up.is s.node_of in
+    let f = fleet_state c.in-Up.up.fleet in
+    let lived = lived_longer d d c.args.self.now c.args.self.now config at at.left s.node_of s f was.2 at.made s.configured s.made in
+    subst (λ (a : Answer). Tells config (life_of d) at Holdings a at) (sym c.held.ensures)
+    (held_up config (life_of d) at c.inventory.result d f was.0 lived
+    (subst (λ (x : FleetState). IfOk c.inventory.result (λ hs. AreHeld hs x.picture)) (ap fleet_state c.fleet.ensures) c.inventory.ensures.shown)))
