@@ -15,11 +15,11 @@ use command_line::{Options, options};
 use std::alloc::Global;
 use std::io::{BufRead, Write};
 
-/// Runs the program: reads the options from its words, of which the first is its name, and does what they say. Answers the
-/// exit status.
+/// Runs the program. It reads the options from the words, of which the first is the program's name, does what they say, and
+/// answers the exit status.
 ///
-/// The error is clap's, and nothing was read or written then: its text is what the program prints, and its exit code is 2,
-/// or 0 if `--help` or `--version` was asked for.
+/// The error is clap's. Nothing was read then, and nothing was written to either output: the caller prints the
+/// error's text. Its exit code is 2, or 0 if `--help` or `--version` was asked for.
 pub fn run_program<'a, R: BufRead, W: Write, E: Write>(
     alloc: Global,
     words: &'a [&'a str],
@@ -27,7 +27,7 @@ pub fn run_program<'a, R: BufRead, W: Write, E: Write>(
     writer: &mut W,
     errors: &mut E,
 ) -> Result<u8, Error>
-    // What is done is what the options of clap's matches of the words say.
+    // What is done is what the options say that clap finds in the words.
     ensures ran { IfOk result (RunsMatches (ramlog_matches (texts words.entry.now))
         (record { input = R.remaining reader.old; output = W.contents writer.old; errors = E.contents errors.old })
         (record { input = R.remaining reader.new; output = W.contents writer.new; errors = E.contents errors.new })) }
@@ -35,6 +35,7 @@ pub fn run_program<'a, R: BufRead, W: Write, E: Write>(
     ensures refused { FailsBy (ramlog_faults (texts words.entry.now)) result }
     ensures unread { IfErr result (λ _. R.remaining reader.new ≡ R.remaining reader.old) }
     ensures unwritten { IfErr result (λ _. W.contents writer.new ≡ W.contents writer.old) }
+    ensures unreported { IfErr result (λ _. E.contents errors.new ≡ E.contents errors.old) }
 {
     match options(alloc, words) {
         Ok(options) => Ok(run_options(alloc, options, reader, writer, errors)),
@@ -52,7 +53,8 @@ pub fn run_options<R: BufRead, W: Write, E: Write>(
 ) -> u8
     ensures { RunsOptions options
         (record { input = R.remaining reader.old; output = W.contents writer.old; errors = E.contents errors.old })
-        (record { input = R.remaining reader.new; output = W.contents writer.new; errors = E.contents errors.new }) result }
+        (record { input = R.remaining reader.new; output = W.contents writer.new; errors = E.contents errors.new })
+        result }
 {
     let Ok(config) = configuration(alloc, &options, FIRST_MASTER) else {
         return report(&ScriptFault::NoMemory, errors);
