@@ -173,8 +173,10 @@ impl<F: Fleet> Master<F> {
 
     /// A roll begins.
     fn begin_roll(&mut self) -> Result<StepAnswer, Refusal>
-        ensures accepted { IfOk result (λ a. Accepts (world F.state self.old) Step.BeginRoll a (world F.state self.new)) }
-        ensures refused { IfErr result (λ r. Declines (world F.state self.old) Step.BeginRoll r (world F.state self.new)) }
+        ensures accepted { IfOk result (λ a.
+            Accepts (world F.state self.old) Step.BeginRoll a (world F.state self.new)) }
+        ensures refused { IfErr result (λ r.
+            Declines (world F.state self.old) Step.BeginRoll r (world F.state self.new)) }
     {
         self.core.begin_roll()
     }
