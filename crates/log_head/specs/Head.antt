@@ -11,14 +11,14 @@ use Rattle.log_head.specs.declared.head.UnitEnd.{UnitEnd}
 
 pub record HeadValue : Type 0 where
   pub id : ℕ
-  -- how many replicas it is to have
+  -- how many replicas it will have
   pub replicas : ℕ
   -- what the image holds
   pub image : List Entry
   -- the length of the opening
   pub opening : ℕ
   pub units : List UnitEnd
-  -- how many units each replica has, of those that were opened
+  -- how many units each opened replica has
   pub taken : List ℕ
   -- the roll that is under way
   pub roll : Option Roll
@@ -31,7 +31,7 @@ digest_of image = option_map_or (λ (o : Opening). o.ids) (opening_of image) []
 abbrev pub is_open : HeadValue → Bool
 is_open h = (length h.taken == h.replicas) && is_none h.roll
 
--- where the first units end: the length of a replica that has just them
+-- where the first units end: the length of a replica that has just these units
 abbrev pub end_of : ℕ → List UnitEnd → ℕ → ℕ
 end_of from us zero = from
 end_of from [] (suc n) = from
@@ -41,26 +41,26 @@ end_of from (u ∷ us) (suc n) = end_of u.end us n
 abbrev pub record_at : List UnitEnd → ℕ → Option ℕ
 record_at us place = option_map (λ (u : UnitEnd). u.number) (slice_get us place)
 
--- the length of an image with a unit at its end
+-- the length of the image once this unit is at its end
 abbrev pub len_with : List Entry → List Entry → ℕ
 len_with image unit = length (text_of image) + length (text_of unit)
 
--- each unit ends no earlier than the one before it, and the last where the image does
+-- each unit ends no earlier than the one before it, and the last ends where the image ends
 abbrev pub EndAt : ℕ → List UnitEnd → ℕ → Type 0
 EndAt from [] len = from ≡ len
 EndAt from (u ∷ us) len = (from ≤ u.end) × EndAt u.end us len
 
--- what holds of every roll, of a head that is to have so many replicas, of which so many were opened
+-- what is true of every roll of a head that will have so many replicas and has opened so many
 pub record IsRollValue (replicas count : ℕ) (r : Roll) : Type 0 where
   pub segment : IsSegment r.image
   pub limit : length (text_of r.image) ≤ 8388608
   pub whole : count ≡ replicas
   pub opened : r.opened ≤ replicas
   pub closed : r.closed < replicas
-  -- no replica of the old head is closed before the new head is open
+  -- the new head is open before any replica of the old head is closed
   pub order : r.opened < replicas → r.closed ≡ 0
 
--- what holds of every head
+-- what is true of every head
 pub record IsHeadValue (h : HeadValue) : Type 0 where
   pub segment : IsSegment h.image
   pub limit : length (text_of h.image) ≤ 8388608
@@ -71,7 +71,7 @@ pub record IsHeadValue (h : HeadValue) : Type 0 where
   pub taken : AllByRecursion (λ n. n ≤ length h.units) h.taken
   pub roll : IfSome h.roll (IsRollValue h.replicas (length h.taken))
 
--- the replica that has the fewest units, the first of several; None where each has all of them
+-- the replica that has the fewest units, and of several the first; None if each replica has all units
 abbrev pub IsLagging : ℕ → List ℕ → Option ℕ → Type 0
 IsLagging units ns None = AllByRecursion (λ m. units ≤ m) ns
 IsLagging units ns (Some j) =

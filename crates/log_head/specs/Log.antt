@@ -1,4 +1,4 @@
--- What a head is to the log: its opening, and the units that stand in its image between the ends.
+-- What a head is to the log: its opening, and the units in its image between the ends.
 use Rattle.std.specs.Prelude.{◌≡◌, ℕ, ◌+◌, ◌-◌, ◌==◌, List, [], ◌∷◌, length, take, drop, Option, Some, None, if◌then◌else◌}
 use Rattle.std.specs.Option.{option_map_or}
 use Rattle.entry.specs.declared.entry.Entry.{Entry}
@@ -8,22 +8,22 @@ use Rattle.log_head.specs.declared.head.Roll.{Roll}
 use Rattle.log_head.specs.declared.head.UnitEnd.{UnitEnd}
 use Rattle.log_head.specs.Head.{HeadValue}
 
--- the ids of a digest but the last, which is the head's own
+-- the ids of a digest without the last, which is the head's own
 abbrev pub but_last : List ℕ → List ℕ
 but_last [] = []
 but_last (x ∷ []) = []
 but_last (x ∷ y ∷ ys) = x ∷ but_last (y ∷ ys)
 
--- what a head of this id begins with whose image bears this digest and safe version
+-- what a head with this id begins with, if its image has this opening
 abbrev pub start_in : ℕ → Option Opening → Start
 start_in id None = record { id = id; others = []; safe = 0 }
 start_in id (Some o) = record { id = id; others = but_last o.ids; safe = o.safe }
 
--- the entries that stand in the bytes between two offsets
+-- the entries in the bytes between two offsets
 abbrev pub entries_between : List ℕ → ℕ → ℕ → List Entry
 entries_between bytes from to = entries_in (take (to - from) (drop from bytes))
 
--- the units with these ends, the first of which begins at the offset
+-- the units with these ends; the first unit begins at the offset
 abbrev pub units_from : List ℕ → ℕ → List UnitEnd → List LogUnit
 units_from bytes from [] = []
 units_from bytes from (e ∷ es) =
@@ -42,7 +42,7 @@ head_of h = record {
 abbrev pub start_of : Roll → Start
 start_of r = start_in r.id (opening_of r.image)
 
--- how far a roll is, of heads with so many replicas
+-- how far a roll is, if heads have so many replicas
 abbrev pub phase_in : ℕ → Roll → Phase
 phase_in replicas r = if r.opened == replicas then Closed r.closed (start_of r) else Opened r.opened (start_of r)
 
@@ -54,7 +54,7 @@ phase_of h = option_map_or (phase_in h.replicas) h.roll Ready
 abbrev pub IsNewImage : ℕ → Roll → Type 0
 IsNewImage master r = r.image ≡ start_entries master (start_of r)
 
--- the ends are those of the units, the first of which begins at the offset
+-- these are the ends of the units; the first unit begins at the offset
 abbrev pub AreEnds : ℕ → List UnitEnd → List LogUnit → Type 0
 AreEnds from [] [] = Unit {0}
 AreEnds from (e ∷ es) (u ∷ us) =
@@ -62,7 +62,7 @@ AreEnds from (e ∷ es) (u ∷ us) =
 AreEnds from [] (u ∷ us) = ⊥
 AreEnds from (e ∷ es) [] = ⊥
 
--- The image holds this head of the log, and its units end where it says.
+-- The image holds this head of the log, and the units end where `h` says.
 pub record IsImageOf (master : ℕ) (h : HeadValue) (l : Head) : Type 0 where
   pub id : l.start.id ≡ h.id
   pub none_loaded : l.loaded ≡ []

@@ -12,7 +12,7 @@ use Rattle.log_model.specs.Steps.{no_units}
 abbrev pub lone_start : ℕ → Start
 lone_start safe = record { id = 1; others = []; safe = safe }
 
--- a head of this many replicas, none of which was opened
+-- a head with this many replicas, none of them open
 abbrev pub fresh_head : ℕ → ℕ → Start → HeadValue
 fresh_head master replicas start = record {
   id = start.id;
@@ -31,7 +31,7 @@ with_unit_end h number unit = record h {
   units = h.units ++ record { number = number; end = length (text_of (h.image ++ unit)) } ∷ [];
 }
 
--- one more replica, with the opening alone
+-- one more replica is open, and holds the opening alone
 abbrev pub with_opened_replica : HeadValue → HeadValue
 with_opened_replica h = record h { taken = h.taken ++ 0 ∷ [] }
 
@@ -41,11 +41,11 @@ with_one_taken h j = record h { taken = slice_set h.taken j (unwrap_or (slice_ge
 
 -- ---- a roll
 
--- what the next head begins with: this id, the ids of the digest in force, and the safe version
+-- what the next head begins with: its id, the ids of the digest in force, and the safe version
 abbrev pub start_after : HeadValue → ℕ → ℕ → Start
 start_after h id safe = record { id = id; others = digest_of h.image; safe = safe }
 
--- a roll to this head, of which nothing is opened or closed
+-- a roll to this head, with no replica opened or closed yet
 abbrev pub fresh_roll : ℕ → Start → Roll
 fresh_roll master start =
     record { id = start.id; image = start_entries master start; opened = 0; closed = 0 }
@@ -58,7 +58,7 @@ with_roll h master id safe = record h { roll = Some (fresh_roll master (start_af
 abbrev pub with_new_replica : HeadValue → Roll → HeadValue
 with_new_replica h r = record h { roll = Some (record r { opened = suc r.opened }) }
 
--- the new head, of which each replica has the opening alone
+-- the new head is in force, and each replica of it has the opening alone
 abbrev pub in_force : HeadValue → Roll → HeadValue
 in_force h r = record {
   id = r.id;
@@ -70,7 +70,7 @@ in_force h r = record {
   roll = None;
 }
 
--- one more replica of the old head is closed; with the last one the new head is in force
+-- one more replica of the old head is closed; the last one puts the new head in force
 abbrev pub with_closed_replica : HeadValue → Roll → HeadValue
 with_closed_replica h r =
     if suc r.closed == h.replicas then in_force h r else record h { roll = Some (record r { closed = suc r.closed }) }

@@ -35,17 +35,17 @@ pub struct Roll {
     pub closed: usize,
 }
 
-/// The head. Its replicas are opened in order, and each has a front of the image that ends where a unit does.
+/// The head. Its replicas are opened in order. Each replica is a front of the image and ends where a unit ends.
 #[derive(Drop)]
 pub struct Head {
     pub(crate) id: u64,
-    /// How many replicas it is to have.
+    /// How many replicas it will have.
     pub(crate) replicas: usize,
     pub(crate) image: Segment,
     /// Where the opening ends in the image.
     pub(crate) opening: usize,
     pub(crate) units: Vec<UnitEnd>,
-    /// How many units each replica has, of those that were opened.
+    /// How many units each opened replica has.
     pub(crate) taken: Vec<usize>,
     pub(crate) roll: Option<Roll>,
 }
@@ -66,7 +66,7 @@ impl Model for Head {
       roll = h.roll;
     } };
 
-    // there is room for each replica to be counted
+    // `taken` has room for a count of each replica, so to open one never fails
     ghost invariant = { λ h. (h.replicas ≤ vec_capacity h.taken) × IsHeadValue (record {
       id = h.id;
       replicas = h.replicas;
@@ -84,8 +84,8 @@ impl Head {
     ghost use Rattle.log_head.specs.Steps.{lone_start, fresh_head, with_unit_end, with_opened_replica, with_one_taken};
     ghost use Rattle.log_model.specs.Data.{Start};
 
-    /// The first head of a master. Its opening alone is in its image, which has room for `room` bytes, and no replica
-    /// was opened.
+    /// The first head of a master. Its image holds the opening alone, and has room for `room` bytes more. No replica is
+    /// open.
     pub fn begin(
         alloc: Global,
         master: u64,
@@ -112,7 +112,7 @@ impl Head {
         })
     }
 
-    /// What holds of every head.
+    /// What is true of every head.
     pub fn show_valid(&self)
         ensures { IsHeadValue self.now }
     {
@@ -156,7 +156,7 @@ impl Head {
         self.roll.as_ref()
     }
 
-    /// Whether this many bytes more are within the limit.
+    /// Whether the image stays within the limit with this many bytes more.
     pub fn fits(&self, bytes: usize, limit: usize) -> bool
         requires { bytes ≤ 2 ^ 32 }
         ensures { result ≡ nat_le (length (text_of self.now.image) + bytes) limit }
@@ -182,7 +182,7 @@ impl Head {
         self.taken[replica]
     }
 
-    /// Where the first units end: how long a replica is that has them, in bytes.
+    /// Where the first units end, in bytes: the length of a replica that has just these units.
     #[tactic(auto, using(crate::proofs::Heads::end_of_le, crate::proofs::Heads::end_of_last))]
     pub fn end_of(&self, units: usize) -> usize
         requires { units ≤ length self.now.units }
@@ -195,7 +195,7 @@ impl Head {
         }
     }
 
-    /// The bytes of the unit behind the first units.
+    /// The bytes of the unit that comes after the first `units`.
     #[tactic(auto, using(crate::proofs::Heads::end_of_next, crate::proofs::Heads::end_of_last, crate::proofs::Heads::unit_end_le))]
     pub fn unit_behind(&self, units: usize) -> &[u8]
         requires { units < length self.now.units }
@@ -209,14 +209,14 @@ impl Head {
         &bytes[start..end]
     }
 
-    /// The replica that has the fewest units, the first of several; `None` where each has all of them.
+    /// The replica that has the fewest units, and of several the first. `None` if each replica has all units.
     pub fn lagging(&self) -> Option<usize>
         ensures { IsLagging (length self.now.units) self.now.taken result }
     {
         lagging(self.taken.as_slice(), self.units.len())
     }
 
-    /// The record of the first unit that some replica lacks; `None` where each has all of them.
+    /// The record of the first unit that some replica lacks. `None` if each replica has all units.
     pub fn first_missing(&self) -> Option<usize>
         ensures valid { IsHeadValue self.now }
         ensures missing { result ≡ record_at self.now.units (everywhere self.now) }
@@ -259,8 +259,8 @@ impl Head {
         self.taken[replica] += 1;
     }
 
+    /// Appends a unit: the objects and tombstones of the record with this number. A refusal changes nothing.
     #[tactic(auto, using(crate::proofs::Heads::EndAt_push, crate::proofs::Heads::all_more, crate::proofs::Heads::text_more))]
-    /// Appends a unit: objects and tombstones that a record of the history stands for.
     pub fn append(
         &mut self,
         unit: &[EntryRef<'_>],
@@ -290,7 +290,7 @@ ghost use Rattle.log_head.specs.Head.{IsLagging};
 ghost use Rattle.log_head.specs.Steps.{lone_start};
 ghost use Rattle.log_model.specs.Data.{start_entries};
 
-/// The opening of a master's first head, whose digest lists that head alone.
+/// The opening of a master's first head. Its digest lists that head alone.
 fn first_image(alloc: Global, master: u64, safe: SafeVersion) -> Result<Segment, NoMemory>
     ensures { IfOk result (λ image. image ≡ start_entries master (lone_start safe)) }
 {
@@ -299,7 +299,7 @@ fn first_image(alloc: Global, master: u64, safe: SafeVersion) -> Result<Segment,
     Segment::begin_head(alloc, master, 1, &Ids::new(ids), safe)
 }
 
-/// The first place of the least number below `units`. There are at most 64 numbers.
+/// The first place of the least number, if that is below `units`. There are at most 64 numbers, so it calls itself.
 fn lagging(taken: &[usize], units: usize) -> Option<usize>
     ensures { IsLagging units taken.now result }
 {

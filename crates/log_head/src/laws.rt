@@ -3,7 +3,7 @@
 ghost use Rattle.log_head.specs.Laws.{HeadIsRead, EndsAreLengths, FrontsAreTexts, PartsAreUnits};
 ghost use Rattle.log_head.specs.Laws.{FreshIsImage, UnitIsImage, CountsAreImage, RollBegins, RollOpens, RollEnds};
 
-/// An image holds one head of the log, and its parts between ends are whole units.
+/// An image holds one head of the log. What lies between two of its ends is whole units.
 pub fn heads_are_read()
     ensures head { HeadIsRead }
     ensures ends { EndsAreLengths }
@@ -11,14 +11,14 @@ pub fn heads_are_read()
     ensures parts { PartsAreUnits }
 {}
 
-/// A head that begins, one more unit, and what replicas took make of the log's head what they say.
+/// The image stays that of the log's head: at its start, after one more unit, and after a replica took one.
 pub fn images_go_on()
     ensures fresh { FreshIsImage }
     ensures unit { UnitIsImage }
     ensures counts { CountsAreImage }
 {}
 
-/// A roll begins, opens its head and ends as the log's does.
+/// A roll of this head is a roll of the log: as it begins, as its new head is opened, and as it ends.
 pub fn rolls_go_on()
     ensures begins { RollBegins }
     ensures opens { RollOpens }

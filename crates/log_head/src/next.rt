@@ -3,7 +3,7 @@
 ghost use Rattle.std.specs.Prelude.{◌≡◌};
 ghost use Rattle.log_head.specs.Next.{replica_of};
 
-/// What the next push does, to the replica of this number.
+/// What the next push does, and the number of the replica that it does it to.
 #[derive(Clone, Copy)]
 pub enum Next {
     /// A replica of a master's first head is opened.

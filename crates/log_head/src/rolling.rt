@@ -19,7 +19,7 @@ use std::alloc::Global;
 use std::mem::replace;
 
 impl Head {
-    /// What the next push does; `None` if nothing waits.
+    /// What the next push does. `None` if nothing waits.
     pub fn next(&self) -> Option<Next>
         ensures next { IsNextPush self.now result }
         ensures valid { IsHeadValue self.now }
@@ -75,15 +75,15 @@ impl Head {
         }
     }
 
-    /// The ids of the digest in force, in memory of their own.
+    /// A copy of the ids of the digest in force.
     pub fn digest(&self, alloc: Global) -> Result<Vec<u64>, NoMemory>
         ensures { IfOk result (λ ids. ids.items ≡ digest_of self.now.image) }
     {
         ids_in(alloc, &self.image, 0)
     }
 
-    /// Begins a roll to the head of this number. The new image has room for `room` bytes; the old one gives back what
-    /// is above `kept` bytes.
+    /// Begins a roll to the head with this id. The new image gets room for `room` bytes. The old one gives back the room
+    /// that it has above `kept` bytes. A refusal changes nothing.
     pub fn begin_roll(
         &mut self,
         alloc: Global,
@@ -125,8 +125,8 @@ impl Head {
         }
     }
 
-    /// Counts a replica of the old head that was closed. With the last one the new head is in force, and the old image
-    /// is handed out.
+    /// Counts a replica of the old head that was closed. The last one puts the new head in force, and hands out the old
+    /// image.
     pub fn close_old(&mut self) -> Option<Segment>
         requires open { IfSome self.old.roll (λ r. r.opened ≡ self.old.replicas) }
         requires rolling { IsSome self.old.roll }
@@ -151,7 +151,7 @@ impl Head {
     }
 }
 
-/// The ids of an image's digest, with room for so many more.
+/// The ids of an image's digest, in a vector with room for `more`.
 fn ids_in(alloc: Global, image: &Segment, more: usize) -> Result<Vec<u64>, NoMemory>
     requires { more ≤ 1 }
     ensures ids { IfOk result (λ ids. ids.items ≡ digest_of image.now) }
@@ -168,7 +168,7 @@ fn ids_in(alloc: Global, image: &Segment, more: usize) -> Result<Vec<u64>, NoMem
     Ok(ids)
 }
 
-/// The opening of the head of this number, which lists the segments of an image's digest and itself.
+/// The opening of the head with this id. Its digest lists the segments of this image's digest, and then the head itself.
 fn next_image(
     alloc: Global,
     image: &Segment,
