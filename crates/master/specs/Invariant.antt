@@ -1,4 +1,4 @@
--- What a master keeps: the laws of a log hold of what it knows, its memory, and the backups before a fault.
+-- What a master keeps. What it knows, its memory, and the backups before a fault obey the laws of a log.
 use Rattle.std.specs.Prelude.{◌≡◌, ℕ, ◌≤◌, false}
 use Rattle.entry.specs.Bag.{IsAmong}
 use Rattle.replica.specs.Picture.{Picture, FleetState}
@@ -9,7 +9,7 @@ use Rattle.master_core.specs.Data.{MasterData}
 use Rattle.master_core.specs.Invariant.{IsCore}
 use Rattle.master_core.specs.Log.{log_of, images_of}
 
--- the memory has the master's images of the log, no pass is open, and no roll is a pass's commit
+-- memory has the master's images of the log; no pass is open, and no roll commits a pass
 pub record IsMemoryOf (d : MasterData) (m : Memory) : Type 0 where
   pub images : (s : ℕ) → IsAmong s (log_ids (log_of d) m) → m.images s ≡ images_of d s
   pub pass : m.pass ≡ no_pass
@@ -23,6 +23,6 @@ pub record IsWellKept (d : MasterData) (f : FleetState) : Type 0 where
   pub before : Picture
   pub intact : IsIntact (log_of d) memory before
   pub backups : d.config.backups ≤ f.backups
-  -- they are as before, or have one op besides
+  -- now they hold the same, or one op more
   pub now : IsFault (log_of d) memory before f.picture
   pub running : d.is_halted ≡ false → f.picture ≡ before

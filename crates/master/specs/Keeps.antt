@@ -1,4 +1,4 @@
--- What steps keep, whatever they answer.
+-- What steps keep, whatever they answer. They make at most so many takes.
 use Rattle.std.specs.Prelude.{◌≡◌, ℕ, ◌+◌, ◌≤◌, List, ◌++◌}
 use Rattle.log_model.specs.Data.{durable_of}
 use Rattle.versioned_map.specs.declared.command.Record.{Record}
@@ -11,7 +11,7 @@ pub record Keeps (most : ℕ) (old new : World) : Type 0 where
   pub takes : (old.fleet.takes ≤ new.fleet.takes) × (new.fleet.takes ≤ old.fleet.takes + most)
   -- no replica of another master changed
   pub others : (b m s : ℕ) → (m ≡ old.knows.config.master → ⊥) → new.fleet.picture b m s ≡ old.fleet.picture b m s
-  -- what was durable is durable
+  -- what was durable stays durable
   pub durable : durable_of (log_of old.knows) ≤ durable_of (log_of new.knows)
-  -- the history goes on from what it was
+  -- the history only grows, at its end
   pub history : (more : List Record) × (new.knows.history ≡ old.knows.history ++ more)

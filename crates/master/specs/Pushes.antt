@@ -19,14 +19,14 @@ units_on d j = unwrap_or (slice_get d.head.taken j) 0
 abbrev pub reach : LogData → ℕ → ℕ
 reach d j = units_on d j + 1
 
--- the replica that has the fewest units, the first of several, takes those up to its reach
+-- the replica that has the fewest units, and of several the first, takes its next unit
 pub record ExtendsNext (d : LogData) (o : LogOp) (e : LogData) : Type 0 where
   pub extends : Extends d o e
   pub lagging : IsLagging (length d.head.units) d.head.taken (Some extends.j)
   pub reached : extends.to ≡ reach d extends.j
 
--- What the answer of a push says of its op: a first head is opened on its next backup, or a new one is; a replica takes
--- its next unit; the old head is closed on its next backup.
+-- What the answer of a push says of its op. Opened: the first head or a new head is opened on its next backup. Extended: a
+-- replica takes its next unit. Closed: the old head is closed on its next backup.
 abbrev pub IsNextOp : LogData → LogOp → StepAnswer → LogData → Type 0
 IsNextOp d o (Opened backup segment) e =
     (OpensFirst d o e ⊎ OpensNew d o e) × (backup ≡ o.backup) × (segment ≡ o.segment)
@@ -44,7 +44,7 @@ pub record Pushes (old : World) (answer : StepAnswer) (new : World) : Type 0 whe
   pub rest : new.knows ≡ record old.knows { head = new.knows.head; closed = new.knows.closed }
   pub takes : Takes old.fleet op.backup (op_of old.knows.config.master op) new.fleet
 
--- what a push answers whose op is on this replica
+-- what a push answers, by what it does to which replica
 abbrev pub answer_of : Next → ℕ → ℕ → StepAnswer
 answer_of (next.OpenFirst j) backup segment = Opened backup segment
 answer_of (next.Extend j) backup segment = Extended backup segment

@@ -19,8 +19,7 @@ use Rattle.master.specs.World.{World}
 
 -- ---- accepted
 
--- a command is applied to what the master knows, or a roll begins, and the fleet stays; a push is one op that the fleet
--- took
+-- a command is applied, or a roll begins, and the fleet stays as it was; a push is one op that the fleet took
 abbrev pub Accepts : World → Step → StepAnswer → World → Type 0
 Accepts old (Apply seat command) answer new = Applies old.knows seat command answer new.knows × (new.fleet ≡ old.fleet)
 Accepts old Push answer new = Pushes old answer new
@@ -28,7 +27,7 @@ Accepts old BeginRoll answer new = BeginsRoll old.knows answer new.knows × (new
 
 -- ---- refused
 
--- the take of a push failed: after a fault its op may have been taken, and the master stays halted
+-- the take of a push failed; after a fault its op may have been taken, and the master stays halted
 abbrev pub FailsTake : World → Refusal → World → Type 0
 FailsTake old refusal.NoMemory new = new ≡ old
 FailsTake old refusal.Spent new = (old.fleet.takes ≡ old.fleet.end) × (new ≡ old)
@@ -37,8 +36,8 @@ FailsTake old refusal.Halted new = (new.knows ≡ halted old.knows)
     × Refuses old.fleet op.backup (op_of old.knows.config.master op) take_fault.Fault new.fleet)
 FailsTake old _ new = ⊥
 
--- A refusal is that of the first test that fails, or comes of memory or the fleet where all are passed. It changes
--- nothing, but for a fault's: then the master stays halted.
+-- A refusal is the one of the first test that fails. If no test fails, it comes from memory or from the fleet. It changes
+-- nothing, except after a fault: then the master stays halted.
 abbrev pub Declines : World → Step → Refusal → World → Type 0
 Declines old (Apply seat command) r new = (new ≡ old)
     × ((command_refusal old.knows command ≡ Some r)
@@ -54,12 +53,12 @@ Steps old step (Err refusal) new = Declines old step refusal new
 
 -- ---- many steps
 
--- what holds at a stop that is one step behind another
+-- what is true after one more step
 pub record IsNextStop (before stop : World) : Type 0 where
   pub keeps : Keeps 1 before stop
   pub valid : IsValid stop.knows stop.fleet
 
--- The steps in order, with their answers; at each stop between them all holds that holds of a master.
+-- The steps in order, with their answers. After each of them everything is true that is true of every master.
 abbrev pub IsRun : World → List Step → List (Result StepAnswer Refusal) → World → Type 0
 IsRun old [] [] new = new ≡ old
 IsRun old (step ∷ steps) (answer ∷ answers) new =

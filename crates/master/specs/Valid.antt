@@ -1,4 +1,4 @@
--- What holds of every master and its fleet, at each stop.
+-- What is true of every master and its fleet, after each step.
 use Rattle.std.specs.Prelude.{◌≡◌, ◌≤◌, List, length, None}
 use Rattle.replica.specs.Picture.{Picture, FleetState}
 use Rattle.versioned_map.specs.History.{IsLegal}
@@ -10,8 +10,9 @@ use Rattle.master_core.specs.Config.{config_fault}
 use Rattle.master_core.specs.Data.{MasterData}
 use Rattle.master_core.specs.Log.{opening_of, log_of, memory_of, IsIndexed}
 
--- The durable count is the most of the first records whose units were each taken whole, by takes that answered Ok, by
--- every replica of the head that they were appended to; and each home of such a segment of the log holds these units.
+-- The durable count is the most records, from the first on, that are durable: for each of their units, every replica of
+-- the head that it was appended to took the unit whole and answered Ok. Each backup of such a segment of the log holds
+-- these units.
 pub record CountsDurable (d : LogData) (p : Picture) : Type 0 where
   -- the heads before the one in force
   pub past : List Head
@@ -23,10 +24,10 @@ pub record IsValid (d : MasterData) (f : FleetState) : Type 0 where
   pub history : length d.history ≤ d.config.history
   -- the replies are the versioned map's
   pub legal : IsLegal (opening_of d) d.history
-  -- the index finds just the map's objects
+  -- the index finds exactly the map's objects
   pub index : IsIndexed d
-  -- whatever backups are left, they hold a prefix that has each durable command, or a named loss hides the log
+  -- whatever backups are left, they hold a prefix that has each durable command, or a loss is named
   pub sound : IsSound (log_of d) f.picture
-  -- memory and the replicas of the log stand for the map
+  -- memory and the replicas of the log hold the map
   pub covered : IsCovered (log_of d) (memory_of d) f.picture
   pub durable : CountsDurable (log_of d) f.picture

@@ -4,7 +4,7 @@ use Rattle.replica.specs.Take.{limited}
 use Rattle.std.specs.Prelude.{ℕ}
 use Rattle.master_core.specs.Data.{MasterData}
 
--- a master as clauses see it
+-- what a clause sees of a master
 pub record MasterValue (F : Type 0) : Type 0 where
   pub knows : MasterData
   pub fleet : F

@@ -1,11 +1,11 @@
 //! One master: a log-structured store in memory whose head is replicated on a fleet of backups.
 //!
-//! The layer above uses `Master::step` alone: one command, or one op handed to one backup. What a step does, when it is
-//! refused, and what it keeps stand in `specs/Steps.antt` and `specs/Keeps.antt`; what holds at each stop, in
-//! `specs/Valid.antt`: whatever backups are left, they hold a prefix of the history that has each durable command, or
-//! the loss is named. A refused step changes nothing, except after a fault of a backup: then one op may have been
-//! taken, and the master stays halted. It stands on `master_core`, for what a master knows, and on `replica`, for the
-//! fleet.
+//! The layer above calls `Master::step`: one command, the begin of a roll, or one op handed to one backup.
+//! `specs/Steps.antt` says what a step does and when it is refused, and `specs/Keeps.antt` what it keeps.
+//! `specs/Valid.antt` says what is true after each step: whatever backups are left, they hold a prefix of the history with
+//! each durable command in it, or the loss is named. A refused step changes nothing, except after a fault of a backup:
+//! then that backup may have taken one op, and the master stays halted. What a master knows is `master_core`'s, and the
+//! fleet is `replica`'s.
 #![tactic(auto)]
 
 mod master;

@@ -45,7 +45,7 @@ impl<F: Fleet> Model for Master<F> {
 }
 
 impl<F: Fleet> Master<F> {
-    /// A master whose head is to be opened. It takes nothing from the fleet, and hands it back where memory ran out.
+    /// A master whose head is not open yet. It asks nothing of the fleet. If memory runs out, it hands the fleet back.
     pub fn new(alloc: Global, config: Config, fleet: F) -> Result<Master<F>, (NoMemory, F)>
         requires config { config_fault config ≡ None }
         requires backups { config.backups ≤ (F.state fleet).backups }
@@ -66,17 +66,16 @@ impl<F: Fleet> Master<F> {
 
     // ---- questions
 
-    /// What holds of every master, at each stop. Whichever backups are left, what they hold of it stands for the first
-    /// commands of its history, each durable one among them; where the head and the segments survive there is a log to
-    /// choose. Memory and the replicas of the log stand for the map after the history, whose replies are the versioned
-    /// map's.
+    /// What is true of every master, after each step. Whichever backups are left, they hold the map after a prefix of its
+    /// history, and that prefix has each durable command. If the head and the segments survive, a recovery finds a log.
+    /// Memory and the replicas of the log hold the map after the whole history. Its replies are the versioned map's.
     pub fn show_valid(&self)
         ensures { IsValid self.now.knows (F.state self.now.fleet) }
     {
         let _alloc = self.alloc;
     }
 
-    /// What each method of a master finds and leaves.
+    /// What is true before and after each method.
     fn show_kept(&self)
         ensures { IsWellKept self.now.knows (F.state self.now.fleet) }
     {
@@ -97,15 +96,15 @@ impl<F: Fleet> Master<F> {
         self.core.head().id()
     }
 
-    /// The fleet, as it is.
+    /// The fleet. Nothing changes.
     pub fn fleet(&self) -> &F
         ensures { result.now ≡ self.entry.now.fleet }
     {
         &self.fleet
     }
 
-    /// How many of the first records are durable: each unit of theirs was taken whole, by takes that answered Ok, by
-    /// every replica of its segment.
+    /// How many of the first records are durable: for each of their units, every replica of its segment took the unit
+    /// whole and answered Ok.
     pub fn durable(&self) -> u64
         ensures count { result ≡ durable_of (log_of self.now.knows) }
         ensures valid { IsValid self.now.knows (F.state self.now.fleet) }
@@ -120,14 +119,14 @@ impl<F: Fleet> Master<F> {
         self.core.history()
     }
 
-    /// Whether a step with this command would be refused, and by which test; want of memory apart.
+    /// Which test would refuse a step with this command, if any. It does not look at memory.
     pub fn would(&self, _seat: u64, command: &Command) -> Result<(), Refusal>
         ensures { result_err result ≡ command_refusal self.now.knows command.now }
     {
         self.core.would(command)
     }
 
-    /// The reply to a command that no test refuses, before it is applied. Nothing changes.
+    /// The reply that a step with this command would get, if no test refuses it. Nothing changes.
     pub fn answer_to(&self, command: &Command) -> Result<Reply, NoMemory>
         requires { command_refusal self.now.knows command.now ≡ None }
         ensures { IfOk result (λ reply. reply ≡ reply_now self.now.knows command.now) }
@@ -135,7 +134,7 @@ impl<F: Fleet> Master<F> {
         self.core.answer_to(command)
     }
 
-    /// What is to be shown. Nothing changes.
+    /// Shows what the look asks for. Nothing changes.
     pub fn look(&self, look: Look) -> Result<Shown, NoMemory>
         ensures shown { IfOk result (λ shown. IsShown self.now.knows look shown) }
         ensures refused { OnErr result (NeedsMemory self.now.knows look) }
@@ -145,7 +144,7 @@ impl<F: Fleet> Master<F> {
 
     // ---- steps
 
-    /// One step. It makes at most one take.
+    /// Makes one step, with at most one take.
     pub fn step(&mut self, step: Step) -> Result<StepAnswer, Refusal>
         ensures gives { Steps (world F.state self.old) step result (world F.state self.new) }
         ensures keeps { Keeps 1 (world F.state self.old) (world F.state self.new) }
@@ -161,7 +160,7 @@ impl<F: Fleet> Master<F> {
         outcome
     }
 
-    /// One command.
+    /// Applies a command.
     fn apply(&mut self, seat: u64, command: Command) -> Result<StepAnswer, Refusal>
         ensures accepted { IfOk result (λ a.
             Accepts (world F.state self.old) (Step.Apply seat command) a (world F.state self.new)) }
@@ -171,7 +170,7 @@ impl<F: Fleet> Master<F> {
         self.core.apply(seat, command)
     }
 
-    /// A roll begins.
+    /// Begins a roll.
     fn begin_roll(&mut self) -> Result<StepAnswer, Refusal>
         ensures accepted { IfOk result (λ a.
             Accepts (world F.state self.old) Step.BeginRoll a (world F.state self.new)) }
@@ -181,7 +180,7 @@ impl<F: Fleet> Master<F> {
         self.core.begin_roll()
     }
 
-    /// One op handed to one backup.
+    /// Hands one op to one backup.
     fn push(&mut self) -> Result<StepAnswer, Refusal>
         ensures accepted { IfOk result (λ a. Accepts (world F.state self.old) Step.Push a (world F.state self.new)) }
         ensures refused { IfErr result (λ r. Declines (world F.state self.old) Step.Push r (world F.state self.new)) }
@@ -214,7 +213,8 @@ impl<F: Fleet> Master<F> {
         }
     }
 
-    /// Steps in order, with their answers. Memory for the steps and the answers is taken before the first step.
+    /// Makes the steps in order, and answers what each of them answered. All memory for this is taken before the first
+    /// step, so NoMemory means that no step was made.
     pub fn run(&mut self, steps: &[Step]) -> Result<Vec<Result<StepAnswer, Refusal>>, NoMemory>
         ensures ran { IfOk result (λ answers.
             IsRun (world F.state self.old) steps.now answers.items (world F.state self.new)) }
@@ -233,8 +233,8 @@ impl<F: Fleet> Master<F> {
         Ok(answers)
     }
 
-    /// Drops the master. The fleet comes back as it was left: what any backups hold stands for a prefix of the
-    /// commands.
+    /// Drops the master, and hands the fleet back as it is. Whichever backups are left then, they hold the map after a
+    /// prefix of the commands.
     pub fn crash(self) -> F
         ensures fleet { result ≡ self.fleet }
         ensures valid { IsValid self.knows (F.state result) }
@@ -253,7 +253,7 @@ impl<F: Fleet> Master<F> {
 impl<F: Bench> Master<F> {
     ghost use Rattle.master.specs.World.{limited_world};
 
-    /// Lets the fleet take `n` further ops.
+    /// Lets the fleet take `n` more ops.
     pub fn limit(&mut self, n: u64)
         ensures limited { world F.Fleet.state self.new ≡ limited_world (world F.Fleet.state self.old) n }
         ensures valid { IsValid self.new.knows (F.Fleet.state self.new.fleet) }
@@ -275,7 +275,7 @@ fn answer(next: Next, backup: u64, segment: u64) -> StepAnswer
     }
 }
 
-/// The same steps, in memory of their own.
+/// A copy of the steps.
 fn copies(alloc: Global, steps: &[Step]) -> Result<Vec<Step>, NoMemory>
     ensures copies { IfOk result (λ own. own.items ≡ steps.now) }
     ensures refused { OnErr result (0 < length steps.now) }
