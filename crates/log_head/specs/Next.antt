@@ -13,8 +13,8 @@ pub record IsWholeHead (h : HeadValue) : Type 0 where
   pub opened : length h.taken ≡ h.replicas
   pub none_lags : IsLagging (length h.units) h.taken None
 
--- The order of pushes: first the first head is opened, then the replica that lags most is extended, then the new head of
--- a roll is opened, and then the old head is closed.
+-- The order of pushes: first the first head is opened, then the replica that lags most is extended, then the new head
+-- of a roll is opened, and then the old head is closed.
 abbrev pub IsNextPush : HeadValue → Option Next → Type 0
 IsNextPush h None = IsWholeHead h × (h.roll ≡ None)
 IsNextPush h (Some (next.OpenFirst j)) = (j ≡ length h.taken) × (j < h.replicas)

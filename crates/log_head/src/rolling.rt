@@ -82,8 +82,8 @@ impl Head {
         ids_in(alloc, &self.image, 0)
     }
 
-    /// Begins a roll to the head with this id. The new image gets room for `room` bytes. The old one gives back the room
-    /// that it has above `kept` bytes. A refusal changes nothing.
+    /// Begins a roll to the head with this id. The new image gets room for `room` bytes. The old one gives back the
+    /// room that it has above `kept` bytes. A refusal changes nothing.
     pub fn begin_roll(
         &mut self,
         alloc: Global,
@@ -168,7 +168,8 @@ fn ids_in(alloc: Global, image: &Segment, more: usize) -> Result<Vec<u64>, NoMem
     Ok(ids)
 }
 
-/// The opening of the head with this id. Its digest lists the segments of this image's digest, and then the head itself.
+/// The opening of the head with this id. Its digest lists the segments of this image's digest, and then the head
+/// itself.
 fn next_image(
     alloc: Global,
     image: &Segment,

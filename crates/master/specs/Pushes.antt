@@ -25,8 +25,8 @@ pub record ExtendsNext (d : LogData) (o : LogOp) (e : LogData) : Type 0 where
   pub lagging : IsLagging (length d.head.units) d.head.taken (Some extends.j)
   pub reached : extends.to ≡ reach d extends.j
 
--- What the answer of a push says of its op. Opened: the first head or a new head is opened on its next backup. Extended: a
--- replica takes its next unit. Closed: the old head is closed on its next backup.
+-- What the answer of a push says of its op. Opened: the first head or a new head is opened on its next backup.
+-- Extended: a replica takes its next unit. Closed: the old head is closed on its next backup.
 abbrev pub IsNextOp : LogData → LogOp → StepAnswer → LogData → Type 0
 IsNextOp d o (Opened backup segment) e =
     (OpensFirst d o e ⊎ OpensNew d o e) × (backup ≡ o.backup) × (segment ≡ o.segment)

@@ -36,8 +36,8 @@ FailsTake old refusal.Halted new = (new.knows ≡ halted old.knows)
     × Refuses old.fleet op.backup (op_of old.knows.config.master op) take_fault.Fault new.fleet)
 FailsTake old _ new = ⊥
 
--- A refusal is the one of the first test that fails. If no test fails, it comes from memory or from the fleet. It changes
--- nothing, except after a fault: then the master stays halted.
+-- A refusal is the one of the first test that fails. If no test fails, it comes from memory or from the fleet. It
+-- changes nothing, except after a fault: then the master stays halted.
 abbrev pub Declines : World → Step → Refusal → World → Type 0
 Declines old (Apply seat command) r new = (new ≡ old)
     × ((command_refusal old.knows command ≡ Some r)

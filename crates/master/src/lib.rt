@@ -2,10 +2,10 @@
 //!
 //! The layer above calls `Master::step`: one command, the begin of a roll, or one op handed to one backup.
 //! `specs/Steps.antt` says what a step does and when it is refused, and `specs/Keeps.antt` what it keeps.
-//! `specs/Valid.antt` says what is true after each step: whatever backups are left, they hold a prefix of the history with
-//! each durable command in it, or the loss is named. A refused step changes nothing, except after a fault of a backup:
-//! then that backup may have taken one op, and the master stays halted. What a master knows is `master_core`'s, and the
-//! fleet is `replica`'s.
+//! `specs/Valid.antt` says what is true after each step: whatever backups are left, they hold a prefix of the history
+//! with each durable command in it, or the loss is named. A refused step changes nothing, except after a fault of a
+//! backup: then that backup may have taken one op, and the master stays halted. What a master knows is
+//! `master_core`'s, and the fleet is `replica`'s.
 #![tactic(auto)]
 
 mod master;

@@ -66,9 +66,10 @@ impl<F: Fleet> Master<F> {
 
     // ---- questions
 
-    /// What is true of every master, after each step. Whichever backups are left, they hold the map after a prefix of its
-    /// history, and that prefix has each durable command. If the head and the segments survive, a recovery finds a log.
-    /// Memory and the replicas of the log hold the map after the whole history. Its replies are the versioned map's.
+    /// What is true of every master, after each step. Whichever backups are left, they hold the map after a prefix of
+    /// its history, and that prefix has each durable command. If the head and the segments survive, a recovery finds a
+    /// log. Memory and the replicas of the log hold the map after the whole history. Its replies are the versioned
+    /// map's.
     pub fn show_valid(&self)
         ensures { IsValid self.now.knows (F.state self.now.fleet) }
     {

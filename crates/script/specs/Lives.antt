@@ -27,7 +27,7 @@ pub record HasLived (config : Config) (life : Life) (d : MasterData) (f : FleetS
 
 -- ---- what is left
 
--- what the backups held of a master that is gone, and which of them lost all they held since then
+-- what the backups held of a master when it was dropped, and which backups have lost all they held since
 pub record Left : Type 0 where
   pub picture : Picture
   pub lost : List ℕ
@@ -35,12 +35,12 @@ pub record Left : Type 0 where
 abbrev pub is_left : List ℕ → ℕ → Bool
 is_left lost b = not (is_kept lost b)
 
--- a master that had lived this life left this
+-- a master that lived this life left this
 abbrev pub IsLeftBy : Config → Life → Left → Type 0
 IsLeftBy config life left =
     (d : MasterData) × (f : FleetState) × HasLived config life d f × (left ≡ record { picture = f.picture; lost = [] })
 
--- and its fleet took no more ops
+-- the same, and its fleet took no more ops
 abbrev pub IsLeftBySpent : Config → Life → Left → Type 0
 IsLeftBySpent config life left =
     (d : MasterData) × (f : FleetState) × HasLived config life d f × (left ≡ record { picture = f.picture; lost = [] })

@@ -17,12 +17,12 @@ pub record Streams : Type 0 where
   pub output : Option (List ℕ)
   pub errors : Option (List ℕ)
 
--- how a run is reported: by status 0, or by the line of its fault and the status of that
+-- how the end of a run is reported: Ok by status 0, and a fault by its line and its status
 abbrev pub IsReported : RunResult → Option (List ℕ) → Option (List ℕ) → ℕ → Type 0
 IsReported (Ok done) held holds status = (holds ≡ held) × (status ≡ 0)
 IsReported (Err fault) held holds status = AppendsFront held holds (fault_line fault) × (status ≡ exit_status fault)
 
--- A configuration that fails its check is named before anything is read or written.
+-- The configuration fails its check. Its fault is named on the error output, and nothing else is read or written.
 pub record IsMisuse (config : Config) (old new : Streams) (status : ℕ) : Type 0 where
   pub fault : ConfigFault
   pub found : config_fault config ≡ Some fault
@@ -31,7 +31,7 @@ pub record IsMisuse (config : Config) (old new : Streams) (status : ℕ) : Type 
   pub unwritten : new.output ≡ old.output
   pub ends_with : status ≡ 2
 
--- The script was run under a configuration that passes its check, or memory ran out; how the run ended is reported.
+-- The script was run under a configuration that passes its check, or memory ran out. The end of the run is reported.
 pub record IsRunOf (config : Config) (old new : Streams) (status : ℕ) : Type 0 where
   pub result : RunResult
   pub checked : (config_fault config ≡ None) ⊎ (result ≡ Err NoMemory)
@@ -43,6 +43,6 @@ abbrev pub RunsOptions : Options → Streams → Streams → ℕ → Type 0
 RunsOptions options old new status =
     IsMisuse (config_of options 1) old new status ⊎ IsRunOf (config_of options 1) old new status
 
--- what it does with the options that these matches of its words have
+-- what the program does with the options that these matches of its words have
 abbrev pub RunsMatches : List Row → Streams → Streams → ℕ → Type 0
 RunsMatches rows old new status = (options : Options) × HasOptions rows options × RunsOptions options old new status

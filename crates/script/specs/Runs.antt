@@ -15,7 +15,7 @@ use Rattle.script.specs.Told.{Told, Position, at_start, AreTelling}
 
 -- ---- lines
 
--- a line names no backup but those of a fleet with so many
+-- a fleet of so many has the backup that the line names
 abbrev pub IsOfFleet : ℕ → LineValue → Type 0
 IsOfFleet backups (Lose backup) = backup < backups
 IsOfFleet backups _ = Unit {0}
@@ -34,7 +34,7 @@ texts_of told = flat_map (λ (t : Told). t.text ++ 10 ∷ []) told
 abbrev pub answers_of : List Told → List ℕ
 answers_of told = flat_map (λ (t : Told). answer_text t.answer) told
 
--- the bytes are those of the lines; the last may lack its line feed where it has a byte
+-- the bytes are those of the lines; the last line may lack its line feed if it has a byte
 abbrev pub AreLines : List Told → List ℕ → Type 0
 AreLines told bytes = (bytes ≡ texts_of told)
     ⊎ ((before : List Told) × (last : Told) × (told ≡ before ++ last ∷ []) × (bytes ≡ texts_of before ++ last.text)
@@ -46,7 +46,7 @@ AreLines told bytes = (bytes ≡ texts_of told)
 abbrev pub IsTakenLine : List ℕ → List ℕ → Option (List ℕ) → Type 0
 IsTakenLine text taken left = (taken ≡ text ++ 10 ∷ []) ⊎ ((taken ≡ text) × (0 < length text) × IsAtEnd left)
 
--- a line that is too long, or a text that says no line of the fleet, or any line after the first 2^64 - 2
+-- a line is bad if it is too long, if its text says no line of this fleet, or if it is line 2^64 - 1
 abbrev pub IsBadLine : ℕ → ℕ → List ℕ → Option (List ℕ) → Type 0
 IsBadLine backups number taken left =
     (IsUnbroken taken × (length taken ≡ 4097))
@@ -65,8 +65,8 @@ abbrev pub TellOneLife : Config → List Told → Type 0
 TellOneLife config told = (life : Life) × (life.opening ≡ empty_state) × IsLegal life.opening life.history
     × (last : Position) × AreTelling config life at_start told last × (last.made ≡ length life.history)
 
--- What was taken of the reader: the lines that were run, and behind them a bad line, which has the next number, or at a
--- fault a part of a line.
+-- What was taken of the reader: the lines that were run, and then nothing, or a bad line, which has the next number,
+-- or part of a line at a fault.
 abbrev pub EndsWith : ℕ → List Told → List ℕ → Option (List ℕ) → Result (Unit {0}) ScriptFault → Type 0
 EndsWith backups told taken left (Ok done) = AreLines told taken × IsAtEnd left
 EndsWith backups told taken left (Err (BadLine number)) =
@@ -81,8 +81,8 @@ abbrev pub Prints : Option (List ℕ) → Option (List ℕ) → List Told → Re
 Prints old new told (Err WriteFailed) = Unit {0}
 Prints old new told result = Appends old new (answers_of told)
 
--- A run of a script under a configuration: what the reader had and has left, what the writer held and holds, and how the
--- run ended.
+-- A run of a script under a configuration: what the reader had and has left, what the writer held and holds, and how
+-- the run ended.
 pub record RunsScript (config : Config) (had left held holds : Option (List ℕ)) (result : RunResult) : Type 0 where
   pub told : List Told
   pub taken : List ℕ

@@ -1,4 +1,4 @@
--- What a session of lines stands for.
+-- What a session stands for, and what its lines do to it.
 use Rattle.std.specs.Prelude.{◌≡◌, ◌⊎◌, ℕ, ◌<◌, ◌≤◌, List, [], ◌∷◌, ◌++◌, Bool, true, false, Option, Some, None, length}
 use Rattle.backup.specs.State.{fleet_state}
 use Rattle.lines.specs.Grammar.{LineValue}
@@ -26,7 +26,7 @@ use Rattle.script.specs.declared.session.Session.{Session}
 use Rattle.script.specs.Lives.{Life, life_to, Left, is_left}
 use Rattle.script.specs.Told.{Position, at_start, command_of, is_of_push, IsTest, TellsNoRoll, Tells}
 
--- a master goes on: the same configuration, no less durable, and with these records more
+-- the master goes on: its configuration is the same, as much is durable or more, and it has these records more
 pub record LivesOn (old new : MasterData) (more : List Record) : Type 0 where
   pub config : new.config ≡ old.config
   pub durable : durable_of (log_of old) ≤ durable_of (log_of new)
@@ -35,34 +35,34 @@ pub record LivesOn (old new : MasterData) (more : List Record) : Type 0 where
 abbrev pub record_of : Command → Reply → List Record
 record_of command reply = record { seat = 0; command = command; reply = reply } ∷ []
 
--- it takes no more ops
+-- the fleet takes no more ops
 abbrev pub IsSpent : FleetState → Type 0
 IsSpent f = f.takes ≡ f.end
 
--- the command was served: its record is added, and durable
+-- the command was served: its record was added, and is durable
 abbrev pub IsServed : MasterData → MasterData → Command → Reply → Type 0
 IsServed old new command reply =
     LivesOn old new (record_of command reply) × (length old.history < durable_of (log_of new))
 
--- The command was not answered. It was refused by a test or for want of memory, and no record was added; or its record
--- was added, and a push was refused.
+-- The command was not answered. Either a test or want of memory refused it, and no record was added. Or its record was
+-- added, and a push was refused.
 abbrev pub IsUnserved : MasterData → MasterData → Command → Refusal → Type 0
 IsUnserved old new command r =
     (LivesOn old new [] × ((r ≡ NoMemory) ⊎ (command_refusal old command ≡ Some r)))
     ⊎ (((reply : Reply) × LivesOn old new (record_of command reply)) × (is_of_push r ≡ true))
 
--- a roll was refused by a test, or a push was refused
+-- a test refused the roll, or a push was refused
 abbrev pub IsNotRolled : MasterData → Refusal → Type 0
 IsNotRolled old r = (roll_refusal old ≡ Some r) ⊎ (is_of_push r ≡ true)
 
--- The fleet holds of a master that is gone what its crash left, less the backups that were lost since.
+-- Of a master that is gone the fleet holds what its crash left, without the backups that were lost since.
 pub record IsLeftOf (d : MasterData) (l : Left) (f : FleetState) : Type 0 where
   pub crashed : FleetState
   pub valid : IsValid d crashed
   pub picture : l.picture ≡ crashed.picture
   pub shown : (b s : ℕ) → f.picture b d.config.master s ≡ left_on (is_left l.lost) l.picture b d.config.master s
 
--- a master that is up knows this; one that is down knew it, and this is left of it
+-- a master that is up knows `d`; one that is down knew `d`, and `left` is left of it
 abbrev pub IsOf : Node → Option Left → MasterData → Type 0
 IsOf (Up m) left d = (left ≡ None) × (m.knows ≡ d) × IsValid d (fleet_state m.fleet)
 IsOf (Down fleet) left d = (l : Left) × (left ≡ Some l) × IsLeftOf d l (fleet_state fleet)
@@ -72,7 +72,7 @@ IsOf Changing left d = ⊥
 abbrev pub left_now : FleetState → Left
 left_now f = record { picture = f.picture; lost = [] }
 
--- the fleet of a node, but while its master is being dropped
+-- the fleet of a node; none while its master is being dropped
 abbrev pub fleet_of : Node → Option FleetState
 fleet_of (Up m) = Some (fleet_state m.fleet)
 fleet_of (Down fleet) = Some (fleet_state fleet)
@@ -88,13 +88,13 @@ abbrev pub IsDropped : Node → Node → Type 0
 IsDropped old new = (d : MasterData) (f : FleetState) → IsOf old None d → fleet_of old ≡ Some f →
     IsOf new (Some (left_now f)) d
 
--- a refusal is the answer; or the fleet takes no more ops, and the master was dropped
+-- the refusal is the answer, and nothing changed; or the fleet takes no more ops, and the master was dropped
 abbrev pub Refuses : Node → Refusal → Node → Answer → Type 0
 Refuses old r new answer =
     ((answer ≡ Refused r) × (new ≡ old)) ⊎ ((answer ≡ Stopped) × (r ≡ Spent) × IsDropped old new)
 
--- The node stands at this position for this knowledge, of a master of this configuration, and what was acknowledged is
--- durable.
+-- The node stands at this position for a master of this configuration that knows `d` or knew it. What was acknowledged
+-- is durable.
 pub record IsNodeAt (node : Node) (config : Config) (d : MasterData) (at : Position) : Type 0 where
   pub node_of : IsOf node at.left d
   pub configured : d.config ≡ config
@@ -106,25 +106,26 @@ life_of d = record { opening = opening_of d; history = d.history }
 
 -- ---- lines
 
--- What a line answers is told of the life of whatever the node stands for, and the node that is left goes on with it.
+-- Whatever the node stood for, the new one goes on with its life, and the answer is one that the line tells of that
+-- life.
 abbrev pub AnswersLine : Node → Config → LineValue → Node → Answer → Type 0
 AnswersLine old config line new answer = (d : MasterData) (at : Position) → IsNodeAt old config d at →
     (e : MasterData) × (next : Position) × IsNodeAt new config e next
     × ((more : List Record) × (e.history ≡ d.history ++ more)) × Tells config (life_of e) at line answer next
 
--- the same of a session, whose master has this number
+-- the same for a session, which keeps its master's number and its count of backups
 pub record SessionAnswers (old : Session) (line : LineValue) (new : Session) (answer : Answer) : Type 0 where
   pub number : new.master ≡ old.master
   pub backups : new.backups ≡ old.backups
   pub answers : (config : Config) → config.master ≡ old.master → AnswersLine old.node config line new.node answer
 
--- a session at its start: a master of this configuration whose head is open, and of which nothing is told yet
+-- a session at its start: its master has this configuration and an open head, and nothing is told of it yet
 pub record BeginsSession (config : Config) (s : Session) : Type 0 where
   pub stands : (d : MasterData) × IsNodeAt s.node config d at_start × (is_open d.head ≡ true)
   pub number : s.master ≡ config.master
   pub backups : s.backups ≡ config.backups
 
--- what backups hold, as an answer
+-- the answer that shows what backups hold
 abbrev pub held_answer : Result (List Holding) AllocError → Answer
 held_answer (Ok hs) = Holdings hs
 held_answer (Err fault) = Refused NoMemory
@@ -135,19 +136,19 @@ held_answer (Err fault) = Refused NoMemory
 abbrev pub StaysAt : Node → Config → MasterData → Position → MasterData → Type 0
 StaysAt node config d at e = IsNodeAt node config e at × (e.history ≡ d.history)
 
--- a test refused the command, since a roll is due or under way, and nothing was done
+-- a roll is due or under way, so a test refuses the command, and nothing was done
 abbrev pub WaitsForRoll : Node → Config → Command → Node → Type 0
 WaitsForRoll old config command new = (d : MasterData) (at : Position) → IsNodeAt old config d at →
     (e : MasterData) × StaysAt new config d at e
     × (at.left ≡ None) × IsTest config (life_to (life_of e) at.made) command Rolling
 
--- a command that is served: its line is answered, or it waits for a roll
+-- a command is served: its line is answered, or it waits for a roll
 abbrev pub Serves : Node → Command → Node → Option Answer → Type 0
 Serves old command new (Some answer) =
     (config : Config) (line : LineValue) → command_of line ≡ Some command → AnswersLine old config line new answer
 Serves old command new None = (config : Config) → WaitsForRoll old config command new
 
--- A roll was made and the head is open; or it was refused. No record was made.
+-- Either a roll was made and the head is open, or the answer tells why not. No record was made.
 abbrev pub MakesRoom : Node → Config → Node → Option Answer → Type 0
 MakesRoom old config new (Some answer) = (d : MasterData) (at : Position) → IsNodeAt old config d at →
     (e : MasterData) × (next : Position) × IsNodeAt new config e next × (e.history ≡ d.history)
@@ -155,8 +156,8 @@ MakesRoom old config new (Some answer) = (d : MasterData) (at : Position) → Is
 MakesRoom old config new None = (d : MasterData) (at : Position) → IsNodeAt old config d at →
     (e : MasterData) × StaysAt new config d at e × (is_open e.head ≡ true)
 
--- The same of a line whose command waits for a roll. Its answer is told of what the node stood for before the command
--- had to wait.
+-- The answer of a line whose command waited for a roll. It is told of what the node stood for before the command had to
+-- wait.
 pub record AnswersAfterRoll (mid : Session) (line : LineValue) (new : Session) (answer : Answer) : Type 0 where
   pub number : new.master ≡ mid.master
   pub backups : new.backups ≡ mid.backups

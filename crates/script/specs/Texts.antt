@@ -37,7 +37,7 @@ hex_text bytes = flat_map hex_digits bytes ++ 10 ∷ []
 abbrev pub object_text : Object → List ℕ
 object_text o = decimal o.key.table ++ 32 ∷ o.key.bytes ++ 32 ∷ decimal o.version ++ 32 ∷ o.value ++ 10 ∷ []
 
--- a line for each object, in order, and their number
+-- a line for each object, in order, and a line with their number
 abbrev pub rebuilt_text : Rebuilt → List ℕ
 rebuilt_text r = flat_map object_text r.objects ++ codes "recovered " ++ decimal (length r.objects) ++ 10 ∷ []
 
@@ -95,7 +95,7 @@ script_fault_text ReadFailed = codes "cannot read"
 script_fault_text WriteFailed = codes "cannot write"
 script_fault_text NoMemory = codes "no memory"
 
--- the number that stands behind a fault's words, if one does
+-- the number after a fault's words, if there is one
 abbrev pub number_text : Option ℕ → List ℕ
 number_text nothing = []
 number_text (Some number) = decimal number

@@ -49,9 +49,9 @@ pub record Told : Type 0 where
 pub record Position : Type 0 where
   -- how many records its lines have made
   pub made : ℕ
-  -- how many of them, counted from the first, a recovery has to have: those up to the last that was answered
+  -- how many of these are acknowledged, up to the last one that was answered; each recovery has to have them
   pub acknowledged : ℕ
-  -- what is left of the master, where there is none
+  -- what is left of the master, if there is none now
   pub left : Option Left
 
 -- at the start nothing is told, and there is a master
@@ -70,22 +70,22 @@ command_of (Get table key) = Some (command.Get (record { table = table; bytes = 
 command_of (Del table key) = Some (command.Delete (record { table = table; bytes = key }))
 command_of _ = None
 
--- the record at this place is of what the line asks, by seat 0, and has this reply
+-- the record at this place is of the line's command, by seat 0, and has this reply
 abbrev pub IsRecordAt : Life → ℕ → LineValue → Reply → Type 0
 IsRecordAt life place line reply = (c : Command) × (command_of line ≡ Some c)
     × (slice_get life.history place ≡ Some (record { seat = 0; command = c; reply = reply }))
 
--- the line made the next record, which is acknowledged with all before it
+-- the line made the next record, and this record and all before it are acknowledged
 abbrev pub IsReplied : Life → Position → LineValue → Reply → Position → Type 0
 IsReplied life at line reply next = IsRecordAt life at.made line reply
     × (next ≡ record { made = suc at.made; acknowledged = suc at.made; left = None })
 
--- the line is a command's, and made no record
+-- the line asks for a command, and made no record
 abbrev pub IsOut : Position → LineValue → Option Left → Position → Type 0
 IsOut at line left next = (c : Command) × (command_of line ≡ Some c)
     × (next ≡ record { made = at.made; acknowledged = at.acknowledged; left = left })
 
--- the line made the next record, and nobody was told
+-- the line made the next record, and no reply told so
 abbrev pub IsIn : Life → Position → LineValue → Option Left → Position → Type 0
 IsIn life at line left next = (reply : Reply) × IsRecordAt life at.made line reply
     × (next ≡ record { made = suc at.made; acknowledged = at.acknowledged; left = left })
@@ -96,7 +96,7 @@ IsIn life at line left next = (reply : Reply) × IsRecordAt life at.made line re
 abbrev pub IsTest : Config → Life → Command → Refusal → Type 0
 IsTest config life c r = (d : MasterData) × (f : FleetState) × HasLived config life d f × (command_refusal d c ≡ Some r)
 
--- what a push may be refused by
+-- the refusals that a push may give
 abbrev pub is_of_push : Refusal → Bool
 is_of_push refusal.Halted = true
 is_of_push refusal.Spent = true
@@ -108,24 +108,24 @@ is_of_push _ = false
 abbrev pub IsRollTest : Config → Life → Refusal → Type 0
 IsRollTest config life r = (d : MasterData) × (f : FleetState) × HasLived config life d f × (roll_refusal d ≡ Some r)
 
--- a roll is refused by a test, or one of its pushes is refused
+-- a test refuses the roll, or one of its pushes is refused
 abbrev pub IsRollRefused : Config → Life → Refusal → Type 0
 IsRollRefused config life r = IsRollTest config life r ⊎ (is_of_push r ≡ true)
 
--- A test refuses the command, or it has to wait for a roll, and the roll is refused.
+-- A test refuses the command, or the command has to wait for a roll and the roll is refused.
 abbrev pub IsCause : Config → Life → Command → Refusal → Type 0
 IsCause config life c r =
     IsTest config life c r ⊎ (IsTest config life c refusal.Rolling × IsRollRefused config life r)
 
--- A command is refused for memory, by a test or with the roll that it waits for, and has made no record; or it made
--- one, and then a push was refused.
+-- A command is refused. Either it made no record: memory ran out, a test refused it, or the roll that it waits for was
+-- refused. Or it made one, and then a push was refused.
 abbrev pub IsRefused : Config → Life → Position → LineValue → Refusal → Position → Type 0
 IsRefused config life at line r next =
     (IsOut at line None next × ((r ≡ refusal.NoMemory)
     ⊎ ((c : Command) × (command_of line ≡ Some c) × IsCause config (life_to life at.made) c r)))
     ⊎ (IsIn life at line None next × (is_of_push r ≡ true))
 
--- What an answer tells of a roll that wasn't made, and the position that it leads to. No record was made.
+-- What an answer tells of a roll that wasn't made, and the position after it. No record was made.
 abbrev pub TellsNoRoll : Config → Life → Position → Answer → Position → Type 0
 TellsNoRoll config life at (answer.Refused r) next = (at.left ≡ None)
     × IsRollRefused config (life_to life at.made) r
@@ -145,7 +145,7 @@ is_step BeginRoll = true
 is_step Push = true
 is_step _ = false
 
--- the line's step was refused by a test of a roll, or as a push is
+-- a test of a roll refused the line's step, or it was refused as a push is
 abbrev pub IsStepRefused : Config → Life → Position → LineValue → Refusal → Position → Type 0
 IsStepRefused config life at line r next = (is_step line ≡ true) × TellsNoRoll config life at (answer.Refused r) next
 
@@ -154,66 +154,66 @@ abbrev pub IsStepOut : Position → LineValue → Left → Position → Type 0
 IsStepOut at line l next = (is_step line ≡ true)
     × (next ≡ record { made = at.made; acknowledged = at.acknowledged; left = Some l })
 
--- the head of a master that has lived this life, which is open
+-- a master that has lived this life has this head, and it is open
 abbrev pub IsHeadAt : Config → Life → ℕ → Type 0
 IsHeadAt config life id = (d : MasterData) × (f : FleetState) × HasLived config life d f
     × (d.head.id ≡ id) × (is_open d.head ≡ true)
 
--- a step of this kind that a master which has lived this life takes, with its answer
+-- a master that has lived this life takes this step, with this answer, and has lived this life after it too
 abbrev pub IsStepAt : Config → Life → Step → StepAnswer → Type 0
 IsStepAt config life step a = (old : World) × (new : World) × HasLived config life old.knows old.fleet
     × HasLived config life new.knows new.fleet × Accepts old step a new
 
 -- ---- what is shown
 
--- the line shows something, for which it takes memory
+-- the line shows something, and needs memory for that
 abbrev pub shows : LineValue → Bool
 shows (Hex segment) = true
 shows Log = true
 shows Holdings = true
 shows _ = false
 
--- the digest in force of a master that has lived this life
+-- a master that has lived this life has this digest in force
 abbrev pub IsDigestAt : Config → Life → List ℕ → Type 0
 IsDigestAt config life ids = (d : MasterData) × (f : FleetState) × HasLived config life d f
     × (ids ≡ digest_of d.head.image)
 
--- the replicas of the master that are left
+-- of the master's replicas these are left
 abbrev pub AreLeft : Config → Left → List Holding → Type 0
 AreLeft config l hs = (h : Holding) → h.master ≡ config.master
     → IsAmong h hs ↔ IsHeld (left_on (is_left l.lost) l.picture) h
 
--- the replicas that the backups of a master hold which has lived this life, or those that are left of it
+-- what the backups hold: of a master that has lived this life, or what is left of it
 abbrev pub AreHeldAt : Config → Life → Option Left → List Holding → Type 0
 AreHeldAt config life None hs = (d : MasterData) × (f : FleetState) × HasLived config life d f × AreHeld hs f.picture
 AreHeldAt config life (Some l) hs = AreLeft config l hs
 
 -- ---- images
 
--- the image of this segment that a master which has lived this life shows
+-- a master that has lived this life has this image of the segment
 abbrev pub IsImageAt : Config → Life → ℕ → Option (List ℕ) → Type 0
 IsImageAt config life segment image = (d : MasterData) × (f : FleetState) × HasLived config life d f
     × (option_map text_of (image_of d segment) ≡ image)
 
 -- ---- recovered tables
 
--- the objects are those of the versioned map after this many records, by table and then key bytes
+-- the objects are those of the versioned map after this many records, sorted by table and then by key bytes
 pub record IsTableAfter (life : Life) (count : ℕ) (r : Rebuilt) : Type 0 where
   pub within : count ≤ length life.history
   pub exactly : contents_of r.objects ≡ (after life.opening (take count (commands_of life.history))).contents
   pub order : IsStrictlySortedBy key_cmp (map (λ (o : Object). o.key) r.objects)
 
--- the table after a prefix of what the lines have made that has all that was acknowledged
+-- the table is that after a prefix of the lines' records, and the prefix has each acknowledged one
 abbrev pub IsRecoveredAt : Life → Position → Rebuilt → Type 0
 IsRecoveredAt life at r =
     (count : ℕ) × (at.acknowledged ≤ count) × (count ≤ at.made) × IsTableAfter life count r
 
--- the objects are those of a choice from what the backups still hold
+-- the objects are those of a log that is chosen from what the backups still hold
 abbrev pub IsOfLeft : Config → Left → Rebuilt → Type 0
 IsOfLeft config l r = (c : Choice) × IsShownChoice (survivors (is_left l.lost) (shown_by l.picture)) config.master c
     × IsMeaning (among (bag_of c)) (contents_of r.objects)
 
--- what is refused is lost, or memory ran out; and this alone where both survive among the backups that are left
+-- what the refusal names is lost, or memory ran out; if both survive on the backups that are left, memory ran out
 abbrev pub IsLossOf : Config → Left → RecoveryFault → Type 0
 IsLossOf config l e = IsLossOrMemory e
     × (BothSurvive (IsHomeBy config) (shown_by l.picture) config.master (is_left l.lost) → IsWant e)
@@ -235,13 +235,13 @@ is_for_master (Hex segment) = true
 is_for_master Crash = true
 is_for_master _ = false
 
--- the line works only while there is none
+-- the line works only while there is no master
 abbrev pub is_for_none : LineValue → Bool
 is_for_none (Lose backup) = true
 is_for_none Recover = true
 is_for_none _ = false
 
--- What an answer of a line tells where the script stands at a position, and the position that it leads to.
+-- What the answer of a line tells, if the script stands at this position, and the position after it.
 abbrev pub Tells : Config → Life → Position → LineValue → Answer → Position → Type 0
 Tells config life at line answer.Silent next = (line ≡ Idle) × (next ≡ at)
 Tells config life at line (answer.Reply reply) next = (at.left ≡ None) × IsReplied life at line reply next

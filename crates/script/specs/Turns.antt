@@ -13,11 +13,11 @@ use Rattle.script.specs.Runs.{IsOfFleet, IsTakenLine, IsBadLine, RunResult}
 use Rattle.script.specs.Served.{SessionAnswers}
 use Rattle.script.specs.Texts.{answer_text}
 
--- what a reader has left, or a writer holds, where it is known
+-- what a reader has left or a writer holds, if that is known
 abbrev pub Known : Type 0
 Known = Option (List ℕ)
 
--- the value of a line is one that an object may have
+-- an object may have the value of the line
 abbrev pub HasValue : LineValue → Type 0
 HasValue (Put table key value) = length value ≤ 2097152
 HasValue (New table key value) = length value ≤ 2097152
@@ -29,7 +29,7 @@ abbrev pub RefusesLine : ℕ → LineValue → LineFault → Type 0
 RefusesLine backups line line_fault.Bad = IsOfFleet backups line → ⊥
 RefusesLine backups line line_fault.NoMemory = Unit {0}
 
--- the line of a text was run on a session, and left another
+-- the line of a text was run on a session, which became another
 pub record RunsText (old : Session) (text : List ℕ) (new : Session) (answer : Answer) : Type 0 where
   pub line : LineValue
   pub says : Says text line
@@ -46,7 +46,7 @@ abbrev pub IsPrinted : Known → Known → Answer → RunResult → Type 0
 IsPrinted held holds answer (Ok done) = Appends held holds (answer_text answer)
 IsPrinted held holds answer (Err e) = e ≡ fault.WriteFailed
 
--- its answer was written, where the writer didn't fail
+-- the line was run and its answer written; or the line is bad, or the writer failed, or memory ran out
 abbrev pub PrintsText : Session → Session → List ℕ → ℕ → Known → Known → RunResult → Type 0
 PrintsText old new text number held holds (Ok done) = AnswersText old text new held holds
 PrintsText old new text number held holds (Err (fault.BadLine n)) =
@@ -55,7 +55,8 @@ PrintsText old new text number held holds (Err fault.ReadFailed) = ⊥
 PrintsText old new text number held holds (Err fault.WriteFailed) = (answer : Answer) × RunsText old text new answer
 PrintsText old new text number held holds (Err fault.NoMemory) = Keeps held holds
 
--- What the line of this number came to: it was run and more may come; or it was the last, or there was none.
+-- What came of the line with this number. It was run and more may come, it was the last, there was none, or a fault
+-- came.
 abbrev pub TakesTurn : Session → Session → ℕ → Known → Known → Known → Known → Result Bool ScriptFault → Type 0
 TakesTurn old new number had left held holds (Ok true) =
     (text : List ℕ) × IsLineText text × Consumes had left (text ++ 10 ∷ [])
@@ -74,7 +75,7 @@ TakesTurn old new number had left held holds (Err fault.WriteFailed) =
 TakesTurn old new number had left held holds (Err fault.NoMemory) =
     (part : List ℕ) × Consumes had left part × (length part ≤ 4097) × Keeps held holds
 
--- What stood behind the last line that can have a number.
+-- What came after the last line that can have a number.
 abbrev pub IsNoMore : Known → Known → RunResult → Type 0
 IsNoMore had left (Ok done) = Consumes had left [] × IsAtEnd left
 IsNoMore had left (Err (fault.BadLine n)) =

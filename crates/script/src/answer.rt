@@ -25,18 +25,18 @@ pub enum Answer {
     Hex(Bytes),
     /// There is no image of this segment.
     NotInLog(u64),
-    /// How many further ops the fleet takes.
+    /// How many more ops the fleet takes.
     Stop(u64),
-    /// The fleet took no more ops, and the master was dropped.
+    /// The fleet had taken as many ops as it may, and the master was dropped.
     Stopped,
     Crashed,
-    /// The backup that lost all it held.
+    /// The backup that lost all that it held.
     Lost(u64),
     Recovered(Rebuilt),
     NotRecovered(RecoveryFault),
     /// The number of the head, which is open.
     Head(u64),
-    /// The number of the head to which a roll began.
+    /// The number of the next head: a roll to it began.
     Opening(u64),
     /// The backup and the segment of a push that extended a replica.
     Extended(u64, u64),
@@ -48,13 +48,13 @@ pub enum Answer {
     Log(Row<u64>),
     /// What the backups hold.
     Holdings(Inventory),
-    /// There is no master.
+    /// The line was refused: there is no master.
     Down,
-    /// There is a master.
+    /// The line was refused: there is a master.
     Up,
 }
 
-// An `io::Result` is large. So what hands one on is inlined, up to where its error is dropped.
+// An `io::Result` is large. So each function that hands one on is inlined, up to the one that drops its error.
 
 /// Writes the lines of an answer, each with its line feed.
 #[inline(always)]
@@ -98,7 +98,7 @@ fn write_reply<W: Write>(writer: &mut W, reply: &Reply) -> io::Result<()>
     }
 }
 
-/// Writes words, a number in decimal digits, and one byte more, all at once.
+/// Writes words, a number in decimal digits, and a last byte, in one write.
 #[inline(always)]
 fn write_number<W: Write>(writer: &mut W, words: &[u8], number: u64, last: u8) -> io::Result<()>
     requires { length words.now ≤ 20 }
@@ -112,7 +112,7 @@ fn write_number<W: Write>(writer: &mut W, words: &[u8], number: u64, last: u8) -
     writer.write_all(&line[start..])
 }
 
-/// The end of a line that shows a value at its version.
+/// Writes the end of a line that shows a version and a value.
 #[inline(always)]
 fn write_versioned<W: Write>(writer: &mut W, version: Version, value: &Value) -> io::Result<()>
     ensures { OnOk result (Appends (W.contents writer.old) (W.contents writer.new)
@@ -132,7 +132,7 @@ fn write_hex<W: Write>(writer: &mut W, bytes: &[u8]) -> io::Result<()>
     writer.write_all(b"\n")
 }
 
-/// The line of an op: words, and the numbers of its backup and its segment.
+/// Writes the line of an op: words, and the numbers of its backup and its segment.
 fn write_op<W: Write>(writer: &mut W, words: &[u8], backup: u64, segment: u64) -> io::Result<()>
     requires { length words.now ≤ 20 }
     ensures { OnOk result (Appends (W.contents writer.old) (W.contents writer.new)
@@ -142,7 +142,7 @@ fn write_op<W: Write>(writer: &mut W, words: &[u8], backup: u64, segment: u64) -
     write_number(writer, b"", segment, b'\n')
 }
 
-/// The line of a digest.
+/// Writes the line of a digest.
 fn write_log<W: Write>(writer: &mut W, ids: &[u64]) -> io::Result<()>
     ensures { OnOk result (Appends (W.contents writer.old) (W.contents writer.new) (log_text ids.now)) }
 {
@@ -151,7 +151,7 @@ fn write_log<W: Write>(writer: &mut W, ids: &[u64]) -> io::Result<()>
     writer.write_all(b"\n")
 }
 
-/// Numbers, each after a space.
+/// Writes numbers, each after a space.
 fn write_ids<W: Write>(writer: &mut W, ids: &[u64]) -> io::Result<()>
     ensures { OnOk result (Appends (W.contents writer.old) (W.contents writer.new) (flat_map spaced_text ids.now)) }
 {
@@ -161,7 +161,7 @@ fn write_ids<W: Write>(writer: &mut W, ids: &[u64]) -> io::Result<()>
     Ok(())
 }
 
-/// The line of a replica.
+/// Writes the line of a replica.
 fn write_holding<W: Write>(writer: &mut W, holding: &Holding) -> io::Result<()>
     ensures { OnOk result (Appends (W.contents writer.old) (W.contents writer.new) (holding_text holding.now)) }
 {
@@ -176,7 +176,7 @@ fn write_holding<W: Write>(writer: &mut W, holding: &Holding) -> io::Result<()>
     }
 }
 
-/// A line for each replica, in order.
+/// Writes a line for each replica, in order.
 fn write_holdings<W: Write>(writer: &mut W, holdings: &[Holding]) -> io::Result<()>
     ensures { OnOk result (Appends (W.contents writer.old) (W.contents writer.new)
         (flat_map holding_text holdings.now)) }
@@ -187,7 +187,7 @@ fn write_holdings<W: Write>(writer: &mut W, holdings: &[Holding]) -> io::Result<
     Ok(())
 }
 
-/// The line of an object.
+/// Writes the line of an object.
 fn write_object<W: Write>(writer: &mut W, object: &Object) -> io::Result<()>
     ensures { OnOk result (Appends (W.contents writer.old) (W.contents writer.new) (object_text object.now)) }
 {
@@ -197,7 +197,7 @@ fn write_object<W: Write>(writer: &mut W, object: &Object) -> io::Result<()>
     write_versioned(writer, object.version, &object.value)
 }
 
-/// A line for each object, in order, and their number.
+/// Writes a line for each object, in order, and a line with their number.
 fn write_rebuilt<W: Write>(writer: &mut W, rebuilt: &Rebuilt) -> io::Result<()>
     ensures { OnOk result (Appends (W.contents writer.old) (W.contents writer.new) (rebuilt_text rebuilt.now)) }
 {

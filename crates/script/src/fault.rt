@@ -9,23 +9,23 @@ use std::error::Error;
 use std::fmt;
 use std::io::{ErrorKind, Write};
 
-/// Why a run of a script ended early. The lines before have been run, and their output was handed to the writer.
+/// Why a run of a script ended early. The lines before were run, and their output was handed to the writer.
 #[derive(Clone, Copy, Debug, PartialEq, Eq)]
 pub enum ScriptFault {
-    /// 1: the number of the bad line, from 1.
+    /// 1: a line is bad. This is its number, from 1.
     BadLine(u64),
-    /// 2
+    /// 2: the reader failed.
     ReadFailed,
-    /// 3
+    /// 3: the writer failed.
     WriteFailed,
-    /// 4: memory ran out for the script's own lines and texts, or at the start.
+    /// 4: memory ran out at the start, or for a line or a text of the script's own.
     NoMemory,
 }
 
 impl Error for ScriptFault {}
 
 impl ScriptFault {
-    /// The words of the fault's text, and the number that stands behind them.
+    /// The words of the fault's text, and the number after them, if there is one.
     fn words(&self) -> (&'static str, Option<u64>)
         ensures { script_fault_text self.now ≡ result.0.now ++ number_text result.1 }
     {
@@ -63,7 +63,7 @@ pub fn report<W: Write>(fault: &ScriptFault, writer: &mut W) -> u8
     }
 }
 
-/// Writes the line of a fault, piece by piece, until one is cut.
+/// Writes the line of a fault piece by piece, until the writer cuts one.
 fn write_fault<W: Write>(writer: &mut W, fault: &ScriptFault)
     ensures { AppendsFront (W.contents writer.old) (W.contents writer.new) (fault_line fault.now) }
 {
@@ -77,8 +77,8 @@ fn write_fault<W: Write>(writer: &mut W, fault: &ScriptFault)
     write_end(writer, number);
 }
 
-/// Writes the line of a bad configuration, as far as the writer takes it, and answers the program's exit status. It takes
-/// no memory.
+/// Writes the line of a bad configuration, as far as the writer takes it, and answers the program's exit status, 2. It
+/// takes no memory.
 pub fn report_config<W: Write>(fault: &ConfigFault, writer: &mut W) -> u8
     ensures line { AppendsFront (W.contents writer.old) (W.contents writer.new) (config_line fault.now) }
     ensures status { result ≡ 2 }
@@ -88,7 +88,7 @@ pub fn report_config<W: Write>(fault: &ConfigFault, writer: &mut W) -> u8
     2
 }
 
-/// Writes the line of a bad configuration, piece by piece, until one is cut.
+/// Writes the line of a bad configuration piece by piece, until the writer cuts one.
 fn write_config_fault<W: Write>(writer: &mut W, fault: &ConfigFault)
     ensures { AppendsFront (W.contents writer.old) (W.contents writer.new) (config_line fault.now) }
 {
@@ -116,8 +116,8 @@ fn write_end<W: Write>(writer: &mut W, number: Option<u64>)
     write_front(writer, b"\n");
 }
 
-/// Writes the bytes, as far as the writer takes them, and answers whether that was all of them. A write that was
-/// interrupted is tried again.
+/// Writes the bytes, as far as the writer takes them, and answers whether it took all. It repeats a write that was
+/// interrupted.
 fn write_front<W: Write>(writer: &mut W, bytes: &[u8]) -> bool
     ensures front { AppendsFront (W.contents writer.old) (W.contents writer.new) bytes.now }
     ensures whole { IsTrue result → Appends (W.contents writer.old) (W.contents writer.new) bytes.now }

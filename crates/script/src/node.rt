@@ -1,4 +1,4 @@
-//! A fleet, and the master over it where there is one.
+//! A fleet, and the master over it if there is one.
 
 ghost use Rattle.std.specs.Prelude.{◌≡◌, ◌<◌, [], true, false, None, Some, IfOk, IfErr};
 ghost use Rattle.std.specs.Option.{option_map};
@@ -22,12 +22,12 @@ use replica::{Bench, Fleet, Inventory};
 use std::alloc::Global;
 use std::mem::replace;
 
-/// A fleet, and the master over it where there is one.
+/// A fleet, and the master over it if there is one.
 #[derive(Drop)]
 pub enum Node {
     Up(Master<MemoryFleet>),
     Down(MemoryFleet),
-    /// Only while a master is being dropped.
+    /// A node is this only while its master is being dropped.
     Changing,
 }
 
@@ -49,7 +49,7 @@ pub fn push_all<F: Fleet>(master: &mut Master<F>) -> Result<(), Refusal>
     Err(Refusal::Nothing)
 }
 
-/// Begins a roll, if none is under way, and pushes until nothing waits.
+/// Begins a roll if none is under way, and pushes until nothing waits.
 fn roll_all<F: Fleet>(master: &mut Master<F>) -> Result<(), Refusal>
     ensures goes_on { LivesOn master.old.knows master.new.knows [] }
     ensures open { IfOk result (λ _. is_open master.new.knows.head ≡ true) }
@@ -101,7 +101,7 @@ fn serve<F: Fleet>(master: &mut Master<F>, command: Command) -> Result<Reply, Re
     }
 }
 
-/// What backups hold, as an answer.
+/// The answer that shows what backups hold.
 fn held(inventory: Result<Inventory, NoMemory>) -> Answer
     ensures { result ≡ held_answer inventory }
 {
@@ -114,7 +114,8 @@ fn held(inventory: Result<Inventory, NoMemory>) -> Answer
 impl Node {
     ghost use Rattle.lines.specs.Grammar.{Roll, BeginRoll, Push, Log, Hex, Stop, Crash, Lose, Recover, Holdings};
 
-    /// One command, pushed until it is durable. It answers none if a roll is due first: then nothing was done.
+    /// Applies a command, and pushes until its record is durable. It answers `None`, and does nothing, if the command
+    /// has to wait for a roll.
     #[inline(always)]
     pub fn serve(&mut self, command: Command) -> Option<Answer>
         ensures { Serves self.old command self.new result }
@@ -133,7 +134,7 @@ impl Node {
         }
     }
 
-    /// Begins a roll, if none is under way, and pushes until nothing waits. It answers none if the head is open then.
+    /// Begins a roll if none is under way, and pushes until nothing waits. It answers `None` if the head is open then.
     pub fn make_room(&mut self) -> Option<Answer>
         ensures { (config : Config) → MakesRoom self.old config self.new result }
     {
@@ -148,7 +149,7 @@ impl Node {
         }
     }
 
-    /// Answers a refusal. If the fleet takes no more ops, the limit is lifted, and the master is dropped.
+    /// Answers a refusal. If the fleet takes no more ops, this drops the master and lifts the limit.
     fn refuse(&mut self, refusal: Refusal) -> Answer
         requires { is_up self.old ≡ true }
         ensures { Refuses self.old refusal self.new result }
@@ -179,7 +180,7 @@ impl Node {
         *self = Node::Down(up.crash());
     }
 
-    /// Begins a roll, if none is under way, and pushes until the head is open.
+    /// Begins a roll if none is under way, and pushes until the head is open.
     pub fn roll(&mut self) -> Answer
         ensures { (config : Config) → AnswersLine self.old config Roll self.new result }
     {
@@ -273,7 +274,7 @@ impl Node {
         }
     }
 
-    /// Lets the fleet take this many further ops.
+    /// Lets the fleet take this many more ops.
     pub fn stop(&mut self, takes: u64) -> Answer
         ensures told { (config : Config) → AnswersLine self.old config (Stop takes) self.new result }
         ensures limited { fleet_of self.new ≡ option_map (λ f. limited f takes) (fleet_of self.old) }
@@ -299,7 +300,7 @@ impl Node {
         }
     }
 
-    /// A backup loses all that it holds.
+    /// Has a backup lose all that it holds.
     pub fn lose(&mut self, backup: u64) -> Answer
         ensures told { (config : Config) → AnswersLine self.old config (Lose backup) self.new result }
         ensures lost { is_up self.old ≡ false →
@@ -312,7 +313,7 @@ impl Node {
         Answer::Lost(backup)
     }
 
-    /// What is recovered of the master of this number.
+    /// Recovers the table of the master with this number.
     pub fn recover(&self, alloc: Global, master: u64) -> Answer
         ensures { (config : Config) → config.master ≡ master → AnswersLine self.now config Recover self.now result }
     {

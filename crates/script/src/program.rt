@@ -15,11 +15,11 @@ use command_line::{Options, options};
 use std::alloc::Global;
 use std::io::{BufRead, Write};
 
-/// Runs the program. It reads the options from the words, of which the first is the program's name, does what they say, and
-/// answers the exit status.
+/// Runs the program. It reads the options from the words, does what they say, and answers the exit status. The first
+/// word is the program's name.
 ///
-/// The error is clap's. Nothing was read then, and nothing was written to either output: the caller prints the
-/// error's text. Its exit code is 2, or 0 if `--help` or `--version` was asked for.
+/// The error is clap's. Nothing was read then, and nothing was written to either output: the caller prints the error's
+/// text. Its exit code is 2, or 0 if `--help` or `--version` was asked for.
 pub fn run_program<'a, R: BufRead, W: Write, E: Write>(
     alloc: Global,
     words: &'a [&'a str],

@@ -17,7 +17,7 @@ use lines::{ReadFault, Taken, next_line, one_line, parse_line};
 use std::alloc::Global;
 use std::io::{BufRead, Write};
 
-/// Runs the lines of the reader in turn, and hands the output of each to the writer, up to the first bad line.
+/// Runs the lines of the reader in order, up to the first bad line, and hands the answer of each to the writer.
 pub fn run_script<R: BufRead, W: Write>(
     alloc: Global,
     reader: &mut R,
@@ -25,7 +25,7 @@ pub fn run_script<R: BufRead, W: Write>(
     options: Options,
 ) -> Result<(), ScriptFault>
     requires { config_fault (config_of options 1) ≡ None }
-    // The lines tell of one legal history; what was written is their answers; a bad line is named.
+    // The lines tell of one legal history. Exactly their answers were written. A bad line is named.
     ensures { RunsScript (config_of options 1) (R.remaining reader.old) (R.remaining reader.new)
         (W.contents writer.old) (W.contents writer.new) result }
 {
@@ -76,7 +76,7 @@ fn run_lines<R: BufRead, W: Write>(
     no_more(reader, &mut text)
 }
 
-/// Takes the next line, and runs it as the one of this number. Answers whether more may come.
+/// Takes the next line and runs it. It has this number. Answers whether more lines may come.
 fn run_next<R: BufRead, W: Write>(
     reader: &mut R,
     writer: &mut W,
@@ -120,7 +120,7 @@ fn run_text<W: Write>(
     match session.run_line(line) {
         Ok(answer) => print(writer, &answer),
         Err(LineFault::Bad) => {
-            // No other line is said by this text.
+            // This text says no other line.
             one_line();
             Err(ScriptFault::BadLine(number))
         }
@@ -138,7 +138,7 @@ fn print<W: Write>(writer: &mut W, answer: &Answer) -> Result<(), ScriptFault>
     }
 }
 
-/// Behind as many lines as a number can count there has to be none.
+/// Once a number can count no more lines, only the end of the input may follow.
 fn no_more<R: BufRead>(reader: &mut R, text: &mut Vec<u8>) -> Result<(), ScriptFault>
     ensures { IsNoMore (R.remaining reader.old) (R.remaining reader.new) result }
 {

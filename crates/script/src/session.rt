@@ -1,4 +1,4 @@
-//! What a script drives: a fleet, and a master over it or none.
+//! What a script drives: a fleet, and the master over it if there is one.
 
 ghost use Rattle.std.specs.Prelude.{◌≡◌, ◌≤◌, length, None, Some, IfOk, IfErr, IsSome};
 ghost use Rattle.lines.specs.Grammar.{IsKeyWord, IsLine, shown_line};
@@ -45,13 +45,13 @@ pub struct Session {
     alloc: Global,
     /// How many backups there are.
     backups: u64,
-    /// The master that a recovery is for.
+    /// The number of the master, which a recovery asks for.
     master: u64,
     node: Node,
 }
 
 impl Session {
-    /// An empty fleet, and a master on it whose head is open.
+    /// Makes an empty fleet, and a master over it with an open head.
     pub fn start(alloc: Global, options: &Options) -> Result<Session, NoMemory>
         requires { config_fault (config_of options.now 1) ≡ None }
         ensures { IfOk result (BeginsSession (config_of options.now 1)) }
@@ -62,7 +62,7 @@ impl Session {
             Ok(master) => master,
             Err((fault, _)) => return Err(fault),
         };
-        // A new fleet takes ops without a limit or a fault: a push is refused for want of memory alone.
+        // A new fleet has no limit and no fault, so only want of memory refuses a push.
         if push_all(&mut master).is_err() {
             return Err(NoMemory);
         }
@@ -105,7 +105,7 @@ impl Session {
         }
     }
 
-    /// Runs a command's line.
+    /// Runs the line of a command.
     #[inline(always)]
     fn run_command(&mut self, line: Line<'_>) -> Result<Answer, LineFault>
         requires line { IsLine (shown_line line) }

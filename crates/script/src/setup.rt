@@ -24,7 +24,7 @@ fn tables(alloc: Global, count: u64) -> Result<Vec<Tablet>, NoMemory>
     Ok(tablets)
 }
 
-/// The configuration of a master of this number. Each table of the options is one whole tablet.
+/// The configuration of the master with this number. Each table of the options is one whole tablet.
 pub fn configuration(alloc: Global, options: &Options, master: u64) -> Result<Config, NoMemory>
     ensures config { IfOk result (λ config. config ≡ config_of options.now master) }
     ensures refused { OnErr result (0 < options.now.tables) }

@@ -1,4 +1,5 @@
-//! The vectors of the format, under their names in `docs/SPECIFICATION.md`, in hexadecimal. Spaces are for reading only.
+//! The vectors of the format, under their names in `docs/SPECIFICATION.md`, in hexadecimal. Spaces are for reading
+//! only.
 
 use std::alloc::Global;
 use std::test::Fail;
