@@ -15,13 +15,13 @@ use until_end::UntilEnd;
 /// The exit status of a bad command line.
 const MISUSE: u8 = 2;
 
-/// Writes the line of a fault to standard error.
+/// Writes the line of a fault to standard error, and answers the exit status.
 fn fail(rt: &HostRuntime, fault: ScriptFault) -> ExitCode {
     let mut errors = rt.stderr().lock();
     ExitCode::from(report(&fault, &mut errors))
 }
 
-/// The words of the command line, or the exit status if that was reported.
+/// The words of the command line. If they can't be read, that was reported, and this is the exit status.
 fn read_arguments(rt: &HostRuntime) -> Result<Vec<String>, ExitCode> {
     match env::args(rt) {
         Ok(all) => match all.collect(rt.alloc()) {
@@ -51,7 +51,7 @@ fn refuse(rt: &HostRuntime, error: &Error) -> ExitCode {
     }
 }
 
-/// Runs the program from standard input to standard output: to a terminal line by line, and else in blocks.
+/// Runs the program from standard input to standard output. It writes to a terminal line by line, and else in blocks.
 fn run(rt: &HostRuntime, words: &[&str]) -> Result<u8, Error> {
     let mut errors = rt.stderr().lock();
     let Ok(mut reader) = BufReader::new(rt.alloc(), UntilEnd::new(rt.reader())) else {

@@ -1,9 +1,9 @@
-//! A reader that isn't asked again once it has ended.
+//! A reader that asks nothing more of its source once that has ended.
 
 use std::io::{self, Read};
 
-/// A reader that isn't asked again once it gave no byte. So at a terminal one end of the input is enough, however often
-/// the end is looked at.
+/// A reader over another, which it doesn't ask again once that gave no byte. So at a terminal it is enough to end the
+/// input once, however often the program looks for the end.
 #[derive(Drop)]
 pub struct UntilEnd<R> {
     reader: R,

@@ -1,4 +1,4 @@
-//! What a master is asked in these tests.
+//! What the tests ask of a master.
 
 use entry::{Key, Value};
 use master::{Command, If, Step};
@@ -32,7 +32,7 @@ pub fn step_of(alloc: Global, ask: &Ask) -> Option<Step> {
     Some(Step::Apply(0, command))
 }
 
-/// The steps of these asks, or none where there is no memory.
+/// The steps of these asks, or `None` if memory runs out.
 pub fn steps_of(alloc: Global, asks: &[Ask]) -> Option<Vec<Step>> {
     let mut steps = Vec::new(alloc);
     for ask in asks {

@@ -1,4 +1,4 @@
-//! Ops on a small fleet, where they fit and where they don't.
+//! Ops on a small fleet: some fit, and some don't.
 
 use backup::*;
 use replica::{Act, Bench, Fleet, Holding, Op, TakeFault};
@@ -7,7 +7,7 @@ use std::fmt::Write;
 use std::str;
 use std::test::Fail;
 
-/// A backup, a segment, where its replica is extended or none where it is opened, the bytes, and the answer.
+/// A backup, a segment, the length at which its replica is extended (none if it is opened), the bytes, and the answer.
 type Row<'a> = (u64, u64, Option<usize>, &'a str, Result<(), TakeFault>);
 
 fn op_of<'a>(segment: u64, at: Option<usize>, text: &'a str) -> Op<'a> {
@@ -38,19 +38,19 @@ fn write_holdings(text: &mut String, holdings: &[Holding]) -> Result<(), AllocEr
     Ok(())
 }
 
-/// Replicas, each with its backup, its segment and its bytes.
+/// The text of replicas, each with its backup, its segment and its bytes.
 fn shown(alloc: Global, holdings: &[Holding]) -> Result<String, Fail> {
     let mut text = String::new(alloc);
     write_holdings(&mut text, holdings)?;
     Ok(text)
 }
 
-/// What a backup holds.
+/// The text of what a backup holds.
 fn held(alloc: Global, fleet: &MemoryFleet, backup: u64) -> Result<String, Fail> {
     shown(alloc, fleet.holdings(alloc, backup)?.as_slice())
 }
 
-/// What all backups hold.
+/// The text of what all backups hold.
 fn inventory(alloc: Global, fleet: &MemoryFleet) -> Result<String, Fail> {
     shown(alloc, fleet.inventory(alloc)?.as_slice())
 }
@@ -78,7 +78,7 @@ fn an_op_is_taken_where_it_fits(rt: HostRuntime) -> Result<(), Fail> {
     Ok(())
 }
 
-/// Ops of a fleet that takes one.
+/// Ops on a fleet that takes one op.
 const LIMITED: &[Row<'static>] = &[
     (0, 1, None, "a", Ok(())),
     (0, 2, None, "a", Err(TakeFault::Spent)),
@@ -100,7 +100,7 @@ fn a_limit_ends_the_takes(rt: HostRuntime) -> Result<(), Fail> {
     Ok(())
 }
 
-/// Backups and segments whose replicas are opened.
+/// A backup and a segment for each replica that is opened.
 const OPENED: &[(u64, u64)] = &[(2, 5), (0, 9), (1, 5), (0, 4)];
 
 #[test]

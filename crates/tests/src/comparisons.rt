@@ -1,4 +1,4 @@
-//! The store against the plain slow programs.
+//! The store does what the plain slow programs do.
 
 use crate::asks::{Ask, step_of};
 use crate::runs::{new_master, rebuilt};
@@ -10,7 +10,7 @@ use std::alloc::Global;
 use std::test::Fail;
 use versioned_map::{VersionedMap, meaning};
 
-/// Each command meets what those before it left.
+/// Commands on a few keys, so that most of them find what an earlier one left.
 const ASKS: &[Ask] = &[
     Ask::Get("a"),
     Ask::Put("a", b'x', If::Any),
@@ -28,7 +28,7 @@ const ASKS: &[Ask] = &[
     Ask::Put("b", b'p', If::Any),
 ];
 
-/// Objects by table and key: the table, the key, the version and the value of each.
+/// A text for each object, in order: its table, key, version and value.
 fn texts(alloc: Global, objects: &[Object]) -> Result<Vec<String>, Fail> {
     let mut texts = Vec::new(alloc);
     for object in objects {
@@ -45,7 +45,7 @@ fn texts(alloc: Global, objects: &[Object]) -> Result<Vec<String>, Fail> {
     Ok(texts)
 }
 
-/// Pushes so often.
+/// Pushes this many times.
 fn push(master: &mut Master<MemoryFleet>, times: usize) {
     for _ in 0..times {
         let _ = master.step(Step::Push);
@@ -84,7 +84,7 @@ fn entries_of(alloc: Global, bytes: &[u8]) -> Option<Vec<Entry>> {
     Some(entries)
 }
 
-/// What the image of the head means.
+/// The texts of the objects that the image of the head means.
 fn meant(alloc: Global, master: &Master<MemoryFleet>) -> Result<Vec<String>, Fail> {
     let Ok(Shown::Image(Some(image))) = master.look(Look::Image(1)) else {
         return Err("no image")?;

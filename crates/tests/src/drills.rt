@@ -1,4 +1,4 @@
-//! A master's whole life on a small fleet, and its recovery from what is left.
+//! A master's whole life on a small fleet, and its recovery from the backups that are kept.
 
 use crate::asks::{Ask, steps_of};
 use crate::runs::new_master;
@@ -11,7 +11,7 @@ use std::fmt::Write;
 use std::str;
 use std::test::Fail;
 
-/// Opens the head on backups 1 and 2, puts `a` on both, and `b` on the first of them alone.
+/// Opens the head on backups 1 and 2, puts `a` on both, and puts `b` on backup 1 alone.
 const ASKS: &[Ask] = &[
     Ask::Push,
     Ask::Push,
@@ -39,7 +39,7 @@ fn write_recovered(text: &mut String, drill: &Drill<MemoryFleet>) -> Result<(), 
     }
 }
 
-/// A drill that keeps these backups.
+/// The result of a drill that keeps these backups.
 fn drill(alloc: Global, steps: &[Step], kept: &[u64]) -> Result<Drill<MemoryFleet>, Fail> {
     let master = new_master(alloc)?;
     match run_drill(alloc, master, steps, kept) {

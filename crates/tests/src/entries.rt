@@ -5,7 +5,7 @@ use entry::*;
 use std::alloc::Global;
 use std::test::Fail;
 
-/// Bytes, and how many of them the entry at their front takes or why there is none.
+/// Bytes, and how many of them the entry at their front takes, or why there is no entry.
 type Row<'a> = (&'a str, Result<usize, EntryFault>);
 
 const ENTRIES: &[Row<'static>] = &[
@@ -115,7 +115,7 @@ fn faults_are_the_first_that_a_test_names(rt: HostRuntime) -> Result<(), Fail> {
     Ok(())
 }
 
-/// The fields of an object, or another kind of entry.
+/// The text of an object's fields, or `no object` for another kind of entry.
 fn fields(alloc: Global, entry: &Entry) -> Result<String, Fail> {
     let Entry::Object(object) = entry else {
         return Ok(format!(in alloc; "no object")?);
@@ -162,17 +162,17 @@ fn places(rt: HostRuntime) {
     }
 }
 
-/// The places of keys that begin with `a`, in table 1.
+/// The tablet of the keys of table 1 that begin with `a`.
 const TABLET: Tablet = Tablet {
     table: 1,
     first: 0x6100_0000_0000_0000,
     last: 0x61ff_ffff_ffff_ffff,
 };
 
-/// Keys of table 1, and whether the tablet has them.
+/// Keys of table 1, and whether the tablet has each.
 const HAVE: &[(&[u8], bool)] = &[(b"ab", true), (b"b", false)];
 
-/// Whether valid tablets have the key of these bytes in table 1.
+/// Whether the tablet has the key of these bytes in table 1.
 fn have(alloc: Global, bytes: &[u8]) -> Result<bool, KeyFault> {
     let key = Key::new(alloc, 1, bytes)?;
     let tablets = Tablets::new(Vec::from_slice(alloc, &[TABLET])?);

@@ -1,5 +1,6 @@
-//! The tests of all crates: vectors of entries and of segments, the lines of scripts, backups, plans and rebuilt logs
-//! from what is made by hand, runs of masters, drills, comparisons with the plain programs, and worked scripts.
+//! The tests of all crates: vectors of entries and of segments, the lines of scripts, ops on backups, plans and rebuilt
+//! logs from replicas that are made by hand, runs of masters, drills, comparisons with the plain programs, and whole
+//! scripts.
 #![tactic(auto)]
 
 #[cfg(test)]

@@ -1,4 +1,4 @@
-//! Lines read and parsed.
+//! Lines are read and parsed.
 
 use lines::*;
 use std::io::{self, BufRead, BufReader, ErrorKind, Read};
@@ -85,7 +85,7 @@ fn bad_lines_are_none(rt: HostRuntime) -> Result<(), Fail> {
     Ok(())
 }
 
-/// What a call took, and the bytes of the line.
+/// What a call took of the reader, in a word, and the bytes of the line.
 type Row<'a> = (&'a str, &'a str);
 
 /// What a call took of the reader, in a word.

@@ -1,4 +1,4 @@
-//! Command lines that clap takes and refuses, and the text of the help.
+//! Command lines that clap takes, others that it refuses, and the text of the help.
 
 use script::{Options, options};
 use std::alloc::Global;
@@ -72,7 +72,7 @@ const MISTAKES: &[&[&str]] = &[
     &["ramlog", "--step", "1", "--step", "1"],
 ];
 
-/// The exit code of the refusal of these words, or -1 where they are taken.
+/// The exit code of the refusal of these words, or -1 if they are taken.
 fn refusal(alloc: Global, words: &[&str]) -> i32 {
     match options(alloc, words) {
         Ok(_) => -1,
@@ -87,7 +87,7 @@ fn mistakes_end_with_two(rt: HostRuntime) {
     }
 }
 
-/// What the help shows.
+/// Words that the help shows.
 const USES: &[&str] = &[
     "Usage: ramlog [OPTIONS] < SCRIPT",
     "put T K V",
@@ -106,7 +106,7 @@ const USES: &[&str] = &[
     "512 to 8388608 [default: 512]",
 ];
 
-/// The text that is asked for by this word, which ends with 0.
+/// The text that this word asks for, if its exit code is 0.
 fn shown(alloc: Global, word: &str) -> Option<String> {
     match options(alloc, &["ramlog", word]) {
         Err(error) if error.exit_code() == 0 => format!(in alloc; "{error}").ok(),

@@ -15,7 +15,7 @@ const NEXT: &str =
     "01 0000000000000001 0000000000000002 00 02 00000002 0000000000000001 0000000000000002 \
     03 0000000000000001";
 
-/// Backup, master, segment, vectors, and whether the replica is open.
+/// A replica: its backup, master and segment, the vectors of its bytes, and whether it is open.
 type Row<'a> = (u64, u64, u64, &'a [&'a str], bool);
 
 fn inventory_of(alloc: Global, rows: &[Row<'_>]) -> Result<Inventory, Fail> {
@@ -39,7 +39,7 @@ fn write_lens(text: &mut String, plan: &Plan) -> Result<(), AllocError> {
     Ok(())
 }
 
-/// Writes how long the segments of a plan are, or the fault.
+/// Writes the length of each segment of a plan, or the fault.
 fn write_plan(
     alloc: Global,
     inventory: &Inventory,
@@ -52,14 +52,14 @@ fn write_plan(
     }
 }
 
-/// How long the segments of the plan for a master are, or the fault.
+/// The length of each segment of the plan for a master, or the fault.
 fn planned(alloc: Global, inventory: &Inventory, master: u64) -> Result<String, Fail> {
     let mut text = String::new(alloc);
     write_plan(alloc, inventory, master, &mut text)?;
     Ok(text)
 }
 
-/// One open replica of the first head, cut to a length.
+/// An inventory with one open replica of the first head, cut to a length.
 fn front_of(alloc: Global, len: usize) -> Result<Inventory, Fail> {
     let mut bytes = bytes_of(alloc, FULL)?;
     bytes.truncate(len);
@@ -88,7 +88,7 @@ fn a_front_of_a_head_is_a_plan_or_bad(rt: HostRuntime) -> Result<(), Fail> {
     Ok(())
 }
 
-/// Replicas, the master that is recovered, and why there is no plan.
+/// Replicas, the master that is to be recovered, and why there is no plan.
 const DAMAGES: &[(&[Row<'static>], u64, &str)] = &[
     (&[(1, 1, 2, &[FIRST], true)], 1, "BadReplica 1 2"),
     (&[(1, 1, 1, &[FIRST], false)], 1, "HeadClosed 1"),
@@ -111,16 +111,16 @@ fn damage_is_named(rt: HostRuntime) -> Result<(), Fail> {
     Ok(())
 }
 
-/// Replicas, and how long those are that the plan takes.
+/// Replicas, and the lengths of those that the plan takes.
 const CHOICES: &[(&[Row<'static>], &str)] = &[
-    // the longest of the head
+    // the longest replica of the head
     (&[(1, 1, 1, &[FIRST], true), (2, 1, 1, FULL, true)], "65 "),
-    // each once
+    // a replica that is shown twice is taken once
     (
         &[(1, 1, 1, &[FIRST], true), (1, 1, 1, &[FIRST], true)],
         "40 ",
     ),
-    // a closed one of another segment
+    // of another segment than the head, a closed replica
     (
         &[
             (0, 1, 1, FULL, true),
@@ -129,7 +129,7 @@ const CHOICES: &[(&[Row<'static>], &str)] = &[
         ],
         "40 48 ",
     ),
-    // of the lowest backup
+    // the replica of the lowest backup
     (
         &[
             (2, 1, 1, FULL, false),
@@ -138,7 +138,7 @@ const CHOICES: &[(&[Row<'static>], &str)] = &[
         ],
         "40 48 ",
     ),
-    // none that the digest doesn't list
+    // no segment that the digest doesn't list
     (
         &[(0, 1, 3, &[SURVIVOR], false), (1, 1, 1, &[FIRST], true)],
         "40 ",

@@ -1,4 +1,4 @@
-//! What a master is asked before it does anything: whether it would refuse a command, and its reply.
+//! What a master tells of a command before it is applied: whether it would be refused, and the reply.
 
 use crate::asks::{Ask, step_of, steps_of};
 use crate::runs::new_master;
@@ -39,10 +39,10 @@ fn told(alloc: Global, master: &Master<MemoryFleet>, ask: &Ask) -> Result<String
     Ok(text)
 }
 
-/// A command, and what is told of it.
+/// A command, and what the master tells of it.
 type Row = (Ask, &'static str);
 
-/// While no replica is open, only what appends nothing passes.
+/// Before a replica is open, only commands that append nothing pass.
 const BEFORE: &[Row] = &[
     (Ask::Get("a"), "none"),
     (Ask::Put("a", b'x', If::Any), "Rolling"),

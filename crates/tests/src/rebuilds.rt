@@ -1,4 +1,4 @@
-//! What short logs stand for.
+//! What short logs are rebuilt to.
 
 use crate::vectors::bytes_of;
 use entry::{Key, NoMemory, Object, ObjectRef, TombstoneRef, Version};
@@ -10,10 +10,10 @@ use std::fmt::Write;
 use std::str;
 use std::test::Fail;
 
-/// A table, a key in it, a version, and a value of one byte; a tombstone has none.
+/// A table, a key in it, a version, and a value of one byte. A tombstone has no value.
 type Line<'a> = (u64, &'a str, u64, Option<u8>);
 
-/// Writes an object of one byte, or a tombstone.
+/// Writes an object with a value of one byte, or a tombstone.
 fn write_entry(
     key: &Key,
     version: Version,
@@ -102,11 +102,11 @@ const TOMBSTONE: Line<'static> = (1, "a", 1, None);
 
 const NEXT: Line<'static> = (1, "a", 2, Some(b'y'));
 
-/// The greatest version that the recorded safe version lies above, the segments, and what they are rebuilt to.
+/// The greatest version below the recorded safe version, the segments, and what they are rebuilt to.
 type Row<'a> = (u64, &'a [Log<'a>], &'a str);
 
-/// In any order the entry of greatest rank counts; two values of one version clash, also if a later version covers
-/// them; objects are sorted by table and key.
+/// In any order the entry of greatest rank counts. Two values of one version clash, even if there is a later version.
+/// Objects are sorted by table and key.
 const ROWS: &[Row<'static>] = &[
     (
         1,

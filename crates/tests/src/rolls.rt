@@ -68,7 +68,7 @@ const SCRIPTS: &[(&[&str], &str, &str)] = &[
         "put 1 a x\nbeginroll\nbeginroll\nput 1 b y\nlog\npush\nholdings\n",
         "ok 1\nopening 2\nrefused Rolling\nok 2\nlog 1 2\nrefused Nothing\n0 1 2 73 open\n1 1 1 65 closed\n2 1 1 65 closed\n2 1 2 73 open\n",
     ),
-    // what appends nothing is answered in a roll
+    // while a roll is under way, commands that append nothing are answered
     (
         RAMLOG,
         "put 1 a x\nbeginroll\nget 1 a\nnew 1 a y\ncas 1 a 2 y\ndel 1 b\nlog\nroll\n",

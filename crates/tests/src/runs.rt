@@ -7,12 +7,12 @@ use script::*;
 use std::alloc::Global;
 use std::test::Fail;
 
-/// The configuration of the default options.
+/// The configuration that the default options stand for.
 pub fn default_config(alloc: Global) -> Result<Config, Fail> {
     Ok(configuration(alloc, &options(alloc, &["ramlog"])?, 1)?)
 }
 
-/// A master of the default options, with a fleet that holds nothing.
+/// A master with the default options, over a fleet that holds nothing.
 pub fn new_master(alloc: Global) -> Result<Master<MemoryFleet>, Fail> {
     let config = default_config(alloc)?;
     config.check()?;
@@ -23,7 +23,7 @@ pub fn new_master(alloc: Global) -> Result<Master<MemoryFleet>, Fail> {
     }
 }
 
-/// What a step did, and its backup and segment, or its place in the history and 0.
+/// What a step did, and then its backup and segment, or its place in the history and 0.
 type Kind = (&'static str, u64, u64);
 
 fn kind(answer: &Result<StepAnswer, Refusal>) -> Kind {
@@ -60,7 +60,7 @@ const KINDS: &[Kind] = &[
     ("nothing", 0, 0),
 ];
 
-/// What a fleet is rebuilt to.
+/// What master 1 is rebuilt to from this fleet.
 pub fn rebuilt(alloc: Global, fleet: &MemoryFleet) -> Option<Rebuilt> {
     let inventory = fleet.inventory(alloc).ok()?;
     recover(alloc, &inventory, 1).ok()

@@ -6,7 +6,7 @@ use std::io::{self, BufRead, BufReader, ErrorKind, Read, Write};
 use std::str;
 use std::test::Fail;
 
-/// What the program writes, what it writes of its fault, and its exit status, one after another.
+/// What the program writes to its output, then to its error output, and then its exit status.
 pub fn ran<R: BufRead>(alloc: Global, words: &[&str], reader: &mut R) -> Result<String, Fail> {
     let mut output = Vec::new(alloc);
     let mut errors = Vec::new(alloc);
@@ -74,7 +74,7 @@ const SCRIPTS: &[(&[&str], &str, &str)] = &[
         "stop 0\nget 1 a\nput 1 a x\nrecover\n",
         "stop 0\nnone\nstopped\nrecovered 0\n",
     ),
-    // three takes: both replicas have the first put, and one has the second
+    // the fleet takes three more ops: both replicas have the first put, and one has the second
     (
         RAMLOG,
         "stop 3\nput 1 a x\nput 1 b y\nlose 1\nrecover\n",
@@ -85,7 +85,7 @@ const SCRIPTS: &[(&[&str], &str, &str)] = &[
         "stop 3\nput 1 a x\nput 1 b y\nlose 2\nrecover\n",
         "stop 3\nok 1\nstopped\nlost 2\n1 a 1 x\n1 b 2 y\nrecovered 2\n",
     ),
-    // backup 0 has the second replica
+    // with two backups, backup 0 has the second replica
     (
         &["ramlog", "--backups", "2"],
         "put 1 a x\ncrash\nlose 1\nrecover\n",
@@ -104,7 +104,7 @@ fn scripts_print_their_answers(rt: HostRuntime) -> Result<(), Fail> {
     Ok(())
 }
 
-/// Command lines whose configuration is bad, and its name.
+/// Command lines with a bad configuration, and the name of its fault.
 const BAD_CONFIGURATIONS: &[(&[&str], &str)] = &[
     (&["ramlog", "--replicas", "4"], "BadBackups"),
     (&["ramlog", "--segment", "600"], "BadSegment"),
@@ -122,7 +122,7 @@ fn a_bad_configuration_is_named(rt: HostRuntime) -> Result<(), Fail> {
     Ok(())
 }
 
-/// A script, what is written of it, and the bad line.
+/// A script, what its run writes, and the number of the bad line.
 const BAD_LINES: &[(&str, &str, u64)] = &[
     ("put 1 a x\nput 01 a x\nput 1 b x\n", "ok 1\n", 2),
     ("put 1 a  x\n", "", 1),
@@ -143,7 +143,7 @@ fn a_bad_line_ends_the_run(rt: HostRuntime) -> Result<(), Fail> {
     Ok(())
 }
 
-/// Lengths of a key and of a value, and what the run of their put prints.
+/// The length of a key, the length of a value, and what the run of their put prints.
 const LENGTHS: &[(usize, usize, &str)] = &[
     (1024, 1, "ok 1\n0"),
     (1025, 1, "ramlog: bad line 1\n2"),
@@ -188,7 +188,7 @@ fn each_fault_has_its_line(rt: HostRuntime) -> Result<(), Fail> {
     Ok(())
 }
 
-/// Some bytes, and then a fault.
+/// A reader that gives some bytes, and then fails.
 #[derive(Drop)]
 struct Torn {
     bytes: &'static [u8],
@@ -210,7 +210,7 @@ impl Read for Torn {
     }
 }
 
-/// Takes some bytes, and then fails.
+/// A writer that takes some bytes, and then fails.
 #[derive(Drop)]
 struct Full {
     room: usize,
@@ -241,7 +241,7 @@ fn a_reader_fails_in_mid_stream(rt: HostRuntime) -> Result<(), Fail> {
     Ok(())
 }
 
-/// How a run ends whose writer takes so many bytes.
+/// How a run ends if the writer takes this many bytes.
 fn ran_into(alloc: Global, room: usize, script: &str) -> Result<String, Fail> {
     let mut writer = Full { room };
     let mut errors = Vec::new(alloc);

@@ -8,7 +8,7 @@ use segment::*;
 use std::alloc::Global;
 use std::test::Fail;
 
-/// Vectors, and how many entries the segment has or why they are none.
+/// Vectors, and how many entries the segment of their bytes has, or why the bytes are no segment.
 const SEGMENTS: &[(&[&str], Result<usize, SegmentFault>)] = &[
     (&[FIRST], Ok(3)),
     (&[FIRST, OBJECT], Ok(4)),
@@ -23,7 +23,7 @@ const SEGMENTS: &[(&[&str], Result<usize, SegmentFault>)] = &[
     ),
 ];
 
-/// How many of the first bytes of the first head are read, and why they are no segment.
+/// A number of bytes from the front of the first head, and why these are no segment.
 const FRONTS: &[(usize, SegmentFault)] = &[
     (18, SegmentFault::BadOrder(18)),
     (39, SegmentFault::BadEntry(31)),
@@ -53,13 +53,13 @@ fn fronts_of_a_head_are_no_segments(rt: HostRuntime) -> Result<(), Fail> {
     Ok(())
 }
 
-/// The head of master 1 whose id is 1.
+/// Head 1 of master 1, empty.
 fn new_head(alloc: Global) -> Result<Segment, Fail> {
     let ids = Ids::new(Vec::from_slice(alloc, &[1])?);
     Ok(Segment::begin_head(alloc, 1, 1, &ids, SafeVersion::first())?)
 }
 
-/// Appends the object of these bytes to a segment, within a limit.
+/// Appends the object that these bytes spell to a segment, within a limit.
 fn append(
     segment: &mut Segment,
     object: &[u8],

@@ -17,7 +17,7 @@ pub const TOMBSTONE: &str = "05 0000000000000001 0000000000000001 00000000000000
 /// The header of survivor 3 of master 1.
 pub const SURVIVOR: &str = "01 0000000000000001 0000000000000003 01";
 
-/// An object of the greatest version, without a value.
+/// An object with the greatest version and an empty value.
 pub const GREATEST: &str = "04 0000000000000001 4000000000000000 0001 00000000 61";
 
 /// The greatest safe version.
