@@ -23,7 +23,11 @@ const SCRIPTS: &[(&[&str], &str, &str)] = &[
     // the fourth put rolls
     (
         RAMLOG,
-        "put 1 a xxxxxxxxxxxxxxxxxxxxxxxxxxxxxxxxxxxxxxxxxxxxxxxxxxxxxxxxxxxxxxxxxxxxxxxxxxxx\nput 1 a xxxxxxxxxxxxxxxxxxxxxxxxxxxxxxxxxxxxxxxxxxxxxxxxxxxxxxxxxxxxxxxxxxxxxxxxxxxx\nput 1 a xxxxxxxxxxxxxxxxxxxxxxxxxxxxxxxxxxxxxxxxxxxxxxxxxxxxxxxxxxxxxxxxxxxxxxxxxxxx\nput 1 a xxxxxxxxxxxxxxxxxxxxxxxxxxxxxxxxxxxxxxxxxxxxxxxxxxxxxxxxxxxxxxxxxxxxxxxxxxxx\nlog\n",
+        "put 1 a xxxxxxxxxxxxxxxxxxxxxxxxxxxxxxxxxxxxxxxxxxxxxxxxxxxxxxxxxxxxxxxxxxxxxxxxxxxx\n\
+        put 1 a xxxxxxxxxxxxxxxxxxxxxxxxxxxxxxxxxxxxxxxxxxxxxxxxxxxxxxxxxxxxxxxxxxxxxxxxxxxx\n\
+        put 1 a xxxxxxxxxxxxxxxxxxxxxxxxxxxxxxxxxxxxxxxxxxxxxxxxxxxxxxxxxxxxxxxxxxxxxxxxxxxx\n\
+        put 1 a xxxxxxxxxxxxxxxxxxxxxxxxxxxxxxxxxxxxxxxxxxxxxxxxxxxxxxxxxxxxxxxxxxxxxxxxxxxx\n\
+        log\n",
         "ok 1\nok 2\nok 3\nok 4\nlog 1 2\n",
     ),
     (
@@ -34,13 +38,20 @@ const SCRIPTS: &[(&[&str], &str, &str)] = &[
     (
         RAMLOG,
         "roll\nroll\nroll\nroll\nroll\nroll\nroll\nroll\nroll\nroll\nroll\nroll\nroll\nroll\nroll\n",
-        "head 2\nhead 3\nhead 4\nhead 5\nhead 6\nhead 7\nhead 8\nhead 9\nhead 10\nhead 11\nhead 12\nhead 13\nhead 14\nhead 15\nrefused Full\n",
+        "head 2\nhead 3\nhead 4\nhead 5\nhead 6\nhead 7\nhead 8\nhead 9\nhead 10\nhead 11\n\
+        head 12\nhead 13\nhead 14\nhead 15\nrefused Full\n",
     ),
     // the last head takes what fits, and commands that append nothing are answered
     (
         RAMLOG,
-        "roll\nroll\nroll\nroll\nroll\nroll\nroll\nroll\nroll\nroll\nroll\nroll\nroll\nroll\nput 1 a xxxxxxxxxxxxxxxxxxxxxxxxxxxxxxxxxxxxxxxxxxxxxxxxxxxxxxxxxxxxxxxxxxxxxxxxxxxx\nput 1 a xxxxxxxxxxxxxxxxxxxxxxxxxxxxxxxxxxxxxxxxxxxxxxxxxxxxxxxxxxxxxxxxxxxxxxxxxxxx\nput 1 a xxxxxxxxxxxxxxxxxxxxxxxxxxxxxxxxxxxxxxxxxxxxxxxxxxxxxxxxxxxxxxxxxxxxxxxxxxxx\nput 1 b y\ndel 1 a\nnew 1 a y\nbeginroll\n",
-        "head 2\nhead 3\nhead 4\nhead 5\nhead 6\nhead 7\nhead 8\nhead 9\nhead 10\nhead 11\nhead 12\nhead 13\nhead 14\nhead 15\nok 1\nok 2\nok 3\nrefused Full\nrefused Full\nmismatch 3\nrefused Full\n",
+        "roll\nroll\nroll\nroll\nroll\nroll\nroll\nroll\nroll\nroll\nroll\nroll\nroll\nroll\n\
+        put 1 a xxxxxxxxxxxxxxxxxxxxxxxxxxxxxxxxxxxxxxxxxxxxxxxxxxxxxxxxxxxxxxxxxxxxxxxxxxxx\n\
+        put 1 a xxxxxxxxxxxxxxxxxxxxxxxxxxxxxxxxxxxxxxxxxxxxxxxxxxxxxxxxxxxxxxxxxxxxxxxxxxxx\n\
+        put 1 a xxxxxxxxxxxxxxxxxxxxxxxxxxxxxxxxxxxxxxxxxxxxxxxxxxxxxxxxxxxxxxxxxxxxxxxxxxxx\n\
+        put 1 b y\ndel 1 a\nnew 1 a y\nbeginroll\n",
+        "head 2\nhead 3\nhead 4\nhead 5\nhead 6\nhead 7\nhead 8\nhead 9\nhead 10\nhead 11\n\
+        head 12\nhead 13\nhead 14\nhead 15\nok 1\nok 2\nok 3\nrefused Full\nrefused Full\n\
+        mismatch 3\nrefused Full\n",
     ),
     (
         RAMLOG,
@@ -66,7 +77,8 @@ const SCRIPTS: &[(&[&str], &str, &str)] = &[
     (
         RAMLOG,
         "put 1 a x\nbeginroll\nbeginroll\nput 1 b y\nlog\npush\nholdings\n",
-        "ok 1\nopening 2\nrefused Rolling\nok 2\nlog 1 2\nrefused Nothing\n0 1 2 73 open\n1 1 1 65 closed\n2 1 1 65 closed\n2 1 2 73 open\n",
+        "ok 1\nopening 2\nrefused Rolling\nok 2\nlog 1 2\nrefused Nothing\n0 1 2 73 open\n\
+        1 1 1 65 closed\n2 1 1 65 closed\n2 1 2 73 open\n",
     ),
     // while a roll is under way, commands that append nothing are answered
     (
@@ -78,23 +90,39 @@ const SCRIPTS: &[(&[&str], &str, &str)] = &[
     (
         RAMLOG,
         "beginroll\nhex 2\nhex 3\n",
-        "opening 2\n010000000000000001000000000000000200020000000200000000000000010000000000000002030000000000000001\nrefused NotInLog 3\n",
+        "opening 2\n\
+        010000000000000001000000000000000200020000000200000000000000010000000000000002030000000000000001\n\
+        refused NotInLog 3\n",
     ),
     (
         RAMLOG,
         "put 1 a x\ncrash\nnew 1 a x\ncas 1 a 1 x\ndel 1 a\nroll\nbeginroll\npush\nlog\nholdings\n",
-        "ok 1\ncrashed\nrefused Down\nrefused Down\nrefused Down\nrefused Down\nrefused Down\nrefused Down\nrefused Down\n1 1 1 65 open\n2 1 1 65 open\n",
+        "ok 1\ncrashed\nrefused Down\nrefused Down\nrefused Down\nrefused Down\nrefused Down\n\
+        refused Down\nrefused Down\n1 1 1 65 open\n2 1 1 65 open\n",
     ),
     (
         RAMLOG,
         "beginroll\nstop 1\npush\npush\npush\nholdings\nrecover\n",
-        "opening 2\nstop 1\nopen 2 2\nstopped\nrefused Down\n1 1 1 40 open\n2 1 1 40 open\n2 1 2 48 open\nrecovered 0\n",
+        "opening 2\nstop 1\nopen 2 2\nstopped\nrefused Down\n1 1 1 40 open\n2 1 1 40 open\n\
+        2 1 2 48 open\nrecovered 0\n",
     ),
     // a roll that is stopped after the first of its two last steps
     (
         RAMLOG,
-        "put 1 a xxxxxxxxxxxxxxxxxxxxxxxxxxxxxxxxxxxxxxxxxxxxxxxxxxxxxxxxxxxxxxxxxxxxxxxxxxxx\nput 1 b xxxxxxxxxxxxxxxxxxxxxxxxxxxxxxxxxxxxxxxxxxxxxxxxxxxxxxxxxxxxxxxxxxxxxxxxxxxx\nput 1 c xxxxxxxxxxxxxxxxxxxxxxxxxxxxxxxxxxxxxxxxxxxxxxxxxxxxxxxxxxxxxxxxxxxxxxxxxxxx\nput 1 d xxxxxxxxxxxxxxxxxxxxxxxxxxxxxxxxxxxxxxxxxxxxxxxxxxxxxxxxxxxxxxxxxxxxxxxxxxxx\nstop 3\nput 1 e xxxxxxxxxxxxxxxxxxxxxxxxxxxxxxxxxxxxxxxxxxxxxxxxxxxxxxxxxxxxxxxxxxxxxxxxxxxx\nholdings\nlose 2\nrecover\n",
-        "ok 1\nok 2\nok 3\nok 4\nstop 3\nstopped\n0 1 2 48 open\n1 1 1 440 closed\n2 1 1 440 open\n2 1 2 48 open\nlost 2\n1 a 1 xxxxxxxxxxxxxxxxxxxxxxxxxxxxxxxxxxxxxxxxxxxxxxxxxxxxxxxxxxxxxxxxxxxxxxxxxxxx\n1 b 2 xxxxxxxxxxxxxxxxxxxxxxxxxxxxxxxxxxxxxxxxxxxxxxxxxxxxxxxxxxxxxxxxxxxxxxxxxxxx\n1 c 3 xxxxxxxxxxxxxxxxxxxxxxxxxxxxxxxxxxxxxxxxxxxxxxxxxxxxxxxxxxxxxxxxxxxxxxxxxxxx\n1 d 4 xxxxxxxxxxxxxxxxxxxxxxxxxxxxxxxxxxxxxxxxxxxxxxxxxxxxxxxxxxxxxxxxxxxxxxxxxxxx\nrecovered 4\n",
+        "put 1 a xxxxxxxxxxxxxxxxxxxxxxxxxxxxxxxxxxxxxxxxxxxxxxxxxxxxxxxxxxxxxxxxxxxxxxxxxxxx\n\
+        put 1 b xxxxxxxxxxxxxxxxxxxxxxxxxxxxxxxxxxxxxxxxxxxxxxxxxxxxxxxxxxxxxxxxxxxxxxxxxxxx\n\
+        put 1 c xxxxxxxxxxxxxxxxxxxxxxxxxxxxxxxxxxxxxxxxxxxxxxxxxxxxxxxxxxxxxxxxxxxxxxxxxxxx\n\
+        put 1 d xxxxxxxxxxxxxxxxxxxxxxxxxxxxxxxxxxxxxxxxxxxxxxxxxxxxxxxxxxxxxxxxxxxxxxxxxxxx\n\
+        stop 3\n\
+        put 1 e xxxxxxxxxxxxxxxxxxxxxxxxxxxxxxxxxxxxxxxxxxxxxxxxxxxxxxxxxxxxxxxxxxxxxxxxxxxx\n\
+        holdings\nlose 2\nrecover\n",
+        "ok 1\nok 2\nok 3\nok 4\nstop 3\nstopped\n0 1 2 48 open\n1 1 1 440 closed\n2 1 1 440 open\n\
+        2 1 2 48 open\nlost 2\n\
+        1 a 1 xxxxxxxxxxxxxxxxxxxxxxxxxxxxxxxxxxxxxxxxxxxxxxxxxxxxxxxxxxxxxxxxxxxxxxxxxxxx\n\
+        1 b 2 xxxxxxxxxxxxxxxxxxxxxxxxxxxxxxxxxxxxxxxxxxxxxxxxxxxxxxxxxxxxxxxxxxxxxxxxxxxx\n\
+        1 c 3 xxxxxxxxxxxxxxxxxxxxxxxxxxxxxxxxxxxxxxxxxxxxxxxxxxxxxxxxxxxxxxxxxxxxxxxxxxxx\n\
+        1 d 4 xxxxxxxxxxxxxxxxxxxxxxxxxxxxxxxxxxxxxxxxxxxxxxxxxxxxxxxxxxxxxxxxxxxxxxxxxxxx\n\
+        recovered 4\n",
     ),
 ];
 

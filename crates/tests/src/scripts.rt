@@ -56,18 +56,21 @@ const SCRIPTS: &[(&[&str], &str, &str)] = &[
     ),
     (
         RAMLOG,
-        "put 1 a xxxxxxxxxxxxxxxxxxxxxxxxxxxxxxxxxxxxxxxxxxxxxxxxxxxxxxxxxxxxxxxxxxxxxxxxxxxxx\nput 9 a x\nget 5 a\nhex 2\nlose 0\nrecover\nget 1 a\n",
+        "put 1 a xxxxxxxxxxxxxxxxxxxxxxxxxxxxxxxxxxxxxxxxxxxxxxxxxxxxxxxxxxxxxxxxxxxxxxxxxxxxx\n\
+        put 9 a x\nget 5 a\nhex 2\nlose 0\nrecover\nget 1 a\n",
         "refused TooBig\nrefused NoTablet\nrefused NoTablet\nrefused NotInLog 2\nrefused Up\nrefused Up\nnone\n",
     ),
     (
         RAMLOG,
         "crash\ncrash\nput 1 a x\nget 1 a\nhex 1\nstop 3\nlose 1\nlose 1\nlose 2\nrecover\n",
-        "crashed\nrefused Down\nrefused Down\nrefused Down\nrefused Down\nstop 3\nlost 1\nlost 1\nlost 2\nrefused NoHead\n",
+        "crashed\nrefused Down\nrefused Down\nrefused Down\nrefused Down\nstop 3\nlost 1\nlost 1\n\
+        lost 2\nrefused NoHead\n",
     ),
     (
         RAMLOG,
         "# a line that does nothing\n\nput 2 b y\nput 1 b y\nput 1 ab z\nput 1 b w\ncrash\nrecover\nrecover\n",
-        "ok 1\nok 2\nok 3\nok 3\ncrashed\n1 ab 3 z\n1 b 3 w\n2 b 1 y\nrecovered 3\n1 ab 3 z\n1 b 3 w\n2 b 1 y\nrecovered 3\n",
+        "ok 1\nok 2\nok 3\nok 3\ncrashed\n1 ab 3 z\n1 b 3 w\n2 b 1 y\nrecovered 3\n1 ab 3 z\n\
+        1 b 3 w\n2 b 1 y\nrecovered 3\n",
     ),
     (
         RAMLOG,
