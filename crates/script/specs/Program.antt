@@ -22,7 +22,7 @@ abbrev pub IsReported : RunResult → Option (List ℕ) → Option (List ℕ) �
 IsReported (Ok done) held holds status = (holds ≡ held) × (status ≡ 0)
 IsReported (Err fault) held holds status = AppendsFront held holds (fault_line fault) × (status ≡ exit_status fault)
 
--- The configuration fails its check. Its fault is named on the error output, and nothing else is read or written.
+-- The configuration fails its check. Its fault is named on the error output. Nothing is read, and nothing else written.
 pub record IsMisuse (config : Config) (old new : Streams) (status : ℕ) : Type 0 where
   pub fault : ConfigFault
   pub found : config_fault config ≡ Some fault

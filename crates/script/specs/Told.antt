@@ -213,7 +213,7 @@ abbrev pub IsOfLeft : Config → Left → Rebuilt → Type 0
 IsOfLeft config l r = (c : Choice) × IsShownChoice (survivors (is_left l.lost) (shown_by l.picture)) config.master c
     × IsMeaning (among (bag_of c)) (contents_of r.objects)
 
--- what the refusal names is lost, or memory ran out; if both survive on the backups that are left, memory ran out
+-- what the refusal names is lost, or memory ran out; if the backups that are left have head and segments, memory did
 abbrev pub IsLossOf : Config → Left → RecoveryFault → Type 0
 IsLossOf config l e = IsLossOrMemory e
     × (BothSurvive (IsHomeBy config) (shown_by l.picture) config.master (is_left l.lost) → IsWant e)
