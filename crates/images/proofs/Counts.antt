@@ -1,8 +1,8 @@
 -- What is counted, through each step.
-use Rattle.std.proofs.Common.{◌≡◌, ℕ, zero, suc, ◌+◌, ◌-◌, ◌*◌, ◌/◌, ◌%◌, ◌<◌, ◌≤◌, ◌↔◌, Bool, true, false, List, [], ◌∷◌, ◌++◌, length, get_or, take, drop, refl, sym, ap, subst, ◌∙◌, arith}
+use Rattle.std.proofs.Common.{◌≡◌, ℕ, ◌+◌, ◌-◌, ◌*◌, ◌/◌, ◌%◌, ◌<◌, ◌≤◌, ◌↔◌, Bool, true, false, List, [], ◌∷◌, ◌++◌, length, get_or, refl, sym, ap, subst, ◌∙◌, arith}
 use Rattle.std.proofs.Math.ListN.{set, length-set}
 use Rattle.std.proofs.Math.Nat.{mod-eq-sub-div-mul, div-mul-le_self, lt_of_mul-lt-mul_right}
-use Rattle.std.specs.Prelude.{Option, Some, None, Result, Ok, Err, IsSomeAnd, OnOk, OnErr, IsErrOf, IfOk, remove, sum_by}
+use Rattle.std.specs.Prelude.{Option, Some, Result, Ok, Err, IsSomeAnd, OnOk, OnErr, IsErrOf, remove, sum_by}
 use Rattle.std.specs.Int.{div_ceil}
 use Rattle.std.specs.List.{AllByRecursion}
 use Rattle.std.specs.Option.{option_map, option_map_or}
@@ -14,10 +14,10 @@ use Rattle.entry.specs.declared.entry.Entry.{Entry}
 use Rattle.entry.specs.Format.{spelling}
 use Rattle.entry.specs.Text.{text_of}
 use Rattle.segment.specs.declared.fault.AppendFault.{AppendFault}
-use Rattle.segment.specs.declared.fault.AppendFault.TheVariants.{Full, NoMemory}
+use Rattle.segment.specs.declared.fault.AppendFault.TheVariants.{Full}
 use Rattle.images.specs.declared.image.Image.{Image}
-use Rattle.images.specs.Images.{ImagesValue, IsImages, AreSizes, count_of, count_at, used_seglets, free_seglets}
-use Rattle.images.specs.Sorted.{AreRising, AreBelow, IsWhole, image_of, segment_of, changed, without}
+use Rattle.images.specs.Images.{ImagesValue, IsImages, count_of, count_at, used_seglets, free_seglets}
+use Rattle.images.specs.Sorted.{AreRising, AreBelow, IsWhole, image_of, changed, without}
 use Rattle.images.specs.Place.{IsPlaceOf}
 use Rattle.images.specs.Steps.{with_unit, trimmed, replaced_by, len_at}
 use Rattle.images.proofs.Listing.{all_at, all_set, all_more, all_without, image_at, changed_at, without_at, rising_set, rising_without, rising_more}
@@ -86,33 +86,37 @@ module _ (v : ImagesValue) (valid : IsImages v) (id at : ℕ) (place : IsPlaceOf
       let le = read_count in
       let total : used_seglets v - count_of v.segment v.seglet x + count_of v.segment v.seglet y ≡ sum_by (count_of v.segment v.seglet) (set v.images at y) = omega arith in
       let count = length-set v.images at y in
-      let room = valid.room in
-      (total, record {
-        sizes = valid.sizes;
-        rising = rising_set v.images at x y valid.rising place.within (same ∙ ap (λ (z : Image). z.id) read);
-        within = all_set (λ (z : Image). length (text_of z.segment) ≤ v.segment) v.images at y valid.within len;
-        fits = omega arith;
-        room = omega arith;
-      })
+      let room = valid.room in (
+        total,
+        record {
+          sizes = valid.sizes;
+          rising = rising_set v.images at x y valid.rising place.within (same ∙ ap (λ (z : Image). z.id) read);
+          within = all_set (λ (z : Image). length (text_of z.segment) ≤ v.segment) v.images at y valid.within len;
+          fits = omega arith;
+          room = omega arith;
+        },
+      )
 
   -- without it
   pub without_valid : (used_seglets v - count_of v.segment v.seglet x ≡ sum_by (count_of v.segment v.seglet) (remove v.images at))
       × IsImages (record v { images = remove v.images at })
   without_valid =
       let sum = ap (λ (z : Image). sum_by (count_of v.segment v.seglet) (remove v.images at) + count_of v.segment v.seglet z) read
-          ∙ sum_by-remove (count_of v.segment v.seglet) v.images at x place.within in
+      ∙ sum_by-remove (count_of v.segment v.seglet) v.images at x place.within in
       let total : used_seglets v - count_of v.segment v.seglet x ≡ sum_by (count_of v.segment v.seglet) (remove v.images at) = omega arith in
       let count = length-remove v.images at place.within in
       let room = valid.room in
-      let most = valid.fits in
-      (total, record {
-        sizes = valid.sizes;
-        rising = subst AreRising (sym without_is) (rising_without v.images id valid.rising);
-        within = subst (λ (xs : List Image). AllByRecursion (λ (z : Image). length (text_of z.segment) ≤ v.segment) xs) (sym without_is)
-            (all_without (λ (z : Image). length (text_of z.segment) ≤ v.segment) v.images id valid.within);
-        fits = omega arith;
-        room = omega arith;
-      })
+      let most = valid.fits in (
+        total,
+        record {
+          sizes = valid.sizes;
+          rising = subst AreRising (sym without_is) (rising_without v.images id valid.rising);
+          within = subst (λ (xs : List Image). AllByRecursion (λ (z : Image). length (text_of z.segment) ≤ v.segment) xs) (sym without_is)
+              (all_without (λ (z : Image). length (text_of z.segment) ≤ v.segment) v.images id valid.within);
+          fits = omega arith;
+          room = omega arith;
+        },
+      )
 
   -- trimmed
   pub trimmed_le : count_of v.segment v.seglet (trimmed x) ≤ count_of v.segment v.seglet x
@@ -124,7 +128,7 @@ module _ (v : ImagesValue) (valid : IsImages v) (id at : ℕ) (place : IsPlaceOf
       go false is = rw is (omega arith)
 
   pub trimmed_valid : (used_seglets v - count_of v.segment v.seglet x + count_of v.segment v.seglet (trimmed x)
-          ≡ sum_by (count_of v.segment v.seglet) (set v.images at (trimmed x)))
+      ≡ sum_by (count_of v.segment v.seglet) (set v.images at (trimmed x)))
       × IsImages (record v { images = set v.images at (trimmed x) })
   trimmed_valid =
       let le = trimmed_le in let own = read_count in let most = valid.fits in
@@ -140,7 +144,7 @@ module _ (v : ImagesValue) (valid : IsImages v) (id at : ℕ) (place : IsPlaceOf
         × IsImages (record v { images = set v.images at (record x { segment = new }) })
     grown_valid len =
         let same : count_of v.segment v.seglet (record x { segment = new }) ≡ count_of v.segment v.seglet x =
-            count_whole v.segment v.seglet (record x { segment = new }) read_whole ∙ sym (count_whole v.segment v.seglet x read_whole) in
+        count_whole v.segment v.seglet (record x { segment = new }) read_whole ∙ sym (count_whole v.segment v.seglet x read_whole) in
         let own = read_count in let most = valid.fits in
         let parts = set_valid (record x { segment = new }) refl len (omega arith) in
         let total = parts.0 in
@@ -155,9 +159,9 @@ module _ (v : ImagesValue) (valid : IsImages v) (id at : ℕ) (place : IsPlaceOf
             → (IsErrOf q Full ↔ (v.segment < length (text_of x.segment) + length (text_of unit))) → length (text_of new) ≤ v.segment
         go (Ok n) is none within =
             let len : length (text_of new) ≡ length (text_of x.segment) + length (text_of unit) =
-                ap (λ (es : List Entry). length (text_of es)) is ∙ text_more x.segment unit in
+            ap (λ (es : List Entry). length (text_of es)) is ∙ text_more x.segment unit in
             let fits : v.segment < length (text_of x.segment) + length (text_of unit) → ⊥ =
-                (λ (over : v.segment < length (text_of x.segment) + length (text_of unit)). not_full n (within.1 over)) in
+            (λ (over : v.segment < length (text_of x.segment) + length (text_of unit)). not_full n (within.1 over)) in
             omega (arith, fits)
         go (Err e) none is within = subst (λ (es : List Entry). length (text_of es) ≤ v.segment) (sym is) read_len
 
@@ -189,7 +193,7 @@ module _ (v : ImagesValue) (valid : IsImages v) (id at : ℕ) (place : IsPlaceOf
   pub replaced_valid : (segment : List Entry) → length (text_of segment) ≤ v.segment
       → used_seglets v - count_of v.segment v.seglet x + div_ceil (length (text_of segment)) v.seglet ≤ v.seglets
       → (used_seglets v - count_of v.segment v.seglet x + div_ceil (length (text_of segment)) v.seglet
-          ≡ sum_by (count_of v.segment v.seglet) (set v.images at (replaced_by segment x)))
+      ≡ sum_by (count_of v.segment v.seglet) (set v.images at (replaced_by segment x)))
       × IsImages (record v { images = set v.images at (replaced_by segment x) })
   replaced_valid segment len fits = set_valid (replaced_by segment x) refl len fits
 
@@ -200,14 +204,16 @@ pub added_valid : (v : ImagesValue) (y : Image) (room : ℕ) → IsImages v → 
     × IsImages (record v { images = v.images ++ y ∷ []; room = room })
 added_valid v y room valid below len fits enough =
     let total = sum_by_push (count_of v.segment v.seglet) v.images y in
-    let most = valid.fits in
-    (sym total, record {
-      sizes = valid.sizes;
-      rising = rising_more v.images y valid.rising below;
-      within = all_more (λ (z : Image). length (text_of z.segment) ≤ v.segment) v.images y valid.within len;
-      fits = omega arith;
-      room = enough;
-    })
+    let most = valid.fits in (
+      sym total,
+      record {
+        sizes = valid.sizes;
+        rising = rising_more v.images y valid.rising below;
+        within = all_more (λ (z : Image). length (text_of z.segment) ≤ v.segment) v.images y valid.within len;
+        fits = omega arith;
+        room = enough;
+      },
+    )
 
 -- ---- the test of a replacement, over what the code has
 

@@ -119,9 +119,10 @@ impl Images {
         self.images.reserve(1)
     }
 
-    /// Adds the image of a segment whose number is above all that are there. A whole one still takes appends; the caller
-    /// took its memory whole. If it isn't taken it is lent back: `NoRoom` comes exactly if it counts more seglets than
-    /// are free, `NoMemory` only if the list has no room for it.
+    /// Adds the image of a segment whose number is above all that are there, of at most `segment` bytes. A whole one
+    /// still takes appends, and the caller took its memory whole (`Segment::reserve`). An image that isn't added is
+    /// handed back: `NoRoom` comes exactly if it counts more seglets than are free, `NoMemory` only if the list has no
+    /// room for it.
     pub fn add(
         &mut self,
         id: u64,
@@ -131,8 +132,8 @@ impl Images {
         requires newest { AreBelow id self.old.images }
         requires within { length (text_of segment) ≤ self.old.segment }
         ensures ok { OnOk result (self.new ≡ record self.old {
-            images = self.old.images ++ record { id = id; segment = segment; is_whole = is_whole } ∷ [];
-            room = self.new.room;
+          images = self.old.images ++ record { id = id; segment = segment; is_whole = is_whole } ∷ [];
+          room = self.new.room;
         }) }
         ensures err { OnErr result (self.new ≡ self.old) }
         ensures no_room { IsErrAnd result (λ e. e.0 ≡ ImagesFault.NoRoom) ↔ (free_seglets self.old <
@@ -164,7 +165,8 @@ impl Images {
         requires whole { IsWhole self.old.images id }
         requires data { are_data (map shown unit.now) ≡ true }
         ensures ok { OnOk result (self.new ≡ record self.old {
-            images = changed self.old.images id (with_unit (map shown unit.now)) }) }
+          images = changed self.old.images id (with_unit (map shown unit.now));
+        }) }
         ensures place { IfOk result (λ at. at ≡ len_at self.old.images id) }
         ensures full { IsErrOf result AppendFault.Full ↔
             (self.old.segment < len_at self.old.images id + length (text_of (map shown unit.now))) }
@@ -192,13 +194,14 @@ impl Images {
         self.used = self.used - before + count;
     }
 
-    /// Puts another image in the place of that of this number; it counts its length. If it isn't taken it is lent back:
-    /// that is so exactly if too few seglets are free, those of the old image among them.
+    /// Puts another image in the place of that of this number; it is not whole. An image that isn't taken is
+    /// handed back with `NoRoom`: exactly if it counts more seglets than are free, those of the old image among them.
     pub fn replace(&mut self, id: u64, segment: Segment) -> Result<(), (ImagesFault, Segment)>
         requires there { IsSome (image_of self.old.images id) }
         requires within { length (text_of segment) ≤ self.old.segment }
         ensures ok { OnOk result (self.new ≡ record self.old {
-            images = changed self.old.images id (replaced_by segment) }) }
+          images = changed self.old.images id (replaced_by segment);
+        }) }
         ensures err { OnErr result (self.new ≡ self.old) }
         ensures no_room { IsErr result ↔ (free_seglets self.old + count_at self.old id <
             div_ceil (length (text_of segment)) self.old.seglet) }

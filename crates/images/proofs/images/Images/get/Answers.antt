@@ -1,7 +1,6 @@
-use Rattle.std.proofs.Common.{◌≡◌, ap, sym}
+use Rattle.std.proofs.Common.{ap, sym}
 use Rattle.std.specs.Option.{option_map}
 use Rattle.images.specs.declared.image.Image.{Image}
-use Rattle.images.specs.Place.{IsPlaceOf}
 use Rattle.images.proofs.Counts.{image_read}
 use Rattle.images.proofs.images.Images.get.Goals as goal
 
