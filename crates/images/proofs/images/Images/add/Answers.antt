@@ -13,8 +13,8 @@ invariant_of-self-2 c =
     let image : Image = record { id = c.args.id; segment = c.args.segment; is_whole = c.args.is_whole } in
     let items : c.push_reserved.new.self.items ≡ c.self.inside.images.items ++ image ∷ [] =
     c.push_reserved.ensures.items ∙ rw c.reserve.ensures.items refl in
-    let count : c.count_of-count.result ≤ v.seglets - used_seglets v =
-    subst (λ (n : ℕ). c.count_of-count.result ≤ v.seglets - n) c.self.invariant.0 c.if-count-self.false in
+    let used = c.self.invariant.0 in
+    let count : c.count_of-count.result ≤ v.seglets - used_seglets v = omega arith in
     let room : length c.push_reserved.new.self.items ≤ vec_capacity c.push_reserved.new.self = omega arith in
     let below = subst (λ (w : ImagesValue). AreBelow c.args.id w.images) (sym c.self.view_is) c.requires.newest in
     let len = rw (← c.self.view_is) at c.requires.within in
