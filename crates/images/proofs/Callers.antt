@@ -1,9 +1,9 @@
 -- What the images keep through each step, for callers.
-use Rattle.std.proofs.Common.{◌≡◌, ℕ, ◌+◌, ◌<◌, ◌≤◌, Bool, true, false, List, [], ◌∷◌, ◌++◌, refl, ap, subst, ◌∙◌, arith}
-use Rattle.std.specs.Prelude.{◌==◌, Option, Some, IsSomeAnd, if◌then◌else◌}
-use Rattle.std.specs.List.{AllByRecursion}
+use Rattle.std.proofs.Common.{◌≡◌, ℕ, ◌+◌, ◌<◌, ◌≤◌, Bool, true, false, List, [], ◌∷◌, ◌++◌, refl, sym, ap, subst, ◌∙◌, arith}
+use Rattle.std.specs.Prelude.{◌==◌, Option, Some, None, IsSomeAnd}
 use Rattle.entry.specs.declared.entry.Entry.{Entry}
 use Rattle.images.specs.declared.image.Image.{Image}
+use Rattle.images.specs.Images.{ImagesValue}
 use Rattle.images.specs.Sorted.{AreBelow, IsWhole, image_of, changed, without}
 use Rattle.images.specs.Steps.{with_unit}
 use Rattle.images.proofs.Listing.{all_more, all_without, same_id, other_id}
@@ -55,3 +55,29 @@ image_changed (x ∷ xs) id f y same is = go (x.id == id) refl (image_changed xs
     go false test rest =
         let later : image_of xs id ≡ Some y = rw test at is in
         rw (test, test) (rest later)
+
+-- ---- what takes appends
+
+-- the newest image does if it is whole
+pub whole_more : (xs : List Image) (y : Image) → AreBelow y.id xs → y.is_whole ≡ true → IsWhole (xs ++ y ∷ []) y.id
+whole_more xs y all is = subst (λ (o : Option Image). IsSomeAnd o (λ (x : Image). x.is_whole ≡ true)) (sym (image_more xs y all)) is
+
+-- what did still does with a unit at its end
+pub whole_grown : (xs : List Image) (id : ℕ) (unit : List Entry) → IsWhole xs id → IsWhole (changed xs id (with_unit unit)) id
+whole_grown xs id unit whole = go (image_of xs id) refl whole
+  where
+    go : (o : Option Image) → image_of xs id ≡ o → IsSomeAnd o (λ (x : Image). x.is_whole ≡ true) → IsWhole (changed xs id (with_unit unit)) id
+    go None is none = absurd none
+    go (Some y) is own = subst (λ (o : Option Image). IsSomeAnd o (λ (x : Image). x.is_whole ≡ true))
+        (sym (image_changed xs id (with_unit unit) y (λ (x : Image). refl) is)) own
+
+-- an append keeps it whole, the ids and the size of a segment
+pub append_keeps : (v w : ImagesValue) (id : ℕ) (unit : List Entry) → w ≡ record v { images = changed v.images id (with_unit unit) } → IsWhole v.images id
+    → IsWhole w.images id × ((n : ℕ) → AreBelow n v.images → AreBelow n w.images) × (w.segment ≡ v.segment)
+append_keeps v w id unit is whole =
+    let images : w.images ≡ changed v.images id (with_unit unit) = ap (λ (u : ImagesValue). u.images) is in (
+      subst (λ (xs : List Image). IsWhole xs id) (sym images) (whole_grown v.images id unit whole),
+      (λ (n : ℕ) (all : AreBelow n v.images). subst (λ (xs : List Image). AreBelow n xs) (sym images)
+          (below_changed v.images id n (with_unit unit) (λ (x : Image). refl) all)),
+      ap (λ (u : ImagesValue). u.segment) is,
+    )

@@ -1,4 +1,4 @@
-//! The tests of all crates: vectors of entries and of segments, the lines of scripts, backups, plans and rebuilt logs from
+//! The tests of all crates: vectors of entries and of segments, images in memory, the lines of scripts, backups, plans and rebuilt logs from
 //! what is made by hand, runs of masters, drills, comparisons with the plain programs, and worked scripts.
 #![tactic(auto)]
 
@@ -28,6 +28,8 @@ mod rolls;
 mod runs;
 #[cfg(test)]
 mod scripts;
+#[cfg(test)]
+mod seglets;
 #[cfg(test)]
 mod segments;
 #[cfg(test)]
