@@ -1,5 +1,5 @@
-//! The tests of all crates: vectors of entries and of segments, images in memory, the lines of scripts, backups, plans and rebuilt logs from
-//! what is made by hand, runs of masters, drills, comparisons with the plain programs, and worked scripts.
+//! The tests of all crates: vectors of entries and of segments, images in memory, the lines of scripts, backups, plans and
+//! rebuilt logs from what is made by hand, runs of masters, drills, comparisons with the plain programs, and worked scripts.
 #![tactic(auto)]
 
 #[cfg(test)]
