@@ -115,6 +115,7 @@ impl Images {
         ensures same { self.new ≡ record self.old { room = self.new.room } }
         ensures grown { self.old.room ≤ self.new.room }
         ensures ok { OnOk result (length self.old.images < self.new.room) }
+        ensures full { OnErr result (self.old.room ≤ length self.old.images) }
     {
         self.images.reserve(1)
     }
