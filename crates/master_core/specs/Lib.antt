@@ -3,6 +3,7 @@ pub mod Images
 pub mod Data
 pub mod Log
 pub mod Change
+pub mod Budget
 pub mod Causes
 pub mod Steps
 pub mod Index

@@ -1,6 +1,6 @@
-//! The tests of all crates: vectors of entries and of segments, the lines of scripts, ops on backups, plans and rebuilt
-//! logs from replicas that are made by hand, runs of masters, drills, comparisons with the plain programs, and whole
-//! scripts.
+//! The tests of all crates: vectors of entries and of segments, images in memory, the index, the lines of scripts, ops on
+//! backups, plans and rebuilt logs from replicas that are made by hand, runs of masters, drills, comparisons with the
+//! plain programs, and whole scripts.
 #![tactic(auto)]
 
 #[cfg(test)]
@@ -29,6 +29,8 @@ mod rolls;
 mod runs;
 #[cfg(test)]
 mod scripts;
+#[cfg(test)]
+mod seglets;
 #[cfg(test)]
 mod segments;
 #[cfg(test)]

@@ -1,0 +1,4 @@
+pub mod Listing
+pub mod Searching
+pub mod Counts
+pub mod Callers

@@ -1,0 +1,4 @@
+pub mod Images
+pub mod Sorted
+pub mod Place
+pub mod Steps

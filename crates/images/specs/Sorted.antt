@@ -1,0 +1,36 @@
+-- Images by their ids.
+use Rattle.std.specs.Prelude.{◌≡◌, ℕ, ◌<◌, ◌==◌, List, [], ◌∷◌, map, filter, not, Option, IsSomeAnd, true}
+use Rattle.std.specs.Prelude.{find, if◌then◌else◌, ⊤}
+use Rattle.std.specs.List.{AllByRecursion}
+use Rattle.std.specs.Option.{option_map}
+use Rattle.entry.specs.declared.entry.Entry.{Entry}
+use Rattle.images.specs.declared.image.Image.{Image}
+
+-- each id is above all that come before it
+abbrev pub AreRising : List Image → Type 0
+AreRising [] = ⊤
+AreRising (image ∷ later) = AllByRecursion (λ (other : Image). image.id < other.id) later × AreRising later
+
+-- this id is above all of theirs
+abbrev pub AreBelow : ℕ → List Image → Type 0
+AreBelow id images = AllByRecursion (λ (image : Image). image.id < id) images
+
+-- the image of the segment of this id
+abbrev pub image_of : List Image → ℕ → Option Image
+image_of images id = find (λ (image : Image). image.id == id) images
+
+-- the entries of that segment
+abbrev pub segment_of : List Image → ℕ → Option (List Entry)
+segment_of images id = option_map (λ (image : Image). image.segment) (image_of images id)
+
+-- it is there and still takes appends
+abbrev pub IsWhole : List Image → ℕ → Type 0
+IsWhole images id = IsSomeAnd (image_of images id) (λ (image : Image). image.is_whole ≡ true)
+
+-- the image of this id is changed, and no other
+abbrev pub changed : List Image → ℕ → (Image → Image) → List Image
+changed images id change = map (λ (image : Image). if image.id == id then change image else image) images
+
+-- all but the image of this id
+abbrev pub without : List Image → ℕ → List Image
+without images id = filter (λ (image : Image). not (image.id == id)) images

@@ -1,0 +1,23 @@
+-- What steps make of an image.
+use Rattle.std.specs.Prelude.{ℕ, List, ◌++◌, length, false}
+use Rattle.std.specs.Option.{option_map_or}
+use Rattle.entry.specs.declared.entry.Entry.{Entry}
+use Rattle.entry.specs.Text.{text_of}
+use Rattle.images.specs.declared.image.Image.{Image}
+use Rattle.images.specs.Sorted.{segment_of}
+
+-- with a unit at its end
+abbrev pub with_unit : List Entry → Image → Image
+with_unit unit image = record image { segment = image.segment ++ unit }
+
+-- it takes no more appends
+abbrev pub trimmed : Image → Image
+trimmed image = record image { is_whole = false }
+
+-- another image in its place
+abbrev pub replaced_by : List Entry → Image → Image
+replaced_by segment image = record image { segment = segment; is_whole = false }
+
+-- the bytes of the image of this id; 0 if there is none
+abbrev pub len_at : List Image → ℕ → ℕ
+len_at images id = option_map_or (λ (es : List Entry). length (text_of es)) (segment_of images id) 0

@@ -1,0 +1,235 @@
+//! Images in memory, with the sum of what they count.
+
+ghost use Rattle.std.specs.Prelude.{◌≡◌, ◌+◌, ◌<◌, ◌≤◌, ◌↔◌, ◌++◌, ◌∷◌, [], true, false, length, map, sum_by};
+ghost use Rattle.std.specs.Prelude.{IfOk, IfErr, OnOk, OnErr, IsErrAnd, IsErrOf, IsErr, IsSome};
+ghost use Rattle.std.specs.Int.{div_ceil};
+ghost use Rattle.std.specs.Option.{option_copied};
+ghost use Rattle.entry.specs.Text.{text_of, are_data};
+ghost use Rattle.entry.specs.View.{shown};
+
+use crate::fault::ImagesFault;
+use crate::image::{Image, count_of, place_of, recounted, seglets_of};
+use entry::{EntryRef, NoMemory};
+use segment::{AppendFault, Segment};
+use std::alloc::Global;
+use std::marker::Model;
+
+/// The images of a master's segments in memory, by rising id, and how many of its seglets they count.
+#[derive(Drop)]
+pub struct Images {
+    /// The most bytes of a segment.
+    segment: usize,
+    /// The bytes of a seglet.
+    seglet: usize,
+    /// How many seglets there are.
+    seglets: u64,
+    images: Vec<Image>,
+    /// How many seglets are counted.
+    used: u64,
+}
+
+impl Model for Images {
+    ghost use Rattle.std.specs.Prelude.{◌≡◌, vec_capacity, sum_by};
+    ghost use Rattle.images.specs.Images.{ImagesValue, IsImages, count_of};
+
+    ghost Value = { ImagesValue };
+
+    ghost view = { λ s. record {
+      segment = s.segment;
+      seglet = s.seglet;
+      seglets = s.seglets;
+      images = s.images.items;
+      room = vec_capacity s.images;
+    } };
+
+    ghost invariant = { λ s. (s.used ≡ sum_by (count_of s.segment s.seglet) s.images.items) × IsImages (record {
+      segment = s.segment;
+      seglet = s.seglet;
+      seglets = s.seglets;
+      images = s.images.items;
+      room = vec_capacity s.images;
+    }) };
+}
+
+impl Images {
+    ghost use Rattle.images.specs.declared.image.Image.{Image as ImageValue};
+    ghost use Rattle.images.specs.Images.{ImagesValue, IsImages, AreSizes};
+    ghost use Rattle.images.specs.Images.{count_of, count_at, used_seglets, free_seglets};
+    ghost use Rattle.images.specs.Sorted.{AreBelow, IsWhole, image_of, segment_of, changed, without};
+    ghost use Rattle.images.specs.Steps.{with_unit, trimmed, replaced_by, len_at};
+
+    /// No images yet: segments of at most `segment` bytes, in `seglets` seglets of `seglet` bytes each.
+    pub fn new(alloc: Global, segment: usize, seglet: usize, seglets: u64) -> Images
+        requires { AreSizes segment seglet seglets }
+        ensures { result ≡ record { segment = segment; seglet = seglet; seglets = seglets; images = []; room = 0 } }
+    {
+        Images {
+            segment,
+            seglet,
+            seglets,
+            images: Vec::new(alloc),
+            used: 0,
+        }
+    }
+
+    /// What holds of all images in memory.
+    pub fn show_valid(&self)
+        ensures { IsImages self.now }
+    {
+        let _used = self.used;
+    }
+
+    /// How many seglets are counted.
+    pub fn used(&self) -> u64
+        ensures used { result ≡ used_seglets self.now }
+        ensures valid { IsImages self.now }
+    {
+        self.used
+    }
+
+    /// How many seglets are left.
+    pub fn free(&self) -> u64
+        ensures free { result ≡ free_seglets self.now }
+        ensures valid { IsImages self.now }
+    {
+        self.seglets - self.used
+    }
+
+    /// The same as `used`, by a walk over all images.
+    pub fn recount(&self) -> u64
+        ensures { result ≡ used_seglets self.now }
+    {
+        recounted(self.images.as_slice(), self.segment, self.seglet)
+    }
+
+    /// The segment of this number.
+    pub fn get(&self, id: u64) -> Option<&Segment>
+        ensures { option_copied result ≡ segment_of self.entry.now.images id }
+    {
+        let at = place_of(self.images.as_slice(), id)?;
+        Some(&self.images[at].segment)
+    }
+
+    /// Makes room for one more image in the list, so that the next `add` takes no memory.
+    pub fn reserve(&mut self) -> Result<(), NoMemory>
+        ensures same { self.new ≡ record self.old { room = self.new.room } }
+        ensures grown { self.old.room ≤ self.new.room }
+        ensures ok { OnOk result (length self.old.images < self.new.room) }
+        ensures full { OnErr result (self.old.room ≤ length self.old.images) }
+    {
+        self.images.reserve(1)
+    }
+
+    /// Adds the image of a segment whose number is above all that are there, of at most `segment` bytes. A whole one
+    /// still takes appends, and the caller took its memory whole (`Segment::reserve`). An image that isn't added is
+    /// handed back: `NoRoom` comes exactly if it counts more seglets than are free, `NoMemory` only if the list has no
+    /// room for it.
+    pub fn add(
+        &mut self,
+        id: u64,
+        segment: Segment,
+        is_whole: bool,
+    ) -> Result<(), (ImagesFault, Segment)>
+        requires newest { AreBelow id self.old.images }
+        requires within { length (text_of segment) ≤ self.old.segment }
+        ensures ok { OnOk result (self.new ≡ record self.old {
+          images = self.old.images ++ record { id = id; segment = segment; is_whole = is_whole } ∷ [];
+          room = self.new.room;
+        }) }
+        ensures err { OnErr result (self.new ≡ self.old) }
+        ensures no_room { IsErrAnd result (λ e. e.0 ≡ ImagesFault.NoRoom) ↔ (free_seglets self.old <
+            count_of self.old.segment self.old.seglet (record { id = id; segment = segment; is_whole = is_whole })) }
+        ensures no_memory { IsErrAnd result (λ e. e.0 ≡ ImagesFault.NoMemory) →
+            self.old.room ≤ length self.old.images }
+        ensures back { IfErr result (λ e. e.1 ≡ segment) }
+    {
+        let image = Image {
+            id,
+            segment,
+            is_whole,
+        };
+        let count = count_of(&image, self.segment, self.seglet);
+        if count > self.seglets - self.used {
+            return Err((ImagesFault::NoRoom, image.segment));
+        }
+        if self.images.reserve(1).is_err() {
+            return Err((ImagesFault::NoMemory, image.segment));
+        }
+        self.images.push_reserved(image);
+        self.used += count;
+        Ok(())
+    }
+
+    /// Appends a unit to a whole image, all or none of it. The answer is the offset of its first entry. `Full` comes
+    /// exactly if the segment would have too many bytes. No memory is taken if the image's was taken whole.
+    pub fn append(&mut self, id: u64, unit: &[EntryRef<'_>]) -> Result<usize, AppendFault>
+        requires whole { IsWhole self.old.images id }
+        requires data { are_data (map shown unit.now) ≡ true }
+        ensures ok { OnOk result (self.new ≡ record self.old {
+          images = changed self.old.images id (with_unit (map shown unit.now));
+        }) }
+        ensures place { IfOk result (λ at. at ≡ len_at self.old.images id) }
+        ensures full { IsErrOf result AppendFault.Full ↔
+            (self.old.segment < len_at self.old.images id + length (text_of (map shown unit.now))) }
+        ensures err { OnErr result (self.new ≡ self.old) }
+    {
+        let Some(at) = place_of(self.images.as_slice(), id) else {
+            unreachable!()
+        };
+        self.images[at].segment.append(unit, self.segment)
+    }
+
+    /// Makes a whole image one that counts its length, and gives back the memory beyond its seglets. It changes nothing
+    /// if there is no image of this number.
+    pub fn trim(&mut self, id: u64)
+        ensures { self.new ≡ record self.old { images = changed self.old.images id trimmed } }
+    {
+        let Some(at) = place_of(self.images.as_slice(), id) else {
+            return;
+        };
+        let image = &mut self.images[at];
+        let before = count_of(image, self.segment, self.seglet);
+        image.is_whole = false;
+        let count = count_of(image, self.segment, self.seglet);
+        image.segment.trim(count as usize * self.seglet);
+        self.used = self.used - before + count;
+    }
+
+    /// Puts another image in the place of that of this number; it is not whole. An image that isn't taken is
+    /// handed back with `NoRoom`: exactly if it counts more seglets than are free, those of the old image among them.
+    pub fn replace(&mut self, id: u64, segment: Segment) -> Result<(), (ImagesFault, Segment)>
+        requires there { IsSome (image_of self.old.images id) }
+        requires within { length (text_of segment) ≤ self.old.segment }
+        ensures ok { OnOk result (self.new ≡ record self.old {
+          images = changed self.old.images id (replaced_by segment);
+        }) }
+        ensures err { OnErr result (self.new ≡ self.old) }
+        ensures no_room { IsErr result ↔ (free_seglets self.old + count_at self.old id <
+            div_ceil (length (text_of segment)) self.old.seglet) }
+        ensures back { IfErr result (λ e. (e.0 ≡ ImagesFault.NoRoom) × (e.1 ≡ segment)) }
+    {
+        let Some(at) = place_of(self.images.as_slice(), id) else {
+            unreachable!()
+        };
+        let image = &mut self.images[at];
+        let others = self.used - count_of(image, self.segment, self.seglet);
+        let count = seglets_of(segment.bytes_len(), self.seglet);
+        if count > self.seglets - others {
+            return Err((ImagesFault::NoRoom, segment));
+        }
+        image.segment = segment;
+        image.is_whole = false;
+        self.used = others + count;
+        Ok(())
+    }
+
+    /// Drops the image of this number, and what it counts. It changes nothing if there is none.
+    pub fn drop_segment(&mut self, id: u64)
+        ensures { self.new ≡ record self.old { images = without self.old.images id } }
+    {
+        if let Some(at) = place_of(self.images.as_slice(), id) {
+            let image = self.images.remove(at);
+            self.used -= count_of(&image, self.segment, self.seglet);
+        }
+    }
+}

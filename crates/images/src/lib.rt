@@ -1,0 +1,15 @@
+//! Images of segments in memory: a map from segment numbers to segments, with the sum of the seglets that they count.
+//!
+//! Memory is counted in seglets. An image that still takes appends counts those of a whole segment, since its memory is
+//! taken whole, and any other its length in seglets, rounded up. `specs/Images.antt` says what is counted, and
+//! `specs/Sorted.antt` how images are found. What is counted is an upper bound of the text's bytes, and not of the
+//! memory: the contract of a vector doesn't say that it shrinks when it is asked to, nor how much it grows.
+#![tactic(auto)]
+
+mod fault;
+mod image;
+mod images;
+
+pub use fault::ImagesFault;
+pub use image::Image;
+pub use images::Images;
