@@ -1,0 +1,4 @@
+pub mod Finding
+pub mod Changing
+pub mod Slots
+pub mod Again

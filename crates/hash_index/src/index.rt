@@ -1,0 +1,98 @@
+//! The index.
+
+ghost use Rattle.std.specs.Prelude.{◌≡◌, ◌+◌, ◌<◌, ◌≤◌, [], ℕ, Option, Some, None, is_some, length, OnOk, OnErr, if◌then◌else◌};
+ghost use Rattle.entry.specs.declared.key.Key.{Key};
+ghost use Rattle.entry.specs.View.{shown_key};
+ghost use Rattle.hash_index.specs.declared.place.Place.{Place as PlaceValue};
+ghost use Rattle.hash_index.specs.Map.{found, AreKept, IsSet, IsSameMap};
+
+use crate::place::Place;
+use crate::plain::PlainIndex;
+use crate::resolve::Resolve;
+use entry::{KeyRef, NoMemory};
+use std::alloc::Global;
+use std::marker::Model;
+
+/// A map from keys to places, that holds no keys.
+#[derive(Drop)]
+pub struct Index {
+    held: PlainIndex,
+}
+
+impl Model for Index {
+    ghost use Rattle.hash_index.specs.Map.{IndexValue};
+
+    ghost Value = { IndexValue };
+
+    ghost view = { λ i. i.held };
+}
+
+impl Index {
+    /// An index of no keys. It takes no memory.
+    pub fn new(alloc: Global) -> Index
+        ensures { result ≡ record { held = []; room = 0 } }
+    {
+        Index {
+            held: PlainIndex::new(alloc),
+        }
+    }
+
+    /// How many keys it has.
+    pub fn len(&self) -> usize
+        ensures { result ≡ length self.now.held }
+    {
+        self.held.len()
+    }
+
+    /// The place of a key.
+    pub fn get<R: Resolve>(&self, resolver: &R, key: &KeyRef<'_>) -> Option<Place>
+        ensures { AreKept (R.keys resolver.now) self.now.held
+            → result ≡ found (R.keys resolver.now) (shown_key key.now) self.now.held }
+    {
+        self.held.get(resolver, key)
+    }
+
+    /// Takes memory for `more` further keys: the one call that takes any. On `Err` nothing changed.
+    pub fn reserve(&mut self, more: usize) -> Result<(), NoMemory>
+        ensures room { OnOk result (more ≤ self.new.room) }
+        ensures same { OnOk result ((keys : PlaceValue → Option Key) → AreKept keys self.old.held
+            → IsSameMap keys self.old.held self.new.held) }
+        ensures err { OnErr result (self.new ≡ self.old) }
+    {
+        self.held.reserve(more)
+    }
+
+    /// The key's place becomes this one, whether or not the key had one. It takes no memory.
+    pub fn set<R: Resolve>(&mut self, resolver: &R, key: &KeyRef<'_>, place: Place)
+        requires room { 0 < self.old.room }
+        ensures set { let keys = R.keys resolver.now in let k = shown_key key.now in
+            AreKept keys self.old.held → keys place ≡ Some k
+            → IsSet keys self.old.held k (Some place) self.new.held }
+        ensures room { self.old.room ≤ self.new.room + 1 }
+    {
+        self.held.set(resolver, key, place);
+    }
+
+    /// The key has no place any more. The place that it had.
+    pub fn remove<R: Resolve>(&mut self, resolver: &R, key: &KeyRef<'_>) -> Option<Place>
+        ensures had { AreKept (R.keys resolver.now) self.old.held
+            → result ≡ found (R.keys resolver.now) (shown_key key.now) self.old.held }
+        ensures removed { AreKept (R.keys resolver.now) self.old.held
+            → IsSet (R.keys resolver.now) self.old.held (shown_key key.now) None self.new.held }
+        ensures room { self.old.room ≤ self.new.room }
+    {
+        self.held.remove(resolver, key)
+    }
+
+    /// The place of a key that has one becomes this one. Whether it has one.
+    pub fn move_to<R: Resolve>(&mut self, resolver: &R, key: &KeyRef<'_>, place: Place) -> bool
+        ensures had { let keys = R.keys resolver.now in AreKept keys self.old.held
+            → result ≡ is_some (found keys (shown_key key.now) self.old.held) }
+        ensures moved { let keys = R.keys resolver.now in let k = shown_key key.now in let old = self.old.held in
+            AreKept keys old → keys place ≡ Some k
+            → IsSet keys old k (if is_some (found keys k old) then Some place else None) self.new.held }
+        ensures room { self.new.room ≡ self.old.room }
+    {
+        self.held.move_to(resolver, key, place)
+    }
+}
