@@ -6,25 +6,39 @@ ghost use Rattle.entry.specs.View.{shown_key};
 ghost use Rattle.hash_index.specs.declared.place.Place.{Place as PlaceValue};
 ghost use Rattle.hash_index.specs.Map.{found, AreKept, IsSet, IsSameMap};
 
-use crate::place::Place;
+use crate::hashing::hash_key;
+use crate::place::{Held, Place};
 use crate::plain::PlainIndex;
 use crate::resolve::Resolve;
+use crate::table::Table;
 use entry::{KeyRef, NoMemory};
-use std::alloc::Global;
+use std::alloc::{AllocError, Global};
 use std::marker::Model;
 
-/// A map from keys to places, that holds no keys.
+/// How many keys there may be for each chain before the table grows.
+const KEYS_PER_CHAIN: usize = 2;
+
+/// A map from keys to places that holds no keys.
 #[derive(Drop)]
 pub struct Index {
-    held: PlainIndex,
+    alloc: Global,
+    table: Table,
+    /// The places that were set since the last `reserve`, and those whose chain got no memory.
+    waiting: PlainIndex,
+    len: usize,
+    room: usize,
 }
 
 impl Model for Index {
+    ghost use Rattle.std.specs.Prelude.{◌++◌};
     ghost use Rattle.hash_index.specs.Map.{IndexValue};
+    ghost use Rattle.hash_index.specs.Whole.{IsWhole};
 
     ghost Value = { IndexValue };
 
-    ghost view = { λ i. i.held };
+    ghost view = { λ i. record { held = i.table ++ i.waiting.held; room = i.room } };
+
+    ghost invariant = { λ i. IsWhole i.table i.waiting i.len i.room };
 }
 
 impl Index {
@@ -33,7 +47,11 @@ impl Index {
         ensures { result ≡ record { held = []; room = 0 } }
     {
         Index {
-            held: PlainIndex::new(alloc),
+            alloc,
+            table: Table::new(alloc),
+            waiting: PlainIndex::new(alloc),
+            len: 0,
+            room: 0,
         }
     }
 
@@ -41,7 +59,7 @@ impl Index {
     pub fn len(&self) -> usize
         ensures { result ≡ length self.now.held }
     {
-        self.held.len()
+        self.len
     }
 
     /// The place of a key.
@@ -49,7 +67,11 @@ impl Index {
         ensures { AreKept (R.keys resolver.now) self.now.held
             → result ≡ found (R.keys resolver.now) (shown_key key.now) self.now.held }
     {
-        self.held.get(resolver, key)
+        let hash = hash_key(key);
+        match self.table.get(hash, resolver, key) {
+            Some(place) => Some(place),
+            None => self.waiting.get_hashed(hash, resolver, key),
+        }
     }
 
     /// Takes memory for `more` further keys: the one call that takes any. On `Err` nothing changed.
@@ -59,7 +81,24 @@ impl Index {
             → IsSameMap keys self.old.held self.new.held) }
         ensures err { OnErr result (self.new ≡ self.old) }
     {
-        self.held.reserve(more)
+        let room = self.room.max(more);
+        let Some(keys) = self.len.checked_add(room) else {
+            return Err(AllocError);
+        };
+        let chains = keys.div_ceil(KEYS_PER_CHAIN);
+        if chains > self.table.chain_count() {
+            let waiting = PlainIndex::with_room(self.alloc, room)?;
+            let count = chains.next_power_of_two();
+            self.table = self
+                .table
+                .grown(self.alloc, count, self.waiting.as_slice())?;
+            self.waiting = waiting;
+        } else {
+            self.waiting.reserve(room)?;
+            self.table.take_in(&mut self.waiting);
+        }
+        self.room = room;
+        Ok(())
     }
 
     /// The key's place becomes this one, whether or not the key had one. It takes no memory.
@@ -70,7 +109,16 @@ impl Index {
             → IsSet keys self.old.held k (Some place) self.new.held }
         ensures room { self.old.room ≤ self.new.room + 1 }
     {
-        self.held.set(resolver, key, place);
+        let hash = hash_key(key);
+        if self.table.move_to(hash, resolver, key, place) {
+            return;
+        }
+        if self.waiting.move_hashed(hash, resolver, key, place) {
+            return;
+        }
+        self.waiting.push(Held { hash, place });
+        self.len += 1;
+        self.room -= 1;
     }
 
     /// The key has no place any more. The place that it had.
@@ -81,7 +129,14 @@ impl Index {
             → IsSet (R.keys resolver.now) self.old.held (shown_key key.now) None self.new.held }
         ensures room { self.old.room ≤ self.new.room }
     {
-        self.held.remove(resolver, key)
+        let hash = hash_key(key);
+        if let Some(place) = self.table.remove(hash, resolver, key) {
+            self.len -= 1;
+            return Some(place);
+        }
+        let place = self.waiting.remove_hashed(hash, resolver, key)?;
+        self.len -= 1;
+        Some(place)
     }
 
     /// The place of a key that has one becomes this one. Whether it has one.
@@ -93,6 +148,10 @@ impl Index {
             → IsSet keys old k (if is_some (found keys k old) then Some place else None) self.new.held }
         ensures room { self.new.room ≡ self.old.room }
     {
-        self.held.move_to(resolver, key, place)
+        let hash = hash_key(key);
+        if self.table.move_to(hash, resolver, key, place) {
+            return true;
+        }
+        self.waiting.move_hashed(hash, resolver, key, place)
     }
 }

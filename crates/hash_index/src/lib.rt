@@ -7,6 +7,7 @@ mod laws;
 mod place;
 mod plain;
 mod resolve;
+mod table;
 mod walk;
 
 pub use hashing::hash_key;

@@ -1,10 +1,12 @@
 //! The index as a list that is walked.
 
-ghost use Rattle.std.specs.Prelude.{◌≡◌, ◌+◌, ◌<◌, ◌≤◌, [], ℕ, Option, Some, None, is_some, length, OnOk, OnErr, if◌then◌else◌};
+ghost use Rattle.std.specs.Prelude.{◌≡◌, ◌+◌, ◌<◌, ◌≤◌, ◌∷◌, ◌++◌, [], ℕ, Option, Some, None, is_some, length, IfOk, OnOk, OnErr, if◌then◌else◌};
+ghost use Rattle.std.specs.List.{remove};
 ghost use Rattle.entry.specs.declared.key.Key.{Key};
 ghost use Rattle.entry.specs.View.{shown_key};
 ghost use Rattle.hash_index.specs.declared.place.Place.{Place as PlaceValue};
-ghost use Rattle.hash_index.specs.Map.{found, AreKept, IsSet, IsSameMap};
+ghost use Rattle.hash_index.specs.Map.{found, hash_of, AreKept, IsSet, IsSameMap};
+ghost use Rattle.hash_index.specs.Steps.{Moves, Removes};
 
 use crate::hashing::hash_key;
 use crate::place::{Held, Place};
@@ -39,6 +41,14 @@ impl PlainIndex {
         }
     }
 
+    /// An index of no keys, with memory for `room` of them.
+    pub(crate) fn with_room(alloc: Global, room: usize) -> Result<PlainIndex, NoMemory>
+        ensures { IfOk result (λ made. (made.held ≡ []) × (room ≤ made.room)) }
+    {
+        let held = Vec::with_capacity(alloc, room)?;
+        Ok(PlainIndex { held })
+    }
+
     /// How many keys it has.
     pub fn len(&self) -> usize
         ensures { result ≡ length self.now.held }
@@ -46,12 +56,33 @@ impl PlainIndex {
         self.held.len()
     }
 
+    /// The places that it holds.
+    pub(crate) fn as_slice(&self) -> &[Held]
+        ensures { result.now ≡ self.now.held }
+    {
+        self.held.as_slice()
+    }
+
     /// The place of a key.
     pub fn get<R: Resolve>(&self, resolver: &R, key: &KeyRef<'_>) -> Option<Place>
         ensures { AreKept (R.keys resolver.now) self.now.held
             → result ≡ found (R.keys resolver.now) (shown_key key.now) self.now.held }
     {
-        let slot = slot_of(&self.held, hash_key(key), resolver, key)?;
+        self.get_hashed(hash_key(key), resolver, key)
+    }
+
+    /// The place of a key of this hash.
+    pub(crate) fn get_hashed<R: Resolve>(
+        &self,
+        hash: u64,
+        resolver: &R,
+        key: &KeyRef<'_>,
+    ) -> Option<Place>
+        requires { hash ≡ hash_of (shown_key key.now) }
+        ensures { AreKept (R.keys resolver.now) self.now.held
+            → result ≡ found (R.keys resolver.now) (shown_key key.now) self.now.held }
+    {
+        let slot = slot_of(&self.held, hash, resolver, key)?;
         Some(self.held[slot].place)
     }
 
@@ -61,8 +92,37 @@ impl PlainIndex {
         ensures same { OnOk result ((keys : PlaceValue → Option Key) → AreKept keys self.old.held
             → IsSameMap keys self.old.held self.new.held) }
         ensures err { OnErr result (self.new ≡ self.old) }
+        ensures held { self.new.held ≡ self.old.held }
     {
         self.held.reserve(more)
+    }
+
+    /// One more place. There is room for it.
+    pub(crate) fn push(&mut self, held: Held)
+        requires { 0 < self.old.room }
+        ensures held { self.new.held ≡ self.old.held ++ held ∷ [] }
+        ensures room { self.old.room ≡ self.new.room + 1 }
+    {
+        self.held.push_reserved(held);
+    }
+
+    /// One more place, in memory for just as many.
+    pub(crate) fn push_exact(&mut self, held: Held) -> Result<(), NoMemory>
+        ensures ok { OnOk result (self.new.held ≡ self.old.held ++ held ∷ []) }
+        ensures err { OnErr result (self.new ≡ self.old) }
+    {
+        self.held.reserve_exact(1)?;
+        self.held.push_reserved(held);
+        Ok(())
+    }
+
+    /// Takes out the place of this slot.
+    pub(crate) fn cut(&mut self, slot: usize)
+        requires { slot < length self.old.held }
+        ensures held { self.new.held ≡ remove self.old.held slot }
+        ensures room { self.old.room ≤ self.new.room }
+    {
+        self.held.remove(slot);
     }
 
     /// The key's place becomes this one, whether or not the key had one. It takes no memory.
@@ -74,9 +134,8 @@ impl PlainIndex {
         ensures room { self.old.room ≤ self.new.room + 1 }
     {
         let hash = hash_key(key);
-        match slot_of(&self.held, hash, resolver, key) {
-            Some(slot) => self.held[slot] = Held { hash, place },
-            None => self.held.push_reserved(Held { hash, place }),
+        if !self.move_hashed(hash, resolver, key, place) {
+            self.push(Held { hash, place });
         }
     }
 
@@ -88,7 +147,21 @@ impl PlainIndex {
             → IsSet (R.keys resolver.now) self.old.held (shown_key key.now) None self.new.held }
         ensures room { self.old.room ≤ self.new.room }
     {
-        let slot = slot_of(&self.held, hash_key(key), resolver, key)?;
+        self.remove_hashed(hash_key(key), resolver, key)
+    }
+
+    /// The same of a key of this hash.
+    pub(crate) fn remove_hashed<R: Resolve>(
+        &mut self,
+        hash: u64,
+        resolver: &R,
+        key: &KeyRef<'_>,
+    ) -> Option<Place>
+        requires { hash ≡ hash_of (shown_key key.now) }
+        ensures removes { Removes (R.keys resolver.now) (shown_key key.now) self.old.held result self.new.held }
+        ensures room { self.old.room ≤ self.new.room }
+    {
+        let slot = slot_of(&self.held, hash, resolver, key)?;
         Some(self.held.remove(slot).place)
     }
 
@@ -101,7 +174,21 @@ impl PlainIndex {
             → IsSet keys old k (if is_some (found keys k old) then Some place else None) self.new.held }
         ensures room { self.new.room ≡ self.old.room }
     {
-        let hash = hash_key(key);
+        self.move_hashed(hash_key(key), resolver, key, place)
+    }
+
+    /// The same of a key of this hash.
+    pub(crate) fn move_hashed<R: Resolve>(
+        &mut self,
+        hash: u64,
+        resolver: &R,
+        key: &KeyRef<'_>,
+        place: Place,
+    ) -> bool
+        requires { hash ≡ hash_of (shown_key key.now) }
+        ensures moves { Moves (R.keys resolver.now) (shown_key key.now) place self.old.held result self.new.held }
+        ensures room { self.new.room ≡ self.old.room }
+    {
         match slot_of(&self.held, hash, resolver, key) {
             Some(slot) => {
                 self.held[slot] = Held { hash, place };
