@@ -12,6 +12,7 @@ pub struct Place {
 /// A place, with the hash of the key that stands there.
 #[derive(Clone, Copy)]
 pub struct Held {
+    /// As `hash_key` gives it.
     pub hash: u64,
     pub place: Place,
 }
