@@ -74,31 +74,40 @@ impl Index {
         }
     }
 
-    /// Takes memory for `more` further keys: the one call that takes any. On `Err` nothing changed.
+    /// Takes memory for `more` further keys, so that as many calls of `set` can't fail. The places stay as they are. On
+    /// `Err` nothing changed.
     pub fn reserve(&mut self, more: usize) -> Result<(), NoMemory>
         ensures room { OnOk result (more ≤ self.new.room) }
-        ensures same { OnOk result ((keys : PlaceValue → Option Key) → AreKept keys self.old.held
-            → IsSameMap keys self.old.held self.new.held) }
+        ensures same { self.new.held ≡ self.old.held }
         ensures err { OnErr result (self.new ≡ self.old) }
     {
         let room = self.room.max(more);
-        let Some(keys) = self.len.checked_add(room) else {
+        if self.len.checked_add(room).is_none() {
             return Err(AllocError);
-        };
-        let chains = keys.div_ceil(KEYS_PER_CHAIN);
-        if chains > self.table.chain_count() {
-            let waiting = PlainIndex::with_room(self.alloc, room)?;
-            let count = chains.next_power_of_two();
-            self.table = self
-                .table
-                .grown(self.alloc, count, self.waiting.as_slice())?;
-            self.waiting = waiting;
-        } else {
-            self.waiting.reserve(room)?;
-            self.table.take_in(&mut self.waiting);
         }
+        self.waiting.reserve(room)?;
         self.room = room;
         Ok(())
+    }
+
+    /// Puts the places that were set since the last call into their chains, and makes more chains before they are
+    /// crowded. The map stays. It never fails: places for which no memory is given wait on in a list.
+    pub fn settle(&mut self)
+        ensures same { (keys : PlaceValue → Option Key) → AreKept keys self.old.held
+            → IsSameMap keys self.old.held self.new.held }
+        ensures room { self.new.room ≡ self.old.room }
+    {
+        let chains = self.len.div_ceil(KEYS_PER_CHAIN);
+        if chains > self.table.chain_count() {
+            let count = chains.next_power_of_two();
+            let places = self.waiting.as_slice();
+            if let Ok(table) = self.table.grown(self.alloc, count, places) {
+                self.table = table;
+                self.waiting.clear();
+                return;
+            }
+        }
+        self.table.take_in(&mut self.waiting);
     }
 
     /// The key's place becomes this one, whether or not the key had one. It takes no memory.

@@ -41,14 +41,6 @@ impl PlainIndex {
         }
     }
 
-    /// An index of no keys, with memory for `room` of them.
-    pub(crate) fn with_room(alloc: Global, room: usize) -> Result<PlainIndex, NoMemory>
-        ensures { IfOk result (λ made. (made.held ≡ []) × (room ≤ made.room)) }
-    {
-        let held = Vec::with_capacity(alloc, room)?;
-        Ok(PlainIndex { held })
-    }
-
     /// How many keys it has.
     pub fn len(&self) -> usize
         ensures { result ≡ length self.now.held }
@@ -89,12 +81,18 @@ impl PlainIndex {
     /// Takes memory for `more` further keys: the one call that takes any. On `Err` nothing changed.
     pub fn reserve(&mut self, more: usize) -> Result<(), NoMemory>
         ensures room { OnOk result (more ≤ self.new.room) }
-        ensures same { OnOk result ((keys : PlaceValue → Option Key) → AreKept keys self.old.held
-            → IsSameMap keys self.old.held self.new.held) }
+        ensures same { self.new.held ≡ self.old.held }
         ensures err { OnErr result (self.new ≡ self.old) }
-        ensures held { self.new.held ≡ self.old.held }
     {
         self.held.reserve(more)
+    }
+
+    /// No places any more. The memory stays.
+    pub(crate) fn clear(&mut self)
+        ensures held { self.new.held ≡ [] }
+        ensures room { self.old.room ≤ self.new.room }
+    {
+        self.held.clear();
     }
 
     /// One more place. There is room for it.
