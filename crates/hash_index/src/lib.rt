@@ -1,12 +1,12 @@
 //! An index of a log: which place of the log has a key's object.
 //!
 //! It holds no keys: of each place it holds the hash of its key, and who owns the log tells which key stands where
-//! (`Resolve`). `Index` is a table of chains of places. A look-up takes one hash, and walks one chain, of two places on
-//! average at most, and the few places that wait for their chain. A key is read only where the hash agrees.
+//! (`Resolve`). `Index` is a table of chains of places. A look-up takes one hash. It walks one chain, of two places
+//! on average at most, and the few places that wait for their chain. A key is read only where the hash agrees.
 //!
-//! `reserve` takes all memory that a later `set` needs. It makes twice as many chains or more once there would be more
-//! than two keys for each, and puts each place anew by the hash that is held, so that no key is read. Reserve for a few
-//! keys at a time: what is set waits in a list until the next `reserve` puts it into its chain.
+//! `reserve` takes all memory that a later `set` needs. Once there would be more than two keys for each chain, it
+//! makes twice as many chains or more. It puts each place anew by the hash that is held, so that no key is read.
+//! Reserve for a few keys at a time: what is set waits in a list until the next `reserve` puts it into its chain.
 //!
 //! The hash is the same in each run. So whoever picks the keys can make them all fall into one chain, until the hash
 //! has a parameter of its own.
