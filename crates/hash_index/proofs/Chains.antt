@@ -1,7 +1,7 @@
 -- The chains of a table: where the places of a key are, and what a change of one chain does.
-use Rattle.std.proofs.Common.{◌≡◌, ℕ, zero, suc, ◌+◌, ◌<◌, Bool, true, false, ◌==◌, List, [], ◌∷◌, ◌++◌, length, get_or, set, take, drop, length-append, length-set, append_assoc, refl, sym, ap, subst, ◌∙◌, arith}
+use Rattle.std.proofs.Common.{◌≡◌, ℕ, zero, suc, ◌+◌, ◌<◌, Bool, true, false, List, [], ◌∷◌, ◌++◌, length, get_or, set, take, drop, length-append, length-set, append_assoc, refl, sym, ap, subst, ◌∙◌, arith}
 use Rattle.std.specs.Prelude.{Option, Some, None, is_some, Result, Ok, Err, OnOk, OnErr}
-use Rattle.std.specs.List.{AllByRecursion, flat_map}
+use Rattle.std.specs.List.{AllByRecursion}
 use Rattle.std.proofs.Math.Seq.{split_at}
 use Rattle.std.proofs.lemmas.List.{set_split, take_more, append-nil}
 use Rattle.std.proofs.lemmas.Grind.{flat_map-append}
@@ -13,7 +13,7 @@ use Rattle.hash_index.specs.declared.place.Held.{Held}
 use Rattle.hash_index.specs.Map.{hash_of, tells, found, IsTold, AreKept, IsSet, IndexValue}
 use Rattle.hash_index.specs.Steps.{HashesPass, BringsNoHash, Moves, Removes, IsShuffled, chain_of, belongs, places_in, AreInChains}
 use Rattle.hash_index.proofs.Finding.{tells_is, found_later}
-use Rattle.hash_index.proofs.Joining.{found_append, found_left, found_right, kept_left, kept_right, set_left, set_right, shuffled_itself, shuffled_then, shuffled_left, shuffled_right, shuffled_turned}
+use Rattle.hash_index.proofs.Joining.{found_left, found_right, kept_left, kept_right, set_left, set_right, shuffled_then, shuffled_left, shuffled_right, shuffled_turned}
 
 -- ---- one chain among the others
 

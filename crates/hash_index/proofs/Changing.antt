@@ -1,5 +1,5 @@
 -- A place that is put among others, or cut out, or put in place of another.
-use Rattle.std.proofs.Common.{◌≡◌, ℕ, Bool, true, false, List, [], ◌∷◌, ◌++◌, refl, sym, ap, subst, ◌∙◌, ◌⊎◌, inl, inr, if◌then◌else◌}
+use Rattle.std.proofs.Common.{◌≡◌, Bool, true, false, List, [], ◌∷◌, ◌++◌, refl, sym, ap, subst, ◌∙◌, ◌⊎◌, inl, inr, if◌then◌else◌}
 use Rattle.std.specs.Prelude.{Option, Some, None}
 use Rattle.entry.specs.declared.key.Key.{Key}
 use Rattle.entry.specs.Order.{key_eq}
@@ -7,7 +7,7 @@ use Rattle.entry.proofs.KeyOrder.{key_eq_tells}
 use Rattle.hash_index.specs.declared.place.Place.{Place}
 use Rattle.hash_index.specs.declared.place.Held.{Held}
 use Rattle.hash_index.specs.Map.{hash_of, tells, found, IsTold, AreKept, IsSet}
-use Rattle.hash_index.proofs.Finding.{key_itself, tells_is, tells_of, tells_from, other_key, found_here, found_later, kept_tail, not_first}
+use Rattle.hash_index.proofs.Finding.{key_itself, tells_is, tells_of, other_key, found_here, found_later, kept_tail, not_first}
 
 module _ (keys : Place → Option Key) where
   pub kept_cons : (x : Held) (hs : List Held) → IsTold keys x → ((k : Key) → keys x.place ≡ Some k → found keys k hs ≡ None) → AreKept keys hs → AreKept keys (x ∷ hs)

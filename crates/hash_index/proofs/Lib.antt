@@ -6,3 +6,4 @@ pub mod Steps
 pub mod Joining
 pub mod Chains
 pub mod Whole
+pub mod Each

@@ -1,5 +1,5 @@
 -- What the steps of a list of places do.
-use Rattle.std.proofs.Common.{◌≡◌, ℕ, suc, ◌+◌, ◌<◌, Bool, true, false, ◌&&◌, ◌==◌, List, [], ◌∷◌, ◌++◌, length, get_or, take, drop, length-append, length-set, add-zero, refl, sym, ap, subst, ◌∙◌, arith, if◌then◌else◌}
+use Rattle.std.proofs.Common.{◌≡◌, ℕ, suc, ◌+◌, Bool, true, false, ◌&&◌, ◌==◌, List, [], ◌∷◌, ◌++◌, length, get_or, take, drop, length-set, add-zero, refl, sym, ap, subst, ◌∙◌, if◌then◌else◌}
 use Rattle.std.specs.Prelude.{Option, Some, None, slice_set, is_some}
 use Rattle.std.specs.List.{position, remove}
 use Rattle.std.proofs.lemmas.List.{set_split}
@@ -11,7 +11,7 @@ use Rattle.entry.proofs.ListLemmas.{all_append, all_split}
 use Rattle.hash_index.specs.declared.place.Place.{Place}
 use Rattle.hash_index.specs.declared.place.Held.{Held}
 use Rattle.hash_index.specs.Map.{hash_of, tells, is_of, found, AreKept, IsSet}
-use Rattle.hash_index.specs.Steps.{HashesPass, BringsNoHash, Moves, Removes}
+use Rattle.hash_index.specs.Steps.{BringsNoHash, Moves, Removes}
 use Rattle.hash_index.proofs.Changing.{unset}
 use Rattle.hash_index.proofs.Slots.{slot_none, slot_below, slot_split, found_slot, set_slot, remove_slot, push_set}
 

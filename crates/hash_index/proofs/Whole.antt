@@ -1,15 +1,15 @@
 -- The table and the places that wait as one map.
-use Rattle.std.proofs.Common.{◌≡◌, Bool, true, false, List, [], ◌∷◌, ◌++◌, refl, sym, ap, subst, ◌∙◌, ℕ, if◌then◌else◌}
-use Rattle.std.specs.Prelude.{Option, Some, None, is_some, Result, Ok, Err, OnOk, OnErr, is_ok}
+use Rattle.std.proofs.Common.{◌≡◌, Bool, true, false, List, ◌++◌, refl, sym, ap, subst, ◌∙◌, if◌then◌else◌}
+use Rattle.std.specs.Prelude.{Option, Some, None, is_some, Result, Ok, Err, OnOk, is_ok}
 use Rattle.std.specs.Option.{option_or}
 use Rattle.entry.specs.declared.key.Key.{Key}
 use Rattle.hash_index.specs.declared.place.Place.{Place}
 use Rattle.hash_index.specs.declared.place.Held.{Held}
 use Rattle.hash_index.specs.Map.{hash_of, found, AreKept, IsSet}
 use Rattle.hash_index.specs.Steps.{Moves, Removes}
-use Rattle.hash_index.proofs.Joining.{found_append, found_left, found_right, kept_left, kept_right, kept_across, set_left, set_right}
+use Rattle.hash_index.proofs.Joining.{found_append, found_right, kept_left, kept_right, kept_across, set_left, set_right}
 use Rattle.hash_index.proofs.Changing.{unset}
-use Rattle.hash_index.proofs.Steps.{move_absent, moved_pushed}
+use Rattle.hash_index.proofs.Steps.{move_absent}
 
 pub on_ok : {T E : Type 0} {P : Type 0} (r : Result T E) → OnOk r P → is_ok r ≡ true → P
 on_ok (Ok x) p so = p

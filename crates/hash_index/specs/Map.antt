@@ -46,7 +46,8 @@ pub record IndexValue : Type 0 where
   pub room : ℕ
 
 -- Of the first map the second has this place, or none, for the key, and for every other key what the first has.
-pub record IsSet (keys : Place → Option Key) (old : List Held) (k : Key) (x : Option Place) (new : List Held) : Type 0 where
+pub record IsSet (keys : Place → Option Key) (old : List Held) (k : Key) (x : Option Place) (new : List Held)
+    : Type 0 where
   pub kept : AreKept keys new
   pub finds : (q : Key) → found keys q new ≡ (if key_eq q k then x else found keys q old)
 

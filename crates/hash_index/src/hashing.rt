@@ -9,6 +9,7 @@ use entry::KeyRef;
 use std::hash::{FoldHasher, Hasher};
 
 /// The hash of a key, of its table and its bytes.
+#[inline]
 pub fn hash_key(key: &KeyRef<'_>) -> u64
     ensures { result ≡ hash_of (shown_key key.now) }
 {

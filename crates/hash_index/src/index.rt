@@ -63,6 +63,7 @@ impl Index {
     }
 
     /// The place of a key.
+    #[inline]
     pub fn get<R: Resolve>(&self, resolver: &R, key: &KeyRef<'_>) -> Option<Place>
         ensures { AreKept (R.keys resolver.now) self.now.held
             → result ≡ found (R.keys resolver.now) (shown_key key.now) self.now.held }

@@ -64,6 +64,7 @@ impl PlainIndex {
     }
 
     /// The place of a key of this hash.
+    #[inline]
     pub(crate) fn get_hashed<R: Resolve>(
         &self,
         hash: u64,

@@ -21,6 +21,7 @@ pub trait Resolve {
 }
 
 /// Whether the key stands at the place.
+#[inline]
 pub(crate) fn stands<R: Resolve>(resolver: &R, key: &KeyRef<'_>, place: Place) -> bool
     ensures { result ≡ tells (R.keys resolver.now) (shown_key key.now) place }
 {

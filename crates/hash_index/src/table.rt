@@ -33,6 +33,7 @@ impl Model for Table {
 }
 
 /// Which of this many chains has the places of a hash. A power of two of chains are all used.
+#[inline]
 fn chain_at(count: usize, hash: u64) -> usize
     requires { 0 < count }
     ensures chain { result ≡ chain_of count hash }
@@ -68,6 +69,7 @@ impl Table {
     }
 
     /// The place of a key of this hash.
+    #[inline]
     pub(crate) fn get<R: Resolve>(&self, hash: u64, resolver: &R, key: &KeyRef<'_>) -> Option<Place>
         requires { hash ≡ hash_of (shown_key key.now) }
         ensures { AreKept (R.keys resolver.now) self.now

@@ -10,6 +10,7 @@ use crate::resolve::{Resolve, stands};
 use entry::KeyRef;
 
 /// Which of these is the key's. A key is read only where the hash agrees.
+#[inline]
 pub(crate) fn slot_of<R: Resolve>(
     held: &[Held],
     hash: u64,

@@ -1,6 +1,5 @@
-use Rattle.std.proofs.Common.{◌≡◌, List, ◌++◌, sym, ap, subst, ◌∙◌, refl}
+use Rattle.std.proofs.Common.{◌≡◌, ◌++◌, subst}
 use Rattle.entry.specs.View.{shown_key}
-use Rattle.hash_index.specs.declared.place.Held.{Held}
 use Rattle.hash_index.specs.Map.{IndexValue, AreKept}
 use Rattle.std.proofs.Common.{true, if◌then◌else◌}
 use Rattle.hash_index.specs.Map.{IsSet, found}

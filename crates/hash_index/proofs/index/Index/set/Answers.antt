@@ -1,6 +1,5 @@
-use Rattle.std.proofs.Common.{◌≡◌, List, ◌++◌, sym, ap, subst, ◌∙◌, refl}
+use Rattle.std.proofs.Common.{◌≡◌, ◌++◌, subst, refl}
 use Rattle.entry.specs.View.{shown_key}
-use Rattle.hash_index.specs.declared.place.Held.{Held}
 use Rattle.hash_index.specs.Map.{IndexValue, AreKept}
 use Rattle.hash_index.specs.Map.{IsSet}
 use Rattle.std.specs.Prelude.{Some}

@@ -1,4 +1,4 @@
-use Rattle.std.proofs.Common.{◌≡◌, List, get_or, sym, ap, ◌∙◌}
+use Rattle.std.proofs.Common.{List, get_or, sym, ap, ◌∙◌}
 use Rattle.std.specs.Prelude.{Some, None}
 use Rattle.entry.specs.View.{shown_key}
 use Rattle.hash_index.specs.declared.place.Held.{Held}

@@ -1,4 +1,4 @@
-use Rattle.std.proofs.Common.{◌≡◌, List, sym, ap, subst, ◌∙◌}
+use Rattle.std.proofs.Common.{List, sym, ap, subst, ◌∙◌}
 use Rattle.std.specs.Prelude.{Some, None, true, slice_set}
 use Rattle.entry.specs.View.{shown_key}
 use Rattle.hash_index.specs.declared.place.Held.{Held}

@@ -1,10 +1,9 @@
-use Rattle.std.proofs.Common.{◌≡◌, List, get_or, sym, ap, subst, ◌∙◌}
+use Rattle.std.proofs.Common.{List, get_or, ap, ◌∙◌}
 use Rattle.std.specs.Prelude.{Some, None}
 use Rattle.std.specs.List.{remove}
 use Rattle.entry.specs.View.{shown_key}
 use Rattle.hash_index.specs.declared.place.Held.{Held}
 use Rattle.hash_index.specs.Map.{IndexValue}
-use Rattle.hash_index.specs.Steps.{Removes}
 use Rattle.hash_index.proofs.Slots.{along}
 use Rattle.hash_index.proofs.Steps.{removes_none, removes_slot}
 use Rattle.hash_index.proofs.plain.PlainIndex.remove_hashed.Goals as goal

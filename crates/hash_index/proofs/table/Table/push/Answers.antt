@@ -1,4 +1,4 @@
-use Rattle.std.proofs.Common.{◌≡◌, ℕ, ◌<◌, List, [], ◌∷◌, ◌++◌, ap, sym, subst, ◌∙◌, length, set, arith}
+use Rattle.std.proofs.Common.{◌≡◌, ℕ, ◌<◌, List, [], ◌∷◌, ◌++◌, ap, subst, ◌∙◌, length, set, arith}
 use Rattle.std.specs.Prelude.{OnOk, OnErr}
 use Rattle.hash_index.specs.declared.place.Held.{Held}
 use Rattle.hash_index.specs.Map.{IndexValue}
