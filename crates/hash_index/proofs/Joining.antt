@@ -1,0 +1,231 @@
+-- Two lists of places as one: what is found, and what a change of the one does.
+use Rattle.std.proofs.Common.{◌≡◌, ℕ, suc, ◌+◌, ◌<◌, Bool, true, false, List, [], ◌∷◌, ◌++◌, length, get_or, take, drop, length-append, append_assoc, refl, sym, ap, subst, ◌∙◌, ◌⊎◌, inl, inr, arith, if◌then◌else◌}
+use Rattle.std.specs.Prelude.{Option, Some, None}
+use Rattle.std.specs.List.{remove}
+use Rattle.std.specs.Option.{option_or}
+use Rattle.std.proofs.Math.Seq.{split_at}
+use Rattle.std.proofs.lemmas.List.{take_more}
+use Rattle.entry.specs.declared.key.Key.{Key}
+use Rattle.entry.specs.Order.{key_eq}
+use Rattle.entry.proofs.KeyOrder.{key_eq_tells}
+use Rattle.entry.proofs.ListLemmas.{all_append, all_split}
+use Rattle.hash_index.specs.declared.place.Place.{Place}
+use Rattle.hash_index.specs.declared.place.Held.{Held}
+use Rattle.hash_index.specs.Map.{tells, found, IsTold, AreApart, AreKept, IsSet, IsSameMap}
+use Rattle.hash_index.specs.Steps.{IsShuffled}
+use Rattle.hash_index.proofs.Finding.{tells_is, tells_from, found_here, found_later, kept_tail}
+use Rattle.hash_index.proofs.Changing.{set_behind}
+
+or_if : (t : Bool) (p : Place) (a b : Option Place) → (if t then Some p else option_or a b) ≡ option_or (if t then Some p else a) b
+or_if true p a b = refl
+or_if false p a b = refl
+
+or_none : (o : Option Place) → option_or o None ≡ o
+or_none None = refl
+or_none (Some p) = refl
+
+or_first : (a b : Option Place) → option_or a b ≡ None → a ≡ None
+or_first None b e = refl
+or_first (Some p) b e = absurd (cc)
+
+or_second : (a b : Option Place) → option_or a b ≡ None → b ≡ None
+or_second None b e = e
+or_second (Some p) b e = absurd (cc)
+
+or_turned : (a b : Option Place) → ((p : Place) → a ≡ Some p → b ≡ None) → option_or b a ≡ option_or a b
+or_turned None b alone = or_none b
+or_turned (Some p) b alone = ap (λ (o : Option Place). option_or o (Some p)) (alone p refl)
+
+absent_turned : (a b : Option Place) → ((p : Place) → a ≡ Some p → b ≡ None) → (r : Place) → b ≡ Some r → a ≡ None
+absent_turned None b alone r is = refl
+absent_turned (Some p) b alone r is = let none = alone p refl in absurd (cc)
+
+module _ (keys : Place → Option Key) where
+  pub found_append : (k : Key) (xs ys : List Held) → found keys k (xs ++ ys) ≡ option_or (found keys k xs) (found keys k ys)
+  found_append k [] ys = refl
+  found_append k (h ∷ xs) ys =
+      ap (λ (o : Option Place). if tells keys k h.place then Some h.place else o) (found_append k xs ys)
+      ∙ or_if (tells keys k h.place) h.place (found keys k xs) (found keys k ys)
+
+  pub none_left : (k : Key) (xs ys : List Held) → found keys k (xs ++ ys) ≡ None → found keys k xs ≡ None
+  none_left k xs ys none = or_first (found keys k xs) (found keys k ys) (sym (found_append k xs ys) ∙ none)
+
+  pub none_right : (k : Key) (xs ys : List Held) → found keys k (xs ++ ys) ≡ None → found keys k ys ≡ None
+  none_right k xs ys none = or_second (found keys k xs) (found keys k ys) (sym (found_append k xs ys) ∙ none)
+
+  -- where the first list has no place for the key
+  pub found_right : (k : Key) (xs ys : List Held) → found keys k xs ≡ None → found keys k (xs ++ ys) ≡ found keys k ys
+  found_right k xs ys none = found_append k xs ys ∙ ap (λ (o : Option Place). option_or o (found keys k ys)) none
+
+  -- where the second has none
+  pub found_left : (k : Key) (xs ys : List Held) → found keys k ys ≡ None → found keys k (xs ++ ys) ≡ found keys k xs
+  found_left k xs ys none =
+      found_append k xs ys
+      ∙ ap (λ (o : Option Place). option_or (found keys k xs) o) none
+      ∙ or_none (found keys k xs)
+
+  apart_left : (xs ys : List Held) → AreApart keys (xs ++ ys) → AreApart keys xs
+  apart_left [] ys apart = tt
+  apart_left (h ∷ xs) ys apart = (λ k is. none_left k xs ys (apart.0 k is), apart_left xs ys apart.1)
+
+  pub kept_left : (xs ys : List Held) → AreKept keys (xs ++ ys) → AreKept keys xs
+  kept_left xs ys all = record { told = (all_split (IsTold keys) xs ys all.told).0; apart = apart_left xs ys all.apart }
+
+  pub kept_right : (xs ys : List Held) → AreKept keys (xs ++ ys) → AreKept keys ys
+  kept_right [] ys all = all
+  kept_right (h ∷ xs) ys all = kept_right xs ys (kept_tail keys h (xs ++ ys) all)
+
+  -- a key of the first list has no place in the second
+  pub kept_across : (k : Key) (p : Place) (xs ys : List Held) → AreKept keys (xs ++ ys) → found keys k xs ≡ Some p → found keys k ys ≡ None
+  kept_across k p [] ys all is = absurd (cc)
+  kept_across k p (h ∷ xs) ys all is = go (tells keys k h.place) refl (kept_across k p xs ys (kept_tail keys h (xs ++ ys) all))
+    where
+      go : (t : Bool) → tells keys k h.place ≡ t → (found keys k xs ≡ Some p → found keys k ys ≡ None) → found keys k ys ≡ None
+      go true so rest = none_right k xs ys (all.apart.0 k (tells_is keys k h.place so))
+      go false isnt rest = rest (sym (found_later keys k h xs isnt) ∙ is)
+
+  AreAcross : List Held → List Held → Type 0
+  AreAcross xs ys = (k : Key) (p : Place) → found keys k xs ≡ Some p → found keys k ys ≡ None
+
+  across_tail : (h : Held) (xs ys : List Held) → AreAcross (h ∷ xs) ys → AreAcross xs ys
+  unfolding AreAcross
+  across_tail h xs ys across k p is = go (tells keys k h.place) refl
+    where
+      go : (t : Bool) → tells keys k h.place ≡ t → found keys k ys ≡ None
+      go true so = across k h.place (found_here keys k h xs so)
+      go false isnt = across k p (found_later keys k h xs isnt ∙ is)
+
+  apart_join : (xs ys : List Held) → AreApart keys xs → AreApart keys ys → AreAcross xs ys → AreApart keys (xs ++ ys)
+  unfolding AreAcross
+  apart_join [] ys first second across = second
+  apart_join (h ∷ xs) ys first second across = (alone, apart_join xs ys first.1 second (across_tail h xs ys across))
+    where
+      alone : (k : Key) → keys h.place ≡ Some k → found keys k (xs ++ ys) ≡ None
+      alone k is =
+          found_right k xs ys (first.0 k is)
+          ∙ across k h.place (found_here keys k h xs (tells_from keys k h.place is))
+
+  pub kept_join : (xs ys : List Held) → AreKept keys xs → AreKept keys ys → ((k : Key) (p : Place) → found keys k xs ≡ Some p → found keys k ys ≡ None) → AreKept keys (xs ++ ys)
+  unfolding AreAcross
+  kept_join xs ys first second across = record {
+    told = all_append (IsTold keys) xs ys first.told second.told;
+    apart = apart_join xs ys first.apart second.apart across;
+  }
+
+  -- a change of the first list
+  pub set_left : (xs new ys : List Held) (k : Key) (o : Option Place) → AreKept keys (xs ++ ys) → found keys k ys ≡ None → IsSet keys xs k o new → IsSet keys (xs ++ ys) k o (new ++ ys)
+  set_left xs new ys k o all none s = record {
+    kept = kept_join new ys s.kept (kept_right xs ys all) (λ q p is. across q p is (key_eq_tells q k));
+    finds = λ q. finds q (key_eq_tells q k);
+  }
+    where
+      across : (q : Key) (p : Place) → found keys q new ≡ Some p → ((key_eq q k ≡ true) × (q ≡ k)) ⊎ ((key_eq q k ≡ false) × (q ≡ k → ⊥)) → found keys q ys ≡ None
+      across q p is (inl so) = ap (λ (x : Key). found keys x ys) so.1 ∙ none
+      across q p is (inr isnt) =
+          kept_across q p xs ys all
+          (sym (s.finds q ∙ ap (λ (b : Bool). if b then o else found keys q xs) isnt.0) ∙ is)
+
+      finds : (q : Key) → ((key_eq q k ≡ true) × (q ≡ k)) ⊎ ((key_eq q k ≡ false) × (q ≡ k → ⊥)) → found keys q (new ++ ys) ≡ (if key_eq q k then o else found keys q (xs ++ ys))
+      finds q (inl so) =
+          found_left q new ys (ap (λ (x : Key). found keys x ys) so.1 ∙ none)
+          ∙ s.finds q
+          ∙ ap (λ (b : Bool). if b then o else found keys q xs) so.0
+          ∙ sym (ap (λ (b : Bool). if b then o else found keys q (xs ++ ys)) so.0)
+      finds q (inr isnt) =
+          found_append q new ys
+          ∙ ap (λ (f : Option Place). option_or f (found keys q ys)) (s.finds q ∙ ap (λ (b : Bool). if b then o else found keys q xs) isnt.0)
+          ∙ sym (found_append q xs ys)
+          ∙ sym (ap (λ (b : Bool). if b then o else found keys q (xs ++ ys)) isnt.0)
+
+  -- a change of the second
+  pub set_right : (xs ys new : List Held) (k : Key) (o : Option Place) → AreKept keys (xs ++ ys) → found keys k xs ≡ None → IsSet keys ys k o new → IsSet keys (xs ++ ys) k o (xs ++ new)
+  set_right [] ys new k o all none s = s
+  set_right (h ∷ xs) ys new k o all none s = go (tells keys k h.place) refl (λ none'. set_right xs ys new k o (kept_tail keys h (xs ++ ys) all) none' s)
+    where
+      go : (t : Bool) → tells keys k h.place ≡ t → (found keys k xs ≡ None → IsSet keys (xs ++ ys) k o (xs ++ new)) → IsSet keys (h ∷ xs ++ ys) k o (h ∷ xs ++ new)
+      go true so rest = let some = found_here keys k h xs so in absurd (cc)
+      go false isnt rest = set_behind keys h (xs ++ ys) (xs ++ new) k o all isnt (rest (sym (found_later keys k h xs isnt) ∙ none))
+
+  same_left : (xs new ys : List Held) → IsSameMap keys xs new → AreKept keys (xs ++ ys) → IsSameMap keys (xs ++ ys) (new ++ ys)
+  same_left xs new ys s all = record {
+    kept = kept_join new ys s.kept (kept_right xs ys all) (λ q p is. kept_across q p xs ys all (sym (s.finds q) ∙ is));
+    finds = λ q.
+        found_append q new ys
+        ∙ ap (λ (f : Option Place). option_or f (found keys q ys)) (s.finds q)
+        ∙ sym (found_append q xs ys);
+  }
+
+  same_right : (xs ys new : List Held) → IsSameMap keys ys new → AreKept keys (xs ++ ys) → IsSameMap keys (xs ++ ys) (xs ++ new)
+  same_right xs ys new s all = record {
+    kept = kept_join xs new (kept_left xs ys all) s.kept (λ q p is. s.finds q ∙ kept_across q p xs ys all is);
+    finds = λ q.
+        found_append q xs new
+        ∙ ap (λ (f : Option Place). option_or (found keys q xs) f) (s.finds q)
+        ∙ sym (found_append q xs ys);
+  }
+
+  same_turned : (xs ys : List Held) → AreKept keys (xs ++ ys) → IsSameMap keys (xs ++ ys) (ys ++ xs)
+  same_turned xs ys all = record {
+    kept = kept_join ys xs (kept_right xs ys all) (kept_left xs ys all)
+        (λ q p is. absent_turned (found keys q xs) (found keys q ys) (λ r at. kept_across q r xs ys all at) p is);
+    finds = λ q.
+        found_append q ys xs
+        ∙ or_turned (found keys q xs) (found keys q ys) (λ r at. kept_across q r xs ys all at)
+        ∙ sym (found_append q xs ys);
+  }
+
+-- ---- places in another order
+
+pub shuffled_itself : (xs : List Held) → IsShuffled xs xs
+shuffled_itself xs = record { same = λ keys all. record { kept = all; finds = λ q. refl }; len = refl }
+
+pub shuffled_then : (xs mid new : List Held) → IsShuffled xs mid → IsShuffled mid new → IsShuffled xs new
+shuffled_then xs mid new first second = record {
+  same = λ keys all.
+      let one = first.same keys all in
+      let two = second.same keys one.kept in
+      record { kept = two.kept; finds = λ q. two.finds q ∙ one.finds q };
+  len = second.len ∙ first.len;
+}
+
+pub shuffled_left : (xs new ys : List Held) → IsShuffled xs new → IsShuffled (xs ++ ys) (new ++ ys)
+shuffled_left xs new ys s = record {
+  same = λ keys all. same_left keys xs new ys (s.same keys (kept_left keys xs ys all)) all;
+  len = omega (arith, length-append new ys, length-append xs ys, s.len);
+}
+
+pub shuffled_right : (xs ys new : List Held) → IsShuffled ys new → IsShuffled (xs ++ ys) (xs ++ new)
+shuffled_right xs ys new s = record {
+  same = λ keys all. same_right keys xs ys new (s.same keys (kept_right keys xs ys all)) all;
+  len = omega (arith, length-append xs new, length-append xs ys, s.len);
+}
+
+pub shuffled_turned : (xs ys : List Held) → IsShuffled (xs ++ ys) (ys ++ xs)
+shuffled_turned xs ys = record {
+  same = λ keys all. same_turned keys xs ys all;
+  len = omega (arith, length-append xs ys, length-append ys xs);
+}
+
+-- one more of a list
+pub shuffled_more : (start all mid new : List Held) (i : ℕ) (d : Held) → i < length all → IsShuffled (start ++ take i all) mid → IsShuffled (mid ++ get_or all i d ∷ []) new → IsShuffled (start ++ take (i + 1) all) new
+shuffled_more start all mid new i d below before one =
+    let h = get_or all i d in
+    let same : start ++ take (i + 1) all ≡ (start ++ take i all) ++ h ∷ [] =
+    ap (λ (xs : List Held). start ++ xs) (take_more all i d below) ∙ sym (append_assoc start (take i all) (h ∷ [])) in
+    subst (λ (xs : List Held). IsShuffled xs new) (sym same)
+    (shuffled_then ((start ++ take i all) ++ h ∷ []) (mid ++ h ∷ []) new (shuffled_left (start ++ take i all) mid (h ∷ []) before) one)
+
+-- a place goes from the one list to the other
+pub shuffled_over : (table new waiting : List Held) (i : ℕ) (d : Held) → i < length waiting → IsShuffled (table ++ get_or waiting i d ∷ []) new → IsShuffled (table ++ waiting) (new ++ remove waiting i)
+shuffled_over table new waiting i d below one =
+    let h = get_or waiting i d in
+    let before = take i waiting in
+    let after = drop (suc i) waiting in
+    let front : IsShuffled (before ++ h ∷ after) (h ∷ before ++ after) =
+    subst (λ (xs : List Held). IsShuffled xs (h ∷ before ++ after)) (append_assoc before (h ∷ []) after)
+    (shuffled_left (before ++ h ∷ []) (h ∷ before) after (shuffled_turned before (h ∷ []))) in
+    let turned = subst (λ (xs : List Held). IsShuffled xs (h ∷ before ++ after)) (sym (split_at waiting i d below)) front in
+    let moved = subst (λ (xs : List Held). IsShuffled (table ++ waiting) xs) (sym (append_assoc table (h ∷ []) (before ++ after)))
+    (shuffled_right table waiting (h ∷ before ++ after) turned) in
+    shuffled_then (table ++ waiting) ((table ++ h ∷ []) ++ (before ++ after)) (new ++ (before ++ after)) moved
+    (shuffled_left (table ++ h ∷ []) new (before ++ after) one)

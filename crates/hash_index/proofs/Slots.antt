@@ -1,0 +1,120 @@
+-- What the slot of a key, as a walk finds it, says of the places.
+use Rattle.std.proofs.Common.{◌≡◌, ℕ, suc, ◌+◌, ◌<◌, ◌≤◌, Bool, true, false, ◌&&◌, ◌==◌, not, cond, List, [], ◌∷◌, ◌++◌, length, get_or, take, drop, ltb-false, refl, sym, ap, subst, ◌∙◌, arith}
+use Rattle.std.specs.Prelude.{Option, Some, None, slice_set, nat_lt}
+use Rattle.std.specs.List.{AllByRecursion, position, position_or_len, remove}
+use Rattle.std.proofs.Math.Seq.{split_at}
+use Rattle.std.proofs.lemmas.List.{set_split, append-nil}
+use Rattle.std.proofs.lemmas.List.Quantifiers.{position-Some}
+use Rattle.std.proofs.lemmas.Bool.Decides.{Decides-eqb}
+use Rattle.entry.specs.declared.key.Key.{Key}
+use Rattle.hash_index.specs.declared.place.Place.{Place}
+use Rattle.hash_index.specs.declared.place.Held.{Held}
+use Rattle.hash_index.specs.Map.{hash_of, tells, is_of, found, IsTold, AreKept, IsSet}
+use Rattle.hash_index.proofs.Finding.{tells_is, found_later, found_at}
+use Rattle.hash_index.proofs.Changing.{cut, put, swap}
+
+and_second : (a b : Bool) → (a && b) ≡ true → b ≡ true
+and_second true b e = e
+and_second false b e = absurd (cc)
+
+and_true : (a b : Bool) → a ≡ true → (a && b) ≡ b
+and_true a b so = ap (λ (t : Bool). t && b) so
+
+past_tail : {X : Type 0} (p : X → Bool) (x : X) (xs : List X) → p x ≡ false → length (x ∷ xs) ≤ position_or_len p (x ∷ xs) → length xs ≤ position_or_len p xs
+past_tail p x xs isnt past =
+    let more : position_or_len p (x ∷ xs) ≡ 1 + position_or_len p xs =
+    ap (λ (b : Bool). cond (not b) (1 + position_or_len p xs) 0) isnt in
+    omega arith
+
+not_met : {X : Type 0} (p : X → Bool) (x : X) (xs : List X) → length (x ∷ xs) ≤ position_or_len p (x ∷ xs) → p x ≡ false
+not_met p x xs past = go (p x) refl
+  where
+    go : (t : Bool) → p x ≡ t → p x ≡ false
+    go true so =
+        let met : position_or_len p (x ∷ xs) ≡ 0 =
+        ap (λ (b : Bool). cond (not b) (1 + position_or_len p xs) 0) so in
+        absurd (omega arith)
+    go false isnt = isnt
+
+past_none : {X : Type 0} (p : X → Bool) (xs : List X) → position p xs ≡ None → length xs ≤ position_or_len p xs
+past_none p xs none = go (nat_lt (position_or_len p xs) (length xs)) refl
+  where
+    go : (t : Bool) → nat_lt (position_or_len p xs) (length xs) ≡ t → length xs ≤ position_or_len p xs
+    go true so =
+        let some : position p xs ≡ Some (position_or_len p xs) =
+        ap (λ (b : Bool). cond b (Some (position_or_len p xs)) None) so in
+        absurd (cc)
+    go false isnt = ltb-false (position_or_len p xs) (length xs) isnt
+
+module _ (keys : Place → Option Key) (k : Key) (hash : ℕ) where
+  -- the hash hides no place of the key
+  test_told : (h : Held) → hash ≡ hash_of k → IsTold keys h → is_of keys k hash h ≡ false → tells keys k h.place ≡ false
+  test_told h of told isnt = go (tells keys k h.place) refl
+    where
+      go : (t : Bool) → tells keys k h.place ≡ t → tells keys k h.place ≡ false
+      go true so =
+          let both : Some told.0 ≡ Some k = sym told.1 ∙ tells_is keys k h.place so in
+          let same : told.0 ≡ k = cc in
+          let hashes : h.hash ≡ hash = told.2 ∙ ap (λ (x : Key). hash_of x) same ∙ sym of in
+          let is : is_of keys k hash h ≡ tells keys k h.place = and_true (h.hash == hash) (tells keys k h.place) ((Decides-eqb h.hash hash).1 hashes) in
+          absurd (cc)
+      go false not = not
+
+  -- what a walk over a copy of the list finds
+  pub along : (xs hs : List Held) (o : Option ℕ) → o ≡ position (is_of keys k hash) xs → xs ≡ hs → position (is_of keys k hash) hs ≡ o
+  along xs hs o found same = ap (λ (l : List Held). position (is_of keys k hash) l) (sym same) ∙ sym found
+
+  none_past : (hs : List Held) → hash ≡ hash_of k → AllByRecursion (IsTold keys) hs → length hs ≤ position_or_len (is_of keys k hash) hs → found keys k hs ≡ None
+  none_past [] of told past = refl
+  none_past (h ∷ hs) of told past =
+      let isnt = not_met (is_of keys k hash) h hs past in
+      found_later keys k h hs (test_told h of told.0 isnt)
+      ∙ none_past hs of told.1 (past_tail (is_of keys k hash) h hs isnt past)
+
+  -- where the walk finds no slot the key has no place
+  pub slot_none : (hs : List Held) → hash ≡ hash_of k → AllByRecursion (IsTold keys) hs → position (is_of keys k hash) hs ≡ None → found keys k hs ≡ None
+  slot_none hs of told none = none_past hs of told (past_none (is_of keys k hash) hs none)
+
+  pub slot_below : (hs : List Held) (i : ℕ) (d : Held) → position (is_of keys k hash) hs ≡ Some i → i < length hs
+  slot_below hs i d some = (position-Some (is_of keys k hash) hs i d some).0
+
+  -- at the slot that the walk finds the key stands
+  pub slot_some : (hs : List Held) (i : ℕ) (d : Held) → position (is_of keys k hash) hs ≡ Some i → keys (get_or hs i d).place ≡ Some k
+  slot_some hs i d some =
+      let h = get_or hs i d in
+      tells_is keys k h.place (and_second (h.hash == hash) (tells keys k h.place) (position-Some (is_of keys k hash) hs i d some).1)
+
+  pub slot_split : (hs : List Held) (i : ℕ) (d : Held) → position (is_of keys k hash) hs ≡ Some i → hs ≡ take i hs ++ get_or hs i d ∷ drop (suc i) hs
+  slot_split hs i d some = split_at hs i d (slot_below hs i d some)
+
+  pub found_slot : (hs : List Held) (i : ℕ) (d : Held) → position (is_of keys k hash) hs ≡ Some i → AreKept keys hs → found keys k hs ≡ Some (get_or hs i d).place
+  found_slot hs i d some all =
+      let parts = slot_split hs i d some in
+      ap (λ (xs : List Held). found keys k xs) parts
+      ∙ found_at keys k (take i hs) (drop (suc i) hs) (get_or hs i d)
+      (subst (λ (xs : List Held). AreKept keys xs) parts all) (slot_some hs i d some)
+
+  pub set_slot : (hs : List Held) (i : ℕ) (p : Place) → position (is_of keys k hash) hs ≡ Some i → hash ≡ hash_of k → AreKept keys hs → keys p ≡ Some k → IsSet keys hs k (Some p) (slice_set hs i (record { hash = hash; place = p }))
+  set_slot hs i p some of all is =
+      let x : Held = record { hash = hash; place = p } in
+      let parts = slot_split hs i x some in
+      let done = swap keys (take i hs) (drop (suc i) hs) (get_or hs i x) x k
+      (subst (λ (xs : List Held). AreKept keys xs) parts all) (slot_some hs i x some) is of in
+      let old = subst (λ (xs : List Held). IsSet keys xs k (Some p) (take i hs ++ x ∷ drop (suc i) hs)) (sym parts) done in
+      subst (λ (xs : List Held). IsSet keys hs k (Some p) xs) (sym (set_split hs i x (slot_below hs i x some))) old
+
+  pub remove_slot : (hs : List Held) (i : ℕ) (d : Held) → position (is_of keys k hash) hs ≡ Some i → AreKept keys hs → IsSet keys hs k None (remove hs i)
+  remove_slot hs i d some all =
+      let parts = slot_split hs i d some in
+      let done = cut keys (take i hs) (drop (suc i) hs) (get_or hs i d) k
+      (subst (λ (xs : List Held). AreKept keys xs) parts all) (slot_some hs i d some) in
+      subst (λ (xs : List Held). IsSet keys xs k None (remove hs i)) (sym parts) done
+
+  -- a place of a key that had none is pushed
+  pub push_set : (hs : List Held) (p : Place) → found keys k hs ≡ None → hash ≡ hash_of k → AreKept keys hs → keys p ≡ Some k → IsSet keys hs k (Some p) (hs ++ record { hash = hash; place = p } ∷ [])
+  push_set hs p none of all is =
+      let x : Held = record { hash = hash; place = p } in
+      let same = append-nil hs in
+      let done = put keys hs [] x k (subst (λ (xs : List Held). AreKept keys xs) (sym same) all) is of
+      (ap (λ (xs : List Held). found keys k xs) same ∙ none) in
+      subst (λ (xs : List Held). IsSet keys xs k (Some p) (hs ++ x ∷ [])) same done

@@ -1,0 +1,29 @@
+use Rattle.std.proofs.Common.{List, get_or, sym, ap, ◌∙◌}
+use Rattle.std.specs.Prelude.{Some, None}
+use Rattle.entry.specs.View.{shown_key}
+use Rattle.hash_index.specs.declared.place.Held.{Held}
+use Rattle.hash_index.specs.Map.{IndexValue}
+use Rattle.hash_index.proofs.Slots.{along, slot_none, found_slot}
+use Rattle.hash_index.proofs.plain.PlainIndex.get_hashed.Goals as goal
+
+pub returns-in_err-slot : goal.returns-in_err-slot
+returns-in_err-slot g c = λ all.
+    let keys = g.R.Resolve.keys c.args.resolver.now in
+    let k = shown_key c.args.key.now in
+    let hash = c.args.hash in
+    let hs = c.args.self.now.held in
+    let list = c.deref.ensures.value ∙ ap (λ (v : IndexValue). v.held) c.self.view_is in
+    let none = along keys k hash c.deref.result.now hs None c.in_err-slot.ensures list in
+    c.from_residual.ensures ∙ sym (slot_none keys k hash hs c.requires all.told none)
+
+pub returns : goal.returns
+returns g c = λ all.
+    let keys = g.R.Resolve.keys c.args.resolver.now in
+    let k = shown_key c.args.key.now in
+    let hash = c.args.hash in
+    let hs = c.args.self.now.held in
+    let slot = c.in_ok-slot.slot in
+    let here = ap (λ (v : IndexValue). v.held) c.self.view_is in
+    let some = along keys k hash c.deref.result.now hs (Some slot) c.in_ok-slot.ensures (c.deref.ensures.value ∙ here) in
+    ap (λ (h : Held). Some h.place) (c.index.ensures ∙ ap (λ (xs : List Held). get_or xs slot c.index.result.now) here)
+    ∙ sym (found_slot keys k hash hs slot c.index.result.now some all)

@@ -1,0 +1,4 @@
+pub mod Map
+pub mod Law
+pub mod Steps
+pub mod Whole

@@ -1,0 +1,32 @@
+//! An index of a log: which place of the log has a key's object.
+//!
+//! It holds no keys: of each place it holds the hash of its key, and who owns the log tells which key stands where
+//! (`Resolve`). `Index` is a table of chains of places. A look-up takes one hash. It walks one chain, of two places
+//! on average at most, and the few places that wait for their chain. A key is read only where the hash agrees.
+//!
+//! A key that is set waits in a list, in memory that `reserve` took for it, so `set` can't fail. `settle` puts it into its
+//! chain. It makes twice as many chains or more once there would be more than two keys for each. It puts each place anew
+//! by the hash that is held, so that no key is read. If `settle` is given no memory, keys wait on, and each look-up walks
+//! them.
+//!
+//! The hash is the same in each run. So whoever picks the keys can make them all fall into one chain, until the hash
+//! has a parameter of its own.
+//!
+//! `PlainIndex` promises the same over one list that is walked. What both are is in `specs/Map.antt`.
+#![tactic(auto)]
+
+mod hashing;
+mod index;
+mod laws;
+mod place;
+mod plain;
+mod resolve;
+mod table;
+mod walk;
+
+pub use hashing::hash_key;
+pub use index::Index;
+pub use laws::resolvers_agree;
+pub use place::{Held, Place};
+pub use plain::PlainIndex;
+pub use resolve::Resolve;

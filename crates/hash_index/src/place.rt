@@ -1,0 +1,18 @@
+//! Places of a log, and what an index holds of each.
+
+/// Where an entry lies.
+#[derive(Clone, Copy)]
+pub struct Place {
+    /// The segment's number.
+    pub segment: u64,
+    /// How many bytes of the image come before the entry.
+    pub at: usize,
+}
+
+/// A place, with the hash of the key that stands there.
+#[derive(Clone, Copy)]
+pub struct Held {
+    /// As `hash_key` gives it.
+    pub hash: u64,
+    pub place: Place,
+}

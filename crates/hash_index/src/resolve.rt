@@ -1,0 +1,32 @@
+//! Which key stands at a place.
+
+ghost use Rattle.std.specs.Prelude.{◌≡◌, Option};
+ghost use Rattle.std.specs.Option.{option_map, option_map_or};
+ghost use Rattle.entry.specs.declared.key.Key.{Key};
+ghost use Rattle.entry.specs.View.{shown_key};
+ghost use Rattle.hash_index.specs.declared.place.Place.{Place as PlaceValue};
+ghost use Rattle.hash_index.specs.Map.{tells};
+
+use crate::place::Place;
+use entry::KeyRef;
+
+/// Who tells which key stands at a place.
+pub trait Resolve {
+    /// The key at each place.
+    ghost keys: { Self → PlaceValue → Option Key };
+
+    /// The key of the object at this place; `None` if no object stands there.
+    fn key_at(&self, place: Place) -> Option<KeyRef<'_>>
+        ensures { option_map shown_key result ≡ keys self.entry.now place };
+}
+
+/// Whether the key stands at the place.
+#[inline]
+pub(crate) fn stands<R: Resolve>(resolver: &R, key: &KeyRef<'_>, place: Place) -> bool
+    ensures { result ≡ tells (R.keys resolver.now) (shown_key key.now) place }
+{
+    match resolver.key_at(place) {
+        Some(found) => *key == found,
+        None => false,
+    }
+}

@@ -1,0 +1,186 @@
+//! The table: chains of places, by their hash.
+
+ghost use Rattle.std.specs.Prelude.{◌≡◌, ◌+◌, ◌<◌, ◌≤◌, ◌∷◌, ◌++◌, [], Option, Some, None, length, IfOk, OnOk, OnErr};
+ghost use Rattle.entry.specs.declared.key.Key.{Key};
+ghost use Rattle.entry.specs.View.{shown_key};
+ghost use Rattle.hash_index.specs.Map.{found, hash_of, AreKept};
+ghost use Rattle.hash_index.specs.Steps.{Moves, Removes, IsShuffled, chain_of};
+
+use crate::place::{Held, Place};
+use crate::plain::PlainIndex;
+use crate::resolve::Resolve;
+use entry::{KeyRef, NoMemory};
+use std::alloc::{AllocError, Global};
+use std::marker::Model;
+
+/// A map from keys to places, as chains: a key's place is in the chain of its hash. A contract sees the chains' places
+/// one after another.
+#[derive(Drop)]
+pub(crate) struct Table {
+    chains: Vec<PlainIndex>,
+}
+
+impl Model for Table {
+    ghost use Rattle.std.specs.Prelude.{List, length};
+    ghost use Rattle.hash_index.specs.declared.place.Held.{Held};
+    ghost use Rattle.hash_index.specs.Steps.{places_in, AreInChains};
+
+    ghost Value = { List Held };
+
+    ghost view = { λ t. places_in t.chains.items };
+
+    ghost invariant = { λ t. AreInChains (length t.chains.items) 0 t.chains.items };
+}
+
+/// Which of this many chains has the places of a hash. A power of two of chains are all used.
+#[inline]
+fn chain_at(count: usize, hash: u64) -> usize
+    requires { 0 < count }
+    ensures chain { result ≡ chain_of count hash }
+    ensures within { result < count }
+{
+    hash as usize & (count - 1)
+}
+
+impl Table {
+    /// A table of no chains. It takes no memory.
+    pub(crate) fn new(alloc: Global) -> Table
+        ensures { result ≡ [] }
+    {
+        Table {
+            chains: Vec::new(alloc),
+        }
+    }
+
+    /// A table of this many empty chains.
+    pub(crate) fn with_chains(alloc: Global, count: usize) -> Result<Table, NoMemory>
+        ensures { IfOk result (λ table. table ≡ []) }
+    {
+        let mut chains = Vec::with_capacity(alloc, count)?;
+        for _ in 0..count {
+            chains.push(PlainIndex::new(alloc))?;
+        }
+        Ok(Table { chains })
+    }
+
+    /// How many chains it has.
+    pub(crate) fn chain_count(&self) -> usize {
+        self.chains.len()
+    }
+
+    /// The place of a key of this hash.
+    #[inline]
+    pub(crate) fn get<R: Resolve>(&self, hash: u64, resolver: &R, key: &KeyRef<'_>) -> Option<Place>
+        requires { hash ≡ hash_of (shown_key key.now) }
+        ensures { AreKept (R.keys resolver.now) self.now
+            → result ≡ found (R.keys resolver.now) (shown_key key.now) self.now }
+    {
+        if self.chains.is_empty() {
+            return None;
+        }
+        let at = chain_at(self.chains.len(), hash);
+        let chain = &self.chains[at];
+        chain.get_hashed(hash, resolver, key)
+    }
+
+    /// The place of a key of this hash that has one becomes this one. Whether it has one.
+    pub(crate) fn move_to<R: Resolve>(
+        &mut self,
+        hash: u64,
+        resolver: &R,
+        key: &KeyRef<'_>,
+        place: Place,
+    ) -> bool
+        requires { hash ≡ hash_of (shown_key key.now) }
+        ensures { Moves (R.keys resolver.now) (shown_key key.now) place self.old result self.new }
+    {
+        if self.chains.is_empty() {
+            return false;
+        }
+        let at = chain_at(self.chains.len(), hash);
+        let chain = &mut self.chains[at];
+        chain.move_hashed(hash, resolver, key, place)
+    }
+
+    /// The key of this hash has no place any more. The place that it had.
+    pub(crate) fn remove<R: Resolve>(
+        &mut self,
+        hash: u64,
+        resolver: &R,
+        key: &KeyRef<'_>,
+    ) -> Option<Place>
+        requires { hash ≡ hash_of (shown_key key.now) }
+        ensures { Removes (R.keys resolver.now) (shown_key key.now) self.old result self.new }
+    {
+        if self.chains.is_empty() {
+            return None;
+        }
+        let at = chain_at(self.chains.len(), hash);
+        let chain = &mut self.chains[at];
+        chain.remove_hashed(hash, resolver, key)
+    }
+
+    /// One more place, at the end of its chain. A table of no chains has no memory for any.
+    pub(crate) fn push(&mut self, held: Held) -> Result<(), NoMemory>
+        ensures ok { OnOk result (IsShuffled (self.old ++ held ∷ []) self.new) }
+        ensures err { OnErr result (self.new ≡ self.old) }
+    {
+        if self.chains.is_empty() {
+            return Err(AllocError);
+        }
+        let at = chain_at(self.chains.len(), held.hash);
+        let chain = &mut self.chains[at];
+        chain.push_exact(held)
+    }
+
+    /// Pushes each of these.
+    pub(crate) fn push_all(&mut self, places: &[Held]) -> Result<(), NoMemory>
+        ensures { OnOk result (IsShuffled (self.old ++ places.now) self.new) }
+    {
+        for held in places {
+            self.push(*held)?;
+        }
+        Ok(())
+    }
+
+    /// Pushes each place of another table.
+    pub(crate) fn push_table(&mut self, other: &Table) -> Result<(), NoMemory>
+        ensures { OnOk result (IsShuffled (self.old ++ other.now) self.new) }
+    {
+        for chain in &other.chains {
+            self.push_all(chain.as_slice())?;
+        }
+        Ok(())
+    }
+
+    /// Takes in the places that wait, where the chain of each gets memory for it. A place whose chain gets none waits
+    /// on.
+    pub(crate) fn take_in(&mut self, waiting: &mut PlainIndex)
+        ensures places { IsShuffled (self.old ++ waiting.old.held) (self.new ++ waiting.new.held) }
+        ensures room { waiting.old.room ≤ waiting.new.room }
+    {
+        let mut left = waiting.len();
+        while left > 0 {
+            left -= 1;
+            let held = waiting.as_slice()[left];
+            if self.push(held).is_ok() {
+                waiting.cut(left);
+            }
+        }
+    }
+
+    /// A table of this many chains, with the places of this one and those that wait.
+    pub(crate) fn grown(
+        &self,
+        alloc: Global,
+        count: usize,
+        waiting: &[Held],
+    ) -> Result<Table, NoMemory>
+        ensures { IfOk result (λ grown. IsShuffled (self.now ++ waiting.now) grown) }
+    {
+        let mut grown = Table::with_chains(alloc, count)?;
+        grown.push_table(self)?;
+        grown.push_all(waiting)?;
+        Ok(grown)
+    }
+}

@@ -1,0 +1,24 @@
+//! A walk over the places of a list.
+
+ghost use Rattle.std.specs.Prelude.{◌≡◌};
+ghost use Rattle.std.specs.List.{position};
+ghost use Rattle.entry.specs.View.{shown_key};
+ghost use Rattle.hash_index.specs.Map.{is_of};
+
+use crate::place::Held;
+use crate::resolve::{Resolve, stands};
+use entry::KeyRef;
+
+/// Which of these is the key's. A key is read only where the hash agrees.
+#[inline]
+pub(crate) fn slot_of<R: Resolve>(
+    held: &[Held],
+    hash: u64,
+    resolver: &R,
+    key: &KeyRef<'_>,
+) -> Option<usize>
+    ensures { result ≡ position (is_of (R.keys resolver.now) (shown_key key.now) hash) held.now }
+{
+    held.iter()
+        .position(|one| one.hash == hash && stands(resolver, key, one.place))
+}
