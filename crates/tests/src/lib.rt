@@ -1,5 +1,6 @@
 //! The tests of all crates: vectors of entries and of segments, the lines of scripts, backups, plans and rebuilt logs from
-//! what is made by hand, runs of masters, drills, comparisons with the plain programs, and worked scripts.
+//! what is made by hand, runs of masters, drills, comparisons with the plain programs, and worked scripts. The index is
+//! compared with the plain one over a generated row of calls.
 #![tactic(auto)]
 
 #[cfg(test)]
@@ -12,6 +13,8 @@ mod comparisons;
 mod drills;
 #[cfg(test)]
 mod entries;
+#[cfg(test)]
+mod indexes;
 #[cfg(test)]
 mod lines_of_scripts;
 #[cfg(test)]
