@@ -14,6 +14,8 @@ mod drills;
 #[cfg(test)]
 mod entries;
 #[cfg(test)]
+mod indexes;
+#[cfg(test)]
 mod lines_of_scripts;
 #[cfg(test)]
 mod options;
