@@ -102,6 +102,13 @@ impl Images {
         recounted(self.images.as_slice(), self.segment, self.seglet)
     }
 
+    /// How many images there are.
+    pub fn len(&self) -> usize
+        ensures { result ≡ length self.now.images }
+    {
+        self.images.len()
+    }
+
     /// The segment of this number.
     pub fn get(&self, id: u64) -> Option<&Segment>
         ensures { option_copied result ≡ segment_of self.entry.now.images id }
@@ -158,6 +165,27 @@ impl Images {
         self.images.push_reserved(image);
         self.used += count;
         Ok(())
+    }
+
+    /// Adds an image as `add` does, where the list has room and the seglets are free. It can't fail.
+    pub fn add_reserved(&mut self, id: u64, segment: Segment, is_whole: bool)
+        requires newest { AreBelow id self.old.images }
+        requires within { length (text_of segment) ≤ self.old.segment }
+        requires room { length self.old.images < self.old.room }
+        requires free { count_of self.old.segment self.old.seglet
+            (record { id = id; segment = segment; is_whole = is_whole }) ≤ free_seglets self.old }
+        ensures { self.new ≡ record self.old {
+            images = self.old.images ++ record { id = id; segment = segment; is_whole = is_whole } ∷ [];
+            room = self.new.room;
+        } }
+    {
+        let image = Image {
+            id,
+            segment,
+            is_whole,
+        };
+        self.used += count_of(&image, self.segment, self.seglet);
+        self.images.push_reserved(image);
     }
 
     /// Appends a unit to a whole image, all or none of it. The answer is the offset of its first entry. `Full` comes

@@ -20,7 +20,7 @@ use Rattle.clean_model.specs.Intact.{IsIntact}
 use Rattle.clean_model.specs.Memory.{Memory, Pass, SegmentHas, log_ids, log_set_of, grown}
 use Rattle.clean_model.specs.Steps.{images_with, recorded, IsNamed}
 use Rattle.clean_model.proofs.Applying.{apply_keeps}
-use Rattle.master_core.specs.declared.image.Place.{Place}
+use Rattle.hash_index.specs.declared.place.Place.{Place}
 use Rattle.master_core.specs.declared.step.StepAnswer.{StepAnswer}
 use Rattle.master_core.specs.Causes.{dead_segment}
 use Rattle.master_core.specs.Change.{appended}

@@ -9,7 +9,7 @@ use Rattle.log_head.specs.declared.head.Roll.{Roll}
 use Rattle.log_head.specs.Log.{head_of, start_of, phase_in, phase_of}
 use Rattle.log_model.specs.Data.{Start, Ready, ids_of, new_of}
 use Rattle.clean_model.specs.Memory.{Memory, no_pass, new_ids, log_ids}
-use Rattle.master_core.specs.declared.image.Place.{Place}
+use Rattle.hash_index.specs.declared.place.Place.{Place}
 use Rattle.master_core.specs.Data.{MasterData}
 use Rattle.master_core.specs.Index.{IsAtPlace}
 use Rattle.master_core.specs.Invariant.{IsCore}

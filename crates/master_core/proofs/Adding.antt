@@ -1,6 +1,6 @@
 -- A command that no test refuses is added to a core.
 use Rattle.std.proofs.Common.{◌≡◌, ◌⊎◌, ℕ, ◌+◌, ◌≤◌, inl, inr, true, false, List, [], ◌∷◌, ◌++◌, length, refl, sym, ap, subst, ◌∙◌, arith}
-use Rattle.std.specs.Prelude.{Option, Some, None, IfSome, ◌<◌}
+use Rattle.std.specs.Prelude.{Option, Some, None, IfSome, ◌<◌, sum_by}
 use Rattle.std.specs.Option.{option_map_or}
 use Rattle.versioned_map.specs.Represents.{unit_of}
 use Rattle.std.proofs.lemmas.List.{append-nil, length-append, map-append}
@@ -8,14 +8,13 @@ use Rattle.entry.specs.declared.entry.Object.{Object}
 use Rattle.entry.specs.declared.entry.Entry.{Entry}
 use Rattle.entry.specs.declared.entry.Entry.TheVariants as entry
 use Rattle.entry.specs.Text.{text_of, IsSegment}
-use Rattle.entry.specs.Meaning.{Contents, contents_of}
+use Rattle.hash_index.specs.declared.place.Held.{Held}
 use Rattle.segment.proofs.RowLemmas.{text_of-append}
 use Rattle.versioned_map.specs.declared.command.Command.{Command}
 use Rattle.versioned_map.specs.declared.command.Record.{Record}
 use Rattle.versioned_map.specs.declared.command.Reply.{Reply}
 use Rattle.versioned_map.specs.Command.{command_key}
 use Rattle.versioned_map.specs.History.{commands_of, IsLegal}
-use Rattle.versioned_map.specs.Units.{safe_given}
 use Rattle.versioned_map.specs.Versioned.{State, with_contents, replies, after, after_command}
 use Rattle.versioned_map.proofs.Units.{states_pushed}
 use Rattle.log_head.specs.declared.head.Roll.{Roll}
@@ -27,17 +26,21 @@ use Rattle.log_model.specs.Log.{AreBelow}
 use Rattle.log_model.specs.Steps.{with_unit, applied, Fits, MayApply}
 use Rattle.master_core.specs.declared.change.Change.{Change}
 use Rattle.master_core.specs.declared.step.StepAnswer.TheVariants.{Applied}
+use Rattle.images.specs.Images.{count_of}
+use Rattle.master_core.specs.declared.config.Config.{Config}
+use Rattle.master_core.specs.Budget.{whole_seglets, seglets_of, head_seglets}
 use Rattle.master_core.specs.Causes.{command_refusal, dead_segment, unit_now}
 use Rattle.master_core.specs.Change.{unit_of_change, is_empty, safe_of_change, appended, IsChangeOf}
 use Rattle.master_core.specs.Data.{MasterData}
-use Rattle.master_core.specs.Index.{placed, segment_at}
+use Rattle.master_core.specs.Images.{images_among}
+use Rattle.master_core.specs.Index.{keys_in, LiesFound, IsMoved}
 use Rattle.master_core.specs.Invariant.{IsIndex, IsRollOf, IsCore, IsJudged}
-use Rattle.master_core.specs.Log.{log_config, opening_of, log_of, state_now, images_of}
+use Rattle.master_core.specs.Log.{log_config, opening_of, log_of, state_now, held_now, images_of, find}
 use Rattle.master_core.specs.Steps.{reply_now, record_now, Applies}
-use Rattle.master_core.proofs.Finding.{dead_is}
+use Rattle.master_core.proofs.Finding.{each_among, index_of}
 use Rattle.master_core.proofs.Imaging.{head_images, appended_grow}
-use Rattle.master_core.proofs.Indexing.{Grow}
-use Rattle.master_core.proofs.Indexed.{given, command_at, Indexes, goes_on}
+use Rattle.master_core.proofs.Indexing.{Grow, Indexes}
+use Rattle.master_core.proofs.Indexed.{given, command_at, goes_on}
 use Rattle.master_core.proofs.Refusals.{IsAdmitted, is_admitted, passed_early, unit_fits, unit_open, open_parts}
 
 -- ---- the head with a unit, where there is one
@@ -77,44 +80,57 @@ fits_then d n (e ∷ es) core opened head = inr (record {
   limit = subst (λ (image : List Entry). length (text_of (image ++ (e ∷ es))) ≤ 8388608) core.image.image head.limit;
 })
 
+-- a head with a unit that fits is within the segment
+within_then : (h : HeadValue) (n most : ℕ) (u : List Entry) → length (text_of h.image) ≤ most
+    → (is_empty u ≡ false → length (text_of h.image) + length (text_of u) ≤ most)
+    → length (text_of (appended h n u).image) ≤ most
+within_then h n most [] within fits = within
+within_then h n most (e ∷ es) within fits =
+    let le = fits refl in
+    let text = ap length (text_of-append h.image (e ∷ es)) in
+    let len = length-append (text_of h.image) (text_of (e ∷ es)) in
+    omega arith
+
+-- a unit changes no count: a head that takes one has no roll
+counts_then : (c : Config) (h : HeadValue) (n : ℕ) (u : List Entry) → (is_empty u ≡ false → is_open h ≡ true)
+    → head_seglets c (appended h n u) ≡ head_seglets c h
+counts_then c h n [] opened = refl
+counts_then c h n (e ∷ es) opened =
+    let none = (open_parts h (opened refl)).1 in
+    ap (λ (o : Option Roll). option_map_or (λ (r : Roll). seglets_of c (h.image ++ (e ∷ es)) + whole_seglets c) o (whole_seglets c)) none
+    ∙ ap (λ (o : Option Roll). option_map_or (λ (r : Roll). seglets_of c h.image + whole_seglets c) o (whole_seglets c)) (sym none)
+
 -- where a change puts its object, if it makes one
 abbrev pub IsPlaced : MasterData → Command → Change → ℕ → Type 0
 IsPlaced d command change at =
     (segment : ℕ) (front : List Entry) (o : Object) → unit_of_change segment command change ≡ front ++ entry.Object o ∷ []
     → at ≡ length (text_of d.head.image) + length (text_of front)
 
-module _ (d : MasterData) (core : IsCore d) (command : Command) (change : Change) (slot : Option ℕ) (judged : IsJudged d command change slot) where
-  abbrev dead : ℕ
-  dead = segment_at d.places slot
-
-  unit_is : unit_of_change (segment_at d.places slot) command change ≡ unit_now d command
-  unit_is = judged.change_of.unit dead ∙ ap (λ (s : ℕ). unit_of (state_now d) s command) (dead_is d command slot core judged.slot_of)
+module _ (d : MasterData) (core : IsCore d) (command : Command) (change : Change) (dead : ℕ) (judged : IsJudged d command change dead) where
+  unit_is : unit_of_change dead command change ≡ unit_now d command
+  unit_is = judged.change_of.unit dead ∙ ap (λ (s : ℕ). unit_of (state_now d) s command) judged.lies
 
   -- a unit that is appended is within the segment
-  pub fits : command_refusal d command ≡ None → is_empty (unit_of_change (segment_at d.places slot) command change) ≡ false
-      → length (text_of d.head.image) + length (text_of (unit_of_change (segment_at d.places slot) command change)) ≤ d.config.segment
+  pub fits : command_refusal d command ≡ None → is_empty (unit_of_change dead command change) ≡ false
+      → length (text_of d.head.image) + length (text_of (unit_of_change dead command change)) ≤ d.config.segment
   fits passed some =
       subst (λ (u : List Entry). length (text_of d.head.image) + length (text_of u) ≤ d.config.segment) (sym unit_is)
       (unit_fits d command passed (ap is_empty (sym unit_is) ∙ some))
 
-  module _ (seat at : ℕ) (passed : command_refusal d command ≡ None) (is_placed : IsPlaced d command change at)
-      (head : IsHeadValue (appended d.head (length d.history) (unit_of_change (segment_at d.places slot) command change))) where
+  module _ (seat at : ℕ) (new : List Held) (passed : command_refusal d command ≡ None) (is_placed : IsPlaced d command change at)
+      (moved : IsMoved (keys_in (images_among (appended d.head (length d.history) (unit_of_change dead command change)) d.closed)) d.index
+      change (command_key command) (record { segment = d.head.id; at = at }) new)
+      (head : IsHeadValue (appended d.head (length d.history) (unit_of_change dead command change))) where
     abbrev unit : List Entry
-    unit = unit_of_change (segment_at d.places slot) command change
-
-    abbrev os : List Object
-    os = core.index.0
-
-    index : IsIndex d os
-    index = core.index.1
+    unit = unit_of_change dead command change
 
     abbrev pub added : MasterData
     added = record {
       config = d.config;
-      head = appended d.head (length d.history) (unit_of_change (segment_at d.places slot) command change);
+      head = appended d.head (length d.history) (unit_of_change dead command change);
       closed = d.closed;
       next = d.next;
-      places = placed d.places change slot (record { segment = d.head.id; at = at });
+      index = new;
       safe = safe_of_change d.safe change;
       history = d.history ++ record_now d seat command ∷ [];
       is_halted = d.is_halted;
@@ -163,11 +179,6 @@ module _ (d : MasterData) (core : IsCore d) (command : Command) (change : Change
 
     -- ---- the index
 
-    at_objects : IsChangeOf d.safe (contents_of os (command_key command)) command change
-    at_objects =
-        subst (λ (s : ℕ). IsChangeOf s (contents_of os (command_key command)) command change) (sym index.safe)
-        (subst (λ (contents : Contents). IsChangeOf (state_now d).safe (contents (command_key command)) command change) (sym index.contents) judged.change_of)
-
     grow : Grow (images_of d) (images_of added)
     grow =
         let same = same_appended d.head (length d.history) unit in
@@ -178,37 +189,25 @@ module _ (d : MasterData) (core : IsCore d) (command : Command) (change : Change
         ap (images_of added) (sym (same_appended d.head (length d.history) unit).0) ∙ head_images added.head d.closed
         ∙ image_appended d.head (length d.history) unit ∙ ap (λ (es : List Entry). es ++ unit) (sym (head_images d.head d.closed))
 
-    index_on : Indexes (images_of added) added.places
-        (with_contents (contents_of os) (command_key command) (given d.safe (contents_of os (command_key command)) command))
+    index_on : Indexes (images_of added) new
+        (with_contents (state_now d).contents (command_key command) (given (state_now d).safe (held_now d command) command))
     index_on =
-        goes_on (images_of d) (images_of added) grow (record { segment = d.head.id; at = at }) (segment_at d.places slot) d.places os d.safe index.places
-        index.distinct command change slot (judged.slot_of os index.places) at_objects
-        (λ front o is. is_placed (segment_at d.places slot) front o is
+        goes_on (images_of d) (images_of added) grow (each_among added.head d.closed head core.segments)
+        (record { segment = d.head.id; at = at }) dead d.index new (state_now d).contents (state_now d).safe (index_of d core)
+        command change judged.change_of
+        (λ front o is. is_placed dead front o is
         ∙ ap (λ (image : List Entry). length (text_of image) + length (text_of front)) (sym (head_images d.head d.closed))
         ∙ sym (ap length (text_of-append (images_of d d.head.id) front) ∙ length-append (text_of (images_of d d.head.id)) (text_of front)))
-        own
+        own moved
 
-    -- what the index and the versioned map say of the key is one
-    given_is : (s : ℕ) (contents : Contents) → d.safe ≡ s → contents_of os ≡ contents
-        → given d.safe (contents_of os (command_key command)) command ≡ given s (contents (command_key command)) command
-    given_is s contents a b = λ i. given (a i) (b i (command_key command)) command
-
-    index_then : (o : List Object) × IsIndex added o
+    index_then : IsIndex added
     index_then =
-        let at_command = command_at (state_now d) command in (
-          index_on.os,
-          record {
-            places = index_on.at;
-            distinct = index_on.distinct;
-            contents =
-                index_on.same
-                ∙ (λ i. with_contents (index.contents i) (command_key command) (given_is (state_now d).safe (state_now d).contents index.safe index.contents i))
-                ∙ ap (λ (s : State). s.contents) (sym (state_then ∙ at_command));
-            safe = at_objects.safe_after
-                ∙ (λ i. safe_given (index.safe i) (index.contents i (command_key command)) command)
-                ∙ ap (λ (s : State). s.safe) (sym (state_then ∙ at_command));
-          },
-        )
+        let next = state_then ∙ command_at (state_now d) command in record {
+          kept = index_on.kept;
+          lies = λ k. subst (λ (s : State). LiesFound (images_of added) k (find added k) (s.contents k)) (sym next) (index_on.lies k);
+          safe = ap (λ (s : ℕ). safe_of_change s change) core.index.safe ∙ judged.change_of.safe_after
+              ∙ ap (λ (s : State). s.safe) (sym next);
+        }
 
     -- ---- the core
 
@@ -221,6 +220,7 @@ module _ (d : MasterData) (core : IsCore d) (command : Command) (change : Change
         go (Some r) is = record {
           image = is.image;
           lists = is.lists ∙ sym (ap (λ (l : Head). ids_of l.start) head_then);
+          within = is.within;
           newer = subst (λ (id : ℕ). id < r.id) (sym (same_appended d.head (length d.history) unit).0) is.newer;
           used = is.used;
         }
@@ -232,12 +232,16 @@ module _ (d : MasterData) (core : IsCore d) (command : Command) (change : Change
       history = (let room = admitted.room in let count = length-append d.history (record_now d seat command ∷ []) in omega arith);
       head = head;
       image = (head_appended d.config.master d.head (length d.history) unit core.image head).1;
+      within = within_then d.head (length d.history) d.config.segment unit core.within (fits passed);
       closed = core.closed ∙ sym (ap (λ (l : Head). l.start.others) head_then);
       segments = core.segments;
       below = subst (λ (l : Head). AreBelow l.start) (sym head_then) core.below;
       used = subst (λ (id : ℕ). id < d.next) (sym (same_appended d.head (length d.history) unit).0) core.used;
       next = core.next;
       roll = roll_then;
+      budget = subst (λ (n : ℕ). n + sum_by (count_of d.config.segment d.config.seglet) d.closed ≤ d.config.seglets)
+          (sym (counts_then d.config d.head (length d.history) unit
+          (λ some. unit_open d command passed (ap is_empty (sym unit_is) ∙ some)))) core.budget;
       legal = legal_then;
       index = index_then;
     }

@@ -1,5 +1,5 @@
 -- A new core, and a core of which replicas took something or failed.
-use Rattle.std.proofs.Common.{◌≡◌, ℕ, List, [], refl, sym, ap, subst, arith}
+use Rattle.std.proofs.Common.{◌≡◌, ℕ, List, [], ◌∷◌, refl, sym, ap, subst, arith}
 use Rattle.std.specs.Prelude.{Option, Some, None, IfSome}
 use Rattle.log_head.specs.declared.head.Roll.{Roll}
 use Rattle.log_head.specs.Head.{IsHeadValue}
@@ -14,10 +14,15 @@ use Rattle.master_core.specs.Config.{config_fault}
 use Rattle.master_core.specs.Data.{MasterData, fresh_data}
 use Rattle.master_core.specs.Invariant.{IsRollOf, IsCore}
 use Rattle.master_core.specs.Steps.{halted}
+use Rattle.master_core.proofs.Refusals.{sizes_of}
+use Rattle.segment.proofs.UnitLemmas.{length-head}
 
 pub fresh_core : (c : Config) → config_fault c ≡ None → IsHeadValue (fresh_head c.master c.replicas first_start) → IsCore (fresh_data c)
 fresh_core c ok head =
     let is = image_fresh c.master c.replicas first_start in
+    let len = length-head c.master 1 (1 ∷ []) 1 in
+    let least = (sizes_of c ok).least_segment in
+    let enough = (sizes_of c ok).least_seglets in
     record {
       config = ok;
       replicas = refl;
@@ -25,14 +30,16 @@ fresh_core c ok head =
       head = head;
       image = subst (λ (l : Head). IsImageOf c.master (fresh_head c.master c.replicas first_start) l)
           (sym (head_is c.master (fresh_head c.master c.replicas first_start) _ is head.segment)) is;
+      within = omega arith;
       closed = sym (ap (λ (l : Head). l.start.others) (head_is c.master (fresh_head c.master c.replicas first_start) _ is head.segment));
       segments = tt;
       below = subst (λ (l : Head). AreBelow l.start) (sym (head_is c.master (fresh_head c.master c.replicas first_start) _ is head.segment)) tt;
       used = omega arith;
       next = omega arith;
       roll = tt;
+      budget = omega arith;
       legal = refl;
-      index = ([], record { places = tt; distinct = tt; contents = refl; safe = refl });
+      index = record { kept = record { told = tt; apart = tt }; lies = λ k. tt; safe = refl };
     }
 
 -- only what replicas have changed
@@ -43,18 +50,20 @@ counted_core d ks core head = record {
   history = core.history;
   head = head;
   image = image_with_counts d.config.master d.head (head_of d.head) core.image ks;
+  within = core.within;
   closed = core.closed;
   segments = core.segments;
   below = core.below;
   used = core.used;
   next = core.next;
   roll = go d.head.roll core.roll;
+  budget = core.budget;
   legal = core.legal;
-  index = (core.index.0, (let i = core.index.1 in record { places = i.places; distinct = i.distinct; contents = i.contents; safe = i.safe }));
+  index = record { kept = core.index.kept; lies = core.index.lies; safe = core.index.safe };
 } where
   go : (o : Option Roll) → IfSome o (IsRollOf d) → IfSome o (IsRollOf (record d { head = record d.head { taken = ks } }))
   go None is = tt
-  go (Some r) is = record { image = is.image; lists = is.lists; newer = is.newer; used = is.used }
+  go (Some r) is = record { image = is.image; lists = is.lists; within = is.within; newer = is.newer; used = is.used }
 
 pub halted_core : (d : MasterData) → IsCore d → IsCore (halted d)
 halted_core d core = record {
@@ -63,15 +72,17 @@ halted_core d core = record {
   history = core.history;
   head = core.head;
   image = core.image;
+  within = core.within;
   closed = core.closed;
   segments = core.segments;
   below = core.below;
   used = core.used;
   next = core.next;
   roll = go d.head.roll core.roll;
+  budget = core.budget;
   legal = core.legal;
-  index = (core.index.0, (let i = core.index.1 in record { places = i.places; distinct = i.distinct; contents = i.contents; safe = i.safe }));
+  index = record { kept = core.index.kept; lies = core.index.lies; safe = core.index.safe };
 } where
   go : (o : Option Roll) → IfSome o (IsRollOf d) → IfSome o (IsRollOf (halted d))
   go None is = tt
-  go (Some r) is = record { image = is.image; lists = is.lists; newer = is.newer; used = is.used }
+  go (Some r) is = record { image = is.image; lists = is.lists; within = is.within; newer = is.newer; used = is.used }

@@ -11,7 +11,8 @@ use Rattle.entry.specs.Text.{IsSegment}
 use Rattle.log_head.specs.declared.head.Roll.{Roll}
 use Rattle.log_head.specs.Head.{HeadValue}
 use Rattle.log_head.specs.Steps.{in_force}
-use Rattle.master_core.specs.declared.image.ClosedSegment.{ClosedSegment}
+use Rattle.images.specs.declared.image.Image.{Image}
+use Rattle.images.specs.Sorted.{segment_of}
 use Rattle.master_core.specs.Images.{closed_image, new_image_or, image_among, images_among, with_closed}
 use Rattle.master_core.proofs.Indexing.{Grow}
 
@@ -28,11 +29,11 @@ other_id a b other = go (a == b) refl where
 
 -- ---- closed segments
 
-abbrev pub ids_in : List ClosedSegment → List ℕ
-ids_in cs = map (λ (c : ClosedSegment). c.id) cs
+abbrev pub ids_in : List Image → List ℕ
+ids_in cs = map (λ (c : Image). c.id) cs
 
 -- none of them has an id that is above all of theirs
-pub none_above : (cs : List ClosedSegment) (n s : ℕ) → AllByRecursion (λ (id : ℕ). id < n) (ids_in cs) → n ≤ s → closed_image cs s ≡ None
+pub none_above : (cs : List Image) (n s : ℕ) → AllByRecursion (λ (id : ℕ). id < n) (ids_in cs) → n ≤ s → segment_of cs s ≡ None
 none_above [] n s all le = refl
 none_above (c ∷ cs) n s all le =
     let lt = all.0 in
@@ -40,28 +41,31 @@ none_above (c ∷ cs) n s all le =
     rw test (none_above cs n s all.1 le)
 
 -- one more is found if no other has its id
-pub closed_more : (cs : List ClosedSegment) (id s : ℕ) (image : List Entry) → closed_image cs id ≡ None
-    → closed_image (cs ++ record { id = id; image = image } ∷ []) s ≡ (if id == s then Some image else closed_image cs s)
-closed_more [] id s image none = refl
+pub closed_more : (cs : List Image) (id s : ℕ) (image : List Entry) → segment_of cs id ≡ None
+    → segment_of (cs ++ closed_image id image ∷ []) s ≡ (if id == s then Some image else segment_of cs s)
+closed_more [] id s image none = go (id == s) refl where
+  go : (t : Bool) → (id == s) ≡ t → segment_of (closed_image id image ∷ []) s ≡ (if id == s then Some image else None)
+  go true is = rw is refl
+  go false is = rw is refl
 closed_more (c ∷ cs) id s image none = first (c.id == id) refl (closed_more cs id s image)
   where
-    later : closed_image (cs ++ record { id = id; image = image } ∷ []) s ≡ (if id == s then Some image else closed_image cs s)
+    later : segment_of (cs ++ closed_image id image ∷ []) s ≡ (if id == s then Some image else segment_of cs s)
         → (t : Bool) → (c.id == id) ≡ false → (c.id == s) ≡ t
-        → closed_image (c ∷ (cs ++ record { id = id; image = image } ∷ [])) s ≡ (if id == s then Some image else closed_image (c ∷ cs) s)
+        → segment_of (c ∷ (cs ++ closed_image id image ∷ [])) s ≡ (if id == s then Some image else segment_of (c ∷ cs) s)
     later below true other is =
         let away : (id == s) ≡ false = other_id id s (λ e. (let same = eqb-true c.id s is in let t : (c.id == id) ≡ true = grind (arith, nat_tests) in let never : true ≡ false = sym t ∙ other in cc)) in
         rw (is, away) refl
     later below false other is = rw is below
 
-    first : (t : Bool) → (c.id == id) ≡ t → (closed_image cs id ≡ None
-        → closed_image (cs ++ record { id = id; image = image } ∷ []) s ≡ (if id == s then Some image else closed_image cs s))
-        → closed_image (c ∷ (cs ++ record { id = id; image = image } ∷ [])) s ≡ (if id == s then Some image else closed_image (c ∷ cs) s)
-    first true is below = (let never : Some c.image ≡ None = rw is at none in absurd (cc))
-    first false is below = (let rest : closed_image cs id ≡ None = rw is at none in later (below rest) (c.id == s) is refl)
+    first : (t : Bool) → (c.id == id) ≡ t → (segment_of cs id ≡ None
+        → segment_of (cs ++ closed_image id image ∷ []) s ≡ (if id == s then Some image else segment_of cs s))
+        → segment_of (c ∷ (cs ++ closed_image id image ∷ [])) s ≡ (if id == s then Some image else segment_of (c ∷ cs) s)
+    first true is below = (let never : Some c.segment ≡ None = rw is at none in absurd (cc))
+    first false is below = (let rest : segment_of cs id ≡ None = rw is at none in later (below rest) (c.id == s) is refl)
 
 -- ---- images of segments
 
-module _ (h : HeadValue) (cs : List ClosedSegment) where
+module _ (h : HeadValue) (cs : List Image) where
   pub head_image : image_among h cs h.id ≡ Some h.image
   head_image = let t = same_id h.id in rw t refl
 
@@ -70,25 +74,25 @@ module _ (h : HeadValue) (cs : List ClosedSegment) where
 
   -- each is a whole segment, or there is none
   pub each_image : AllByRecursion IsEntry h.image → IfSome h.roll (λ (r : Roll). AllByRecursion IsEntry r.image)
-      → AllByRecursion (λ (c : ClosedSegment). IsSegment c.image) cs → (s : ℕ) → AllByRecursion IsEntry (images_among h cs s)
+      → AllByRecursion (λ (c : Image). IsSegment c.segment) cs → (s : ℕ) → AllByRecursion IsEntry (images_among h cs s)
   each_image own new closed s = by_head (h.id == s) refl
     where
-      among : (ds : List ClosedSegment) → AllByRecursion (λ (c : ClosedSegment). IsSegment c.image) ds
-          → AllByRecursion IsEntry (unwrap_or (closed_image ds s) [])
+      among : (ds : List Image) → AllByRecursion (λ (c : Image). IsSegment c.segment) ds
+          → AllByRecursion IsEntry (unwrap_or (segment_of ds s) [])
       among [] all = tt
       among (c ∷ ds) all = go (c.id == s) refl (among ds all.1)
         where
-          go : (t : Bool) → (c.id == s) ≡ t → AllByRecursion IsEntry (unwrap_or (closed_image ds s) [])
-              → AllByRecursion IsEntry (unwrap_or (closed_image (c ∷ ds) s) [])
+          go : (t : Bool) → (c.id == s) ≡ t → AllByRecursion IsEntry (unwrap_or (segment_of ds s) [])
+              → AllByRecursion IsEntry (unwrap_or (segment_of (c ∷ ds) s) [])
           go true is rest = rw is all.0.each
           go false is rest = rw is rest
 
       by_roll : (o : Option Roll) → IfSome o (λ (r : Roll). AllByRecursion IsEntry r.image)
-          → AllByRecursion IsEntry (unwrap_or (new_image_or o s (closed_image cs s)) [])
+          → AllByRecursion IsEntry (unwrap_or (new_image_or o s (segment_of cs s)) [])
       by_roll None all = among cs closed
       by_roll (Some r) all = go (r.id == s) refl
         where
-          go : (t : Bool) → (r.id == s) ≡ t → AllByRecursion IsEntry (unwrap_or (new_image_or (Some r) s (closed_image cs s)) [])
+          go : (t : Bool) → (r.id == s) ≡ t → AllByRecursion IsEntry (unwrap_or (new_image_or (Some r) s (segment_of cs s)) [])
           go true is = rw is all
           go false is = rw is (among cs closed)
 
@@ -97,7 +101,7 @@ module _ (h : HeadValue) (cs : List ClosedSegment) where
       by_head false is = rw is (by_roll h.roll new)
 
 -- an image that grows at its end, the head's
-pub appended_grow : (h g : HeadValue) (cs : List ClosedSegment) (unit : List Entry) → g.id ≡ h.id → g.roll ≡ h.roll → g.image ≡ h.image ++ unit
+pub appended_grow : (h g : HeadValue) (cs : List Image) (unit : List Entry) → g.id ≡ h.id → g.roll ≡ h.roll → g.image ≡ h.image ++ unit
     → Grow (images_among h cs) (images_among g cs)
 appended_grow h g cs unit id roll image s = by_head (h.id == s) refl
   where
@@ -108,33 +112,33 @@ appended_grow h g cs unit id roll image s = by_head (h.id == s) refl
     by_head false is =
         let other : (g.id == s) ≡ false = ap (λ (n : ℕ). n == s) id ∙ is in (
           [],
-          rw (is, other) (ap (λ (o : Option Roll). unwrap_or (new_image_or o s (closed_image cs s)) []) roll
-              ∙ sym (append-nil (unwrap_or (new_image_or h.roll s (closed_image cs s)) []))),
+          rw (is, other) (ap (λ (o : Option Roll). unwrap_or (new_image_or o s (segment_of cs s)) []) roll
+              ∙ sym (append-nil (unwrap_or (new_image_or h.roll s (segment_of cs s)) []))),
         )
 
 -- the image of the head, and of any other segment, once the head has a unit more
-pub appended_own : (h g : HeadValue) (cs : List ClosedSegment) (unit : List Entry) (s : ℕ) → g.id ≡ h.id → g.image ≡ h.image ++ unit
+pub appended_own : (h g : HeadValue) (cs : List Image) (unit : List Entry) (s : ℕ) → g.id ≡ h.id → g.image ≡ h.image ++ unit
     → (h.id == s) ≡ true → images_among g cs s ≡ images_among h cs s ++ unit
 appended_own h g cs unit s id image is =
     let other : (g.id == s) ≡ true = ap (λ (n : ℕ). n == s) id ∙ is in rw (is, other) image
 
-pub appended_other : (h g : HeadValue) (cs : List ClosedSegment) (s : ℕ) → g.id ≡ h.id → g.roll ≡ h.roll → (h.id == s) ≡ false
+pub appended_other : (h g : HeadValue) (cs : List Image) (s : ℕ) → g.id ≡ h.id → g.roll ≡ h.roll → (h.id == s) ≡ false
     → images_among g cs s ≡ images_among h cs s
 appended_other h g cs s id roll is =
     let other : (g.id == s) ≡ false = ap (λ (n : ℕ). n == s) id ∙ is in
-    rw (is, other) (ap (λ (o : Option Roll). unwrap_or (new_image_or o s (closed_image cs s)) []) roll)
+    rw (is, other) (ap (λ (o : Option Roll). unwrap_or (new_image_or o s (segment_of cs s)) []) roll)
 
 -- a roll that begins adds an image of an id that had none
-pub rolled_grow : (h : HeadValue) (cs : List ClosedSegment) (r : Roll) → h.roll ≡ None → closed_image cs r.id ≡ None
+pub rolled_grow : (h : HeadValue) (cs : List Image) (r : Roll) → h.roll ≡ None → segment_of cs r.id ≡ None
     → Grow (images_among h cs) (images_among (record h { roll = Some r }) cs)
 rolled_grow h cs r none new s = by_head (h.id == s) refl
   where
     by_roll : (t : Bool) → (h.id == s) ≡ false → (r.id == s) ≡ t
         → (more : List Entry) × (images_among (record h { roll = Some r }) cs s ≡ images_among h cs s ++ more)
     by_roll true other is =
-        let gone : closed_image cs s ≡ None = ap (closed_image cs) (sym (eqb-true r.id s is)) ∙ new in
+        let gone : segment_of cs s ≡ None = ap (segment_of cs) (sym (eqb-true r.id s is)) ∙ new in
         (r.image, rw (other, none, is, gone) refl)
-    by_roll false other is = ([], rw (other, none, is) (sym (append-nil (unwrap_or (closed_image cs s) []))))
+    by_roll false other is = ([], rw (other, none, is) (sym (append-nil (unwrap_or (segment_of cs s) []))))
 
     by_head : (t : Bool) → (h.id == s) ≡ t
         → (more : List Entry) × (images_among (record h { roll = Some r }) cs s ≡ images_among h cs s ++ more)
@@ -142,35 +146,35 @@ rolled_grow h cs r none new s = by_head (h.id == s) refl
     by_head false is = by_roll (r.id == s) is refl
 
 -- that image, and any other
-pub rolled_own : (h : HeadValue) (cs : List ClosedSegment) (r : Roll) → (h.id ≡ r.id → ⊥)
+pub rolled_own : (h : HeadValue) (cs : List Image) (r : Roll) → (h.id ≡ r.id → ⊥)
     → images_among (record h { roll = Some r }) cs r.id ≡ r.image
 rolled_own h cs r other =
     let away = other_id h.id r.id other in let own = same_id r.id in rw (away, own) refl
 
-pub rolled_other : (h : HeadValue) (cs : List ClosedSegment) (r : Roll) (s : ℕ) → h.roll ≡ None → (r.id ≡ s → ⊥)
+pub rolled_other : (h : HeadValue) (cs : List Image) (r : Roll) (s : ℕ) → h.roll ≡ None → (r.id ≡ s → ⊥)
     → images_among (record h { roll = Some r }) cs s ≡ images_among h cs s
 rolled_other h cs r s none other = let away = other_id r.id s other in rw (none, away) refl
 
 -- what a roll has opened or closed changes no image
-pub same_roll : (h : HeadValue) (cs : List ClosedSegment) (r q : Roll) → h.roll ≡ Some r → q.id ≡ r.id → q.image ≡ r.image → (s : ℕ)
+pub same_roll : (h : HeadValue) (cs : List Image) (r q : Roll) → h.roll ≡ Some r → q.id ≡ r.id → q.image ≡ r.image → (s : ℕ)
     → image_among (record h { roll = Some q }) cs s ≡ image_among h cs s
 same_roll h cs r q is id image s =
-    (λ i. if h.id == s then Some h.image else (if id i == s then Some (image i) else closed_image cs s))
-    ∙ ap (λ (o : Option Roll). if h.id == s then Some h.image else new_image_or o s (closed_image cs s)) (sym is)
+    (λ i. if h.id == s then Some h.image else (if id i == s then Some (image i) else segment_of cs s))
+    ∙ ap (λ (o : Option Roll). if h.id == s then Some h.image else new_image_or o s (segment_of cs s)) (sym is)
 
 -- the last Close moves images, and changes none
-pub closed_same : (h : HeadValue) (cs : List ClosedSegment) (r : Roll) → h.roll ≡ Some r → (h.id ≡ r.id → ⊥) → closed_image cs h.id ≡ None
+pub closed_same : (h : HeadValue) (cs : List Image) (r : Roll) → h.roll ≡ Some r → (h.id ≡ r.id → ⊥) → segment_of cs h.id ≡ None
     → (s : ℕ) → image_among (in_force h r) (with_closed cs h.id (Some h.image)) s ≡ image_among h cs s
 closed_same h cs r is other none s = by_head (h.id == s) refl
   where
-    more : closed_image (cs ++ record { id = h.id; image = h.image } ∷ []) s ≡ (if h.id == s then Some h.image else closed_image cs s)
+    more : segment_of (cs ++ closed_image h.id h.image ∷ []) s ≡ (if h.id == s then Some h.image else segment_of cs s)
     more = closed_more cs h.id s h.image none
 
     by_head : (t : Bool) → (h.id == s) ≡ t → image_among (in_force h r) (with_closed cs h.id (Some h.image)) s ≡ image_among h cs s
     by_head true here =
         let away : (r.id == s) ≡ false = other_id r.id s (λ e. other (eqb-true h.id s here ∙ sym e)) in
-        let found : closed_image (cs ++ record { id = h.id; image = h.image } ∷ []) s ≡ Some h.image = rw here at more in
+        let found : segment_of (cs ++ closed_image h.id h.image ∷ []) s ≡ Some h.image = rw here at more in
         rw (away, here) found
     by_head false away =
-        let found : closed_image (cs ++ record { id = h.id; image = h.image } ∷ []) s ≡ closed_image cs s = rw away at more in
+        let found : segment_of (cs ++ closed_image h.id h.image ∷ []) s ≡ segment_of cs s = rw away at more in
         rw (away, is, found) refl

@@ -1,5 +1,4 @@
 pub mod Changes
-pub mod Places
 pub mod Indexing
 pub mod Imaging
 pub mod Indexed
@@ -10,3 +9,4 @@ pub mod Counted
 pub mod Beginning
 pub mod Adding
 pub mod Rolls
+pub mod Budgets

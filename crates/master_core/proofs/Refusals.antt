@@ -1,6 +1,6 @@
 -- Which test refuses a step.
 use Rattle.std.proofs.Common.{◌≡◌, ◌+◌, ◌<◌, ◌≤◌, Bool, true, false, cond, List, length, refl, arith}
-use Rattle.std.specs.Prelude.{Option, Some, None, ◌^◌, not, nat_le, nat_lt, ◌==◌, ◌&&◌, is_none}
+use Rattle.std.specs.Prelude.{Option, Some, None, ◌^◌, ◌*◌, ◌/◌, ◌%◌, not, nat_le, nat_lt, ◌==◌, ◌&&◌, is_none}
 use Rattle.std.proofs.lemmas.Bool.{and_parts, not-false, leb-true, leb-false, ltb-false, eqb-true}
 use Rattle.std.proofs.lemmas.Bool.Decides.{nat_tests}
 use Rattle.entry.specs.declared.entry.Entry.{Entry}
@@ -11,11 +11,13 @@ use Rattle.master_core.specs.declared.config.Config.{Config}
 use Rattle.master_core.specs.declared.step.Refusal.{Refusal}
 use Rattle.master_core.specs.declared.step.Refusal.TheVariants.{Halted, TooBig, NoTablet, HistoryFull, VersionsSpent, Full, Rolling, Nothing, SegmentsSpent}
 use Rattle.master_core.specs.Causes.{early_refusal, late_refusal, command_refusal, unit_refusal, has_room, unit_now}
-use Rattle.master_core.specs.Causes.{may_roll, roll_refusal, is_pushed, push_refusal}
+use Rattle.master_core.specs.Budget.{segments_for, may_roll}
+use Rattle.master_core.specs.Causes.{roll_refusal, is_pushed, push_refusal}
 use Rattle.versioned_map.specs.Versioned.{is_spent}
 use Rattle.master_core.specs.Change.{is_too_big, is_empty}
 use Rattle.versioned_map.specs.Command.{command_key}
-use Rattle.master_core.specs.Config.{config_fault, has_backups}
+use Rattle.images.specs.Images.{AreSizes}
+use Rattle.master_core.specs.Config.{config_fault, has_backups, has_step, has_seglet, has_segment, has_budget}
 use Rattle.log_head.specs.declared.head.Roll.{Roll}
 use Rattle.log_head.specs.declared.next.Next.{Next}
 use Rattle.log_head.specs.declared.next.Next.TheVariants as next
@@ -45,6 +47,27 @@ has_homes c ok =
     let front = and_parts _ _ all.0 in
     let one = leb-true 1 c.replicas front.0 in
     record { some = omega arith; many = leb-true c.replicas c.backups front.1; few = leb-true c.backups 64 all.1 }
+
+pub sizes_of : (c : Config) → config_fault c ≡ None → AreSizes c.segment c.seglet c.seglets
+sizes_of c ok =
+    let a = passes (not (has_backups c)) _ _ ok in
+    let b = passes (not (has_step c)) _ _ a.1 in
+    let g = passes (not (has_seglet c)) _ _ b.1 in
+    let s = passes (not (has_segment c)) _ _ g.1 in
+    let m = passes (not (has_budget c)) _ _ s.1 in
+    let seglet = and_parts _ _ (not-false (has_seglet c) g.0) in
+    let segment = and_parts _ _ (not-false (has_segment c) s.0) in
+    let within = and_parts _ _ segment.0 in
+    let budget = and_parts _ _ (not-false (has_budget c) m.0) in
+    record {
+      least_seglet = leb-true 64 c.seglet seglet.0;
+      most_seglet = leb-true c.seglet 65536 seglet.1;
+      least_segment = leb-true 512 c.segment within.0;
+      most_segment = leb-true c.segment 8388608 within.1;
+      multiple = eqb-true (c.segment % c.seglet) 0 segment.1;
+      least_seglets = leb-true (4 * (c.segment / c.seglet)) c.seglets budget.0;
+      most_seglets = leb-true c.seglets (2 ^ 32) budget.1;
+    }
 
 -- ---- a command
 
@@ -82,17 +105,18 @@ module _ (d : MasterData) (command : Command) where
   pub refused_spent : early_refusal d command ≡ None → spent ≡ true → command_refusal d command ≡ Some VersionsSpent
   refused_spent e s = rw (e, s) refl
 
-  pub refused_late : (o : Option Refusal) → early_refusal d command ≡ None → spent ≡ false → unit_refusal d own_unit ≡ o
+  pub refused_late : (o : Option Refusal) → early_refusal d command ≡ None → spent ≡ false → unit_refusal d command own_unit ≡ o
       → command_refusal d command ≡ o
   refused_late o e s u = rw (e, s, u) refl
 
 -- a unit that is appended fits an open head
-room_then : (d : MasterData) (u : List Entry) → is_empty u ≡ false → unit_refusal d u ≡ None → (is_open d.head ≡ true) × (has_room d u ≡ true)
-room_then d u some e =
-    let rest : cond (is_open d.head && (not (has_room d u) && not (may_roll d))) (Some Full)
+room_then : (d : MasterData) (k : Command) (u : List Entry) → is_empty u ≡ false → unit_refusal d k u ≡ None
+    → (is_open d.head ≡ true) × (has_room d u ≡ true)
+room_then d k u some e =
+    let rest : cond (is_open d.head && (not (has_room d u) && not (may_roll d (segments_for k)))) (Some Full)
     (cond (not (is_open d.head && has_room d u)) (Some Rolling) None) ≡ None =
     rw some at e in
-    let a = passes (is_open d.head && (not (has_room d u) && not (may_roll d))) Full _ rest in
+    let a = passes (is_open d.head && (not (has_room d u) && not (may_roll d (segments_for k)))) Full _ rest in
     and_parts _ _ (not-false (is_open d.head && has_room d u) (passes (not (is_open d.head && has_room d u)) Rolling None a.1).0)
 
 unit_room : (d : MasterData) (command : Command) → command_refusal d command ≡ None → is_empty (unit_now d command) ≡ false
@@ -100,7 +124,7 @@ unit_room : (d : MasterData) (command : Command) → command_refusal d command �
 unit_room d command passed some =
     let late = (early_first d command (early_refusal d command) (late_refusal d command) passed).1 in
     let unit = (passes (is_spent (state_now d).safe ((state_now d).contents (command_key command)) command) VersionsSpent _ late).1 in
-    room_then d (unit_now d command) some unit
+    room_then d command (unit_now d command) some unit
 
 pub unit_fits : (d : MasterData) (command : Command) → command_refusal d command ≡ None → is_empty (unit_now d command) ≡ false
     → length (text_of d.head.image) + length (text_of (unit_now d command)) ≤ d.config.segment
@@ -112,19 +136,21 @@ pub unit_open : (d : MasterData) (command : Command) → command_refusal d comma
 unit_open d command passed some = (unit_room d command passed some).0
 
 -- what a head that is open and what one that isn't, with room or without, make of a unit
-pub refused_closed : (d : MasterData) (u : List Entry) → is_empty u ≡ false → is_open d.head ≡ false → unit_refusal d u ≡ Some Rolling
-refused_closed d u some closed = rw (some, closed) refl
+pub refused_closed : (d : MasterData) (k : Command) (u : List Entry) → is_empty u ≡ false → is_open d.head ≡ false
+    → unit_refusal d k u ≡ Some Rolling
+refused_closed d k u some closed = rw (some, closed) refl
 
-pub refused_full : (d : MasterData) (u : List Entry) → is_empty u ≡ false → is_open d.head ≡ true → has_room d u ≡ false → may_roll d ≡ false
-    → unit_refusal d u ≡ Some Full
-refused_full d u some opened full never = rw (some, opened, full, never) refl
+pub refused_full : (d : MasterData) (k : Command) (u : List Entry) → is_empty u ≡ false → is_open d.head ≡ true → has_room d u ≡ false
+    → may_roll d (segments_for k) ≡ false → unit_refusal d k u ≡ Some Full
+refused_full d k u some opened full never = rw (some, opened, full, never) refl
 
-pub refused_due : (d : MasterData) (u : List Entry) → is_empty u ≡ false → is_open d.head ≡ true → has_room d u ≡ false → may_roll d ≡ true
-    → unit_refusal d u ≡ Some Rolling
-refused_due d u some opened full may = rw (some, opened, full, may) refl
+pub refused_due : (d : MasterData) (k : Command) (u : List Entry) → is_empty u ≡ false → is_open d.head ≡ true → has_room d u ≡ false
+    → may_roll d (segments_for k) ≡ true → unit_refusal d k u ≡ Some Rolling
+refused_due d k u some opened full may = rw (some, opened, full, may) refl
 
-pub refused_not : (d : MasterData) (u : List Entry) → is_empty u ≡ false → is_open d.head ≡ true → has_room d u ≡ true → unit_refusal d u ≡ None
-refused_not d u some opened room = rw (some, opened, room) refl
+pub refused_not : (d : MasterData) (k : Command) (u : List Entry) → is_empty u ≡ false → is_open d.head ≡ true → has_room d u ≡ true
+    → unit_refusal d k u ≡ None
+refused_not d k u some opened room = rw (some, opened, room) refl
 
 -- ---- a roll
 
@@ -143,14 +169,14 @@ pub record MayBeginRoll (d : MasterData) : Type 0 where
   pub running : d.is_halted ≡ false
   pub opened : is_open d.head ≡ true
   pub ids : d.next ≤ 2 ^ 62
-  pub rule : may_roll d ≡ true
+  pub rule : may_roll d 2 ≡ true
 
 pub may_begin : (d : MasterData) → roll_refusal d ≡ None → MayBeginRoll d
 may_begin d e =
     let a = passes d.is_halted Halted _ e in
     let o = passes (not (is_open d.head)) Rolling _ a.1 in
     let i = passes (nat_lt (2 ^ 62) d.next) SegmentsSpent _ o.1 in
-    let m = passes (not (may_roll d)) Full None i.1 in
+    let m = passes (not (may_roll d 2)) Full None i.1 in
     record { running = a.0; opened = not-false _ o.0; ids = ltb-false (2 ^ 62) d.next i.0; rule = not-false _ m.0 }
 
 -- ---- a push

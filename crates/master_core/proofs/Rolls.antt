@@ -1,9 +1,9 @@
 -- A roll begins, and goes on by the ops of pushes.
 use Rattle.std.proofs.Common.{◌≡◌, ◌⊎◌, inl, inr, ℕ, suc, ◌+◌, ◌<◌, ◌≤◌, Bool, true, false, List, [], ◌∷◌, ◌++◌, length, refl, sym, ap, subst, ◌∙◌, add-one, arith}
-use Rattle.std.specs.Prelude.{Option, Some, None, IfSome, ◌==◌, unwrap_or}
+use Rattle.std.specs.Prelude.{Option, Some, None, IfSome, ◌==◌, ◌*◌, ◌/◌, unwrap_or, sum_by}
 use Rattle.std.specs.List.{AllByRecursion}
 use Rattle.std.specs.Option.{option_map_or}
-use Rattle.std.proofs.lemmas.Bool.{eqb-true}
+use Rattle.std.proofs.lemmas.Bool.{eqb-true, and_parts, leb-true}
 use Rattle.entry.specs.Bag.{IsAmong}
 use Rattle.std.proofs.lemmas.List.{append-nil, map-append, length-append}
 use Rattle.entry.specs.declared.entry.Entry.{Entry}
@@ -20,10 +20,13 @@ use Rattle.log_head.proofs.Rolls.{rolls}
 use Rattle.log_model.specs.Data.{Start, Head, Opened, ids_of, start_entries}
 use Rattle.log_model.specs.Log.{AreBelow}
 use Rattle.log_model.specs.Steps.{new_head, next_start, rolling, MayRoll}
-use Rattle.master_core.specs.declared.image.ClosedSegment.{ClosedSegment}
+use Rattle.images.specs.declared.image.Image.{Image}
 use Rattle.master_core.specs.declared.step.StepAnswer.TheVariants.{Rolling as RollingTo}
-use Rattle.master_core.specs.Causes.{roll_refusal, newest_digest}
+use Rattle.images.specs.Images.{count_of}
+use Rattle.master_core.specs.Budget.{newest_digest, most_segments, whole_seglets, seglets_of, head_seglets, used_seglets, free_seglets}
+use Rattle.master_core.specs.Causes.{roll_refusal}
 use Rattle.master_core.specs.Data.{MasterData}
+use Rattle.images.specs.Sorted.{segment_of}
 use Rattle.master_core.specs.Images.{closed_image, new_image_or, image_among, with_closed}
 use Rattle.master_core.specs.Invariant.{IsRollOf, IsCore}
 use Rattle.master_core.specs.Log.{log_config, opening_of, log_of, image_of, images_of}
@@ -31,8 +34,12 @@ use Rattle.master_core.specs.Steps.{BeginsRoll, rolling_data, closed_data, taken
 use Rattle.master_core.proofs.Adding.{ready_open}
 use Rattle.master_core.proofs.Beginning.{counted_core}
 use Rattle.master_core.proofs.Imaging.{ids_in, none_above, rolled_grow, same_roll, closed_same}
-use Rattle.master_core.proofs.Indexing.{Grow, are_at_grown}
-use Rattle.master_core.proofs.Refusals.{MayBeginRoll, may_begin, open_parts, has_homes}
+use Rattle.master_core.proofs.Finding.{index_again}
+use Rattle.master_core.proofs.Indexing.{Grow}
+use Rattle.master_core.proofs.Refusals.{MayBeginRoll, may_begin, open_parts, has_homes, sizes_of}
+use Rattle.segment.proofs.UnitLemmas.{length-head}
+use Rattle.std.proofs.Math.Nat.{mul-div-le}
+use Rattle.std.proofs.lemmas.List.Sums.{sum_by_push}
 
 -- ---- the ids of a log
 
@@ -46,7 +53,13 @@ module _ (d : MasterData) (core : IsCore d) where
       subst (λ (ids : List ℕ). AllByRecursion (λ (id : ℕ). id < d.head.id) ids) (sym core.closed)
       (subst (λ (top : ℕ). AllByRecursion (λ (id : ℕ). id < top) start.others) core.image.id core.below)
 
-  pub no_closed : (s : ℕ) → d.head.id ≤ s → closed_image d.closed s ≡ None
+  pub closed_under : AllByRecursion (λ (c : Image). c.id < d.head.id) d.closed
+  closed_under = each d.closed closed_below where
+    each : (cs : List Image) → AllByRecursion (λ (id : ℕ). id < d.head.id) (ids_in cs) → AllByRecursion (λ (c : Image). c.id < d.head.id) cs
+    each [] all = tt
+    each (c ∷ cs) all = (all.0, each cs all.1)
+
+  pub no_closed : (s : ℕ) → d.head.id ≤ s → segment_of d.closed s ≡ None
   no_closed s le = none_above d.closed d.head.id s closed_below le
 
   -- the digest in force has one id more than there are closed segments
@@ -58,7 +71,7 @@ module _ (d : MasterData) (core : IsCore d) where
       ∙ ap (λ (ids : List ℕ). length ids + 1) (sym core.closed)
       ∙ ap (λ (n : ℕ). n + 1) (counted d.closed)
     where
-      counted : (cs : List ClosedSegment) → length (ids_in cs) ≡ length cs
+      counted : (cs : List Image) → length (ids_in cs) ≡ length cs
       counted [] = refl
       counted (c ∷ cs) = ap suc (counted cs)
 
@@ -71,7 +84,7 @@ module _ (d : MasterData) (core : IsCore d) where
   new_is = λ i. record {
     id = d.next;
     others = digest_is d.config.master d.head (head_of d.head) core.image i;
-    safe = core.index.1.safe i;
+    safe = core.index.safe i;
   }
 
   module _ (passed : roll_refusal d ≡ None) (valid : IsHeadValue (with_roll d.head d.config.master d.next d.safe)) where
@@ -109,6 +122,31 @@ module _ (d : MasterData) (core : IsCore d) where
     pub roll_begins : BeginsRoll d (RollingTo d.next) (rolling_data d)
     roll_begins = record { passed = passed; told = refl; log = log_begun; rest = refl }
 
+    rules : (length (newest_digest d.head) + 1 ≤ most_segments d.config)
+        × (2 * whole_seglets d.config + seglets_of d.config d.head.image ≤ free_seglets d)
+    rules =
+        let all = and_parts _ _ may.rule in
+        (leb-true _ _ (and_parts _ _ all.0).0, leb-true _ _ all.1)
+
+    budget_then : used_seglets (rolling_data d) ≤ d.config.seglets
+    budget_then =
+        let now : head_seglets d.config d.head ≡ whole_seglets d.config =
+            ap (λ (o : Option Roll). option_map_or (λ (r : Roll). seglets_of d.config d.head.image + whole_seglets d.config) o (whole_seglets d.config)) none in
+        let enough = rules.1 in
+        let counted = core.budget in
+        omega arith
+
+    new_within : length (text_of (start_entries d.config.master new)) ≤ d.config.segment
+    new_within =
+        let few : length (digest_of d.head.image) + 1 ≤ d.config.segment / 32 =
+            subst (λ (o : Option Roll). length (option_map_or (λ (r : Roll). digest_of r.image) o (digest_of d.head.image)) + 1 ≤ d.config.segment / 32)
+            none rules.0 in
+        let len = length-head d.config.master d.next (digest_of d.head.image ++ d.next ∷ []) d.safe in
+        let ids = length-append (digest_of d.head.image) (d.next ∷ []) in
+        let least = (sizes_of d.config core.config).least_segment in
+        let parts = mul-div-le d.config.segment 32 in
+        omega arith
+
     grow : Grow (images_of d) (images_of (rolling_data d))
     grow = rolled_grow d.head d.closed roll none (no_closed d.next (let lt = core.used in omega arith))
 
@@ -127,26 +165,22 @@ module _ (d : MasterData) (core : IsCore d) where
         taken = is.taken;
       });
       closed = core.closed;
+      within = core.within;
       segments = core.segments;
       below = core.below;
       used = (let lt = core.used in omega arith);
       next = (let le = may.ids in omega arith);
+      budget = budget_then;
       roll = record {
         image = opening_is d.config.master new;
         lists = ap (λ (n : Start). n.others) (start_is d.config.master new ∙ new_is);
+        within = new_within;
         newer = core.used;
         used = omega arith;
       };
       legal = core.legal;
-      index = (
-        core.index.0,
-        (let i = core.index.1 in record {
-          places = are_at_grown (images_of d) (images_of (rolling_data d)) d.places core.index.0 grow i.places;
-          distinct = i.distinct;
-          contents = i.contents;
-          safe = i.safe;
-        }),
-      );
+      index = (let i = index_again d core (rolling_data d).head d.closed grow valid core.segments in
+          record { kept = i.kept; lies = i.lies; safe = core.index.safe });
     }
 
 -- ---- a roll goes on
@@ -186,23 +220,20 @@ module _ (d : MasterData) (core : IsCore d) (r : Roll) (is : d.head.roll ≡ Som
         ends = own.ends;
         taken = own.taken;
       });
+      within = core.within;
       closed = core.closed;
       segments = core.segments;
       below = core.below;
       used = core.used;
       next = core.next;
-      roll = record { image = rolls_of.image; lists = rolls_of.lists; newer = rolls_of.newer; used = rolls_of.used };
+      budget = subst (λ (o : Option Roll). option_map_or (λ (p : Roll). seglets_of d.config d.head.image + whole_seglets d.config) o
+          (whole_seglets d.config) + sum_by (count_of d.config.segment d.config.seglet) d.closed ≤ d.config.seglets) is core.budget;
+      roll = record { image = rolls_of.image; lists = rolls_of.lists; within = rolls_of.within; newer = rolls_of.newer; used = rolls_of.used };
       legal = core.legal;
       index = (
-        core.index.0,
-        (let i = core.index.1 in record {
-          places = are_at_grown (images_of d) (images_of e) d.places core.index.0
-              (same_grow (image_among d.head d.closed) (image_among e.head d.closed) (same_roll d.head d.closed r q is refl refl)) i.places;
-          distinct = i.distinct;
-          contents = i.contents;
-          safe = i.safe;
-        }),
-      );
+        let grow = same_grow (image_among d.head d.closed) (image_among e.head d.closed) (same_roll d.head d.closed r q is refl refl) in
+        let i = index_again d core e.head d.closed grow valid core.segments in
+        record { kept = i.kept; lies = i.lies; safe = core.index.safe });
     }
 
   -- ---- the last Close
@@ -234,27 +265,34 @@ module _ (d : MasterData) (core : IsCore d) (r : Roll) (is : d.head.roll ≡ Som
     history = core.history;
     head = valid;
     image = image_in_force d.config.master d.head r rolls_of.image values.segment;
-    closed = map-append (λ (c : ClosedSegment). c.id) d.closed (record { id = d.head.id; image = d.head.image } ∷ [])
+    closed = map-append (λ (c : Image). c.id) d.closed (closed_image d.head.id d.head.image ∷ [])
         ∙ (λ i. core.closed i ++ sym core.image.id i ∷ []) ∙ sym others_then;
-    segments = all_more (λ (c : ClosedSegment). IsSegment c.image) d.closed (record { id = d.head.id; image = d.head.image })
-        core.segments core.head.segment;
+    within = rolls_of.within;
+    segments = closed_then;
+    budget = budget_then;
     below = subst (λ (l : Head). AreBelow l.start) (sym head_then) below;
     used = rolls_of.used;
     next = core.next;
     roll = tt;
     legal = core.legal;
     index = (
-      core.index.0,
-      (let i = core.index.1 in record {
-        places = are_at_grown (images_of d) (images_of f) d.places core.index.0
-            (same_grow (image_among d.head d.closed) (image_among f.head f.closed)
-            (closed_same d.head d.closed r is apart (no_closed d core d.head.id (omega arith)))) i.places;
-        distinct = i.distinct;
-        contents = i.contents;
-        safe = i.safe;
-      }),
-    );
+      let grow = same_grow (image_among d.head d.closed) (image_among f.head f.closed)
+          (closed_same d.head d.closed r is apart (no_closed d core d.head.id (omega arith))) in
+      let i = index_again d core f.head f.closed grow valid closed_then in
+      record { kept = i.kept; lies = i.lies; safe = core.index.safe });
   } where
+    budget_then : used_seglets f ≤ d.config.seglets
+    budget_then =
+        let counted = subst (λ (o : Option Roll). option_map_or (λ (p : Roll). seglets_of d.config d.head.image + whole_seglets d.config) o
+            (whole_seglets d.config) + sum_by (count_of d.config.segment d.config.seglet) d.closed ≤ d.config.seglets) is core.budget in
+        let total = sum_by_push (count_of d.config.segment d.config.seglet) d.closed (closed_image d.head.id d.head.image) in
+        omega arith
+
+    closed_then : AllByRecursion (λ (c : Image). IsSegment c.segment) f.closed
+    closed_then =
+        all_more (λ (c : Image). IsSegment c.segment) d.closed (closed_image d.head.id d.head.image)
+        core.segments core.head.segment
+
     id_is : (start_of r).id ≡ r.id
     id_is = ap (λ (l : Head). l.start.id) (sym head_then) ∙ (image_in_force d.config.master d.head r rolls_of.image values.segment).id
 
@@ -313,18 +351,18 @@ module _ (d : MasterData) (core : IsCore d) where
       → (s ≡ d.head.id) ⊎ (((r : Roll) × (d.head.roll ≡ Some r) × (s ≡ r.id)) ⊎ IsAmong s (head_of d.head).start.others)
   has_image s image is = by_head (d.head.id == s) refl is
     where
-      among_closed : (cs : List ClosedSegment) → closed_image cs s ≡ Some image → IsAmong s (ids_in cs)
+      among_closed : (cs : List Image) → segment_of cs s ≡ Some image → IsAmong s (ids_in cs)
       among_closed [] found = absurd (cc)
       among_closed (c ∷ cs) found = go (c.id == s) refl (among_closed cs)
         where
-          go : (t : Bool) → (c.id == s) ≡ t → (closed_image cs s ≡ Some image → IsAmong s (ids_in cs)) → IsAmong s (ids_in (c ∷ cs))
+          go : (t : Bool) → (c.id == s) ≡ t → (segment_of cs s ≡ Some image → IsAmong s (ids_in cs)) → IsAmong s (ids_in (c ∷ cs))
           go true here later = inl (eqb-true c.id s here)
           go false away later = inr (later (rw away at found))
 
-      closed_too : closed_image d.closed s ≡ Some image → IsAmong s (head_of d.head).start.others
+      closed_too : segment_of d.closed s ≡ Some image → IsAmong s (head_of d.head).start.others
       closed_too found = subst (λ (ids : List ℕ). IsAmong s ids) core.closed (among_closed d.closed found)
 
-      by_roll : (o : Option Roll) → d.head.roll ≡ o → new_image_or o s (closed_image d.closed s) ≡ Some image
+      by_roll : (o : Option Roll) → d.head.roll ≡ o → new_image_or o s (segment_of d.closed s) ≡ Some image
           → ((r : Roll) × (d.head.roll ≡ Some r) × (s ≡ r.id)) ⊎ IsAmong s (head_of d.head).start.others
       by_roll None same found = inr (closed_too found)
       by_roll (Some r) same found = go (r.id == s) refl

@@ -13,12 +13,13 @@ use Rattle.log_model.specs.Data.{fewest}
 use Rattle.log_head.specs.declared.head.Roll.{Roll}
 use Rattle.log_head.specs.Head.{HeadValue, digest_of, is_open}
 use Rattle.master_core.specs.declared.config.Config.{Config}
-use Rattle.master_core.specs.declared.image.Place.{Place}
 use Rattle.master_core.specs.declared.step.Refusal.{Refusal}
 use Rattle.master_core.specs.declared.step.Refusal.TheVariants.{Halted, TooBig, NoTablet, HistoryFull, VersionsSpent, Full, Rolling, Nothing}
 use Rattle.master_core.specs.declared.step.Refusal.TheVariants.{SegmentsSpent}
+use Rattle.master_core.specs.Budget.{segments_for, may_roll}
 use Rattle.master_core.specs.Change.{is_too_big, is_empty}
 use Rattle.master_core.specs.Data.{MasterData}
+use Rattle.master_core.specs.Index.{segment_at}
 use Rattle.master_core.specs.Log.{state_now, find}
 
 -- ---- a command
@@ -36,32 +37,18 @@ early_refusal d command =
 abbrev pub has_room : MasterData → List Entry → Bool
 has_room d unit = nat_le (length (text_of d.head.image) + length (text_of unit)) d.config.segment
 
--- the ids of the newest digest, that of a begun roll included
-abbrev pub newest_digest : HeadValue → List ℕ
-newest_digest h = option_map_or (λ (r : Roll). digest_of r.image) h.roll (digest_of h.image)
-
--- the most segments that a log may have
-abbrev pub most_segments : Config → ℕ
-most_segments c = c.segment / 32
-
--- The rule of a roll: the log may have one more segment, and the last two are kept for a roll that makes room; without
--- a cleaning pass such a roll takes out one.
-abbrev pub may_roll : MasterData → Bool
-may_roll d =
-    let more = length (newest_digest d.head) + 1 in
-    nat_le more (most_segments d.config) && nat_le more (most_segments d.config - 2 + 1)
-
--- why the unit of a command is not appended: it doesn't fit the open head and no roll may begin, or a roll is due
-abbrev pub unit_refusal : MasterData → List Entry → Option Refusal
-unit_refusal d unit =
+-- why the unit of a command is not appended: it doesn't fit the open head and no roll may begin for the command, or a
+-- roll is due
+abbrev pub unit_refusal : MasterData → Command → List Entry → Option Refusal
+unit_refusal d command unit =
     if is_empty unit then None
-    else if is_open d.head && (not (has_room d unit) && not (may_roll d)) then Some Full
+    else if is_open d.head && (not (has_room d unit) && not (may_roll d (segments_for command))) then Some Full
     else if not (is_open d.head && has_room d unit) then Some Rolling
     else None
 
 -- the segment in which the index finds the command's key; which one doesn't matter if it finds none
 abbrev pub dead_segment : MasterData → Command → ℕ
-dead_segment d command = option_map_or (λ (p : Place). p.segment) (find d (command_key command)) 0
+dead_segment d command = segment_at (find d (command_key command))
 
 -- what the command appends
 abbrev pub unit_now : MasterData → Command → List Entry
@@ -71,7 +58,7 @@ unit_now d command = unit_of (state_now d) (dead_segment d command) command
 abbrev pub late_refusal : MasterData → Command → Option Refusal
 late_refusal d command =
     if is_spent (state_now d).safe ((state_now d).contents (command_key command)) command then Some VersionsSpent
-    else unit_refusal d (unit_now d command)
+    else unit_refusal d command (unit_now d command)
 
 -- the first test that refuses the command, apart from memory; None if all are passed
 abbrev pub command_refusal : MasterData → Command → Option Refusal
@@ -86,7 +73,7 @@ roll_refusal d =
     if d.is_halted then Some Halted
     else if not (is_open d.head) then Some Rolling
     else if nat_lt (2 ^ 62) d.next then Some SegmentsSpent
-    else if not (may_roll d) then Some Full
+    else if not (may_roll d 2) then Some Full
     else None
 
 -- ---- a push

@@ -1,22 +1,22 @@
 -- What a master knows, its fleet apart.
 use Rattle.std.specs.Prelude.{ℕ, List, [], Bool, false}
+use Rattle.hash_index.specs.declared.place.Held.{Held}
+use Rattle.images.specs.declared.image.Image.{Image}
 use Rattle.versioned_map.specs.declared.command.Record.{Record}
 use Rattle.log_model.specs.Steps.{first_start}
 use Rattle.log_head.specs.Head.{HeadValue}
 use Rattle.log_head.specs.Steps.{fresh_head}
 use Rattle.master_core.specs.declared.config.Config.{Config}
-use Rattle.master_core.specs.declared.image.ClosedSegment.{ClosedSegment}
-use Rattle.master_core.specs.declared.image.Place.{Place}
 
 pub record MasterData : Type 0 where
   pub config : Config
   pub head : HeadValue
   -- the closed segments of the log
-  pub closed : List ClosedSegment
+  pub closed : List Image
   -- the first id that no segment had yet
   pub next : ℕ
-  -- where the live objects lie
-  pub places : List Place
+  -- where the live objects lie: the places that the index holds
+  pub index : List Held
   -- the version that the next new key gets
   pub safe : ℕ
   pub history : List Record
@@ -30,7 +30,7 @@ fresh_data config = record {
   head = fresh_head config.master config.replicas first_start;
   closed = [];
   next = 2;
-  places = [];
+  index = [];
   safe = 1;
   history = [];
   is_halted = false;

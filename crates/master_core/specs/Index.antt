@@ -1,20 +1,20 @@
--- Where entries stand in an image, and what an index of places finds.
-use Rattle.std.specs.Prelude.{◌≡◌, ℕ, suc, true, false, List, [], ◌∷◌, ◌++◌, length, Option, Some, None, IsSomeAnd}
-use Rattle.std.specs.Prelude.{slice_get, slice_set, if◌then◌else◌}
-use Rattle.std.specs.List.{remove}
-use Rattle.std.specs.Option.{option_map, option_map_or}
+-- Where entries stand in an image, and what the index finds.
+use Rattle.std.specs.Prelude.{◌≡◌, ℕ, List, ◌∷◌, ◌++◌, length, Option, Some, None}
+use Rattle.std.specs.Option.{option_map, option_map_or, option_and_then}
 use Rattle.entry.specs.declared.key.Key.{Key}
 use Rattle.entry.specs.declared.entry.Object.{Object}
 use Rattle.entry.specs.declared.entry.Entry.{Entry}
 use Rattle.entry.specs.declared.entry.Entry.TheVariants as entry
 use Rattle.entry.specs.declared.view.ObjectRef.{ObjectRef}
-use Rattle.entry.specs.Meaning.{Versioned, versioned, contents_of}
-use Rattle.entry.specs.Order.{key_eq}
+use Rattle.entry.specs.Meaning.{Versioned, versioned, object_at}
 use Rattle.entry.specs.Text.{text_of}
 use Rattle.entry.specs.View.{shown_object}
+use Rattle.segment.specs.Bytes.{standing_at}
+use Rattle.hash_index.specs.declared.place.Held.{Held}
+use Rattle.hash_index.specs.declared.place.Place.{Place}
+use Rattle.hash_index.specs.Map.{found, AreKept, IsSet}
 use Rattle.master_core.specs.declared.change.Change.{Change}
 use Rattle.master_core.specs.declared.change.Change.TheVariants as change
-use Rattle.master_core.specs.declared.image.Place.{Place}
 
 -- the entry stands at this offset of the image
 pub record LiesAt (image : List Entry) (at : ℕ) (e : Entry) : Type 0 where
@@ -27,68 +27,61 @@ pub record LiesAt (image : List Entry) (at : ℕ) (e : Entry) : Type 0 where
 abbrev pub IsAtPlace : (ℕ → List Entry) → Place → Entry → Type 0
 IsAtPlace images p e = LiesAt (images p.segment) p.at e
 
--- each of the objects is at its place
-abbrev pub AreAt : (ℕ → List Entry) → List Place → List Object → Type 0
-AreAt images [] [] = Unit {0}
-AreAt images (p ∷ places) (o ∷ os) = IsAtPlace images p (entry.Object o) × AreAt images places os
-AreAt images [] (o ∷ os) = ⊥
-AreAt images (p ∷ places) [] = ⊥
+-- ---- what images tell an index
 
--- the place of this slot
-abbrev pub place_at : List Place → Option ℕ → Option Place
-place_at places None = None
-place_at places (Some slot) = slice_get places slot
+-- the object, if the entry is one
+abbrev pub as_object : Entry → Option Object
+as_object (entry.Header h) = None
+as_object (entry.Digest ids) = None
+as_object (entry.Safe version) = None
+as_object (entry.Object o) = Some o
+as_object (entry.Tombstone t) = None
 
--- the segment of that place; which one doesn't matter if there is none
-abbrev pub segment_at : List Place → Option ℕ → ℕ
-segment_at places slot = option_map_or (λ (p : Place). p.segment) (place_at places slot) 0
+-- the object that stands at an offset of an image
+abbrev pub object_in : List Entry → ℕ → Option Object
+object_in image at = option_and_then as_object (standing_at at (text_of image))
 
--- the first of the objects that has the key
-abbrev pub slot_in : List Object → Key → Option ℕ
-slot_in [] k = None
-slot_in (o ∷ os) k = if key_eq k o.key then Some 0 else option_map (λ n. suc n) (slot_in os k)
+-- the object that stands at a place
+abbrev pub object_there : (ℕ → List Entry) → Place → Option Object
+object_there images p = object_in (images p.segment) p.at
 
--- the places once a change was done to the object of this slot, whose new object, if any, is at this place
-abbrev pub placed : List Place → Change → Option ℕ → Place → List Place
-placed places change.Nothing slot p = places
-placed places (change.Create version) slot p = places ++ p ∷ []
-placed places (change.Replace dead version) None p = places
-placed places (change.Replace dead version) (Some slot) p = slice_set places slot p
-placed places (change.Delete dead) None p = places
-placed places (change.Delete dead) (Some slot) p = remove places slot
+-- the key of the object at each place
+abbrev pub keys_in : (ℕ → List Entry) → Place → Option Key
+keys_in images p = option_map (λ (o : Object). o.key) (object_there images p)
 
--- no two of the objects have one key
-abbrev pub AreDistinct : List Object → Type 0
-AreDistinct [] = Unit {0}
-AreDistinct (o ∷ os) = (slot_in os o.key ≡ None) × AreDistinct os
+-- ---- what the index finds
 
--- the object that was found is this one where that is the key's, and none where it isn't
-abbrev pub MatchesKey : Key → Object → Option ObjectRef → Type 0
-MatchesKey k o None = key_eq k o.key ≡ false
-MatchesKey k o (Some found) = (key_eq k o.key ≡ true) × (shown_object found ≡ o)
+-- a key's object lies where it is found, and nothing is found of a key that has none
+abbrev pub LiesFound : (ℕ → List Entry) → Key → Option Place → Option Versioned → Type 0
+LiesFound images k None None = Unit {0}
+LiesFound images k None (Some x) = ⊥
+LiesFound images k (Some p) None = ⊥
+LiesFound images k (Some p) (Some x) = IsAtPlace images p (object_at k x)
 
--- the slot that was found, and what the key has by the object that was found
-abbrev pub slot_found : Option (ℕ × ObjectRef) → Option ℕ
-slot_found found = option_map (λ (f : ℕ × ObjectRef). f.0) found
+-- the segment of a place; which one doesn't matter if there is none
+abbrev pub segment_at : Option Place → ℕ
+segment_at place = option_map_or (λ (p : Place). p.segment) place 0
 
-abbrev pub object_found : Option (ℕ × ObjectRef) → Option Versioned
-object_found found = option_map (λ (f : ℕ × ObjectRef). versioned (shown_object f.1)) found
+-- the place that was found, and what the key has by the object that was found
+abbrev pub place_found : Option (Place × ObjectRef) → Option Place
+place_found found = option_map (λ (f : Place × ObjectRef). f.0) found
 
--- the slot and the object that were found are the key's among these objects
-abbrev pub FindsSlot : List Object → Key → Option (ℕ × ObjectRef) → Type 0
-FindsSlot os k result =
-    (slot_found result ≡ slot_in os k) × (object_found result ≡ contents_of os k)
+abbrev pub object_found : Option (Place × ObjectRef) → Option Versioned
+object_found found = option_map (λ (f : Place × ObjectRef). versioned (shown_object f.1)) found
 
--- ---- what is found in an image
+-- the key's place was found, and the object that stands there
+abbrev pub FindsObject : (ℕ → List Entry) → List Held → Key → Option (Place × ObjectRef) → Type 0
+FindsObject images index k None = found (keys_in images) k index ≡ None
+FindsObject images index k (Some f) =
+    (found (keys_in images) k index ≡ Some f.0) × (object_there images f.0 ≡ Some (shown_object f.1))
 
--- the object that is at this offset, if one is, was found
-abbrev pub SeesObject : List Entry → ℕ → Option ObjectRef → Type 0
-SeesObject image at found = (o : Object) → LiesAt image at (entry.Object o) → IsSomeAnd found (λ f. shown_object f ≡ o)
+-- ---- what becomes of the index
 
--- the object that is at this place was found if it is the key's
-abbrev pub SeesObjectOf : (ℕ → List Entry) → Place → Key → Option ObjectRef → Type 0
-SeesObjectOf images p k found = (o : Object) → IsAtPlace images p (entry.Object o) → MatchesKey k o found
-
--- the key's slot was found, and its object, among the objects that are at these places
-abbrev pub FindsAmong : (ℕ → List Entry) → List Place → Key → Option (ℕ × ObjectRef) → Type 0
-FindsAmong images places k result = (os : List Object) → AreAt images places os → FindsSlot os k result
+-- a change of the key's object, whose new object, if any, is at this place
+abbrev pub IsMoved : (Place → Option Key) → List Held → Change → Key → Place → List Held → Type 0
+IsMoved keys old change.Nothing k p new = new ≡ old
+IsMoved keys old (change.Create version) k p new =
+    AreKept keys old → keys p ≡ Some k → IsSet keys old k (Some p) new
+IsMoved keys old (change.Replace dead version) k p new =
+    AreKept keys old → keys p ≡ Some k → IsSet keys old k (Some p) new
+IsMoved keys old (change.Delete dead) k p new = AreKept keys old → IsSet keys old k None new

@@ -3,9 +3,7 @@ use Rattle.std.specs.Prelude.{◌≡◌, ℕ, zero, suc, ◌+◌, ◌*◌, ◌%�
 use Rattle.std.specs.Option.{option_map, option_map_or}
 use Rattle.entry.specs.declared.key.Key.{Key}
 use Rattle.entry.specs.declared.entry.Entry.{Entry}
-use Rattle.entry.specs.declared.entry.Entry.TheVariants as entry
 use Rattle.entry.specs.Meaning.{Versioned, object_at}
-use Rattle.entry.specs.Order.{key_eq}
 use Rattle.entry.specs.Text.{text_of, entries_in}
 use Rattle.segment.specs.Bytes.{standing_at}
 use Rattle.versioned_map.specs.declared.command.Command.{Command}
@@ -16,9 +14,11 @@ use Rattle.log_model.specs.Data.{LogConfig, LogData, state_of}
 use Rattle.clean_model.specs.Memory.{Memory, Place as EntryPlace, no_pass}
 use Rattle.log_head.specs.Log.{head_of, phase_of}
 use Rattle.master_core.specs.declared.config.Config.{Config}
-use Rattle.master_core.specs.declared.image.Place.{Place}
+use Rattle.hash_index.specs.declared.place.Place.{Place}
+use Rattle.hash_index.specs.Map.{found}
 use Rattle.master_core.specs.Data.{MasterData}
 use Rattle.master_core.specs.Images.{image_among, images_among}
+use Rattle.master_core.specs.Index.{keys_in}
 
 -- ---- placement
 
@@ -75,25 +75,9 @@ images_of d segment = images_among d.head d.closed segment
 
 -- ---- the index
 
-abbrev pub is_object_of : Key → Entry → Bool
-is_object_of k (entry.Header h) = false
-is_object_of k (entry.Digest ids) = false
-is_object_of k (entry.Safe version) = false
-is_object_of k (entry.Object o) = key_eq k o.key
-is_object_of k (entry.Tombstone t) = false
-
--- an object of the key is at this place of the images
-abbrev pub has_object_at : (ℕ → List Entry) → Key → Place → Bool
-has_object_at images k p = option_map_or (is_object_of k) (standing_at p.at (text_of (images p.segment))) false
-
--- the first of the places that has an object of the key
-abbrev pub first_at : (ℕ → List Entry) → Key → List Place → Option Place
-first_at images k [] = None
-first_at images k (p ∷ places) = if has_object_at images k p then Some p else first_at images k places
-
--- what the index finds
+-- where the index finds a key: the first of its places at which an object of the key stands
 abbrev pub find : MasterData → Key → Option Place
-find d k = first_at (images_of d) k d.places
+find d k = found (keys_in (images_of d)) k d.index
 
 -- a key's object is found where it stands, and nothing of a key that has none
 abbrev pub Finds : (ℕ → List Entry) → Key → Option Place → Option Versioned → Type 0

@@ -40,7 +40,7 @@ pub record Applies (d : MasterData) (seat : ℕ) (command : Command) (answer : S
   -- the head has the unit, and of the rest only the index, the safe version and the history changed
   pub rest : e ≡ record d {
     head = appended d.head (length d.history) (unit_now d command);
-    places = e.places;
+    index = e.index;
     safe = e.safe;
     history = e.history;
   }

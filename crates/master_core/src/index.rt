@@ -1,19 +1,43 @@
-//! Where the live objects of the images lie: a list that is walked.
+//! What the images tell the index, and what the index finds in them.
 
-ghost use Rattle.std.specs.Prelude.{◌≡◌, ◌<◌, IfSome, length, vec_len, vec_capacity};
-ghost use Rattle.entry.specs.View.{shown_key};
+ghost use Rattle.std.specs.Prelude.{◌≡◌, ◌<◌, false};
+ghost use Rattle.std.specs.Option.{option_map};
+ghost use Rattle.entry.specs.View.{shown_key, shown_object};
+ghost use Rattle.hash_index.specs.Map.{AreKept};
+ghost use Rattle.master_core.specs.Change.{is_nothing};
 ghost use Rattle.master_core.specs.Images.{images_among};
-ghost use Rattle.master_core.specs.Index.{placed, segment_at, SeesObject, SeesObjectOf, FindsAmong};
+ghost use Rattle.master_core.specs.Index.{object_in, object_there, keys_in, FindsObject, IsMoved};
 
 use crate::change::Change;
-use crate::image::{ClosedSegment, Place, image_of};
+use crate::image::image_of;
 use entry::{EntryRef, KeyRef, ObjectRef};
+use hash_index::{Index, Place, Resolve};
+use images::Images;
 use log_head::Head;
 use segment::Segment;
 
+/// The images of a log, which tell the index what key stands at a place.
+#[derive(Drop)]
+pub struct LogImages<'a> {
+    pub head: &'a Head,
+    /// Those of the closed segments.
+    pub closed: &'a Images,
+}
+
+impl<'a> Resolve for LogImages<'a> {
+    ghost keys = { λ images. keys_in (images_among images.head.now images.closed.now.images) };
+
+    fn key_at(&self, place: Place) -> Option<KeyRef<'_>> {
+        match object_there(self.head, self.closed, place) {
+            None => None,
+            Some(object) => Some(object.key),
+        }
+    }
+}
+
 /// The object that begins at an offset of the image.
-fn object_at(image: &Segment, at: usize) -> Option<ObjectRef<'_>>
-    ensures { SeesObject image.entry.now at result }
+fn object_in(image: &Segment, at: usize) -> Option<ObjectRef<'_>>
+    ensures { option_map shown_object result ≡ object_in image.entry.now at }
 {
     match image.entry_at(at) {
         Some(EntryRef::Object(object)) => Some(object),
@@ -21,71 +45,50 @@ fn object_at(image: &Segment, at: usize) -> Option<ObjectRef<'_>>
     }
 }
 
-/// The object at a place of the images, if it is the key's.
-fn object_of<'a>(
+/// The object at a place of the images.
+fn object_there<'a>(
     head: &'a Head,
-    closed: &'a [ClosedSegment],
+    closed: &'a Images,
     place: Place,
-    key: &KeyRef,
 ) -> Option<ObjectRef<'a>>
-    ensures { SeesObjectOf (images_among head.entry.now closed.entry.now) place (shown_key key.now) result }
+    ensures { option_map shown_object result ≡ object_there (images_among head.entry.now closed.entry.now.images) place }
 {
     let image = image_of(head, closed, place.segment)?;
-    match object_at(image, place.at) {
-        Some(object) if *key == object.key => Some(object),
-        _ => None,
-    }
+    object_in(image, place.at)
 }
 
-/// Which of the places has the key's object, and the object.
+/// The place and the object of a key.
 pub fn find<'a>(
     head: &'a Head,
-    closed: &'a [ClosedSegment],
-    places: &[Place],
-    key: &KeyRef,
-) -> Option<(usize, ObjectRef<'a>)>
-    ensures within { IfSome result (λ found. found.0 < length places.now) }
-    ensures found { FindsAmong (images_among head.entry.now closed.entry.now) places.now (shown_key key.now) result }
+    closed: &'a Images,
+    index: &Index,
+    key: &KeyRef<'_>,
+) -> Option<(Place, ObjectRef<'a>)>
+    ensures { let images = images_among head.entry.now closed.entry.now.images in
+        AreKept (keys_in images) index.now.held → FindsObject images index.now.held (shown_key key.now) result }
 {
-    for (slot, place) in places.iter().enumerate() {
-        if let Some(object) = object_of(head, closed, *place, key) {
-            return Some((slot, object));
-        }
-    }
-    None
-}
-
-/// The segment of the place of this slot.
-pub fn segment_at(places: &[Place], slot: Option<usize>) -> u64
-    ensures { result ≡ segment_at places.now slot }
-{
-    match slot {
-        None => 0,
-        Some(slot) => match places.get(slot) {
-            None => 0,
-            Some(place) => place.segment,
-        },
+    let place = index.get(&LogImages { head, closed }, key)?;
+    match object_there(head, closed, place) {
+        None => None,
+        Some(object) => Some((place, object)),
     }
 }
 
-/// Keeps the places of the live objects. The new object of the change, if there is one, is at this place.
-pub fn place_change(places: &mut Vec<Place>, change: &Change, slot: Option<usize>, at: Place)
-    requires slot { IfSome slot (λ slot. slot < vec_len places.old) }
-    requires room { vec_len places.old < vec_capacity places.old }
-    ensures { places.new.items ≡ placed places.old.items change.now slot at }
+/// Follows a change of the key's object in the index. The new object, if there is one, is at this place.
+pub fn move_object(index: &mut Index, images: &LogImages<'_>, change: &Change, key: &KeyRef<'_>, place: Place)
+    requires { is_nothing change.now ≡ false → 0 < index.old.room }
+    ensures { let keys = keys_in (images_among images.now.head.now images.now.closed.now.images) in
+        IsMoved keys index.old.held change.now (shown_key key.now) place index.new.held }
 {
     match change {
         Change::Nothing => {}
-        Change::Create(_) => places.push_reserved(at),
-        Change::Replace(_, _) => {
-            if let Some(slot) = slot {
-                places[slot] = at;
-            }
+        Change::Create(_) => {
+            index.set(images, key, place);
+            index.settle();
         }
+        Change::Replace(_, _) => index.set(images, key, place),
         Change::Delete(_) => {
-            if let Some(slot) = slot {
-                places.remove(slot);
-            }
+            index.remove(images, key);
         }
     }
 }

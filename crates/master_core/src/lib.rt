@@ -4,7 +4,8 @@
 //! A command is applied here whole or not at all (`Core::apply`): it is answered as the versioned map does, its record
 //! and its unit go to the log, and each refusal has its cause (`specs/Causes.antt`). What is to be pushed is told, and
 //! counted once a backup took it, by the layer above. `specs/Log.antt` says what a master's data are to the laws of a
-//! log. It stands on `log_head`, `log_model` and `clean_model`.
+//! log. It stands on `hash_index`, `images`, `log_head`,
+//! `log_model` and `clean_model`.
 #![tactic(auto)]
 
 mod change;
@@ -17,6 +18,6 @@ mod step;
 mod unit;
 
 pub use config::{Config, ConfigFault};
-pub use image::{ClosedSegment, Place};
+pub use hash_index::Place;
 pub use state::Core;
 pub use step::{Look, Refusal, Shown, Step, StepAnswer};

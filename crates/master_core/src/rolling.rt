@@ -1,29 +1,61 @@
 //! What a core pushes next, and how it rolls to the next head.
 
-ghost use Rattle.std.specs.Prelude.{◌⊎◌, ◌≡◌, ◌<◌, None, Some, true, IfOk, IfErr, OnOk, OnErr};
+ghost use Rattle.std.specs.Prelude.{◌⊎◌, ◌≡◌, ◌<◌, ◌≤◌, ◌^◌, None, Some, true, IfOk, IfErr, OnOk, OnErr};
 ghost use Rattle.std.specs.Result.{result_err};
 ghost use Rattle.log_head.specs.Head.{is_open};
 ghost use Rattle.log_head.specs.Next.{IsNextPush};
 ghost use Rattle.log_model.specs.Steps.{MayRoll};
-ghost use Rattle.master_core.specs.Causes.{may_roll, roll_refusal};
+ghost use Rattle.master_core.specs.Budget.{used_seglets, free_seglets, seglets_of, may_roll, segments_for};
+ghost use Rattle.master_core.specs.Causes.{roll_refusal};
 ghost use Rattle.master_core.specs.Invariant.{IsCore};
 ghost use Rattle.master_core.specs.Log.{log_of};
 ghost use Rattle.master_core.specs.Steps.{BeginsRoll, taken_data};
 
-use crate::image::ClosedSegment;
 use crate::state::Core;
 use crate::step::{Refusal, StepAnswer};
 use log_head::Next;
+use versioned_map::Command;
 
 impl Core {
-    /// The rule of a roll: the log may have one more segment, and one is left for a roll that makes room.
-    pub(crate) fn may_roll(&self) -> bool
-        requires { is_open self.now.head ≡ true }
-        ensures { result ≡ may_roll self.now }
+    /// How many seglets of memory are counted: those of whole heads, and of closed segments each by its length.
+    pub fn used(&self) -> u64
+        ensures used { result ≡ used_seglets self.now }
+        ensures within { result ≤ self.now.config.seglets }
+    {
+        let whole = self.config.segment / self.config.seglet;
+        let head = match self.head.roll() {
+            None => whole,
+            Some(_) => self.closing_seglets() + whole,
+        };
+        head + self.closed.used()
+    }
+
+    /// How many seglets of memory are left.
+    pub fn free(&self) -> u64
+        ensures { result ≡ free_seglets self.now }
+    {
+        self.config.seglets - self.used()
+    }
+
+    /// How many seglets the head counts once it is closed.
+    fn closing_seglets(&self) -> u64
+        ensures closing { result ≡ seglets_of self.now.config self.now.head.image }
+        ensures small { result ≤ 2 ^ 32 }
+    {
+        (self.head.image().bytes_len() as u64).div_ceil(self.config.seglet)
+    }
+
+    /// The rule of a roll: the log may have one more segment, and one is left for a roll that makes room; and so many
+    /// whole segments are free once the head counts its length.
+    pub(crate) fn may_roll(&self, free: u64) -> bool
+        requires open { is_open self.now.head ≡ true }
+        requires few { free ≤ 3 }
+        ensures { result ≡ may_roll self.now free }
     {
         let more = self.closed.len() as u64 + 2;
         let most = self.config.segment / 32;
-        more <= most && more <= most - 2 + 1
+        let needed = free * (self.config.segment / self.config.seglet) + self.closing_seglets();
+        more <= most && more <= most - 2 + 1 && needed <= self.free()
     }
 
     /// The tests of a roll by itself.
@@ -39,7 +71,7 @@ impl Core {
         if self.next > 4_611_686_018_427_387_904 {
             return Err(Refusal::SegmentsSpent);
         }
-        if !self.may_roll() {
+        if !self.may_roll(2) {
             return Err(Refusal::Full);
         }
         Ok(())
@@ -56,7 +88,7 @@ impl Core {
         ensures err { OnErr result (self.new ≡ self.old) }
     {
         self.admit_roll()?;
-        self.closed.reserve(1)?;
+        self.closed.reserve()?;
         let id = self.next;
         let seglet = self.config.seglet as usize;
         let kept = self.head.image().bytes().len().div_ceil(seglet) * seglet;
@@ -93,9 +125,20 @@ impl Core {
             Next::CloseOld(_) => {
                 let id = self.head.id();
                 if let Some(image) = self.head.close_old() {
-                    self.closed.push_reserved(ClosedSegment { id, image });
+                    self.closed.add_reserved(id, image, false);
                 }
             }
         }
+    }
+}
+
+/// How many whole segments have to be free when a roll begins for a command.
+pub(crate) fn segments_for(command: &Command) -> u64
+    ensures needed { result ≡ segments_for command.now }
+    ensures few { result ≤ 3 }
+{
+    match command {
+        Command::Get(_) | Command::Delete(_) => 2,
+        Command::Put(_, _, _) => 3,
     }
 }

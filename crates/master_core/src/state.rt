@@ -10,19 +10,23 @@ ghost use Rattle.log_model.specs.Data.{durable_of};
 ghost use Rattle.master_core.specs.Causes.{early_refusal, unit_refusal, command_refusal, unit_now};
 ghost use Rattle.master_core.specs.Config.{config_fault};
 ghost use Rattle.master_core.specs.Data.{fresh_data};
-ghost use Rattle.master_core.specs.Index.{slot_found, object_found};
-ghost use Rattle.master_core.specs.Invariant.{IsCore, IsChangeNow, IsJudged, IsSlotOf};
-ghost use Rattle.master_core.specs.Log.{log_of, held_now, image_of, home};
+ghost use Rattle.master_core.specs.Index.{segment_at, place_found, object_found};
+ghost use Rattle.master_core.specs.Invariant.{IsCore, IsChangeNow, IsJudged};
+ghost use Rattle.master_core.specs.Log.{log_of, held_now, image_of, find, home};
+ghost use Rattle.versioned_map.specs.Command.{command_key};
 ghost use Rattle.master_core.specs.Shown.{IsShown, NeedsMemory};
 ghost use Rattle.master_core.specs.Steps.{Applies, AppliesAs, MayApplyNow, reply_now, failed_data, refusal_of};
 
 use crate::change::{Change, change_of, is_too_big};
 use crate::config::Config;
-use crate::image::{ClosedSegment, Place, image_of};
+use crate::image::image_of;
 use crate::index::find;
+use crate::rolling::segments_for;
 use crate::step::{Look, Refusal, Shown, StepAnswer};
 use crate::unit::{enact, unit_len};
 use entry::{NoMemory, ObjectRef, Row, SafeVersion};
+use hash_index::{Index, Place};
+use images::Images;
 use log_head::Head;
 use replica::{Bytes, TakeFault};
 use segment::AppendFault;
@@ -36,42 +40,43 @@ pub struct Core {
     pub(crate) alloc: Global,
     pub(crate) config: Config,
     pub(crate) head: Head,
-    /// The closed segments of the log, in order.
-    pub(crate) closed: Vec<ClosedSegment>,
+    /// The images of the closed segments.
+    pub(crate) closed: Images,
     /// The first number that no segment had yet.
     pub(crate) next: u64,
     /// Where the live objects lie.
-    pub(crate) places: Vec<Place>,
+    pub(crate) index: Index,
     pub(crate) safe: SafeVersion,
     pub(crate) history: Vec<Record>,
     pub(crate) is_halted: bool,
 }
 
 impl Model for Core {
-    ghost use Rattle.std.specs.Prelude.{◌<◌, IsSome, vec_len, vec_capacity};
+    ghost use Rattle.std.specs.Prelude.{◌<◌, IsSome, length};
     ghost use Rattle.master_core.specs.Data.{MasterData};
-    ghost use Rattle.master_core.specs.Invariant.{IsCore};
+    ghost use Rattle.master_core.specs.Invariant.{IsCore, AreImagesOf};
 
     ghost Value = { MasterData };
 
     ghost view = { λ m. record {
       config = m.config;
       head = m.head;
-      closed = m.closed.items;
+      closed = m.closed.images;
       next = m.next;
-      places = m.places.items;
+      index = m.index.held;
       safe = m.safe;
       history = m.history.items;
       is_halted = m.is_halted;
     } };
 
     // while a roll is under way there is room for one more closed segment
-    ghost invariant = { λ m. (IsSome m.head.roll → vec_len m.closed < vec_capacity m.closed) × IsCore (record {
+    ghost invariant = { λ m. (IsSome m.head.roll → length m.closed.images < m.closed.room)
+        × AreImagesOf m.config m.closed × IsCore (record {
       config = m.config;
       head = m.head;
-      closed = m.closed.items;
+      closed = m.closed.images;
       next = m.next;
-      places = m.places.items;
+      index = m.index.held;
       safe = m.safe;
       history = m.history.items;
       is_halted = m.is_halted;
@@ -93,13 +98,19 @@ impl Core {
             SafeVersion::first(),
             config.segment as usize,
         )?;
+        let closed = Images::new(
+            alloc,
+            config.segment as usize,
+            config.seglet as usize,
+            config.seglets,
+        );
         let core = Core {
             alloc,
             config,
             head,
-            closed: Vec::new(alloc),
+            closed,
             next: 2,
-            places: Vec::new(alloc),
+            index: Index::new(alloc),
             safe: SafeVersion::first(),
             history: Vec::new(alloc),
             is_halted: false,
@@ -186,7 +197,7 @@ impl Core {
     /// Whether the unit of a change, if it makes one, can be appended.
     fn fit(&self, command: &Command, change: &Change) -> Result<(), Refusal>
         ensures { IsChangeNow self.now command.now change.now →
-            result_err result ≡ unit_refusal self.now (unit_now self.now command.now) }
+            result_err result ≡ unit_refusal self.now command.now (unit_now self.now command.now) }
     {
         if change.is_nothing() {
             return Ok(());
@@ -198,30 +209,30 @@ impl Core {
         if self.head.fits(unit_len(command, change), limit) {
             return Ok(());
         }
-        if self.may_roll() {
+        if self.may_roll(segments_for(command)) {
             return Err(Refusal::Rolling);
         }
         Err(Refusal::Full)
     }
 
-    /// The object of the command's key, and which of the places it has.
-    fn find(&self, command: &Command) -> Option<(usize, ObjectRef<'_>)>
-        ensures within { IfSome result (λ found. found.0 < length self.entry.now.places) }
-        ensures slot { IsSlotOf self.entry.now command.now (slot_found result) }
+    /// The place and the object of the command's key.
+    fn find(&self, command: &Command) -> Option<(Place, ObjectRef<'_>)>
+        ensures place { place_found result ≡ find self.entry.now (command_key command.now) }
         ensures object { object_found result ≡ held_now self.entry.now command.now }
     {
         find(
             &self.head,
-            self.closed.as_slice(),
-            self.places.as_slice(),
+            &self.closed,
+            &self.index,
             &command.key().view(),
         )
     }
 
-    /// What a command does, and which of the places has its key: all tests, in order.
-    fn judge(&self, command: &Command) -> Result<(Change, Option<(usize, ObjectRef<'_>)>), Refusal>
+    /// What a command does, and what its key has: all tests, in order.
+    fn judge(&self, command: &Command) -> Result<(Change, Option<(Place, ObjectRef<'_>)>), Refusal>
         ensures passed { IfOk result (λ _. command_refusal self.entry.now command.now ≡ None) }
-        ensures judged { IfOk result (λ judged. IsJudged self.entry.now command.now judged.0 (slot_found judged.1)) }
+        ensures judged { IfOk result (λ judged.
+            IsJudged self.entry.now command.now judged.0 (segment_at (place_found judged.1))) }
         ensures object { IfOk result (λ judged. object_found judged.1 ≡ held_now self.entry.now command.now) }
         ensures refused { IfErr result (λ r. command_refusal self.entry.now command.now ≡ Some r) }
     {
@@ -238,8 +249,9 @@ impl Core {
         Ok((change, found))
     }
 
-    /// What a command does, which of the places has its key, and the reply, for the history and for the client.
-    fn consider(&self, command: &Command) -> Result<(Change, Option<usize>, Reply, Reply), Refusal>
+    /// What a command does, in which segment its dead object lies, if there is one, and the reply, for the history and
+    /// for the client.
+    fn consider(&self, command: &Command) -> Result<(Change, u64, Reply, Reply), Refusal>
         ensures passed { IfOk result (λ _. command_refusal self.now command.now ≡ None) }
         ensures judged { IfOk result (λ considered. IsJudged self.now command.now considered.0 considered.1) }
         ensures reply { IfOk result (λ considered. considered.2 ≡ reply_now self.now command.now) }
@@ -250,17 +262,17 @@ impl Core {
         match self.judge(command) {
             Err(refusal) => Err(refusal),
             Ok((change, found)) => {
-                let (slot, reply) = match &found {
-                    None => (None, change.reply(self.alloc, command, None)?),
-                    Some((slot, object)) => {
+                let (dead, reply) = match &found {
+                    None => (0, change.reply(self.alloc, command, None)?),
+                    Some((place, object)) => {
                         (
-                            Some(*slot),
+                            place.segment,
                             change.reply(self.alloc, command, Some(object))?,
                         )
                     }
                 };
                 let answer = reply.copy()?;
-                Ok((change, slot, reply, answer))
+                Ok((change, dead, reply, answer))
             }
         }
     }
@@ -295,25 +307,20 @@ impl Core {
             ⊎ ((command_refusal self.old command ≡ None) × (r ≡ Refusal.NoMemory))) }
         ensures err { OnErr result (self.new ≡ self.old) }
     {
-        let (change, slot, reply, answer) = self.consider(&command)?;
+        let (change, dead, reply, answer) = self.consider(&command)?;
         let record = Record {
             seat,
             command,
             reply,
         };
-        let place = self.add(record, &change, slot)?;
+        let place = self.add(record, &change, dead)?;
         Ok(StepAnswer::Applied(place, answer))
     }
 
     /// Adds the record of a command that passed all tests, and appends the unit of its change. The place of the record.
-    fn add(
-        &mut self,
-        accepted: Record,
-        change: &Change,
-        slot: Option<usize>,
-    ) -> Result<u64, NoMemory>
+    fn add(&mut self, accepted: Record, change: &Change, dead: u64) -> Result<u64, NoMemory>
         requires passed { command_refusal self.old accepted.command ≡ None }
-        requires judged { IsJudged self.old accepted.command change.now slot }
+        requires judged { IsJudged self.old accepted.command change.now dead }
         requires reply { accepted.reply ≡ reply_now self.old accepted.command }
         ensures added { IfOk result (λ place. AppliesAs self.old accepted place self.new) }
         ensures may { OnOk result (MayApplyNow self.old accepted.seat accepted.command) }
@@ -323,11 +330,12 @@ impl Core {
         let place = self.history.len() as u64;
         enact(
             &mut self.head,
-            &mut self.places,
+            &self.closed,
+            &mut self.index,
             &mut self.history,
             &accepted.command,
             change,
-            slot,
+            dead,
             self.config.segment as usize,
         )?;
         self.safe = change.safe_after(self.safe);
@@ -373,7 +381,7 @@ impl Core {
         ensures image { IfOk result (λ image. image ≡ option_map text_of (image_of self.now id)) }
         ensures refused { OnErr result (IsSome (image_of self.now id)) }
     {
-        let Some(image) = image_of(&self.head, self.closed.as_slice(), id) else {
+        let Some(image) = image_of(&self.head, &self.closed, id) else {
             return Ok(None);
         };
         let bytes = Vec::from_slice(self.alloc, image.bytes())?;

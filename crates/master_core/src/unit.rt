@@ -1,20 +1,23 @@
 //! From a command and its change to the unit that the head takes.
 
-ghost use Rattle.std.specs.Prelude.{◌≡◌, false, ℕ, ◌+◌, ◌^◌, ◌<◌, ◌≤◌, List, [], ◌∷◌, ◌++◌, length, vec_len, vec_capacity, IfSome, OnOk, OnErr, IsErrOf};
+ghost use Rattle.std.specs.Prelude.{◌≡◌, false, ℕ, ◌+◌, ◌^◌, ◌<◌, ◌≤◌, List, [], ◌∷◌, ◌++◌, length, vec_len, vec_capacity, OnOk, OnErr, IsErrOf};
 ghost use Rattle.entry.specs.declared.entry.Object.{Object};
 ghost use Rattle.entry.specs.declared.entry.Entry.{Entry};
 ghost use Rattle.entry.specs.declared.entry.Entry.TheVariants as entry;
 ghost use Rattle.entry.specs.Text.{text_of};
 ghost use Rattle.entry.specs.View.{shown};
 ghost use Rattle.log_head.specs.Head.{IsHeadValue, len_with};
-ghost use Rattle.master_core.specs.Index.{placed, segment_at};
+ghost use Rattle.master_core.specs.Images.{images_among};
+ghost use Rattle.master_core.specs.Index.{keys_in, IsMoved};
+ghost use Rattle.versioned_map.specs.Command.{command_key};
 ghost use Rattle.versioned_map.specs.Units.{object_entry, tombstone_entry};
 ghost use Rattle.master_core.specs.Change.{unit_of_change, is_empty, appended, BeginsAt};
 
 use crate::change::Change;
-use crate::image::Place;
-use crate::index::{place_change, segment_at};
+use crate::index::{LogImages, move_object};
 use entry::{EntryRef, Key, NoMemory, ObjectRef, TombstoneRef, Value, Version};
+use hash_index::{Index, Place};
+use images::Images;
 use log_head::Head;
 use segment::AppendFault;
 use versioned_map::{Command, Record};
@@ -119,42 +122,44 @@ fn append_change(
     }
 }
 
-/// Appends the unit of a change, which fits, and keeps the places of the live objects. The history gets room for its
-/// record.
+/// Appends the unit of a change, which fits, and follows it in the index. The history gets room for its record.
 pub fn enact(
     head: &mut Head,
-    places: &mut Vec<Place>,
+    closed: &Images,
+    index: &mut Index,
     history: &mut Vec<Record>,
     command: &Command,
     change: &Change,
-    slot: Option<usize>,
+    dead: u64,
     limit: usize,
 ) -> Result<(), NoMemory>
-    requires slot { IfSome slot (λ slot. slot < vec_len places.old) }
     requires limit { limit ≤ 8388608 }
-    requires fits { let unit = unit_of_change (segment_at places.old.items slot) command.now change.now in
+    requires fits { let unit = unit_of_change dead command.now change.now in
         is_empty unit ≡ false → len_with head.old.image unit ≤ limit }
     ensures valid { OnOk result (IsHeadValue head.new) }
-    ensures head { let unit = unit_of_change (segment_at places.old.items slot) command.now change.now in
+    ensures head { let unit = unit_of_change dead command.now change.now in
         OnOk result (head.new ≡ appended head.old (length history.old.items) unit) }
-    ensures places { OnOk result ((at : ℕ) × BeginsAt head.old.image command.now change.now at
-        × (places.new.items ≡ placed places.old.items change.now slot (record { segment = head.old.id; at = at }))) }
+    ensures index { OnOk result ((at : ℕ) × BeginsAt head.old.image command.now change.now at
+        × IsMoved (keys_in (images_among head.new closed.now.images)) index.old.held change.now (command_key command.now)
+            (record { segment = head.old.id; at = at }) index.new.held) }
     ensures history { history.new.items ≡ history.old.items }
     ensures room { OnOk result (vec_len history.new < vec_capacity history.new) }
-    ensures err { OnErr result ((head.new ≡ head.old) × (places.new.items ≡ places.old.items)) }
+    ensures err { OnErr result ((head.new ≡ head.old) × (index.new.held ≡ index.old.held)) }
 {
     let place = Place {
         segment: head.id(),
         at: head.image().bytes().len() + object_offset(command, change),
     };
-    let dead = segment_at(places.as_slice(), slot);
     history.reserve(1)?;
-    places.reserve(1)?;
+    if !change.is_nothing() {
+        index.reserve(1)?;
+    }
     match append_change(head, command, change, dead, history.len(), limit) {
         Ok(()) => {}
         Err(AppendFault::Full) => unreachable!(),
         Err(AppendFault::NoMemory) => return Err(NoMemory),
     }
-    place_change(places, change, slot, place);
+    let images = LogImages { head, closed };
+    move_object(index, &images, change, &command.key().view(), place);
     Ok(())
 }

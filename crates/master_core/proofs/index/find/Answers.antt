@@ -1,21 +1,20 @@
-use Rattle.entry.specs.View.{shown_key, shown_object}
+use Rattle.std.proofs.Common.{◌≡◌, List, sym, ap, ◌∙◌}
+use Rattle.std.specs.Prelude.{Option, Some, None}
+use Rattle.std.specs.Option.{option_map}
+use Rattle.entry.specs.declared.key.Key.{Key}
+use Rattle.entry.specs.declared.entry.Object.{Object}
+use Rattle.entry.specs.View.{shown_key}
+use Rattle.hash_index.proofs.Finding.{found_is}
 use Rattle.master_core.specs.Images.{images_among}
-use Rattle.master_core.proofs.Places.{walk_begins, walk_on, walk_finds, walk_ends}
+use Rattle.master_core.specs.Index.{keys_in}
 use Rattle.master_core.proofs.index.find.Goals as goal
 
-pub returns-in-Some-clause-found : goal.returns-in-Some-clause-found
-returns-in-Some-clause-found c = λ os all.
-    walk_finds (images_among c.args.head.now c.args.closed.now) c.args.places.now os (shown_key c.args.key.now) c.loop-slot.slot all (shown_object c.in-Some.object) c.loop-slot-test.true
-    c.in-Some.ensures (c.loop-slot.invariant os all)
-
-pub loop-slot-preserved : goal.loop-slot-preserved
-loop-slot-preserved c = λ os all.
-    walk_on (images_among c.args.head.now c.args.closed.now) c.args.places.now os (shown_key c.args.key.now) c.loop-slot.slot all c.loop-slot-test.true
-    c.in_default.ensures (c.loop-slot.invariant os all)
-
-pub returns-clause-found : goal.returns-clause-found
-returns-clause-found c = λ os all.
-    walk_ends (images_among c.args.head.now c.args.closed.now) c.args.places.now os (shown_key c.args.key.now) c.loop-slot.slot all c.loop-slot-test.false (c.loop-slot.invariant os all)
-
-pub loop-slot-init : goal.loop-slot-init
-loop-slot-init c = λ os all. walk_begins os (shown_key c.args.key.now)
+pub returns-in-None : goal.returns-in-None
+returns-in-None c = λ kept.
+    let keys = keys_in (images_among c.args.head.now c.args.closed.now.images) in
+    let k = shown_key c.args.key.now in
+    let there : Some c.in_ok-place.place ≡ _ = c.in_ok-place.ensures kept in
+    let tells : keys c.in_ok-place.place ≡ Some k = found_is keys k c.args.index.now.held c.in_ok-place.place (sym there) in
+    let none : None ≡ keys c.in_ok-place.place = ap (option_map (λ (o : Object). o.key)) c.in-None.ensures in
+    let never : None ≡ Some k = none ∙ tells in
+    absurd (cc)

@@ -11,7 +11,9 @@ use Rattle.master_core.specs.Log.{log_of}
 use Rattle.master_core.specs.Change.{unit_of_change, appended}
 use Rattle.master_core.specs.contracts.state.Core.{the_view}
 use Rattle.master_core.specs.Data.{MasterData}
-use Rattle.master_core.specs.Index.{segment_at}
+use Rattle.versioned_map.specs.Command.{command_key}
+use Rattle.master_core.specs.Images.{images_among}
+use Rattle.master_core.specs.Index.{keys_in, IsMoved}
 use Rattle.master_core.specs.Invariant.{IsCore, IsJudged}
 use Rattle.master_core.specs.Steps.{reply_now, record_now, Applies}
 use Rattle.std.specs.Prelude.{IsSome}
@@ -24,8 +26,8 @@ enact-requires-clause-fits c =
     let d : MasterData = the_view c.self.inside in
     let command = c.args.accepted.command in
     let passed : command_refusal d command ≡ None = rw (← c.self.view_is) at c.requires.passed in
-    let judged : IsJudged d command c.args.change.now c.args.slot = rw (← c.self.view_is) at c.requires.judged in
-    fits d c.self.invariant.1 command c.args.change.now c.args.slot judged passed
+    let judged : IsJudged d command c.args.change.now c.args.dead = rw (← c.self.view_is) at c.requires.judged in
+    fits d c.self.invariant.2 command c.args.change.now c.args.dead judged passed
 
 -- ---- the core with the record, where memory was given
 
@@ -42,27 +44,34 @@ module _ (c : goal.After-push_reserved) where
   passed : command_refusal d command ≡ None
   passed = rw (← c.self.view_is) at c.requires.passed
 
-  judged : IsJudged d command change c.args.slot
+  judged : IsJudged d command change c.args.dead
   judged = rw (← c.self.view_is) at c.requires.judged
 
   reply : c.args.accepted.reply ≡ reply_now d command
   reply = rw (← c.self.view_is) at c.requires.reply
 
-  head : IsHeadValue (appended d.head (length d.history) (unit_of_change (segment_at d.places c.args.slot) command change))
+  head : IsHeadValue (appended d.head (length d.history) (unit_of_change c.args.dead command change))
   head = subst (λ (h : HeadValue). IsHeadValue h) c.in_ok-enact.ensures.head c.in_ok-enact.ensures.valid
+
+  moved : IsMoved (keys_in (images_among (appended d.head (length d.history) (unit_of_change c.args.dead command change)) d.closed)) d.index
+      change (command_key command) (record { segment = d.head.id; at = c.in_ok-enact.ensures.index.0 }) c.enact.new.index.held
+  moved =
+      subst (λ (h : HeadValue). IsMoved (keys_in (images_among h d.closed)) d.index change (command_key command)
+      (record { segment = d.head.id; at = c.in_ok-enact.ensures.index.0 }) c.enact.new.index.held) c.in_ok-enact.ensures.head
+      c.in_ok-enact.ensures.index.2
 
   roll_then : c.enact.new.head.roll ≡ d.head.roll
   roll_then =
       ap (λ (h : HeadValue). h.roll) c.in_ok-enact.ensures.head
-      ∙ (same_appended d.head (length d.history) (unit_of_change (segment_at d.places c.args.slot) command change)).2
+      ∙ (same_appended d.head (length d.history) (unit_of_change c.args.dead command change)).2
 
   items : c.push_reserved.new.self.items ≡ d.history ++ c.args.accepted ∷ []
   items = rw (c.push_reserved.ensures.items, c.enact.ensures.history) refl
 
   abbrev e : MasterData
   e =
-      let there = c.in_ok-enact.ensures.places in
-      added d c.self.invariant.1 command change c.args.slot judged c.args.accepted.seat there.0 passed there.1 head
+      let there = c.in_ok-enact.ensures.index in
+      added d c.self.invariant.2 command change c.args.dead judged c.args.accepted.seat there.0 c.enact.new.index.held passed there.1 moved head
 
   abbrev left : MasterData
   left = record {
@@ -70,7 +79,7 @@ module _ (c : goal.After-push_reserved) where
     head = c.enact.new.head;
     closed = d.closed;
     next = d.next;
-    places = c.enact.new.places.items;
+    index = c.enact.new.index.held;
     safe = c.safe_after-self-inside.result;
     history = c.push_reserved.new.self.items;
     is_halted = d.is_halted;
@@ -85,7 +94,7 @@ module _ (c : goal.After-push_reserved) where
     head = sym c.in_ok-enact.ensures.head i;
     closed = d.closed;
     next = d.next;
-    places = sym c.in_ok-enact.ensures.places.2 i;
+    index = c.enact.new.index.held;
     safe = sym c.safe_after-self-inside.ensures i;
     history = sym (items ∙ ap with_reply reply) i;
     is_halted = d.is_halted;
@@ -93,27 +102,27 @@ module _ (c : goal.After-push_reserved) where
 
   core : IsCore left
   core =
-      let there = c.in_ok-enact.ensures.places in
+      let there = c.in_ok-enact.ensures.index in
       subst IsCore knows
-      (added_core d c.self.invariant.1 command change c.args.slot judged c.args.accepted.seat there.0 passed there.1 head)
+      (added_core d c.self.invariant.2 command change c.args.dead judged c.args.accepted.seat there.0 c.enact.new.index.held passed there.1 moved head)
 
   applies : Applies d c.args.accepted.seat command (Applied (length d.history) c.args.accepted.reply) left
   applies =
-      let there = c.in_ok-enact.ensures.places in
+      let there = c.in_ok-enact.ensures.index in
       let seat = c.args.accepted.seat in
       subst (λ (m : MasterData). Applies d seat command (Applied (length d.history) c.args.accepted.reply) m) knows
       (subst (λ (r : Reply). Applies d seat command (Applied (length d.history) r) e) (sym reply)
-      (added_applies d c.self.invariant.1 command change c.args.slot judged seat there.0 passed there.1 head))
+      (added_applies d c.self.invariant.2 command change c.args.dead judged seat there.0 c.enact.new.index.held passed there.1 moved head))
 
   may_apply : MayApply (log_of d) (dead_segment d command) (record_now d c.args.accepted.seat command)
   may_apply =
-      let there = c.in_ok-enact.ensures.places in
-      may d c.self.invariant.1 command change c.args.slot judged c.args.accepted.seat there.0 passed there.1 head
+      let there = c.in_ok-enact.ensures.index in
+      may d c.self.invariant.2 command change c.args.dead judged c.args.accepted.seat there.0 c.enact.new.index.held passed there.1 moved head
 
 pub invariant_of-self-2 : goal.invariant_of-self-2
 invariant_of-self-2 c =
     let t = (goal.at.invariant_of-self-2 c).After-push_reserved in
-    (λ some. c.self.invariant.0 (subst IsSome (roll_then t) some), core t)
+    (λ some. c.self.invariant.0 (subst IsSome (roll_then t) some), c.self.invariant.1, core t)
 
 pub returns-clause-added : goal.returns-clause-added
 returns-clause-added c =

@@ -12,11 +12,11 @@ returns-in-None c =
     let len : c.len.result ≡ length d.history = search rules in
     rw (← c.self.view_is) (len
     ∙ sym (from_none (slice_get d.head.units (everywhere d.head)) (length d.history) (sym c.first_missing.ensures.missing ∙ c.in-None.is))
-    ∙ durable_is d c.self.invariant.1)
+    ∙ durable_is d c.self.invariant.2)
 
 pub returns-in-Some : goal.returns-in-Some
 returns-in-Some c =
     let d : MasterData = the_view c.self.inside in
     rw (← c.self.view_is)
     (sym (from_some (slice_get d.head.units (everywhere d.head)) (length d.history) c.in-Some.number (sym c.first_missing.ensures.missing ∙ c.in-Some.is))
-    ∙ durable_is d c.self.invariant.1)
+    ∙ durable_is d c.self.invariant.2)

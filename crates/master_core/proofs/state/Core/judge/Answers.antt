@@ -5,13 +5,10 @@ use Rattle.entry.specs.declared.view.ObjectRef.{ObjectRef}
 use Rattle.entry.specs.Meaning.{Versioned}
 use Rattle.versioned_map.specs.Command.{command_key}
 use Rattle.master_core.specs.Change.{version_in, IsChangeOf}
+use Rattle.master_core.specs.Index.{segment_at}
 use Rattle.master_core.specs.Log.{state_now}
 use Rattle.master_core.proofs.state.Core.judge.Goals.{in-None, in-Some}
 use Rattle.master_core.proofs.state.Core.judge.Goals as goal
-
-slot_within : (found : Option (ℕ × ObjectRef)) (n : ℕ) → IfSome found (λ f. f.0 < n) → IfSome (option_map (λ (f : ℕ × ObjectRef). f.0) found) (λ s. s < n)
-slot_within None n lt = tt
-slot_within (Some f) n lt = lt
 
 pub returns-clause-judged : goal.returns-clause-judged
 returns-clause-judged c =
@@ -19,9 +16,8 @@ returns-clause-judged c =
     let version : version_in x ≡ c.match-found.version =
     ap (λ (y : Option Versioned). version_in y) (sym c.find-found.ensures.object)
     ∙ elim c.match-found.branch [ in-None w ↦ rw (w.in-None.is, w.version-is) refl | in-Some w ↦ rw (w.in-Some.is, w.version-is) refl ] in
-    let safe : c.self.inside.safe ≡ (state_now c.args.self.now).safe = rw (← c.self.view_is) c.self.invariant.1.index.1.safe in
+    let safe : c.self.inside.safe ≡ (state_now c.args.self.now).safe = rw (← c.self.view_is) c.self.invariant.2.index.safe in
     record {
-      within = slot_within c.find-found.result _ c.find-found.ensures.within;
-      slot_of = c.find-found.ensures.slot;
+      lies = ap segment_at c.find-found.ensures.place;
       change_of = subst (λ (s : ℕ). IsChangeOf s x c.args.command.now c.in-Ok.change) safe (c.in-Ok.ensures.done x version);
     }
