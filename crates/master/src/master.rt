@@ -212,13 +212,15 @@ impl<F: Fleet> Master<F> {
         }
     }
 
-    /// Steps in order, with their answers. Memory for the steps and the answers is taken before the first step.
+    /// Steps in order, with their answers. Memory for the steps and the answers is taken before the first step; no steps
+    /// take none.
     pub fn run(&mut self, steps: &[Step]) -> Result<Vec<Result<StepAnswer, Refusal>>, NoMemory>
         ensures ran { IfOk result (λ answers.
             IsRun (world F.state self.old) steps.now answers.items (world F.state self.new)) }
         ensures keeps { Keeps (length steps.now) (world F.state self.old) (world F.state self.new) }
         ensures valid { IsValid self.new.knows (F.state self.new.fleet) }
         ensures refused { OnErr result (world F.state self.new ≡ world F.state self.old) }
+        ensures needed { OnErr result (0 < length steps.now) }
     {
         self.show_valid();
         let mut answers = Vec::with_capacity(self.alloc, steps.len())?;
