@@ -212,8 +212,8 @@ impl<F: Fleet> Master<F> {
         }
     }
 
-    /// Steps in order, with their answers. Memory for the steps and the answers is taken before the first step; no steps
-    /// take none.
+    /// Steps in order, with their answers. Memory for the steps and the answers is taken before the first step. Where
+    /// there are no steps, none is taken.
     pub fn run(&mut self, steps: &[Step]) -> Result<Vec<Result<StepAnswer, Refusal>>, NoMemory>
         ensures ran { IfOk result (λ answers.
             IsRun (world F.state self.old) steps.now answers.items (world F.state self.new)) }
