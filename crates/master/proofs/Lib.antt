@@ -2,6 +2,7 @@ pub mod Placing
 pub mod Memories
 pub mod Starting
 pub mod LogSets
+pub mod Imaged
 pub mod Applied
 pub mod Rolled
 pub mod Pushed

@@ -9,6 +9,7 @@ use Rattle.master_core.specs.Log.{log_of, memory_of}
 use Rattle.master_core.proofs.Finding.{indexed}
 use Rattle.master.specs.Invariant.{IsWellKept}
 use Rattle.master.specs.Valid.{IsValid}
+use Rattle.master.proofs.Imaged.{imaged}
 use Rattle.master.proofs.Memories.{IsSame, covered_too}
 
 module _ (d : MasterData) (f : FleetState) (kept : IsWellKept d f) where
@@ -29,6 +30,8 @@ module _ (d : MasterData) (f : FleetState) (kept : IsWellKept d f) where
     history = kept.core.history;
     legal = kept.core.legal;
     index = indexed d kept.core;
+    safe = kept.core.index.1.safe;
+    imaged = imaged d kept.core;
     sound = fault_is_sound (log_of d) kept.memory kept.before f.picture kept.intact kept.now;
     covered = covered;
     durable = record {

@@ -9,7 +9,7 @@ use Rattle.log_model.specs.Steps.{OpensFirst, Extends, OpensNew, ClosesOld}
 use Rattle.replica.specs.Take.{Takes}
 use Rattle.master_core.specs.declared.step.StepAnswer.{StepAnswer}
 use Rattle.master_core.specs.declared.step.StepAnswer.TheVariants.{Applied, Opened, Extended, Closed, Rolling}
-use Rattle.master_core.specs.Log.{log_of}
+use Rattle.master_core.specs.Log.{log_of, image_of}
 use Rattle.master.specs.World.{World}
 
 -- how many units of the head a replica has, and how many it has after its next Extend
@@ -42,6 +42,8 @@ pub record Pushes (old : World) (answer : StepAnswer) (new : World) : Type 0 whe
   pub next : IsNextOp (log_of old.knows) op answer (log_of new.knows)
   -- only the head and the closed segments changed
   pub rest : new.knows ≡ record old.knows { head = new.knows.head; closed = new.knows.closed }
+  -- memory has the same entries of each segment: a head that is closed keeps its image
+  pub images : (s : ℕ) → image_of new.knows s ≡ image_of old.knows s
   pub takes : Takes old.fleet op.backup (op_of old.knows.config.master op) new.fleet
 
 -- what a push answers, by what it does to which replica

@@ -1,14 +1,16 @@
 -- What is true of every master and its fleet, after each step.
-use Rattle.std.specs.Prelude.{◌≡◌, ◌≤◌, List, length, None}
+use Rattle.std.specs.Prelude.{◌≡◌, ◌≤◌, ◌↔◌, ℕ, List, length, None, IsSome}
+use Rattle.entry.specs.Bag.{IsAmong}
 use Rattle.replica.specs.Picture.{Picture, FleetState}
 use Rattle.versioned_map.specs.History.{IsLegal}
 use Rattle.log_model.specs.Data.{Head, LogData, durable_of}
 use Rattle.log_model.specs.Durable.{IsDurable, IsReplicated}
 use Rattle.log_model.specs.Sound.{IsSound}
 use Rattle.clean_model.specs.Covered.{IsCovered}
+use Rattle.master_core.specs.Budget.{newest_digest, used_seglets}
 use Rattle.master_core.specs.Config.{config_fault}
 use Rattle.master_core.specs.Data.{MasterData}
-use Rattle.master_core.specs.Log.{opening_of, log_of, memory_of, IsIndexed}
+use Rattle.master_core.specs.Log.{opening_of, log_of, state_now, image_of, memory_of, IsIndexed}
 
 -- The durable count is the most records, from the first on, that are durable: for each of their units, every replica of
 -- the head that it was appended to took the unit whole and answered Ok. Each backup of such a segment of the log holds
@@ -26,6 +28,12 @@ pub record IsValid (d : MasterData) (f : FleetState) : Type 0 where
   pub legal : IsLegal (opening_of d) d.history
   -- the index finds exactly the map's objects
   pub index : IsIndexed d
+  -- the version that the next new key gets is the map's
+  pub safe : d.safe ≡ (state_now d).safe
+  -- memory has an image of each segment of the log, that of a head that is being opened too, and of no other
+  pub imaged : (s : ℕ) → IsSome (image_of d s) ↔ IsAmong s (newest_digest d.head)
+  -- no more seglets of memory are counted than there are
+  pub budget : used_seglets d ≤ d.config.seglets
   -- whatever backups are left, they hold a prefix that has each durable command, or a loss is named
   pub sound : IsSound (log_of d) f.picture
   -- memory and the replicas of the log hold the map

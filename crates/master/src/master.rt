@@ -215,13 +215,14 @@ impl<F: Fleet> Master<F> {
     }
 
     /// Makes the steps in order, and answers what each of them answered. All memory for this is taken before the first
-    /// step, so NoMemory means that no step was made.
+    /// step, so NoMemory means that no step was made. A run of no steps takes none.
     pub fn run(&mut self, steps: &[Step]) -> Result<Vec<Result<StepAnswer, Refusal>>, NoMemory>
         ensures ran { IfOk result (λ answers.
             IsRun (world F.state self.old) steps.now answers.items (world F.state self.new)) }
         ensures keeps { Keeps (length steps.now) (world F.state self.old) (world F.state self.new) }
         ensures valid { IsValid self.new.knows (F.state self.new.fleet) }
         ensures refused { OnErr result (world F.state self.new ≡ world F.state self.old) }
+        ensures needed { OnErr result (0 < length steps.now) }
     {
         self.show_valid();
         let mut answers = Vec::with_capacity(self.alloc, steps.len())?;

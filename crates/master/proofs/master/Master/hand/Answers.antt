@@ -12,6 +12,7 @@ use Rattle.master_core.specs.Invariant.{IsCore}
 use Rattle.master_core.specs.Log.{home}
 use Rattle.master_core.specs.Steps.{taken_data}
 use Rattle.master_core.proofs.Refusals.{push_passed}
+use Rattle.master_core.proofs.Rolls.{taken_images}
 use Rattle.master.specs.Invariant.{IsWellKept}
 use Rattle.master.specs.Pushes.{Pushes, answer_of}
 use Rattle.master.specs.World.{MasterValue}
@@ -66,7 +67,14 @@ module _ (g : given.Over) (c : goal.After-take g) where
   accepted took =
       subst (λ (x : StepAnswer). Pushes (record { knows = d; fleet = f }) x (record { knows = taken_data d push; fleet = after }))
       (λ i. answer_of push (sym backup i) (sym segment i))
-      (record { op = log_op d push; running = running; next = next_told d kept.core push waits; rest = same_rest d push; takes = takes took })
+      (record {
+        op = log_op d push;
+        running = running;
+        next = next_told d kept.core push waits;
+        rest = same_rest d push;
+        images = taken_images d kept.core push waits;
+        takes = takes took;
+      })
 
 pub invariant_of-self : goal.invariant_of-self
 invariant_of-self g c =
