@@ -30,8 +30,9 @@ module _ (d : MasterData) (f : FleetState) (kept : IsWellKept d f) where
     history = kept.core.history;
     legal = kept.core.legal;
     index = indexed d kept.core;
-    safe = kept.core.index.1.safe;
+    safe = kept.core.index.safe;
     imaged = imaged d kept.core;
+    budget = kept.core.budget;
     sound = fault_is_sound (log_of d) kept.memory kept.before f.picture kept.intact kept.now;
     covered = covered;
     durable = record {
