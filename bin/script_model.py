@@ -299,6 +299,11 @@ class Segment:
     units: tuple = ()
 
 
+def seglets(segment, options):
+    """How many seglets the image of a segment fills, the last one perhaps in part."""
+    return -(-len(segment.text) // options.seglet)
+
+
 def new_head(ids, safe):
     """A head with the last of these ids, that has nothing but its opening."""
     return Segment(ids[-1], Header(MASTER, ids[-1], 0).spelled() + Digest(ids).spelled() + Safe(safe).spelled())
@@ -369,13 +374,20 @@ class Master:
             return None
         length = sum(len(entry.spelled()) for entry in unit)
         fits = len(self.segments[-1].text) + length <= options.segment
-        if not self.is_rolling and not fits and not self.may_roll(options):
+        if not self.is_rolling and not fits and not self.may_roll(options, 3 if command.kind == "put" else 2):
             return "Full"
         return "Rolling" if self.is_rolling or not fits else None
 
-    def may_roll(self, options):
+    def may_roll(self, options, whole_ones):
+        """Whether a roll may begin that leaves so many whole segments free."""
         ids, most = len(self.segments), options.segment // 32
-        return ids + 1 <= most and ids + 1 <= most - 2 + 1
+        free = options.seglets - self.used(options)
+        needed = whole_ones * (options.segment // options.seglet) + seglets(self.segments[-1], options)
+        return ids + 1 <= most and ids + 1 <= most - 2 + 1 and needed <= free
+
+    def used(self, options):
+        """How many seglets are counted: the last segment whole, and each other one by its length."""
+        return options.segment // options.seglet + sum(seglets(it, options) for it in self.segments[:-1])
 
     def applied(self, command):
         """The reply to a command that isn't refused, and the master after it."""
@@ -540,7 +552,7 @@ class Store:
     def begun(self):
         if self.master.is_rolling:
             yield "refused Rolling\n", 0, self
-        elif not self.master.may_roll(self.options):
+        elif not self.master.may_roll(self.options, 2):
             yield "refused Full\n", 0, self
         else:
             yield REFUSED, 1, self

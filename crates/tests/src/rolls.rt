@@ -41,6 +41,16 @@ const SCRIPTS: &[(&[&str], &str, &str)] = &[
         "head 2\nhead 3\nhead 4\nhead 5\nhead 6\nhead 7\nhead 8\nhead 9\nhead 10\nhead 11\n\
         head 12\nhead 13\nhead 14\nhead 15\nrefused Full\n",
     ),
+    // a put keeps three whole segments free, a delete two: of 32 seglets the head counts 8, and 7 once it is closed
+    (
+        &["ramlog", "--seglets", "32"],
+        "put 1 a xxxxxxxxxxxxxxxxxxxxxxxxxxxxxxxxxxxxxxxxxxxxxxxxxxxxxxxxxxxxxxxxxxxxxxxxxxxx\n\
+        put 1 a xxxxxxxxxxxxxxxxxxxxxxxxxxxxxxxxxxxxxxxxxxxxxxxxxxxxxxxxxxxxxxxxxxxxxxxxxxxx\n\
+        put 1 a xxxxxxxxxxxxxxxxxxxxxxxxxxxxxxxxxxxxxxxxxxxxxxxxxxxxxxxxxxxxxxxxxxxxxxxxxxxx\n\
+        put 1 a xxxxxxxxxxxxxxxxxxxxxxxxxxxxxxxxxxxxxxxxxxxxxxxxxxxxxxxxxxxxxxxxxxxxxxxxxxxx\n\
+        get 1 a\ndel 1 a\n",
+        "ok 1\nok 2\nok 3\nrefused Full\n3 xxxxxxxxxxxxxxxxxxxxxxxxxxxxxxxxxxxxxxxxxxxxxxxxxxxxxxxxxxxxxxxxxxxxxxxxxxxx\nok 3\n",
+    ),
     // the last head takes what fits, and commands that append nothing are answered
     (
         RAMLOG,
