@@ -1,6 +1,6 @@
 -- Each place that is held is where its key is found.
 use Rattle.std.proofs.Common.{◌≡◌, Bool, true, false, List, [], ◌∷◌, refl, sym, ◌∙◌}
-use Rattle.std.specs.Prelude.{Option, Some, None}
+use Rattle.std.specs.Prelude.{Option, Some}
 use Rattle.std.specs.List.{AllByRecursion}
 use Rattle.entry.specs.declared.key.Key.{Key}
 use Rattle.hash_index.specs.declared.place.Held.{Held}

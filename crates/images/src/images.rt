@@ -175,8 +175,8 @@ impl Images {
         requires free { count_of self.old.segment self.old.seglet
             (record { id = id; segment = segment; is_whole = is_whole }) ≤ free_seglets self.old }
         ensures { self.new ≡ record self.old {
-            images = self.old.images ++ record { id = id; segment = segment; is_whole = is_whole } ∷ [];
-            room = self.new.room;
+          images = self.old.images ++ record { id = id; segment = segment; is_whole = is_whole } ∷ [];
+          room = self.new.room;
         } }
     {
         let image = Image {

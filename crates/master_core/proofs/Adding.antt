@@ -30,7 +30,7 @@ use Rattle.images.specs.Images.{count_of}
 use Rattle.master_core.specs.declared.config.Config.{Config}
 use Rattle.master_core.specs.Budget.{whole_seglets, seglets_of, head_seglets}
 use Rattle.master_core.specs.Causes.{command_refusal, dead_segment, unit_now}
-use Rattle.master_core.specs.Change.{unit_of_change, is_empty, safe_of_change, appended, IsChangeOf}
+use Rattle.master_core.specs.Change.{unit_of_change, is_empty, safe_of_change, appended}
 use Rattle.master_core.specs.Data.{MasterData}
 use Rattle.master_core.specs.Images.{images_among}
 use Rattle.master_core.specs.Index.{keys_in, LiesFound, IsMoved}

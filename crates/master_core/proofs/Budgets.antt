@@ -1,5 +1,5 @@
 -- What a core counts, and what is left.
-use Rattle.std.proofs.Common.{◌≡◌, ℕ, ◌+◌, ◌-◌, ◌≤◌, List, [], ◌∷◌, refl, sym, subst, arith}
+use Rattle.std.proofs.Common.{ℕ, ◌+◌, ◌-◌, ◌≤◌, arith}
 use Rattle.std.specs.Prelude.{Option, Some, None, IsSome, sum_by}
 use Rattle.std.specs.Option.{option_map_or}
 use Rattle.images.specs.declared.image.Image.{Image}

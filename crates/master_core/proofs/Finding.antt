@@ -91,5 +91,5 @@ finds_held d core k (Some f) is = go (find d k) ((state_now d).contents k) is.0 
       let o : Object = record { key = k; version = x.version; value = x.value } in
       let there : object_there (images_of d) p ≡ Some o = object_seen (images_of d) (each_of d core) p o lies in
       let here : object_there (images_of d) p ≡ Some (shown_object f.1) =
-          ap (object_there (images_of d)) (same_Some p f.0 same) ∙ is.1 in
+      ap (object_there (images_of d)) (same_Some p f.0 same) ∙ is.1 in
       ap (λ (q : Object). Some (versioned q)) (same_Some (shown_object f.1) o (sym here ∙ there))

@@ -1,8 +1,8 @@
 -- An index leads to the same objects where images grow, and to a new one where it is set.
-use Rattle.std.proofs.Common.{◌≡◌, ℕ, inl, inr, Bool, true, false, List, [], ◌∷◌, ◌++◌, length, drop, refl, sym, ap, subst, ◌∙◌, append_assoc}
-use Rattle.std.specs.Prelude.{Option, Some, None, if◌then◌else◌}
+use Rattle.std.proofs.Common.{◌≡◌, ℕ, inl, inr, List, [], ◌∷◌, ◌++◌, length, drop, refl, sym, ap, subst, ◌∙◌, append_assoc}
+use Rattle.std.specs.Prelude.{Option, Some, None}
 use Rattle.std.specs.List.{AllByRecursion}
-use Rattle.std.specs.Option.{option_map, option_map_or, option_and_then}
+use Rattle.std.specs.Option.{option_map, option_and_then}
 use Rattle.std.proofs.lemmas.Option.{same_Some}
 use Rattle.entry.specs.declared.key.Key.{Key}
 use Rattle.entry.specs.declared.entry.Object.{Object}
@@ -17,7 +17,7 @@ use Rattle.segment.specs.Bytes.{standing_at}
 use Rattle.segment.proofs.RowLemmas.{text_of-append}
 use Rattle.hash_index.specs.declared.place.Held.{Held}
 use Rattle.hash_index.specs.declared.place.Place.{Place}
-use Rattle.hash_index.specs.Map.{tells, found, IsTold, AreApart, AreKept, IsSet}
+use Rattle.hash_index.specs.Map.{found, IsTold, AreKept, IsSet}
 use Rattle.hash_index.proofs.Again.{kept_again, found_again}
 use Rattle.hash_index.proofs.Each.{each_found}
 use Rattle.versioned_map.specs.Versioned.{with_contents}
@@ -54,9 +54,9 @@ pub stands_at : (image : List Entry) (at : ℕ) (e : Entry) → AllByRecursion I
 stands_at image at e each s =
     let split = all_split IsEntry s.before (e ∷ s.after) (subst (λ (es : List Entry). AllByRecursion IsEntry es) s.split each) in
     let parts : text_of image ≡ text_of s.before ++ text_of (e ∷ s.after) =
-        ap text_of s.split ∙ text_of-append s.before (e ∷ s.after) in
+    ap text_of s.split ∙ text_of-append s.before (e ∷ s.after) in
     let behind : drop at (text_of image) ≡ spelling e ++ text_of s.after =
-        (λ i. drop (s.offset i) (parts i)) ∙ drop_front (text_of s.before) (text_of (e ∷ s.after)) in
+    (λ i. drop (s.offset i) (parts i)) ∙ drop_front (text_of s.before) (text_of (e ∷ s.after)) in
     ap (λ (bytes : List ℕ). option_map (λ (front : Entry × ℕ). front.0) (front_of bytes)) behind
     ∙ ap (λ (front : Option (Entry × ℕ)). option_map (λ (f : Entry × ℕ). f.0) front) (front_of-spelling e (text_of s.after) split.1.0)
 
@@ -104,9 +104,10 @@ module _ (images grown : ℕ → List Entry) (grow : Grow images grown) (each : 
     go (h ∷ rest) told at =
         let k = told.0.0 in
         let is = told.0.1 in
-        let there = found_lies images k (found (keys_in images) k hs) (contents k) (index.lies k) h.place (at.0 k is) in
-        (key_seen grown each h.place k there.0 (stands_grown images grown h.place (object_at k there.0) grow there.2) ∙ sym is,
-        go rest told.1 at.1)
+        let there = found_lies images k (found (keys_in images) k hs) (contents k) (index.lies k) h.place (at.0 k is) in (
+          key_seen grown each h.place k there.0 (stands_grown images grown h.place (object_at k there.0) grow there.2) ∙ sym is,
+          go rest told.1 at.1,
+        )
 
   pub kept_grown : AreKept (keys_in grown) hs
   kept_grown = kept_again (keys_in images) (keys_in grown) hs index.kept again

@@ -131,7 +131,7 @@ module _ (d : MasterData) (core : IsCore d) where
     budget_then : used_seglets (rolling_data d) ≤ d.config.seglets
     budget_then =
         let now : head_seglets d.config d.head ≡ whole_seglets d.config =
-            ap (λ (o : Option Roll). option_map_or (λ (r : Roll). seglets_of d.config d.head.image + whole_seglets d.config) o (whole_seglets d.config)) none in
+        ap (λ (o : Option Roll). option_map_or (λ (r : Roll). seglets_of d.config d.head.image + whole_seglets d.config) o (whole_seglets d.config)) none in
         let enough = rules.1 in
         let counted = core.budget in
         omega arith
@@ -139,8 +139,8 @@ module _ (d : MasterData) (core : IsCore d) where
     new_within : length (text_of (start_entries d.config.master new)) ≤ d.config.segment
     new_within =
         let few : length (digest_of d.head.image) + 1 ≤ d.config.segment / 32 =
-            subst (λ (o : Option Roll). length (option_map_or (λ (r : Roll). digest_of r.image) o (digest_of d.head.image)) + 1 ≤ d.config.segment / 32)
-            none rules.0 in
+        subst (λ (o : Option Roll). length (option_map_or (λ (r : Roll). digest_of r.image) o (digest_of d.head.image)) + 1 ≤ d.config.segment / 32)
+        none rules.0 in
         let len = length-head d.config.master d.next (digest_of d.head.image ++ d.next ∷ []) d.safe in
         let ids = length-append (digest_of d.head.image) (d.next ∷ []) in
         let least = (sizes_of d.config core.config).least_segment in
@@ -231,9 +231,9 @@ module _ (d : MasterData) (core : IsCore d) (r : Roll) (is : d.head.roll ≡ Som
       roll = record { image = rolls_of.image; lists = rolls_of.lists; within = rolls_of.within; newer = rolls_of.newer; used = rolls_of.used };
       legal = core.legal;
       index = (
-        let grow = same_grow (image_among d.head d.closed) (image_among e.head d.closed) (same_roll d.head d.closed r q is refl refl) in
-        let i = index_again d core e.head d.closed grow valid core.segments in
-        record { kept = i.kept; lies = i.lies; safe = core.index.safe });
+          let grow = same_grow (image_among d.head d.closed) (image_among e.head d.closed) (same_roll d.head d.closed r q is refl refl) in
+          let i = index_again d core e.head d.closed grow valid core.segments in
+          record { kept = i.kept; lies = i.lies; safe = core.index.safe });
     }
 
   -- ---- the last Close
@@ -276,15 +276,15 @@ module _ (d : MasterData) (core : IsCore d) (r : Roll) (is : d.head.roll ≡ Som
     roll = tt;
     legal = core.legal;
     index = (
-      let grow = same_grow (image_among d.head d.closed) (image_among f.head f.closed)
-          (closed_same d.head d.closed r is apart (no_closed d core d.head.id (omega arith))) in
-      let i = index_again d core f.head f.closed grow valid closed_then in
-      record { kept = i.kept; lies = i.lies; safe = core.index.safe });
+        let grow = same_grow (image_among d.head d.closed) (image_among f.head f.closed)
+        (closed_same d.head d.closed r is apart (no_closed d core d.head.id (omega arith))) in
+        let i = index_again d core f.head f.closed grow valid closed_then in
+        record { kept = i.kept; lies = i.lies; safe = core.index.safe });
   } where
     budget_then : used_seglets f ≤ d.config.seglets
     budget_then =
         let counted = subst (λ (o : Option Roll). option_map_or (λ (p : Roll). seglets_of d.config d.head.image + whole_seglets d.config) o
-            (whole_seglets d.config) + sum_by (count_of d.config.segment d.config.seglet) d.closed ≤ d.config.seglets) is core.budget in
+        (whole_seglets d.config) + sum_by (count_of d.config.segment d.config.seglet) d.closed ≤ d.config.seglets) is core.budget in
         let total = sum_by_push (count_of d.config.segment d.config.seglet) d.closed (closed_image d.head.id d.head.image) in
         omega arith
 

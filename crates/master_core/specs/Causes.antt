@@ -1,7 +1,6 @@
 -- Why a step is refused.
-use Rattle.std.specs.Prelude.{ℕ, ◌+◌, ◌-◌, ◌/◌, ◌^◌, ◌==◌, ◌&&◌, length, Bool, nat_le, nat_lt, not, Option, Some, None, List}
+use Rattle.std.specs.Prelude.{ℕ, ◌+◌, ◌^◌, ◌==◌, ◌&&◌, length, Bool, nat_le, nat_lt, not, Option, Some, None, List}
 use Rattle.std.specs.Prelude.{is_none, if◌then◌else◌}
-use Rattle.std.specs.Option.{option_map_or}
 use Rattle.entry.specs.declared.entry.Entry.{Entry}
 use Rattle.entry.specs.Tablet.{have_key}
 use Rattle.entry.specs.Text.{text_of}
@@ -10,9 +9,7 @@ use Rattle.versioned_map.specs.Command.{command_key}
 use Rattle.versioned_map.specs.Represents.{unit_of}
 use Rattle.versioned_map.specs.Versioned.{is_spent}
 use Rattle.log_model.specs.Data.{fewest}
-use Rattle.log_head.specs.declared.head.Roll.{Roll}
-use Rattle.log_head.specs.Head.{HeadValue, digest_of, is_open}
-use Rattle.master_core.specs.declared.config.Config.{Config}
+use Rattle.log_head.specs.Head.{HeadValue, is_open}
 use Rattle.master_core.specs.declared.step.Refusal.{Refusal}
 use Rattle.master_core.specs.declared.step.Refusal.TheVariants.{Halted, TooBig, NoTablet, HistoryFull, VersionsSpent, Full, Rolling, Nothing}
 use Rattle.master_core.specs.declared.step.Refusal.TheVariants.{SegmentsSpent}

@@ -1,5 +1,5 @@
 -- What holds of every master's core.
-use Rattle.std.specs.Prelude.{◌≡◌, ℕ, ◌^◌, ◌+◌, ◌<◌, ◌≤◌, List, length, map, Option, None, IfSome}
+use Rattle.std.specs.Prelude.{◌≡◌, ℕ, ◌^◌, ◌+◌, ◌<◌, ◌≤◌, length, map, None, IfSome}
 use Rattle.entry.specs.declared.key.Key.{Key}
 use Rattle.std.specs.List.{AllByRecursion}
 use Rattle.entry.specs.Text.{text_of, IsSegment}

@@ -46,11 +46,7 @@ fn object_in(image: &Segment, at: usize) -> Option<ObjectRef<'_>>
 }
 
 /// The object at a place of the images.
-fn object_there<'a>(
-    head: &'a Head,
-    closed: &'a Images,
-    place: Place,
-) -> Option<ObjectRef<'a>>
+fn object_there<'a>(head: &'a Head, closed: &'a Images, place: Place) -> Option<ObjectRef<'a>>
     ensures { option_map shown_object result ≡ object_there (images_among head.entry.now closed.entry.now.images) place }
 {
     let image = image_of(head, closed, place.segment)?;
@@ -75,7 +71,13 @@ pub fn find<'a>(
 }
 
 /// Follows a change of the key's object in the index. The new object, if there is one, is at this place.
-pub fn move_object(index: &mut Index, images: &LogImages<'_>, change: &Change, key: &KeyRef<'_>, place: Place)
+pub fn move_object(
+    index: &mut Index,
+    images: &LogImages<'_>,
+    change: &Change,
+    key: &KeyRef<'_>,
+    place: Place,
+)
     requires { is_nothing change.now ≡ false → 0 < index.old.room }
     ensures { let keys = keys_in (images_among images.now.head.now images.now.closed.now.images) in
         IsMoved keys index.old.held change.now (shown_key key.now) place index.new.held }

@@ -72,15 +72,15 @@ impl Model for Core {
     // while a roll is under way there is room for one more closed segment
     ghost invariant = { λ m. (IsSome m.head.roll → length m.closed.images < m.closed.room)
         × AreImagesOf m.config m.closed × IsCore (record {
-      config = m.config;
-      head = m.head;
-      closed = m.closed.images;
-      next = m.next;
-      index = m.index.held;
-      safe = m.safe;
-      history = m.history.items;
-      is_halted = m.is_halted;
-    }) };
+          config = m.config;
+          head = m.head;
+          closed = m.closed.images;
+          next = m.next;
+          index = m.index.held;
+          safe = m.safe;
+          history = m.history.items;
+          is_halted = m.is_halted;
+        }) };
 }
 
 impl Core {
@@ -220,12 +220,7 @@ impl Core {
         ensures place { place_found result ≡ find self.entry.now (command_key command.now) }
         ensures object { object_found result ≡ held_now self.entry.now command.now }
     {
-        find(
-            &self.head,
-            &self.closed,
-            &self.index,
-            &command.key().view(),
-        )
+        find(&self.head, &self.closed, &self.index, &command.key().view())
     }
 
     /// What a command does, and what its key has: all tests, in order.

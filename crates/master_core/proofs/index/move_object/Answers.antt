@@ -1,4 +1,3 @@
-use Rattle.std.proofs.Common.{◌≡◌, subst, sym, ◌∙◌}
 use Rattle.entry.specs.View.{shown_key}
 use Rattle.hash_index.proofs.Each.{set_settled}
 use Rattle.master_core.specs.Images.{images_among}

@@ -1,4 +1,4 @@
-use Rattle.std.proofs.Common.{List, [], ◌++◌, sym, ap, subst, ◌∙◌}
+use Rattle.std.proofs.Common.{List, ◌++◌, sym, ap, subst, ◌∙◌}
 use Rattle.std.specs.Prelude.{Option}
 use Rattle.std.proofs.lemmas.List.{append-nil}
 use Rattle.entry.specs.declared.key.Key.{Key}
@@ -14,7 +14,7 @@ returns-in-Ok-clause-same c =
     let table = c.self.inside.table in
     let grown = c.in-Ok.table in
     let here : IsShuffled (table ++ c.self.inside.waiting.held) grown =
-        subst (λ (xs : List Held). IsShuffled (table ++ xs) grown) c.as_slice-places.ensures c.in-Ok.ensures in
+    subst (λ (xs : List Held). IsShuffled (table ++ xs) grown) c.as_slice-places.ensures c.in-Ok.ensures in
     let none = ap (λ (xs : List Held). grown ++ xs) c.clear.ensures.held ∙ append-nil grown in
     let whole = subst (λ (xs : List Held). IsShuffled (table ++ c.self.inside.waiting.held) xs) (sym none) here in
     subst (λ (v : IndexValue). (keys : Place → Option Key) → AreKept keys v.held → IsSameMap keys v.held (grown ++ c.clear.new.self.held)) c.self.view_is

@@ -1,19 +1,12 @@
-use Rattle.std.proofs.Common.{◌≡◌, List, refl, sym, ap, subst, ◌∙◌}
-use Rattle.std.specs.Prelude.{Option, Some, None}
-use Rattle.entry.specs.declared.entry.Object.{Object}
+use Rattle.std.proofs.Common.{List, subst, ◌∙◌}
 use Rattle.entry.specs.declared.key.Key.{Key}
-use Rattle.entry.specs.declared.view.ObjectRef.{ObjectRef}
-use Rattle.entry.specs.Meaning.{Versioned, versioned}
-use Rattle.entry.specs.View.{shown_key, shown_object}
-use Rattle.hash_index.specs.declared.place.Place.{Place}
 use Rattle.versioned_map.specs.Command.{command_key}
 use Rattle.master_core.specs.contracts.state.Core.{the_view}
 use Rattle.images.specs.declared.image.Image.{Image}
 use Rattle.master_core.specs.Data.{MasterData}
 use Rattle.master_core.specs.Images.{images_among}
-use Rattle.master_core.specs.Index.{keys_in, FindsObject, place_found, object_found}
-use Rattle.master_core.specs.Invariant.{IsCore}
-use Rattle.master_core.specs.Log.{images_of, find, state_now}
+use Rattle.master_core.specs.Index.{keys_in, FindsObject}
+use Rattle.master_core.specs.Log.{images_of}
 use Rattle.master_core.proofs.Finding.{finds_place, finds_held}
 use Rattle.hash_index.specs.Map.{AreKept}
 use Rattle.master_core.proofs.state.Core.find.Goals as goal

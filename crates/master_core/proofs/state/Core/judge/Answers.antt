@@ -1,7 +1,5 @@
-use Rattle.std.proofs.Common.{◌≡◌, ℕ, ◌<◌, refl, sym, ap, subst, ◌∙◌}
-use Rattle.std.specs.Prelude.{Option, Some, None, IfSome}
-use Rattle.std.specs.Option.{option_map}
-use Rattle.entry.specs.declared.view.ObjectRef.{ObjectRef}
+use Rattle.std.proofs.Common.{◌≡◌, ℕ, refl, sym, ap, subst, ◌∙◌}
+use Rattle.std.specs.Prelude.{Option}
 use Rattle.entry.specs.Meaning.{Versioned}
 use Rattle.versioned_map.specs.Command.{command_key}
 use Rattle.master_core.specs.Change.{version_in, IsChangeOf}

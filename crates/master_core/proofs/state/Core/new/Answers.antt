@@ -25,6 +25,8 @@ invariant_of-core c =
       seglets = ap (λ (v : ImagesValue). v.seglets) made;
     } in
     let closed : c.new-closed.result.images ≡ [] = ap (λ (v : ImagesValue). v.images) made in
-    rw (head, closed, safe, index, history)
-    ((λ never. absurd (cc)), record { segment = sizes.segment; seglet = sizes.seglet; seglets = sizes.seglets },
-    fresh_core c.args.config c.requires (subst (λ (h : HeadValue). IsHeadValue h) head c.in_ok-head.ensures.valid))
+    rw (head, closed, safe, index, history) (
+      (λ never. absurd (cc)),
+      record { segment = sizes.segment; seglet = sizes.seglet; seglets = sizes.seglets },
+      fresh_core c.args.config c.requires (subst (λ (h : HeadValue). IsHeadValue h) head c.in_ok-head.ensures.valid),
+    )
