@@ -76,6 +76,7 @@ LINES = {
     "beginroll": (),
     "push": (),
     "log": (),
+    "room": (),
     "hex": (number_word,),
     "stop": (number_word,),
     "crash": (),
@@ -620,6 +621,10 @@ class Store:
     def line_log(self):
         yield REFUSED, 1, self
         yield "log" + "".join(f" {it.id}" for it in self.master.log()) + "\n", 0, self
+
+    def line_room(self):
+        used = self.master.used(self.options)
+        yield f"used {used} free {self.options.seglets - used}\n", 0, self
 
     def line_hex(self, segment):
         image = next((it for it in self.master.segments if it.id == segment), None)

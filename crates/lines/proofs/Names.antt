@@ -4,7 +4,7 @@ use Rattle.std.specs.Str.Parse.{digits_value}
 use Rattle.std.specs.Fmt.{decimal}
 use Rattle.std.proofs.lemmas.Fmt.{decimal_is_IsNumeral}
 use Rattle.lines.specs.Grammar.{LineValue, words_of}
-use Rattle.lines.specs.Grammar.{Idle, Put, New, Cas, Get, Del, Roll, BeginRoll, Push, Log, Hex, Stop, Crash, Lose, Recover, Holdings}
+use Rattle.lines.specs.Grammar.{Idle, Put, New, Cas, Get, Del, Roll, BeginRoll, Push, Log, Room, Hex, Stop, Crash, Lose, Recover, Holdings}
 use Rattle.lines.specs.Words.{AreWordsOf, ReadsWords}
 
 abbrev word_at : ℕ → List (List ℕ) → List ℕ
@@ -33,12 +33,13 @@ line_of ws =
     (cond (are_named (codes "beginroll") ws) BeginRoll
     (cond (are_named (codes "push") ws) Push
     (cond (are_named (codes "log") ws) Log
+    (cond (are_named (codes "room") ws) Room
     (cond (are_named (codes "hex") ws) (Hex (number_at 1 ws))
     (cond (are_named (codes "stop") ws) (Stop (number_at 1 ws))
     (cond (are_named (codes "crash") ws) Crash
     (cond (are_named (codes "lose") ws) (Lose (number_at 1 ws))
     (cond (are_named (codes "recover") ws) Recover
-    (cond (are_named (codes "holdings") ws) Holdings Idle))))))))))))))
+    (cond (are_named (codes "holdings") ws) Holdings Idle)))))))))))))))
 
 value : (n : ℕ) → n < 2 ^ 64 → digits_value 10 (decimal n) ≡ n
 value n small = (decimal_is_IsNumeral n small).1
@@ -56,6 +57,7 @@ line_is words Roll are = ap line_of are.spelled
 line_is words BeginRoll are = ap line_of are.spelled
 line_is words Push are = ap line_of are.spelled
 line_is words Log are = ap line_of are.spelled
+line_is words Room are = ap line_of are.spelled
 line_is words (Hex n) are = ap line_of are.spelled ∙ ap Hex (value n are.limits)
 line_is words (Stop n) are = ap line_of are.spelled ∙ ap Stop (value n are.limits)
 line_is words Crash are = ap line_of are.spelled

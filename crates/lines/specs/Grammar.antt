@@ -19,6 +19,7 @@ pub data LineValue : Type 0 where
   BeginRoll : LineValue
   Push : LineValue
   Log : LineValue
+  Room : LineValue
   Hex : (segment : ℕ) → LineValue
   Stop : (takes : ℕ) → LineValue
   Crash : LineValue
@@ -38,6 +39,7 @@ shown_line line.Roll = Roll
 shown_line line.BeginRoll = BeginRoll
 shown_line line.Push = Push
 shown_line line.Log = Log
+shown_line line.Room = Room
 shown_line (line.Hex segment) = Hex segment
 shown_line (line.Stop takes) = Stop takes
 shown_line line.Crash = Crash
@@ -71,6 +73,7 @@ words_of Roll = codes "roll" ∷ []
 words_of BeginRoll = codes "beginroll" ∷ []
 words_of Push = codes "push" ∷ []
 words_of Log = codes "log" ∷ []
+words_of Room = codes "room" ∷ []
 words_of (Hex segment) = codes "hex" ∷ decimal segment ∷ []
 words_of (Stop takes) = codes "stop" ∷ decimal takes ∷ []
 words_of Crash = codes "crash" ∷ []
@@ -90,6 +93,7 @@ IsLine Roll = Unit {0}
 IsLine BeginRoll = Unit {0}
 IsLine Push = Unit {0}
 IsLine Log = Unit {0}
+IsLine Room = Unit {0}
 IsLine (Hex segment) = segment < 2 ^ 64
 IsLine (Stop takes) = takes < 2 ^ 64
 IsLine Crash = Unit {0}

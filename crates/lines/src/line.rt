@@ -42,6 +42,8 @@ pub enum Line<'a> {
     Push,
     /// Show the ids of the digest in force.
     Log,
+    /// Show how many seglets of memory are counted, and how many are free.
+    Room,
     /// Show the bytes of a segment.
     Hex {
         segment: u64,

@@ -158,6 +158,7 @@ fn only_name<'a>(name: &[u8], words: Words<'a>) -> Option<Line<'a>>
         name if is(name, "beginroll") => Some(Line::BeginRoll),
         name if is(name, "push") => Some(Line::Push),
         name if is(name, "log") => Some(Line::Log),
+        name if is(name, "room") => Some(Line::Room),
         name if is(name, "crash") => Some(Line::Crash),
         name if is(name, "recover") => Some(Line::Recover),
         name if is(name, "holdings") => Some(Line::Holdings),

@@ -367,6 +367,7 @@ impl Core {
     {
         match look {
             Look::Digest => Ok(Shown::Digest(Row::new(self.head.digest(self.alloc)?))),
+            Look::Room => Ok(Shown::Room(self.used(), self.free())),
             Look::Image(id) => Ok(Shown::Image(self.bytes_of(id)?)),
         }
     }

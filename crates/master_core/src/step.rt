@@ -120,6 +120,8 @@ impl<T: Drop> From<AllocFailed<T>> for Refusal {
 pub enum Look {
     /// The ids of the digest in force.
     Digest,
+    /// How many seglets of memory are counted, and how many are free.
+    Room,
     /// The image of a segment.
     Image(u64),
 }
@@ -129,6 +131,8 @@ pub enum Look {
 pub enum Shown {
     /// The ids of the digest in force, in order.
     Digest(Row<u64>),
+    /// The seglets of memory that are counted, and those that are free.
+    Room(u64, u64),
     /// The bytes of the image, or `None` if there is no such image.
     Image(Option<Bytes>),
 }

@@ -16,7 +16,7 @@ use Rattle.master_core.specs.declared.step.StepAnswer.{StepAnswer}
 use Rattle.master_core.specs.declared.step.Step.TheVariants as step
 use Rattle.master_core.specs.declared.step.StepAnswer.TheVariants as step_answer
 use Rattle.script.specs.Told.{Told, Position, IsRecordAt, IsIn, IsRollRefused, IsCause, IsImageAt, Tells, AreTelling}
-use Rattle.script.specs.Told.{IsHeadAt, IsStepAt, IsDigestAt, AreHeldAt}
+use Rattle.script.specs.Told.{IsHeadAt, IsStepAt, IsDigestAt, IsRoomAt, AreHeldAt}
 
 -- ---- a longer history tells the same
 
@@ -50,6 +50,7 @@ module _ (config : Config) (life : Life) where
   rises at line (answer.Opened backup segment) next t = as_before at next t.3
   rises at line (answer.Closed backup segment) next t = as_before at next t.3
   rises at line (answer.Log ids) next t = as_before at next t.3
+  rises at line (answer.Room used free) next t = as_before at next t.3
   rises at line (answer.Holdings hs) next t = as_before at next t.2
   rises at line (answer.Hex bytes) next t = as_before at next t.2
   rises at line (answer.NotInLog segment) next t = as_before at next t.3
@@ -130,6 +131,8 @@ module _ (config : Config) (opening : State) (history more : List Record) where
       step_longer at _ step.Push (step_answer.Closed backup segment) next within t
   tells_longer at line (answer.Log ids) next within after t =
       (t.0, t.1, subst (λ (l : Life). IsDigestAt config l ids) (same_front at.made within) t.2, t.3)
+  tells_longer at line (answer.Room used free) next within after t =
+      (t.0, t.1, subst (λ (l : Life). IsRoomAt config l used free) (same_front at.made within) t.2, t.3)
   tells_longer at line (answer.Holdings hs) next within after t =
       (t.0, subst (λ (l : Life). AreHeldAt config l at.left hs) (same_front at.made within) t.1, t.2)
   tells_longer at line (answer.Hex bytes) next within after t =

@@ -53,6 +53,10 @@ spaced_text n = 32 ∷ decimal n
 abbrev pub log_text : List ℕ → List ℕ
 log_text ids = codes "log" ++ flat_map spaced_text ids ++ 10 ∷ []
 
+-- the seglets of memory that are counted, and those that are free
+abbrev pub room_text : ℕ → ℕ → List ℕ
+room_text used free = codes "used " ++ decimal used ++ 32 ∷ codes "free " ++ decimal free ++ 10 ∷ []
+
 abbrev pub state_text : Bool → List ℕ
 state_text true = codes " open\n"
 state_text false = codes " closed\n"
@@ -83,6 +87,7 @@ answer_text (answer.Extended backup segment) = op_text (codes "extend ") backup 
 answer_text (answer.Opened backup segment) = op_text (codes "open ") backup segment
 answer_text (answer.Closed backup segment) = op_text (codes "close ") backup segment
 answer_text (answer.Log ids) = log_text ids
+answer_text (answer.Room used free) = room_text used free
 answer_text (answer.Holdings hs) = flat_map holding_text hs
 answer_text answer.Down = codes "refused Down" ++ 10 ∷ []
 answer_text answer.Up = codes "refused Up" ++ 10 ∷ []

@@ -6,7 +6,7 @@ use Rattle.entry.specs.declared.entry.Object.{Object}
 use Rattle.entry.specs.Meaning.{IsMeaning, among, contents_of}
 use Rattle.entry.specs.Order.{key_cmp}
 use Rattle.entry.specs.Text.{text_of}
-use Rattle.lines.specs.Grammar.{LineValue, Idle, Put, New, Cas, Get, Del, Roll, BeginRoll, Push, Log, Hex, Stop, Crash}
+use Rattle.lines.specs.Grammar.{LineValue, Idle, Put, New, Cas, Get, Del, Roll, BeginRoll, Push, Log, Room, Hex, Stop, Crash}
 use Rattle.lines.specs.Grammar.{Lose, Recover, Holdings}
 use Rattle.replica.specs.Choice.{Choice, IsShownChoice, bag_of}
 use Rattle.entry.specs.Bag.{IsAmong}
@@ -31,6 +31,7 @@ use Rattle.master_core.specs.declared.step.StepAnswer.TheVariants as step_answer
 use Rattle.master_core.specs.Data.{MasterData}
 use Rattle.master.specs.Steps.{Accepts}
 use Rattle.master.specs.World.{World}
+use Rattle.master_core.specs.Budget.{used_seglets, free_seglets}
 use Rattle.master_core.specs.Log.{image_of}
 use Rattle.replay.specs.declared.rebuilt.Rebuilt.{Rebuilt}
 use Rattle.recovery.specs.declared.recovery.RecoveryFault.{RecoveryFault}
@@ -178,6 +179,11 @@ abbrev pub IsDigestAt : Config → Life → List ℕ → Type 0
 IsDigestAt config life ids = (d : MasterData) × (f : FleetState) × HasLived config life d f
     × (ids ≡ digest_of d.head.image)
 
+-- a master that has lived this life counts so many seglets of memory, and has so many free
+abbrev pub IsRoomAt : Config → Life → ℕ → ℕ → Type 0
+IsRoomAt config life used free = (d : MasterData) × (f : FleetState) × HasLived config life d f
+    × (used ≡ used_seglets d) × (free ≡ free_seglets d)
+
 -- of the master's replicas these are left
 abbrev pub AreLeft : Config → Left → List Holding → Type 0
 AreLeft config l hs = (h : Holding) → h.master ≡ config.master
@@ -231,6 +237,7 @@ is_for_master Roll = true
 is_for_master BeginRoll = true
 is_for_master Push = true
 is_for_master Log = true
+is_for_master Room = true
 is_for_master (Hex segment) = true
 is_for_master Crash = true
 is_for_master _ = false
@@ -260,6 +267,8 @@ Tells config life at line (answer.Closed backup segment) next = (at.left ≡ Non
     × IsStepAt config (life_to life at.made) step.Push (step_answer.Closed backup segment) × (next ≡ at)
 Tells config life at line (answer.Log ids) next = (at.left ≡ None) × (line ≡ Log)
     × IsDigestAt config (life_to life at.made) ids × (next ≡ at)
+Tells config life at line (answer.Room used free) next = (at.left ≡ None) × (line ≡ Room)
+    × IsRoomAt config (life_to life at.made) used free × (next ≡ at)
 Tells config life at line (answer.Holdings hs) next = (line ≡ Holdings)
     × AreHeldAt config (life_to life at.made) at.left hs × (next ≡ at)
 Tells config life at line (answer.Hex bytes) next = (at.left ≡ None)

@@ -4,7 +4,7 @@ ghost use Rattle.std.specs.Prelude.{◌≤◌, ◌++◌, ◌∷◌, [], length, 
 ghost use Rattle.std.specs.Fmt.{decimal};
 ghost use Rattle.std.specs.Io.KnownBytes.{Appends};
 ghost use Rattle.script.specs.Texts.{answer_text, hex_text, object_text, rebuilt_text, reply_text};
-ghost use Rattle.script.specs.Texts.{op_text, log_text, spaced_text, holding_text};
+ghost use Rattle.script.specs.Texts.{op_text, log_text, room_text, spaced_text, holding_text};
 ghost use Rattle.std.specs.List.{flat_map};
 
 use entry::{Object, Row, Value, Version};
@@ -46,6 +46,8 @@ pub enum Answer {
     Closed(u64, u64),
     /// The ids of the digest in force.
     Log(Row<u64>),
+    /// How many seglets of memory are counted, and how many are free.
+    Room(u64, u64),
     /// What the backups hold.
     Holdings(Inventory),
     /// The line was refused: there is no master.
@@ -79,6 +81,7 @@ pub fn write_answer<W: Write>(writer: &mut W, answer: &Answer) -> io::Result<()>
         Answer::Opened(backup, segment) => write_op(writer, b"open ", *backup, *segment),
         Answer::Closed(backup, segment) => write_op(writer, b"close ", *backup, *segment),
         Answer::Log(ids) => write_log(writer, ids.as_slice()),
+        Answer::Room(used, free) => write_room(writer, *used, *free),
         Answer::Holdings(inventory) => write_holdings(writer, inventory.as_slice()),
         Answer::Down => writer.write_all(b"refused Down\n"),
         Answer::Up => writer.write_all(b"refused Up\n"),
@@ -140,6 +143,14 @@ fn write_op<W: Write>(writer: &mut W, words: &[u8], backup: u64, segment: u64) -
 {
     write_number(writer, words, backup, b' ')?;
     write_number(writer, b"", segment, b'\n')
+}
+
+/// Writes the line of the seglets that are counted, and free.
+fn write_room<W: Write>(writer: &mut W, used: u64, free: u64) -> io::Result<()>
+    ensures { OnOk result (Appends (W.contents writer.old) (W.contents writer.new) (room_text used free)) }
+{
+    write_number(writer, b"used ", used, b' ')?;
+    write_number(writer, b"free ", free, b'\n')
 }
 
 /// Writes the line of a digest.

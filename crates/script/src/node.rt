@@ -112,7 +112,7 @@ fn held(inventory: Result<Inventory, NoMemory>) -> Answer
 }
 
 impl Node {
-    ghost use Rattle.lines.specs.Grammar.{Roll, BeginRoll, Push, Log, Hex, Stop, Crash, Lose, Recover, Holdings};
+    ghost use Rattle.lines.specs.Grammar.{Roll, BeginRoll, Push, Log, Room, Hex, Stop, Crash, Lose, Recover, Holdings};
 
     /// Applies a command, and pushes until its record is durable. It answers `None`, and does nothing, if the command
     /// has to wait for a roll.
@@ -239,6 +239,7 @@ impl Node {
         up.show_valid();
         match up.look(Look::Digest) {
             Ok(Shown::Digest(ids)) => Answer::Log(ids),
+            Ok(Shown::Room(_, _)) => unreachable!(),
             Ok(Shown::Image(_)) => unreachable!(),
             Err(NoMemory) => Answer::Refused(Refusal::NoMemory),
         }
@@ -270,7 +271,24 @@ impl Node {
             Ok(Shown::Image(Some(bytes))) => Answer::Hex(bytes),
             Ok(Shown::Image(None)) => Answer::NotInLog(segment),
             Ok(Shown::Digest(_)) => unreachable!(),
+            Ok(Shown::Room(_, _)) => unreachable!(),
             Err(NoMemory) => Answer::Refused(Refusal::NoMemory),
+        }
+    }
+
+    /// How many seglets of memory are counted, and how many are free.
+    pub fn room(&self) -> Answer
+        ensures { (config : Config) → AnswersLine self.now config Room self.now result }
+    {
+        let Node::Up(up) = self else {
+            return Answer::Down;
+        };
+        up.show_valid();
+        match up.look(Look::Room) {
+            Ok(Shown::Room(used, free)) => Answer::Room(used, free),
+            Ok(Shown::Digest(_)) => unreachable!(),
+            Ok(Shown::Image(_)) => unreachable!(),
+            Err(NoMemory) => unreachable!(),
         }
     }
 

@@ -101,6 +101,7 @@ impl Session {
             Line::BeginRoll => Ok(self.node.begin_roll()),
             Line::Push => Ok(self.node.push()),
             Line::Log => Ok(self.node.log()),
+            Line::Room => Ok(self.node.room()),
             Line::Holdings => Ok(self.node.holdings(self.alloc)),
         }
     }

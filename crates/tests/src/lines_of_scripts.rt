@@ -23,6 +23,7 @@ const GOOD: &[(&str, &str)] = &[
         "Some(Get { table: 18446744073709551615, key: [35] })",
     ),
     ("hex 10", "Some(Hex { segment: 10 })"),
+    ("room", "Some(Room)"),
     ("stop 0", "Some(Stop { takes: 0 })"),
     ("stop 20", "Some(Stop { takes: 20 })"),
     ("crash", "Some(Crash)"),

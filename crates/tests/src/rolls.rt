@@ -48,8 +48,13 @@ const SCRIPTS: &[(&[&str], &str, &str)] = &[
         put 1 a xxxxxxxxxxxxxxxxxxxxxxxxxxxxxxxxxxxxxxxxxxxxxxxxxxxxxxxxxxxxxxxxxxxxxxxxxxxx\n\
         put 1 a xxxxxxxxxxxxxxxxxxxxxxxxxxxxxxxxxxxxxxxxxxxxxxxxxxxxxxxxxxxxxxxxxxxxxxxxxxxx\n\
         put 1 a xxxxxxxxxxxxxxxxxxxxxxxxxxxxxxxxxxxxxxxxxxxxxxxxxxxxxxxxxxxxxxxxxxxxxxxxxxxx\n\
-        get 1 a\ndel 1 a\n",
-        "ok 1\nok 2\nok 3\nrefused Full\n3 xxxxxxxxxxxxxxxxxxxxxxxxxxxxxxxxxxxxxxxxxxxxxxxxxxxxxxxxxxxxxxxxxxxxxxxxxxxx\nok 3\n",
+        get 1 a\ndel 1 a\nroom\n",
+        "ok 1\nok 2\nok 3\nrefused Full\n3 xxxxxxxxxxxxxxxxxxxxxxxxxxxxxxxxxxxxxxxxxxxxxxxxxxxxxxxxxxxxxxxxxxxxxxxxxxxx\nok 3\nused 8 free 24\n",
+    ),
+    (
+        RAMLOG,
+        "room\nroll\nroom\nbeginroll\nroom\ncrash\nroom\n",
+        "used 8 free 56\nhead 2\nused 9 free 55\nopening 3\nused 10 free 54\ncrashed\nrefused Down\n",
     ),
     // the last head takes what fits, and commands that append nothing are answered
     (

@@ -34,5 +34,8 @@ returns-in-Push-clause-ran c = rw c.in-Push.is (record { number = refl; backups 
 pub returns-in-Log-clause-ran : goal.returns-in-Log-clause-ran
 returns-in-Log-clause-ran c = rw c.in-Log.is (record { number = refl; backups = refl; answers = λ config number. c.log.ensures config })
 
+pub returns-in-Room-clause-ran : goal.returns-in-Room-clause-ran
+returns-in-Room-clause-ran c = rw c.in-Room.is (record { number = refl; backups = refl; answers = λ config number. c.room.ensures config })
+
 pub returns-in-Holdings-clause-ran : goal.returns-in-Holdings-clause-ran
 returns-in-Holdings-clause-ran c = rw c.in-Holdings.is (record { number = refl; backups = refl; answers = λ config number. c.holdings.ensures config })
