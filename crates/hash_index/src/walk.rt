@@ -3,7 +3,7 @@
 ghost use Rattle.std.specs.Prelude.{◌≡◌};
 ghost use Rattle.std.specs.List.{position};
 ghost use Rattle.entry.specs.View.{shown_key};
-ghost use Rattle.hash_index.specs.Map.{is_of};
+ghost use Rattle.hash_index.specs.Map.{has_hash, is_of};
 
 use crate::place::Held;
 use crate::resolve::{Resolve, stands};
@@ -21,4 +21,12 @@ pub(crate) fn slot_of<R: Resolve>(
 {
     held.iter()
         .position(|one| one.hash == hash && stands(resolver, key, one.place))
+}
+
+/// Which of these is the first that has the hash.
+#[inline]
+pub(crate) fn first_slot(held: &[Held], hash: u64) -> Option<usize>
+    ensures { result ≡ position (has_hash hash) held.now }
+{
+    held.iter().position(|one| one.hash == hash)
 }
