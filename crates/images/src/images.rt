@@ -155,15 +155,13 @@ impl Images {
             segment,
             is_whole,
         };
-        let count = count_of(&image, self.segment, self.seglet);
-        if count > self.seglets - self.used {
+        if count_of(&image, self.segment, self.seglet) > self.seglets - self.used {
             return Err((ImagesFault::NoRoom, image.segment));
         }
         if self.images.reserve(1).is_err() {
             return Err((ImagesFault::NoMemory, image.segment));
         }
-        self.images.push_reserved(image);
-        self.used += count;
+        self.add_reserved(id, image.segment, is_whole);
         Ok(())
     }
 
