@@ -17,6 +17,7 @@ use Rattle.log_head.specs.Head.{HeadValue, len_with}
 use Rattle.log_head.specs.Steps.{with_unit_end}
 use Rattle.versioned_map.specs.declared.command.If.{If}
 use Rattle.versioned_map.specs.declared.command.Reply.{Reply}
+use Rattle.versioned_map.specs.declared.command.Reply.TheVariants as reply
 use Rattle.versioned_map.specs.Versioned.{is_spent, reply_given}
 use Rattle.versioned_map.specs.Units.{object_entry, tombstone_entry, unit_given, safe_given}
 
@@ -104,8 +105,19 @@ IsSpentFrom safe version command =
 
 -- the reply is the map's to a command whose change this is, from what its key has
 abbrev pub RepliesTo : Option Versioned → Command → Change → Reply → Type 0
-RepliesTo x command change reply =
-    (safe : ℕ) → IsChangeOf safe x command change → reply ≡ reply_given safe x command
+RepliesTo x command change answer =
+    (safe : ℕ) → IsChangeOf safe x command change → answer ≡ reply_given safe x command
+
+-- the reply shows a value, so it takes memory
+abbrev pub IsFound : Reply → Type 0
+IsFound (reply.Found version value) = Unit {0}
+IsFound reply.None = ⊥
+IsFound (reply.Ok version) = ⊥
+IsFound (reply.Mismatch version) = ⊥
+
+-- the map's reply to such a command shows a value
+abbrev pub RepliesFound : Option Versioned → Command → Change → Type 0
+RepliesFound x command change = (safe : ℕ) → IsChangeOf safe x command change → IsFound (reply_given safe x command)
 
 -- a put whose tombstone and object are longer than a quarter of a segment of this many bytes
 abbrev pub is_too_big : Command → ℕ → Bool

@@ -1,12 +1,12 @@
 //! What a command does, from what its key has.
 
-ghost use Rattle.std.specs.Prelude.{◌≡◌, ℕ, List, Option, None, Some, true, IfOk, IfErr};
+ghost use Rattle.std.specs.Prelude.{◌≡◌, ℕ, List, Option, None, Some, true, IfOk, IfErr, OnErr};
 ghost use Rattle.entry.specs.declared.key.Key.{Key};
 ghost use Rattle.entry.specs.Meaning.{Versioned};
 ghost use Rattle.versioned_map.specs.Versioned.{reply_given};
 ghost use Rattle.versioned_map.specs.Versioned.{is_spent};
 ghost use Rattle.master_core.specs.Change.{versioned_in, is_nothing, safe_of_change, is_too_big};
-ghost use Rattle.master_core.specs.Change.{Creates, CreatesSpent, Replaces, ReplacesSpent, IsChangeFrom, IsSpentFrom, RepliesTo};
+ghost use Rattle.master_core.specs.Change.{Creates, CreatesSpent, Replaces, ReplacesSpent, IsChangeFrom, IsSpentFrom, RepliesFound, RepliesTo};
 
 use entry::{ObjectRef, SafeVersion, Value, Version};
 use std::alloc::{AllocError, Global};
@@ -109,7 +109,8 @@ impl Change {
         command: &Command,
         present: Option<&ObjectRef<'_>>,
     ) -> Result<Reply, AllocError>
-        ensures { IfOk result (λ reply. RepliesTo (versioned_in present.entry) command.now self.now reply) }
+        ensures reply { IfOk result (λ reply. RepliesTo (versioned_in present.entry) command.now self.now reply) }
+        ensures refused { OnErr result (RepliesFound (versioned_in present.entry) command.now self.now) }
     {
         match self {
             Change::Nothing => unchanged_reply(alloc, command, present),
@@ -126,7 +127,8 @@ fn unchanged_reply(
     command: &Command,
     present: Option<&ObjectRef<'_>>,
 ) -> Result<Reply, AllocError>
-    ensures { IfOk result (λ reply. RepliesTo (versioned_in present.entry) command.now Change.Nothing reply) }
+    ensures reply { IfOk result (λ reply. RepliesTo (versioned_in present.entry) command.now Change.Nothing reply) }
+    ensures refused { OnErr result (RepliesFound (versioned_in present.entry) command.now Change.Nothing) }
 {
     match command {
         Command::Get(_) => match present {

@@ -73,8 +73,8 @@ impl ConfigFault {
 }
 
 impl Config {
-    /// Whether the configuration is within its limits, or the first thing that is wrong: backups, step, seglet,
-    /// segment, budget, tablets, history, in this order.
+    /// Whether the configuration is within its limits. The first thing that is wrong is named, in this order: backups,
+    /// step, seglet, segment, budget, tablets, history.
     pub fn check(&self) -> Result<(), ConfigFault>
         ensures { result_err result ≡ config_fault self.now }
     {

@@ -53,8 +53,33 @@ fn object_there<'a>(head: &'a Head, closed: &'a Images, place: Place) -> Option<
     object_in(image, place.at)
 }
 
-/// The place and the object of a key.
+/// The place and the object of a key. If its candidate is its place, the image is looked up once, and the entry is read
+/// once.
 pub fn find<'a>(
+    head: &'a Head,
+    closed: &'a Images,
+    index: &Index,
+    key: &KeyRef<'_>,
+) -> Option<(Place, ObjectRef<'a>)>
+    ensures { let images = images_among head.entry.now closed.entry.now.images in
+        AreKept (keys_in images) index.now.held → FindsObject images index.now.held (shown_key key.now) result }
+{
+    let place = index.candidate(key)?;
+    match object_there(head, closed, place) {
+        Some(object) => {
+            if *key == object.key {
+                Some((place, object))
+            } else {
+                find_by_keys(head, closed, index, key)
+            }
+        }
+        None => find_by_keys(head, closed, index, key),
+    }
+}
+
+/// The same, where another key has the hash, so that more keys are read.
+#[inline(never)]
+fn find_by_keys<'a>(
     head: &'a Head,
     closed: &'a Images,
     index: &Index,
@@ -70,7 +95,7 @@ pub fn find<'a>(
     }
 }
 
-/// Follows a change of the key's object in the index. The new object, if there is one, is at this place.
+/// Changes the index as the key's object changed. The new object, if there is one, is at this place.
 pub fn move_object(
     index: &mut Index,
     images: &LogImages<'_>,

@@ -1,11 +1,10 @@
-//! What a master knows, its fleet apart: its log in memory, its index and its history, and the steps that take nothing
-//! from the fleet.
+//! What a master knows without its fleet: its log in memory, its index and its history. Here are the steps that take
+//! nothing from the fleet.
 //!
-//! A command is applied here whole or not at all (`Core::apply`): it is answered as the versioned map does, its record
-//! and its unit go to the log, and each refusal has its cause (`specs/Causes.antt`). What is to be pushed is told, and
-//! counted once a backup took it, by the layer above. `specs/Log.antt` says what a master's data are to the laws of a
-//! log. It stands on `hash_index`, `images`, `log_head`,
-//! `log_model` and `clean_model`.
+//! `Core::apply` applies a command whole or not at all. It answers as the versioned map does, and adds the record and
+//! the unit to the log. Each refusal has its cause (`specs/Causes.antt`). `Core` says what to push next. The layer
+//! above pushes it, and then has it counted. `specs/Log.antt` says which log a master's data are. The crate stands on
+//! `hash_index`, `images`, `log_head`, `log_model` and `clean_model`.
 #![tactic(auto)]
 
 mod change;

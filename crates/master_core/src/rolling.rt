@@ -17,7 +17,8 @@ use log_head::Next;
 use versioned_map::Command;
 
 impl Core {
-    /// How many seglets of memory are counted: those of whole heads, and of closed segments each by its length.
+    /// How many seglets of memory are counted. A head that takes appends counts whole, and each other segment counts
+    /// its length.
     pub fn used(&self) -> u64
         ensures used { result ≡ used_seglets self.now }
         ensures within { result ≤ self.now.config.seglets }
@@ -45,7 +46,7 @@ impl Core {
         (self.head.image().bytes_len() as u64).div_ceil(self.config.seglet)
     }
 
-    /// The rule of a roll: the log may have one more segment, and one is left for a roll that makes room; and so many
+    /// The rule of a roll. The log may have one more segment, and one more is left for a roll that makes room. So many
     /// whole segments are free once the head counts its length.
     pub(crate) fn may_roll(&self, free: u64) -> bool
         requires open { is_open self.now.head ≡ true }
@@ -77,8 +78,8 @@ impl Core {
         Ok(())
     }
 
-    /// Begins a roll: the next head's image is taken whole, and nothing is appended until the roll has ended. Or it is
-    /// refused, and nothing changes.
+    /// Begins a roll. It takes the memory of the next head's image whole. Nothing is appended until the roll has ended.
+    /// A refusal changes nothing.
     pub fn begin_roll(&mut self) -> Result<StepAnswer, Refusal>
         ensures begun { IfOk result (λ answer. BeginsRoll self.old answer self.new) }
         ensures may { OnOk result (MayRoll (log_of self.old)) }
@@ -104,7 +105,7 @@ impl Core {
         Ok(StepAnswer::Rolling(id))
     }
 
-    /// What the next push does; `None` if nothing waits.
+    /// What the next push does. `None` if nothing waits.
     pub fn next(&self) -> Option<Next>
         ensures next { IsNextPush self.now.head result }
         ensures valid { IsCore self.now }

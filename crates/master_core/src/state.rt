@@ -8,6 +8,7 @@ ghost use Rattle.entry.specs.Text.{text_of};
 ghost use Rattle.log_head.specs.Head.{IsHeadValue};
 ghost use Rattle.log_model.specs.Data.{durable_of};
 ghost use Rattle.master_core.specs.Causes.{early_refusal, unit_refusal, command_refusal, unit_now};
+ghost use Rattle.master_core.specs.Change.{IsFound, RepliesFound, RepliesTo};
 ghost use Rattle.master_core.specs.Config.{config_fault};
 ghost use Rattle.master_core.specs.Data.{fresh_data};
 ghost use Rattle.master_core.specs.Index.{segment_at, place_found, object_found};
@@ -34,7 +35,7 @@ use std::alloc::Global;
 use std::marker::Model;
 use versioned_map::{Command, Record, Reply};
 
-/// What a master knows: its configuration, its head, where the live objects lie, the safe version, and its history.
+/// What a master knows: its configuration, its images, where the live objects lie, the safe version, and its history.
 #[derive(Drop)]
 pub struct Core {
     pub(crate) alloc: Global,
@@ -223,7 +224,7 @@ impl Core {
         find(&self.head, &self.closed, &self.index, &command.key().view())
     }
 
-    /// What a command does, and what its key has: all tests, in order.
+    /// Makes all tests, in order. What the command does, and what its key has.
     fn judge(&self, command: &Command) -> Result<(Change, Option<(Place, ObjectRef<'_>)>), Refusal>
         ensures passed { IfOk result (λ _. command_refusal self.entry.now command.now ≡ None) }
         ensures judged { IfOk result (λ judged.
@@ -244,8 +245,8 @@ impl Core {
         Ok((change, found))
     }
 
-    /// What a command does, in which segment its dead object lies, if there is one, and the reply, for the history and
-    /// for the client.
+    /// What a command does, the segment of its dead object (0 if there is none), and the reply twice: for the history
+    /// and for the client.
     fn consider(&self, command: &Command) -> Result<(Change, u64, Reply, Reply), Refusal>
         ensures passed { IfOk result (λ _. command_refusal self.now command.now ≡ None) }
         ensures judged { IfOk result (λ considered. IsJudged self.now command.now considered.0 considered.1) }
@@ -257,22 +258,18 @@ impl Core {
         match self.judge(command) {
             Err(refusal) => Err(refusal),
             Ok((change, found)) => {
-                let (dead, reply) = match &found {
-                    None => (0, change.reply(self.alloc, command, None)?),
-                    Some((place, object)) => {
-                        (
-                            place.segment,
-                            change.reply(self.alloc, command, Some(object))?,
-                        )
-                    }
+                let dead = match &found {
+                    None => 0,
+                    Some((place, _)) => place.segment,
                 };
-                let answer = reply.copy()?;
+                let reply = reply_from(self.alloc, command, &change, &found)?;
+                let answer = reply_from(self.alloc, command, &change, &found)?;
                 Ok((change, dead, reply, answer))
             }
         }
     }
 
-    /// Whether a step with this command would be refused, and by which test; want of memory apart.
+    /// Which test would refuse a step with this command, if any. It does not look at memory.
     pub fn would(&self, command: &Command) -> Result<(), Refusal>
         ensures { result_err result ≡ command_refusal self.now command.now }
     {
@@ -282,14 +279,15 @@ impl Core {
         }
     }
 
-    /// The reply to a command that no test refuses, before it is applied. Nothing changes.
+    /// The reply to a command that no test refuses. Nothing changes. Only a reply with a value takes memory.
     pub fn answer_to(&self, command: &Command) -> Result<Reply, NoMemory>
         requires { command_refusal self.now command.now ≡ None }
-        ensures { IfOk result (λ reply. reply ≡ reply_now self.now command.now) }
+        ensures reply { IfOk result (λ reply. reply ≡ reply_now self.now command.now) }
+        ensures refused { OnErr result (IsFound (reply_now self.now command.now)) }
     {
-        match self.consider(command) {
-            Ok((_, _, reply, _)) => Ok(reply),
-            Err(_) => Err(NoMemory),
+        match self.judge(command) {
+            Ok((change, found)) => reply_from(self.alloc, command, &change, &found),
+            Err(_) => unreachable!(),
         }
     }
 
@@ -340,7 +338,7 @@ impl Core {
 
     // ---- a fault
 
-    /// What a fault of a take answers; after a fault of a backup the master stays halted. No op of a master is Wrong.
+    /// What a fault of a take answers. After a fault of a backup the master stays halted. No op of a master is Wrong.
     pub fn fail(&mut self, fault: TakeFault) -> Refusal
         requires { fault ≡ TakeFault.Wrong → ⊥ }
         ensures answer { result ≡ refusal_of fault }
@@ -382,5 +380,21 @@ impl Core {
         };
         let bytes = Vec::from_slice(self.alloc, image.bytes())?;
         Ok(Some(Bytes::new(bytes)))
+    }
+}
+
+/// The reply to a command whose change this is, where the index found this.
+fn reply_from(
+    alloc: Global,
+    command: &Command,
+    change: &Change,
+    found: &Option<(Place, ObjectRef<'_>)>,
+) -> Result<Reply, NoMemory>
+    ensures reply { IfOk result (λ reply. RepliesTo (object_found found.now) command.now change.now reply) }
+    ensures refused { OnErr result (RepliesFound (object_found found.now) command.now change.now) }
+{
+    match found {
+        None => change.reply(alloc, command, None),
+        Some((_, object)) => change.reply(alloc, command, Some(object)),
     }
 }

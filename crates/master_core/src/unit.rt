@@ -122,7 +122,8 @@ fn append_change(
     }
 }
 
-/// Appends the unit of a change, which fits, and follows it in the index. The history gets room for its record.
+/// Appends the unit of a change, which fits, and changes the index. The history gets room for the record. On `Err`
+/// only memory was taken.
 pub fn enact(
     head: &mut Head,
     closed: &Images,
