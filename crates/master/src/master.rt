@@ -5,6 +5,7 @@ ghost use Rattle.std.specs.Result.{result_err};
 ghost use Rattle.log_head.specs.Next.{IsNextPush};
 ghost use Rattle.log_model.specs.Data.{durable_of};
 ghost use Rattle.master_core.specs.Causes.{command_refusal};
+ghost use Rattle.master_core.specs.Change.{IsFound};
 ghost use Rattle.master_core.specs.Config.{config_fault};
 ghost use Rattle.master_core.specs.Data.{fresh_data};
 ghost use Rattle.master_core.specs.Log.{log_of};
@@ -130,7 +131,8 @@ impl<F: Fleet> Master<F> {
     /// The reply that a step with this command would get, if no test refuses it. Nothing changes.
     pub fn answer_to(&self, command: &Command) -> Result<Reply, NoMemory>
         requires { command_refusal self.now.knows command.now ≡ None }
-        ensures { IfOk result (λ reply. reply ≡ reply_now self.now.knows command.now) }
+        ensures reply { IfOk result (λ reply. reply ≡ reply_now self.now.knows command.now) }
+        ensures refused { OnErr result (IsFound (reply_now self.now.knows command.now)) }
     {
         self.core.answer_to(command)
     }
