@@ -40,8 +40,8 @@ module _ (config : Config) (life : Life) where
   rises at line answer.Silent next t = as_before at next t.1
   rises at line (answer.Reply reply) next t = let made = ap (λ (p : Position). p.made) t.1.1 in omega arith
   rises at line (answer.Refused r) next t = elim t [
-    | inl (none, inl (inl (out, why))) ↦ let made = ap (λ (p : Position). p.made) out.2 in omega arith
-    | inl (none, inl (inr (added, pushed))) ↦ let made = ap (λ (p : Position). p.made) added.2 in omega arith
+    | inl (none, inl (unspent, inl (out, why))) ↦ let made = ap (λ (p : Position). p.made) out.2 in omega arith
+    | inl (none, inl (unspent, inr (added, pushed))) ↦ let made = ap (λ (p : Position). p.made) added.2 in omega arith
     | inl (none, inr refused) ↦ let made = ap (λ (p : Position). p.made) refused.3 in omega arith
     | inr u ↦ as_before at next u.2
   ]
@@ -104,10 +104,10 @@ module _ (config : Config) (opening : State) (history more : List Record) where
   tells_longer at line answer.Silent next within after t = t
   tells_longer at line (answer.Reply reply) next within after t = (t.0, (record_longer at.made line reply t.1.0, t.1.1))
   tells_longer at line (answer.Refused r) next within after t = elim t [
-    | inl (none, inl (inl (out, inl memory))) ↦ inl (none, inl (inl (out, inl memory)))
-    | inl (none, inl (inl (out, inr (c, is, cause)))) ↦
-        inl (none, inl (inl (out, inr (c, is, subst (λ (l : Life). IsCause config l c r) (same_front at.made within) cause))))
-    | inl (none, inl (inr (added, pushed))) ↦ inl (none, inl (inr (in_longer at line None next added, pushed)))
+    | inl (none, inl (unspent, inl (out, inl memory))) ↦ inl (none, inl (unspent, inl (out, inl memory)))
+    | inl (none, inl (unspent, inl (out, inr (c, is, cause)))) ↦
+        inl (none, inl (unspent, inl (out, inr (c, is, subst (λ (l : Life). IsCause config l c r) (same_front at.made within) cause))))
+    | inl (none, inl (unspent, inr (added, pushed))) ↦ inl (none, inl (unspent, inr (in_longer at line None next added, pushed)))
     | inl (none, inr refused) ↦ inl (
       none,
       inr (

@@ -29,7 +29,7 @@ pub unserved_told : (d e : MasterData) (old mid new : Node) (config : Config) (a
     → IsUnserved d e command r → Refuses mid r new a → Answered d new config at line a
 unserved_told d e old mid new config at s none line command asks r a f g valid of fleet now spent left (inl (is, unspent, same)) =
     subst (λ (x : Answer). Answered d new config at line x) (sym is)
-    (refused_told d e old new config at s none line command asks r f valid (subst (λ (n : Node). IsOf n None e) (sym same) of) left)
+    (refused_told d e old new config at s none line command asks r unspent f valid (subst (λ (n : Node). IsOf n None e) (sym same) of) left)
 unserved_told d e old mid new config at s none line command asks r a f g valid of fleet now spent left (inr (is, why, dropped, lifted)) =
     subst (λ (x : Answer). Answered d new config at line x) (sym is)
     (stopped_told d e old new config at s none line command asks r g now (spent why) (dropped e g of fleet) left)
@@ -105,7 +105,7 @@ rolling_told old new config line command asks waits d at s =
       ([], told.1.1 ∙ sym (append-nil d.history)),
       inl (
         told.2,
-        inl (inl (
+        inl (λ spent. cc, inl (
           (command, asks, λ i. record { made = at.made; acknowledged = at.acknowledged; left = told.2 i }),
           inr (command, asks, inl told.3),
         )),
@@ -116,7 +116,7 @@ rolling_told old new config line command asks waits d at s =
 no_room_tells : (config : Config) (life : Life) (at : Position) (line : LineValue) (command : Command) (a : Answer) (next : Position) → command_of line ≡ Some command
     → at.left ≡ None → IsTest config (life_to life at.made) command refusal.Rolling → TellsNoStep config life at Roll a next → Tells config life at line a next
 no_room_tells config life at line command (answer.Refused r) next asks none test t =
-    inl (none, inl (inl ((command, asks, t.3), inr (command, asks, inr (test, t.1)))))
+    inl (none, inl (t.2, inl ((command, asks, t.3), inr (command, asks, inr (test, t.1)))))
 no_room_tells config life at line command answer.Stopped next asks none test t = (
   none,
   t.1,

@@ -1,9 +1,9 @@
 -- Lines of steps that make no record, told of a master's life.
 use Rattle.std.proofs.Common.{◌≡◌, ℕ, true, List, [], refl, sym, ap, subst, inl, inr, ◌∙◌, arith}
 use Rattle.std.proofs.lemmas.List.{append-nil}
-use Rattle.std.specs.Prelude.{Option, Some, None}
+use Rattle.std.specs.Prelude.{Option, Some, None, IsSome}
 use Rattle.std.specs.Option.{option_map}
-use Rattle.lines.specs.Grammar.{LineValue, Roll, Holdings}
+use Rattle.lines.specs.Grammar.{LineValue, Roll, BeginRoll, Push, Holdings}
 use Rattle.std.specs.Prelude.{Result, Ok, Err, IfOk}
 use Rattle.std.specs.declared.alloc.AllocError.{AllocError}
 use Rattle.replica.specs.declared.holding.Holding.{Holding}
@@ -24,8 +24,8 @@ use Rattle.script.specs.declared.node.Node.{Node}
 use Rattle.script.specs.Lives.{Life, life_to, HasLived, Left, IsLeftBySpent}
 use Rattle.script.specs.Rolls.{Rolls}
 use Rattle.script.specs.Served.{LivesOn, IsSpent, IsOf, IsNodeAt, Refuses, fleet_of, life_of, held_answer}
-use Rattle.script.specs.Served.{IsLeftIn, LiftsLimit, refusal_answer, world_of}
-use Rattle.script.specs.Told.{Position, pushes, is_for_master, IsStepAt, IsRollAt, IsStepRefusal, AreHeldAt, TellsNoStep, Tells}
+use Rattle.script.specs.Served.{IsLeftIn, LiftsLimit, MakesLine, refusal_answer, world_of}
+use Rattle.script.specs.Told.{Position, command_of, pushes, is_for_master, IsStepAt, IsRollAt, IsStepRefusal, AreHeldAt, TellsNoStep, Tells}
 use Rattle.script.proofs.Rolls.{no_step_told}
 use Rattle.script.proofs.Standing.{Answered, still_stands, lived, lived_longer}
 
@@ -104,6 +104,13 @@ refused_lifts mid new g r a fleet (inr (is, spent, dropped, (down, lifted))) = s
   lifted ∙ ap (λ (o : Option FleetState). option_map (λ (f : FleetState). limited f no_limit) o) fleet,
   omega arith,
 )
+
+-- a command's line makes no step of its own
+pub command_makes : (old : Node) (line : LineValue) (new : Node) (a : Answer) → LiftsLimit new a → IsSome (command_of line) → MakesLine old line new a
+command_makes old Roll new a lifts some = absurd (cc)
+command_makes old BeginRoll new a lifts some = absurd (cc)
+command_makes old Push new a lifts some = absurd (cc)
+command_makes old line new a lifts some = λ again. lifts
 
 -- ---- what backups hold
 

@@ -1,8 +1,8 @@
 -- What a session stands for, and what its lines do to it.
 use Rattle.std.specs.Prelude.{◌≡◌, ◌⊎◌, ℕ, ◌<◌, ◌≤◌, List, [], ◌∷◌, ◌++◌, Bool, true, false, Option, Some, None, length}
 use Rattle.backup.specs.State.{fleet_state}
-use Rattle.lines.specs.Grammar.{LineValue, Roll}
-use Rattle.std.specs.Prelude.{Result, Ok, Err}
+use Rattle.lines.specs.Grammar.{LineValue, Roll, BeginRoll, Push}
+use Rattle.std.specs.Prelude.{Result, Ok, Err, IsSome}
 use Rattle.std.specs.Option.{option_map}
 use Rattle.std.specs.declared.alloc.AllocError.{AllocError}
 use Rattle.replica.specs.declared.holding.Holding.{Holding}
@@ -17,6 +17,7 @@ use Rattle.master_core.specs.declared.config.Config.{Config}
 use Rattle.master_core.specs.declared.step.Refusal.{Refusal}
 use Rattle.master_core.specs.declared.step.Refusal.TheVariants.{NoMemory, Rolling, Spent}
 use Rattle.master_core.specs.declared.step.Step.{Step}
+use Rattle.master_core.specs.declared.step.Step.TheVariants as step
 use Rattle.master_core.specs.declared.step.StepAnswer.{StepAnswer}
 use Rattle.master_core.specs.declared.step.StepAnswer.TheVariants as step_answer
 use Rattle.master_core.specs.Causes.{command_refusal}
@@ -173,11 +174,19 @@ AnswersLine old config line new answer = (d : MasterData) (at : Position) → Is
     (e : MasterData) × (next : Position) × IsNodeAt new config e next
     × ((more : List Record) × (e.history ≡ d.history ++ more)) × Tells config (life_of e) at line answer next
 
+-- What a line makes of the node: just its step, or its roll. After a command's line a stopped node has no limit.
+abbrev pub MakesLine : Node → LineValue → Node → Answer → Type 0
+MakesLine old Roll new answer = MakesRoll old new answer
+MakesLine old BeginRoll new answer = MakesStep old step.BeginRoll new answer
+MakesLine old Push new answer = MakesStep old step.Push new answer
+MakesLine old line new answer = IsSome (command_of line) → LiftsLimit new answer
+
 -- the same for a session, which keeps its master's number and its count of backups
 pub record SessionAnswers (old : Session) (line : LineValue) (new : Session) (answer : Answer) : Type 0 where
   pub number : new.master ≡ old.master
   pub backups : new.backups ≡ old.backups
   pub answers : (config : Config) → config.master ≡ old.master → AnswersLine old.node config line new.node answer
+  pub makes : MakesLine old.node line new.node answer
 
 -- a session at its start: its master has this configuration and an open head, and nothing is told of it yet
 pub record BeginsSession (config : Config) (s : Session) : Type 0 where
@@ -223,3 +232,4 @@ pub record AnswersAfterRoll (mid : Session) (line : LineValue) (new : Session) (
   pub backups : new.backups ≡ mid.backups
   pub answers : (old : Node) (config : Config) (command : Command) → command_of line ≡ Some command
       → WaitsForRoll old config command mid.node → AnswersLine old config line new.node answer
+  pub lifted : LiftsLimit new.node answer

@@ -152,13 +152,13 @@ abbrev pub IsCause : Config → Life → Command → Refusal → Type 0
 IsCause config life c r =
     IsTest config life c r ⊎ (IsTest config life c refusal.Rolling × IsRollAt config life (Err r))
 
--- A command is refused. Either it made no record: memory ran out, a test refused it, or the roll that it waits for was
--- refused. Or it made one, and then a push was refused.
+-- A command is refused, by a fleet that isn't spent. Either it made no record: memory ran out, a test refused it, or the
+-- roll that it waits for was refused. Or it made one, and then a push was refused.
 abbrev pub IsRefused : Config → Life → Position → LineValue → Refusal → Position → Type 0
-IsRefused config life at line r next =
-    (IsOut at line None next × ((r ≡ refusal.NoMemory)
+IsRefused config life at line r next = (r ≡ refusal.Spent → ⊥)
+    × ((IsOut at line None next × ((r ≡ refusal.NoMemory)
     ⊎ ((c : Command) × (command_of line ≡ Some c) × IsCause config (life_to life at.made) c r)))
-    ⊎ (IsIn life at line None next × (is_of_push r ≡ true))
+    ⊎ (IsIn life at line None next × (is_of_push r ≡ true)))
 
 -- ---- what is shown
 

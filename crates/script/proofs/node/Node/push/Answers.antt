@@ -1,10 +1,11 @@
 use Rattle.std.proofs.Common.{[], refl, subst}
-use Rattle.std.specs.Prelude.{Err, None}
+use Rattle.std.specs.Prelude.{Ok, Err, None}
 use Rattle.lines.specs.Grammar.{Push}
 use Rattle.backup.specs.State.{fleet_state}
-use Rattle.master.specs.Steps.{Declines}
+use Rattle.master.specs.Steps.{Accepts, Declines}
 use Rattle.master_core.specs.Data.{MasterData}
 use Rattle.master_core.specs.declared.step.Step.TheVariants as step
+use Rattle.master_core.specs.declared.step.StepAnswer.TheVariants as answer
 use Rattle.script.specs.declared.node.Node.{Node}
 use Rattle.script.specs.declared.node.Node.TheVariants.{Up}
 use Rattle.master.specs.World.{world}
@@ -37,3 +38,24 @@ returns-clause-stepped c =
     let after = world fleet_state m in
     let left = refused_left (Up m) c.refuse.new.self after c.in-Err.refusal c.refuse.result refl refl c.refuse.ensures in
     rw c.in-Up.is (Err c.in-Err.refusal, after, c.in-Err.ensures.gives, left.0, left.1)
+
+pub returns-in-Ok-Extended-clause-stepped : goal.returns-in-Ok-Extended-clause-stepped
+returns-in-Ok-Extended-clause-stepped c =
+    let before = world fleet_state c.in-Up.up in
+    let after = world fleet_state c.step.new.self in
+    let w = c.in-Ok-Extended in
+    rw c.in-Up.is (Ok (answer.Extended w.backup w.segment), after, subst (λ a. Accepts before step.Push a after) w.field-0-is w.ensures.gives, refl, refl)
+
+pub returns-in-Ok-Opened-clause-stepped : goal.returns-in-Ok-Opened-clause-stepped
+returns-in-Ok-Opened-clause-stepped c =
+    let before = world fleet_state c.in-Up.up in
+    let after = world fleet_state c.step.new.self in
+    let w = c.in-Ok-Opened in
+    rw c.in-Up.is (Ok (answer.Opened w.backup w.segment), after, subst (λ a. Accepts before step.Push a after) w.field-0-is w.ensures.gives, refl, refl)
+
+pub returns-in-Ok-Closed-clause-stepped : goal.returns-in-Ok-Closed-clause-stepped
+returns-in-Ok-Closed-clause-stepped c =
+    let before = world fleet_state c.in-Up.up in
+    let after = world fleet_state c.step.new.self in
+    let w = c.in-Ok-Closed in
+    rw c.in-Up.is (Ok (answer.Closed w.backup w.segment), after, subst (λ a. Accepts before step.Push a after) w.field-0-is w.ensures.gives, refl, refl)
