@@ -7,6 +7,7 @@ use Rattle.versioned_map.specs.declared.command.Command.{Command}
 use Rattle.versioned_map.specs.declared.command.Reply.{Reply}
 use Rattle.master_core.specs.declared.config.Config.{Config}
 use Rattle.master_core.specs.declared.step.Refusal.{Refusal}
+use Rattle.master_core.specs.declared.step.Refusal.TheVariants as refusal
 use Rattle.master_core.specs.Data.{MasterData}
 use Rattle.master.specs.Valid.{IsValid}
 use Rattle.script.specs.declared.answer.Answer.TheVariants as answer
@@ -33,16 +34,16 @@ module _ (d e : MasterData) (old new : Node) (config : Config) (at : Position) (
       )
 
   -- what was made of a command that wasn't answered
-  pub refused_told : (r : Refusal) (f : FleetState) → IsValid d f → IsOf new None e → IsUnserved d e command r
+  pub refused_told : (r : Refusal) → (r ≡ refusal.Spent → ⊥) → (f : FleetState) → IsValid d f → IsOf new None e → IsUnserved d e command r
       → Answered d new config at line (answer.Refused r)
-  refused_told r f valid of (inl (g, why)) = (
+  refused_told r unspent f valid of (inl (g, why)) = (
     e,
     record { made = at.made; acknowledged = at.acknowledged; left = None },
     still_stands d e old new config at None of s g,
     ([], g.history),
     inl (
       none,
-      inl (inl (
+      inl (unspent, inl (
         (command, asks, refl),
         elim why [
           | inl memory ↦ inl memory
@@ -51,14 +52,14 @@ module _ (d e : MasterData) (old new : Node) (config : Config) (at : Position) (
       )),
     ),
   )
-  refused_told r f valid of (inr ((reply, g), pushed)) =
+  refused_told r unspent f valid of (inr ((reply, g), pushed)) =
       let up = g.durable in
       let kept = s.acknowledged in (
         e,
         record { made = suc at.made; acknowledged = at.acknowledged; left = None },
         stands_longer d e old new config at None of s command reply at.acknowledged g (omega arith),
         (record_of command reply, g.history),
-        inl (none, inl (inr ((reply, (command, asks, record_there d e old new config at None of s command reply g), refl), pushed))),
+        inl (none, inl (unspent, inr ((reply, (command, asks, record_there d e old new config at None of s command reply g), refl), pushed))),
       )
 
   -- it was dropped, with a fleet that took no more ops

@@ -1,5 +1,16 @@
+use Rattle.std.proofs.Common.{refl}
 use Rattle.std.proofs.lemmas.Result.{IfOk-weaker}
+use Rattle.lines.specs.Grammar.{shown_line}
+use Rattle.script.proofs.Steps.{command_makes}
 use Rattle.script.proofs.session.Session.run_command.Goals as goal
+
+pub returns-in-Some-clause-ran : goal.returns-in-Some-clause-ran
+returns-in-Some-clause-ran c = record {
+  number = refl;
+  backups = refl;
+  answers = λ config number. c.in-Some.ensures.told config (shown_line c.args.line) c.in_ok-command.ensures;
+  makes = command_makes _ (shown_line c.args.line) _ c.in-Some.answer c.in-Some.ensures.lifted c.requires.command;
+}
 
 pub returns-in-None-clause-ran : goal.returns-in-None-clause-ran
 returns-in-None-clause-ran c =
@@ -7,6 +18,7 @@ returns-in-None-clause-ran c =
     (λ answer ran. record {
       number = ran.number;
       backups = ran.backups;
-      answers = λ config number. ran.answers c.args.self.now.node config c.in_ok-command.command c.in_ok-command.ensures (c.in-None.ensures config);
+      answers = λ config number. ran.answers c.args.self.now.node config c.in_ok-command.command c.in_ok-command.ensures (c.in-None.ensures.told config);
+      makes = command_makes _ (shown_line c.args.line) _ answer ran.lifted c.requires.command;
     })
     c.run_after_roll.ensures.ran

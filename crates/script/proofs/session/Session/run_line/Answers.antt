@@ -5,37 +5,37 @@ use Rattle.script.proofs.Standing.{stays_told}
 use Rattle.script.proofs.session.Session.run_line.Goals as goal
 
 pub returns-in-Idle-clause-ran : goal.returns-in-Idle-clause-ran
-returns-in-Idle-clause-ran c = rw c.in-Idle.is (record { number = refl; backups = refl; answers = λ config number. stays_told c.args.self.now.node config Idle Silent (λ d at s. (refl, refl)) })
+returns-in-Idle-clause-ran c = rw c.in-Idle.is (record { number = refl; backups = refl; answers = λ config number. stays_told c.args.self.now.node config Idle Silent (λ d at s. (refl, refl)); makes = λ some. absurd (cc) })
 
 pub returns-in-Hex-clause-ran : goal.returns-in-Hex-clause-ran
-returns-in-Hex-clause-ran c = rw c.in-Hex.is (record { number = refl; backups = refl; answers = λ config number. c.hex.ensures config })
+returns-in-Hex-clause-ran c = rw c.in-Hex.is (record { number = refl; backups = refl; answers = λ config number. c.hex.ensures config; makes = λ some. absurd (cc) })
 
 pub returns-in-Stop-clause-ran : goal.returns-in-Stop-clause-ran
-returns-in-Stop-clause-ran c = rw c.in-Stop.is (record { number = refl; backups = refl; answers = λ config number. c.stop.ensures.told config })
+returns-in-Stop-clause-ran c = rw c.in-Stop.is (record { number = refl; backups = refl; answers = λ config number. c.stop.ensures.told config; makes = λ some. absurd (cc) })
 
 pub returns-in-Crash-clause-ran : goal.returns-in-Crash-clause-ran
-returns-in-Crash-clause-ran c = rw c.in-Crash.is (record { number = refl; backups = refl; answers = λ config number. c.crash.ensures.told config })
+returns-in-Crash-clause-ran c = rw c.in-Crash.is (record { number = refl; backups = refl; answers = λ config number. c.crash.ensures.told config; makes = λ some. absurd (cc) })
 
 pub returns-in-Lose-2-clause-ran : goal.returns-in-Lose-2-clause-ran
-returns-in-Lose-2-clause-ran c = rw c.in-Lose-2.is (record { number = refl; backups = refl; answers = λ config number. c.lose.ensures.told config })
+returns-in-Lose-2-clause-ran c = rw c.in-Lose-2.is (record { number = refl; backups = refl; answers = λ config number. c.lose.ensures.told config; makes = λ some. absurd (cc) })
 
 pub returns-in-Recover-clause-ran : goal.returns-in-Recover-clause-ran
-returns-in-Recover-clause-ran c = rw c.in-Recover.is (record { number = refl; backups = refl; answers = c.recover.ensures })
+returns-in-Recover-clause-ran c = rw c.in-Recover.is (record { number = refl; backups = refl; answers = c.recover.ensures; makes = λ some. absurd (cc) })
 
 pub returns-in-Roll-clause-ran : goal.returns-in-Roll-clause-ran
-returns-in-Roll-clause-ran c = rw c.in-Roll.is (record { number = refl; backups = refl; answers = λ config number. c.roll.ensures config })
+returns-in-Roll-clause-ran c = rw c.in-Roll.is (record { number = refl; backups = refl; answers = λ config number. c.roll.ensures.told config; makes = c.roll.ensures.rolled })
 
 pub returns-in-BeginRoll-clause-ran : goal.returns-in-BeginRoll-clause-ran
-returns-in-BeginRoll-clause-ran c = rw c.in-BeginRoll.is (record { number = refl; backups = refl; answers = λ config number. c.begin_roll.ensures config })
+returns-in-BeginRoll-clause-ran c = rw c.in-BeginRoll.is (record { number = refl; backups = refl; answers = λ config number. c.begin_roll.ensures.told config; makes = c.begin_roll.ensures.stepped })
 
 pub returns-in-Push-clause-ran : goal.returns-in-Push-clause-ran
-returns-in-Push-clause-ran c = rw c.in-Push.is (record { number = refl; backups = refl; answers = λ config number. c.push.ensures config })
+returns-in-Push-clause-ran c = rw c.in-Push.is (record { number = refl; backups = refl; answers = λ config number. c.push.ensures.told config; makes = c.push.ensures.stepped })
 
 pub returns-in-Log-clause-ran : goal.returns-in-Log-clause-ran
-returns-in-Log-clause-ran c = rw c.in-Log.is (record { number = refl; backups = refl; answers = λ config number. c.log.ensures config })
+returns-in-Log-clause-ran c = rw c.in-Log.is (record { number = refl; backups = refl; answers = λ config number. c.log.ensures config; makes = λ some. absurd (cc) })
 
 pub returns-in-Room-clause-ran : goal.returns-in-Room-clause-ran
-returns-in-Room-clause-ran c = rw c.in-Room.is (record { number = refl; backups = refl; answers = λ config number. c.room.ensures config })
+returns-in-Room-clause-ran c = rw c.in-Room.is (record { number = refl; backups = refl; answers = λ config number. c.room.ensures config; makes = λ some. absurd (cc) })
 
 pub returns-in-Holdings-clause-ran : goal.returns-in-Holdings-clause-ran
-returns-in-Holdings-clause-ran c = rw c.in-Holdings.is (record { number = refl; backups = refl; answers = λ config number. c.holdings.ensures config })
+returns-in-Holdings-clause-ran c = rw c.in-Holdings.is (record { number = refl; backups = refl; answers = λ config number. c.holdings.ensures config; makes = λ some. absurd (cc) })
