@@ -1,0 +1,2 @@
+//! Memory compaction: the kept entries of a segment, in their order.
+#![tactic(auto)]
