@@ -117,16 +117,16 @@ module _ (h : Held) (to : Place) where
 
   -- ---- the slot that a walk finds
 
-  slot_moves : (hs : List Held) (n : ℕ) → position_or_len (is_same h) hs ≡ n → n < length hs → set hs n (record { hash = h.hash; place = to }) ≡ relocated h to hs
-  slot_moves [] n e below = absurd (omega arith)
-  slot_moves (g ∷ gs) n e below = go (is_same h g) refl n e below (slot_moves gs)
+  slot_moves : (hs : List Held) (n : ℕ) (d : Held) → position_or_len (is_same h) hs ≡ n → n < length hs
+      → set hs n (record { hash = (get_or hs n d).hash; place = to }) ≡ relocated h to hs
+  slot_moves [] n d e below = absurd (omega arith)
+  slot_moves (g ∷ gs) n d e below = go (is_same h g) refl n e below (λ k. slot_moves gs k d)
     where
       go : (t : Bool) → is_same h g ≡ t → (m : ℕ) → position_or_len (is_same h) (g ∷ gs) ≡ m → m < length (g ∷ gs)
-          → ((k : ℕ) → position_or_len (is_same h) gs ≡ k → k < length gs → set gs k (record { hash = h.hash; place = to }) ≡ relocated h to gs)
-          → set (g ∷ gs) m (record { hash = h.hash; place = to }) ≡ relocated h to (g ∷ gs)
-      go true so zero e below rest =
-          let same : g.hash ≡ h.hash = (Decides-eqb g.hash h.hash).0 (both_first (g.hash == h.hash) (is_same_place h.place g.place) so) in
-          ap (λ (x : ℕ). record { hash = x; place = to } ∷ gs) (sym same) ∙ sym (here g gs so)
+          → ((k : ℕ) → position_or_len (is_same h) gs ≡ k → k < length gs
+          → set gs k (record { hash = (get_or gs k d).hash; place = to }) ≡ relocated h to gs)
+          → set (g ∷ gs) m (record { hash = (get_or (g ∷ gs) m d).hash; place = to }) ≡ relocated h to (g ∷ gs)
+      go true so zero e below rest = sym (here g gs so)
       go true so (suc m) e below rest =
           let none : position_or_len (is_same h) (g ∷ gs) ≡ 0 =
           ap (λ (b : Bool). cond (not b) (1 + position_or_len (is_same h) gs) 0) so in
@@ -140,8 +140,11 @@ module _ (h : Held) (to : Place) where
           ap (λ (b : Bool). cond (not b) (1 + position_or_len (is_same h) gs) 0) other in
           ap (λ (xs : List Held). g ∷ xs) (rest m (omega arith) (omega arith)) ∙ sym (later g gs other)
 
-  pub slot_relocates : (hs : List Held) (i : ℕ) → position (is_same h) hs ≡ Some i → set hs i (record { hash = h.hash; place = to }) ≡ relocated h to hs
-  slot_relocates hs i some = slot_moves hs i (position_is (is_same h) hs i some) (position-Some (is_same h) hs i h some).0
+  pub slot_relocates : (hs : List Held) (i : ℕ) (x : Held) → position (is_same h) hs ≡ Some i → x ≡ get_or hs i x
+      → set hs i (record { hash = x.hash; place = to }) ≡ relocated h to hs
+  slot_relocates hs i x some at =
+      ap (λ (y : Held). set hs i (record { hash = y.hash; place = to })) at
+      ∙ slot_moves hs i x (position_is (is_same h) hs i some) (position-Some (is_same h) hs i x some).0
 
 module _ (h : Held) where
   pub slot_holds : (hs : List Held) (i : ℕ) → position (is_same h) hs ≡ Some i → holds hs h ≡ true

@@ -215,10 +215,7 @@ impl PlainIndex {
     {
         match slot_at(&self.held, held) {
             Some(slot) => {
-                self.held[slot] = Held {
-                    hash: held.hash,
-                    place: to,
-                };
+                self.held[slot].place = to;
                 true
             }
             None => false,

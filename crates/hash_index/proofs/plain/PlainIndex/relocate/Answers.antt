@@ -18,7 +18,7 @@ returns-in-Some-clause-moved c =
     let here = ap (λ (v : IndexValue). v.held) c.self.view_is in
     let items = c.self.inside.held.items in
     let some = sym (c.in-Some.ensures ∙ ap (λ (xs : List Held). position (is_same h) xs) c.deref.ensures.value) in
-    slot_relocates h c.args.to items c.in-Some.slot some
+    slot_relocates h c.args.to items c.in-Some.slot c.index_mut.result.now some c.index_mut.ensures.value
     ∙ ap (λ (xs : List Held). relocated h c.args.to xs) here
 
 pub returns-in-None-clause-had : goal.returns-in-None-clause-had
