@@ -2,7 +2,7 @@
 use Rattle.std.proofs.Common.{◌≡◌, ℕ, ◌+◌, ◌-◌, ◌<◌, ◌≤◌, List, [], ◌∷◌, ◌++◌, length, take, drop, refl, sym, ap, ◌∙◌}
 use Rattle.std.proofs.Common.{append_assoc, arith}
 use Rattle.std.specs.List.{AllByRecursion}
-use Rattle.std.proofs.lemmas.List.{length-append, append-nil, take_rest, drop_at, take_at}
+use Rattle.std.proofs.lemmas.List.{length-append, length-take, append-nil, take_rest, drop_at, take_at}
 use Rattle.entry.specs.declared.entry.Entry.{Entry}
 use Rattle.entry.specs.Format.{spelling, IsEntry}
 use Rattle.entry.specs.Text.{text_of, entries_in}
@@ -99,3 +99,15 @@ cut_end es before (e ∷ later) at cut past =
       length-append (spelling e) (text_of later),
       spelling-some e,
     ))
+
+-- ---- a slice of the text
+
+pub part_length : (at n : ℕ) (text : List ℕ) → length (take (at + n - at) (drop at text)) ≤ n
+part_length at n text = omega (arith, length-take (at + n - at) (drop at text))
+
+-- the bytes of the entry at the offset
+pub part_is : (at n : ℕ) (text bytes : List ℕ) → take n (take (length text - at) (drop at text)) ≡ bytes
+    → take (at + n - at) (drop at text) ≡ bytes
+part_is at n text bytes is =
+    let size : at + n - at ≡ n = omega arith in
+    ap (λ (k : ℕ). take k (drop at text)) size ∙ ap (λ (l : List ℕ). take n l) (sym (take_rest text at)) ∙ is

@@ -1,5 +1,5 @@
 -- How the places of an index follow the objects of a segment, entry by entry.
-use Rattle.std.proofs.Common.{◌≡◌, ℕ, ◌+◌, ◌<◌, ◌≤◌, Bool, true, false, cond, ◌&&◌, ◌==◌, List, [], ◌∷◌, ◌++◌, length, map, refl, sym, ap, subst, ◌∙◌, arith}
+use Rattle.std.proofs.Common.{◌≡◌, ℕ, ◌+◌, ◌<◌, ◌≤◌, Bool, true, false, cond, ◌&&◌, ◌==◌, List, [], ◌∷◌, ◌++◌, length, map, refl, sym, ap, subst, ◌∙◌, inl, inr, arith}
 use Rattle.std.specs.Prelude.{Some, None, nat_lt}
 use Rattle.std.specs.List.{AllByRecursion}
 use Rattle.std.proofs.lemmas.Bool.{and_parts, and_from, and_left, and_right, ltb-true, lt-ltb, le-ltb, cases_lt, eqb-true, eq-eqb, false_from_ne_true}
@@ -103,7 +103,7 @@ module _ (ids : List ℕ) (held : List Held) (segment : ℕ) (es : List Entry) w
             ]
           ]
 
-  until_start : (hs : List Held) → AllUntil 0 hs ≡ hs
+  pub until_start : (hs : List Held) → AllUntil 0 hs ≡ hs
   until_start [] = refl
   until_start (h ∷ hs) =
       ap (λ (x : Held). x ∷ AllUntil 0 hs) (until_test 0 h false (passed_false 0 h (omega arith)))
@@ -127,7 +127,7 @@ module _ (ids : List ℕ) (held : List Held) (segment : ℕ) (es : List Entry) w
         ap (λ (xs : List Entry). length (text_of (kept_of ids held segment xs))) before in
         omega (arith, same, lies.offset, kept_length ids held segment 0 lies.before)
 
-    until_end : (hs : List Held) → LieIn images hs → AllUntil (length (text_of es)) hs ≡ map Moved hs
+    pub until_end : (hs : List Held) → LieIn images hs → AllUntil (length (text_of es)) hs ≡ map Moved hs
     until_end [] lie = refl
     until_end (h ∷ hs) lie =
         ap (λ (x : Held). x ∷ AllUntil (length (text_of es)) hs) (go (h.place.segment == segment) refl)

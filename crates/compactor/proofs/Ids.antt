@@ -1,8 +1,9 @@
 -- The ids of the log set.
-use Rattle.std.proofs.Common.{◌≡◌, ℕ, Bool, true, false, cond, ◌||◌, ◌==◌, List, [], ◌∷◌, ◌++◌, map, refl, sym, ap, ◌∙◌}
+use Rattle.std.proofs.Common.{◌≡◌, ℕ, Bool, true, false, cond, ◌||◌, ◌==◌, List, [], ◌∷◌, ◌++◌, map, refl, sym, ap, ◌∙◌, Bor}
 use Rattle.std.specs.Prelude.{Option, Some, None, is_some}
 use Rattle.std.specs.List.{list_any}
-use Rattle.std.specs.Option.{option_map, option_to_list}
+use Rattle.std.specs.Option.{option_map, option_to_list, option_copied}
+use Rattle.std.proofs.lemmas.Bool.{or_right, eq-eqb, ne_eqb}
 use Rattle.std.proofs.lemmas.List.Folds.{list_any-append}
 use Rattle.entry.specs.declared.entry.Entry.{Entry}
 use Rattle.images.specs.declared.image.Image.{Image}
@@ -20,13 +21,16 @@ has_image (x ∷ xs) id = go (x.id == id) (has_image xs id)
     go true rest = refl
     go false rest = rest
 
+pub copied_some : {T : Type 0} (o : Option (Bor T)) → is_some (option_copied o) ≡ is_some o
+copied_some None = refl
+copied_some (Some x) = refl
+
 -- whether the new head is this one
-pub is_new : Option ℕ → ℕ → Bool
+abbrev pub is_new : Option ℕ → ℕ → Bool
 is_new None id = false
 is_new (Some n) id = n == id
 
 new_has : (new : Option ℕ) (id : ℕ) → has_id (option_to_list new) id ≡ is_new new id
-unfolding is_new
 new_has None id = refl
 new_has (Some n) id = go (n == id)
   where
@@ -41,3 +45,24 @@ has_of xs head new id =
     list_any-append (λ (z : ℕ). z == id) (map (λ (x : Image). x.id) xs) (head ∷ option_to_list new)
     ∙ ap (λ (b : Bool). b || ((head == id) || has_id (option_to_list new) id)) (has_image xs id)
     ∙ ap (λ (b : Bool). is_some (segment_of xs id) || ((head == id) || b)) (new_has new id)
+
+-- by the three tests
+module _ (xs : List Image) (head : ℕ) (new : Option ℕ) (id : ℕ) where
+  abbrev ids : List ℕ
+  ids = map (λ (x : Image). x.id) xs ++ head ∷ option_to_list new
+
+  pub has_closed : is_some (segment_of xs id) ≡ true → true ≡ has_id ids id
+  has_closed is = sym (has_of xs head new id ∙ ap (λ (b : Bool). b || ((head == id) || is_new new id)) is)
+
+  pub has_head : (closed : Bool) → is_some (segment_of xs id) ≡ closed → head ≡ id → true ≡ has_id ids id
+  has_head closed is same =
+      sym (has_of xs head new id
+      ∙ ap (λ (b : Bool). b || ((head == id) || is_new new id)) is
+      ∙ ap (λ (b : Bool). closed || (b || is_new new id)) (eq-eqb head id same)
+      ∙ or_right closed true refl)
+
+  pub has_new : is_some (segment_of xs id) ≡ false → (head ≡ id → ⊥) → is_new new id ≡ has_id ids id
+  has_new is other =
+      sym (has_of xs head new id
+      ∙ ap (λ (b : Bool). b || ((head == id) || is_new new id)) is
+      ∙ ap (λ (b : Bool). b || is_new new id) (ne_eqb head id other))

@@ -6,7 +6,7 @@ use Rattle.entry.specs.declared.entry.Object.{Object}
 use Rattle.entry.specs.declared.entry.Entry.{Entry}
 use Rattle.entry.specs.declared.entry.Entry.TheVariants as entry
 use Rattle.entry.specs.Format.{spelling, IsEntry}
-use Rattle.entry.specs.Text.{text_of}
+use Rattle.entry.specs.Text.{text_of, IsSegment, IsTextOf}
 use Rattle.entry.proofs.TextLemmas.{spelling-some}
 use Rattle.segment.proofs.RowLemmas.{text_of-append}
 use Rattle.hash_index.specs.declared.place.Place.{Place}
@@ -16,7 +16,7 @@ use Rattle.hash_index.specs.Relocation.{is_same, holds}
 use Rattle.compactor.specs.Kept.{kept, kept_from, kept_of, moved_all}
 use Rattle.compactor.specs.Moved.{moved_one, Follows}
 use Rattle.compactor.specs.Places.{keys_in, LieIn}
-use Rattle.compactor.proofs.KeptEntries.{kept_push, kept_length}
+use Rattle.compactor.proofs.KeptEntries.{kept_push, kept_length, kept_segment}
 use Rattle.compactor.proofs.Cutting.{IsCut, IsCut-start, first_at, cut_next, cut_end, cut_length}
 use Rattle.compactor.proofs.Moving.{other_at, holds_relocated}
 use Rattle.compactor.proofs.Following.{AllUntil, until_start, until_end, until_plain, until_object}
@@ -76,7 +76,7 @@ module _ (ids : List ℕ) (held : List Held) (segment : ℕ) (es : List Entry) w
     before = [];
     rest = es;
     cut = IsCut-start es;
-    sum = refl;
+    sum = omega arith;
     low = omega arith;
   }
 
@@ -286,3 +286,12 @@ module _ (ids : List ℕ) (held : List Held) (segment : ℕ) (es : List Entry) w
       s.follows images is lie found
       ∙ ap (λ (k : ℕ). AllUntil ids held segment es k held) end
       ∙ until_end ids held segment es images is all held lie
+
+  -- what is copied is a segment's text
+  pub IsCopied-all : (text : List ℕ) → text ≡ text_of es → IsSegment es → (at : ℕ) (out : List ℕ) (capacity : ℕ)
+      (now : List Held) → IsCopied at out capacity now → length text ≤ at
+      → IsTextOf out (kept_of ids held segment es)
+  IsCopied-all text is valid at out capacity now s past = record {
+    segment = kept_segment ids held segment es valid;
+    text = IsCopied-text at out capacity now s (omega (arith, past, ap length is));
+  }

@@ -1,7 +1,7 @@
 //! Compaction of one segment.
 
 ghost use Rattle.std.specs.Prelude.{◌≡◌, ◌≤◌, [], List, length, vec_capacity, IfOk, OnOk, OnErr};
-ghost use Rattle.entry.specs.Text.{text_of};
+ghost use Rattle.entry.specs.Text.{text_of, IsTextOf};
 ghost use Rattle.compactor.specs.Kept.{kept_of};
 ghost use Rattle.compactor.specs.Log.{ids_of_log};
 ghost use Rattle.compactor.specs.Moved.{Follows};
@@ -43,7 +43,8 @@ fn copy_kept(
 )
     requires empty { out.old.items ≡ [] }
     requires room { length (text_of (kept_of (ids_of_log log.now) index.old.held id segment.now)) ≤ vec_capacity out.old }
-    ensures copied { out.new.items ≡ text_of (kept_of (ids_of_log log.now) index.old.held id segment.now) }
+    ensures copied { IsTextOf out.new.items (kept_of (ids_of_log log.now) index.old.held id segment.now) }
+    ensures limit { length out.new.items ≤ 8388608 }
     ensures followed { Follows (ids_of_log log.now) id segment.now index.old.held index.new.held }
     ensures room { index.new.room ≡ index.old.room }
 {
