@@ -7,3 +7,4 @@ pub mod Joining
 pub mod Chains
 pub mod Whole
 pub mod Each
+pub mod Relocating

@@ -20,13 +20,13 @@ and_second false b e = absurd (cc)
 and_true : (a b : Bool) → a ≡ true → (a && b) ≡ b
 and_true a b so = ap (λ (t : Bool). t && b) so
 
-past_tail : {X : Type 0} (p : X → Bool) (x : X) (xs : List X) → p x ≡ false → length (x ∷ xs) ≤ position_or_len p (x ∷ xs) → length xs ≤ position_or_len p xs
+pub past_tail : {X : Type 0} (p : X → Bool) (x : X) (xs : List X) → p x ≡ false → length (x ∷ xs) ≤ position_or_len p (x ∷ xs) → length xs ≤ position_or_len p xs
 past_tail p x xs isnt past =
     let more : position_or_len p (x ∷ xs) ≡ 1 + position_or_len p xs =
     ap (λ (b : Bool). cond (not b) (1 + position_or_len p xs) 0) isnt in
     omega arith
 
-not_met : {X : Type 0} (p : X → Bool) (x : X) (xs : List X) → length (x ∷ xs) ≤ position_or_len p (x ∷ xs) → p x ≡ false
+pub not_met : {X : Type 0} (p : X → Bool) (x : X) (xs : List X) → length (x ∷ xs) ≤ position_or_len p (x ∷ xs) → p x ≡ false
 not_met p x xs past = go (p x) refl
   where
     go : (t : Bool) → p x ≡ t → p x ≡ false
@@ -36,7 +36,7 @@ not_met p x xs past = go (p x) refl
         absurd (omega arith)
     go false isnt = isnt
 
-past_none : {X : Type 0} (p : X → Bool) (xs : List X) → position p xs ≡ None → length xs ≤ position_or_len p xs
+pub past_none : {X : Type 0} (p : X → Bool) (xs : List X) → position p xs ≡ None → length xs ≤ position_or_len p xs
 past_none p xs none = go (nat_lt (position_or_len p xs) (length xs)) refl
   where
     go : (t : Bool) → nat_lt (position_or_len p xs) (length xs) ≡ t → length xs ≤ position_or_len p xs

@@ -4,7 +4,8 @@ ghost use Rattle.std.specs.Prelude.{◌≡◌, ◌+◌, ◌<◌, ◌≤◌, [], 
 ghost use Rattle.entry.specs.declared.key.Key.{Key};
 ghost use Rattle.entry.specs.View.{shown_key};
 ghost use Rattle.hash_index.specs.declared.place.Place.{Place as PlaceValue};
-ghost use Rattle.hash_index.specs.Map.{found, AreKept, IsCandidate, IsSet, IsSameMap};
+ghost use Rattle.hash_index.specs.Map.{found, AreKept, IsSet, IsSameMap, IsCandidate};
+ghost use Rattle.hash_index.specs.Relocation.{holds, relocated};
 
 use crate::hashing::hash_key;
 use crate::place::{Held, Place};
@@ -177,5 +178,23 @@ impl Index {
             return true;
         }
         self.waiting.move_hashed(hash, resolver, key, place)
+    }
+
+    /// Whether it holds this place under this hash. No key is read.
+    #[inline]
+    pub fn holds(&self, held: Held) -> bool
+        ensures { result ≡ holds self.now.held held }
+    {
+        self.table.holds(held) || self.waiting.holds(held)
+    }
+
+    /// A place that it holds under this hash becomes another place, in the same chain. Whether it was there. It takes
+    /// no memory, and no key is read.
+    pub fn relocate(&mut self, held: Held, to: Place) -> bool
+        ensures had { result ≡ holds self.old.held held }
+        ensures moved { self.new.held ≡ relocated held to self.old.held }
+        ensures room { self.new.room ≡ self.old.room }
+    {
+        self.table.relocate(held, to) || self.waiting.relocate(held, to)
     }
 }

@@ -9,6 +9,9 @@
 //! by the hash that is held, so that no key is read. If `settle` is given no memory, keys wait on, and each look-up walks
 //! them.
 //!
+//! `holds` and `relocate` are for who moves objects within the log, and knows the hash and the place of each. They read
+//! no key, and say of the list of places itself what they did.
+//!
 //! The hash is the same in each run. So whoever picks the keys can make them all fall into one chain, until the hash
 //! has a parameter of its own.
 //!

@@ -5,13 +5,14 @@ ghost use Rattle.std.specs.List.{remove};
 ghost use Rattle.entry.specs.declared.key.Key.{Key};
 ghost use Rattle.entry.specs.View.{shown_key};
 ghost use Rattle.hash_index.specs.declared.place.Place.{Place as PlaceValue};
-ghost use Rattle.hash_index.specs.Map.{found, hash_of, AreKept, IsCandidate, IsSet, IsSameMap};
+ghost use Rattle.hash_index.specs.Map.{found, hash_of, AreKept, IsSet, IsSameMap, IsCandidate};
+ghost use Rattle.hash_index.specs.Relocation.{holds, relocated};
 ghost use Rattle.hash_index.specs.Steps.{Moves, Removes};
 
 use crate::hashing::hash_key;
 use crate::place::{Held, Place};
 use crate::resolve::Resolve;
-use crate::walk::{first_slot, slot_of};
+use crate::walk::{slot_at, slot_of, first_slot};
 use entry::{KeyRef, NoMemory};
 use std::alloc::Global;
 use std::marker::Model;
@@ -201,6 +202,30 @@ impl PlainIndex {
         match slot_of(&self.held, hash, resolver, key) {
             Some(slot) => {
                 self.held[slot] = Held { hash, place };
+                true
+            }
+            None => false,
+        }
+    }
+
+    /// Whether it holds this place under this hash. No key is read.
+    #[inline]
+    pub fn holds(&self, held: Held) -> bool
+        ensures { result ≡ holds self.now.held held }
+    {
+        slot_at(&self.held, held).is_some()
+    }
+
+    /// A place that it holds under this hash becomes another place. Whether it was there. It takes no memory, and no
+    /// key is read.
+    pub fn relocate(&mut self, held: Held, to: Place) -> bool
+        ensures had { result ≡ holds self.old.held held }
+        ensures moved { self.new.held ≡ relocated held to self.old.held }
+        ensures room { self.new.room ≡ self.old.room }
+    {
+        match slot_at(&self.held, held) {
+            Some(slot) => {
+                self.held[slot].place = to;
                 true
             }
             None => false,

@@ -3,8 +3,9 @@
 ghost use Rattle.std.specs.Prelude.{◌≡◌, ◌+◌, ◌<◌, ◌≤◌, ◌∷◌, ◌++◌, [], Option, Some, None, length, IfOk, OnOk, OnErr};
 ghost use Rattle.entry.specs.declared.key.Key.{Key};
 ghost use Rattle.entry.specs.View.{shown_key};
-ghost use Rattle.hash_index.specs.declared.place.Place.{Place as PlaceValue};
 ghost use Rattle.hash_index.specs.Map.{found, hash_of, AreKept, IsCandidate};
+ghost use Rattle.hash_index.specs.Relocation.{holds, relocated};
+ghost use Rattle.hash_index.specs.declared.place.Place.{Place as PlaceValue};
 ghost use Rattle.hash_index.specs.Steps.{Moves, Removes, IsShuffled, chain_of};
 
 use crate::place::{Held, Place};
@@ -133,6 +134,32 @@ impl Table {
         let at = chain_at(self.chains.len(), hash);
         let chain = &mut self.chains[at];
         chain.remove_hashed(hash, resolver, key)
+    }
+
+    /// Whether it holds this place under this hash.
+    #[inline]
+    pub(crate) fn holds(&self, held: Held) -> bool
+        ensures { result ≡ holds self.now held }
+    {
+        if self.chains.is_empty() {
+            return false;
+        }
+        let at = chain_at(self.chains.len(), held.hash);
+        let chain = &self.chains[at];
+        chain.holds(held)
+    }
+
+    /// A place that it holds under this hash becomes another place, in the same chain. Whether it was there.
+    pub(crate) fn relocate(&mut self, held: Held, to: Place) -> bool
+        ensures had { result ≡ holds self.old held }
+        ensures moved { self.new ≡ relocated held to self.old }
+    {
+        if self.chains.is_empty() {
+            return false;
+        }
+        let at = chain_at(self.chains.len(), held.hash);
+        let chain = &mut self.chains[at];
+        chain.relocate(held, to)
     }
 
     /// One more place, at the end of its chain. A table of no chains has no memory for any.

@@ -3,7 +3,8 @@
 ghost use Rattle.std.specs.Prelude.{◌≡◌};
 ghost use Rattle.std.specs.List.{position};
 ghost use Rattle.entry.specs.View.{shown_key};
-ghost use Rattle.hash_index.specs.Map.{has_hash, is_of};
+ghost use Rattle.hash_index.specs.Map.{is_of, has_hash};
+ghost use Rattle.hash_index.specs.Relocation.{is_same};
 
 use crate::place::Held;
 use crate::resolve::{Resolve, stands};
@@ -21,6 +22,18 @@ pub(crate) fn slot_of<R: Resolve>(
 {
     held.iter()
         .position(|one| one.hash == hash && stands(resolver, key, one.place))
+}
+
+/// Which of these is this place under this hash.
+#[inline]
+pub(crate) fn slot_at(held: &[Held], sought: Held) -> Option<usize>
+    ensures { result ≡ position (is_same sought) held.now }
+{
+    held.iter().position(|one| {
+        one.hash == sought.hash
+            && one.place.segment == sought.place.segment
+            && one.place.at == sought.place.at
+    })
 }
 
 /// Which of these is the first that has the hash.

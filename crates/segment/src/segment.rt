@@ -4,10 +4,10 @@ ghost use Rattle.std.specs.Prelude.{◌≡◌, ◌+◌, ◌≤◌, ◌<◌, ◌�
 ghost use Rattle.std.specs.Prelude.{map, true, IfOk, OnOk, OnErr, IsErrOf, IsSomeAnd};
 ghost use Rattle.entry.specs.declared.entry.Entry.{Entry};
 ghost use Rattle.entry.specs.Format.{spelling, IsEntry};
-ghost use Rattle.entry.specs.Text.{text_of, IsSegment, ends_with, are_data};
+ghost use Rattle.entry.specs.Text.{text_of, entries_in, IsSegment, ends_with, are_data};
 ghost use Rattle.entry.specs.View.{shown};
 ghost use Rattle.std.specs.Option.{option_map};
-ghost use Rattle.segment.specs.Bytes.{standing_at};
+ghost use Rattle.segment.specs.Bytes.{IsSegmentBytes, standing_at};
 
 use crate::entries::Entries;
 use crate::fault::AppendFault;
@@ -78,6 +78,14 @@ impl Segment {
         append_entry(Entry::Digest(ids), &mut bytes)?;
         append_entry(Entry::Safe(safe), &mut bytes)?;
         Ok(Segment { bytes })
+    }
+
+    /// The segment that has this text. The bytes are neither read nor copied.
+    pub fn of_text(bytes: Vec<u8>) -> Segment
+        requires { IsSegmentBytes bytes.items }
+        ensures { result ≡ entries_in bytes.items }
+    {
+        Segment { bytes }
     }
 
     /// Appends objects and tombstones, all or none of them, if the segment then has at most `limit` bytes. The answer

@@ -3,7 +3,7 @@
 ghost use Rattle.std.specs.Prelude.{◌≡◌, ◌/◌, slice_get};
 
 use entry::{Key, KeyRef};
-use hash_index::{Index, Place, PlainIndex, Resolve};
+use hash_index::{Held, Index, Place, PlainIndex, Resolve, hash_key};
 use std::alloc::Global;
 use std::test::Fail;
 
@@ -84,6 +84,29 @@ fn set(
     true
 }
 
+/// Whether both tell alike that they hold the place.
+fn holds(index: &Index, plain: &PlainIndex, held: Held) -> bool {
+    index.holds(held) == plain.holds(held)
+}
+
+/// Asks both for the place of a key and for another one, and moves the key's place in both.
+fn relocate(
+    index: &mut Index,
+    plain: &mut PlainIndex,
+    keys: &Keys,
+    key: &KeyRef<'_>,
+    place: Place,
+) -> bool {
+    let hash = hash_key(key);
+    let there = plain.get(keys, key).unwrap_or(place);
+    let held = Held { hash, place: there };
+    holds(index, plain, held)
+        && holds(index, plain, Held { hash, place })
+        && index.relocate(held, place) == plain.relocate(held, place)
+        && holds(index, plain, held)
+        && holds(index, plain, Held { hash, place })
+}
+
 /// One call of both, and whether they answer alike.
 fn is_alike(index: &mut Index, plain: &mut PlainIndex, keys: &Keys, roll: u64) -> bool {
     let number = (roll >> 32) as usize % KEY_COUNT;
@@ -98,10 +121,11 @@ fn is_alike(index: &mut Index, plain: &mut PlainIndex, keys: &Keys, roll: u64) -
         segment: roll >> 8 & 15,
         at: number * PLACES_PER_KEY + (roll >> 12) as usize % PLACES_PER_KEY,
     };
-    match roll % 8 {
+    match roll % 10 {
         0 | 1 | 2 => set(index, plain, keys, &key, place),
         3 | 4 => is_same(index.get(keys, &key), plain.get(keys, &key)),
         5 => index.move_to(keys, &key, place) == plain.move_to(keys, &key, place),
+        6 | 7 => relocate(index, plain, keys, &key, place),
         _ => is_same(index.remove(keys, &key), plain.remove(keys, &key)),
     }
 }
@@ -131,12 +155,19 @@ fn each_call(alloc: Global, keys: &Keys, key: &KeyRef<'_>) -> Option<String> {
     index.settle();
     let first = index.get(keys, key)?;
     let moved = index.move_to(keys, key, Place { segment: 2, at: 9 });
+    let held = Held {
+        hash: hash_key(key),
+        place: Place { segment: 2, at: 9 },
+    };
+    let holds = index.holds(held);
+    let relocated = index.relocate(held, Place { segment: 3, at: 5 });
+    let still = index.holds(held);
     let len = index.len();
     let gone = index.remove(keys, key)?;
     let absent = index.get(keys, key).is_none();
     let (segment, at) = (gone.segment, gone.at);
     format!(in alloc;
-        "{} {} {moved} {len} {segment} {at} {absent}",
+        "{} {} {moved} {holds} {relocated} {still} {len} {segment} {at} {absent}",
         first.segment, first.at
     )
     .ok()
@@ -155,6 +186,6 @@ fn each_call_of_an_index(rt: HostRuntime) -> Result<(), Fail> {
     let place = Place { segment: 1, at: 0 };
     let key = keys.key_at(place).ok_or("no key")?;
     let text = each_call(rt.alloc(), &keys, &key).ok_or("failed")?;
-    assert_eq!(rt; text.as_str(), "1 7 true 1 2 9 true");
+    assert_eq!(rt; text.as_str(), "1 7 true true true false 1 3 5 true");
     Ok(())
 }

@@ -1,0 +1,6 @@
+pub mod KeptEntries
+pub mod Cutting
+pub mod Moving
+pub mod Following
+pub mod Walking
+pub mod Ids

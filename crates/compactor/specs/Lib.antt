@@ -1,0 +1,5 @@
+pub mod Places
+pub mod Kept
+pub mod Log
+pub mod Moved
+pub mod Laws

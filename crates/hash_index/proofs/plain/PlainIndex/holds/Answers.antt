@@ -1,0 +1,13 @@
+use Rattle.std.proofs.Common.{List, ap, ◌∙◌}
+use Rattle.hash_index.specs.declared.place.Held.{Held}
+use Rattle.hash_index.specs.Map.{IndexValue}
+use Rattle.hash_index.specs.Relocation.{holds}
+use Rattle.hash_index.proofs.Relocating.{slot_tells}
+use Rattle.hash_index.proofs.plain.PlainIndex.holds.Goals as goal
+
+pub returns : goal.returns
+returns c =
+    let list = c.deref.ensures.value ∙ ap (λ (v : IndexValue). v.held) c.self.view_is in
+    c.is_some.ensures
+    ∙ slot_tells c.args.held c.deref.result.now c.slot_at.result c.slot_at.ensures
+    ∙ ap (λ (xs : List Held). holds xs c.args.held) list
