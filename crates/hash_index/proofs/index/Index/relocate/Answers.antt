@@ -11,7 +11,7 @@ invariant_of-self c =
     let waiting = c.self.inside.waiting.held in
     let new = c.relocate.new.self in
     let same : length new ≡ length table =
-    ap (λ (xs : List Held). length xs) c.relocate.ensures.moved ∙ relocated_len c.args.held c.args.to table in
+    ap (λ (xs : List Held). length xs) c.relocate.ensures.moved ∙ relocated_len c.args.held _ table in
     record {
       counted = omega (arith, length-append table waiting, length-append new waiting);
       fits = c.self.invariant.fits;
@@ -25,9 +25,9 @@ invariant_of-self-else-relocate c =
     let new = c.relocate.new.self in
     let rest = c.relocate-else-relocate.new.self.held in
     let first : length new ≡ length table =
-    ap (λ (xs : List Held). length xs) c.relocate.ensures.moved ∙ relocated_len c.args.held c.args.to table in
+    ap (λ (xs : List Held). length xs) c.relocate.ensures.moved ∙ relocated_len c.args.held _ table in
     let second : length rest ≡ length waiting =
-    ap (λ (xs : List Held). length xs) c.relocate-else-relocate.ensures.moved ∙ relocated_len c.args.held c.args.to waiting in
+    ap (λ (xs : List Held). length xs) c.relocate-else-relocate.ensures.moved ∙ relocated_len c.args.held _ waiting in
     record {
       counted = omega (arith, length-append table waiting, length-append new rest);
       fits = c.self.invariant.fits;
