@@ -8,6 +8,7 @@ mod asks;
 #[cfg(test)]
 mod backups;
 #[cfg(test)]
+mod compaction;
 mod comparisons;
 #[cfg(test)]
 mod drills;
