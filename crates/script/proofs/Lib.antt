@@ -1,5 +1,6 @@
 pub mod Printed
 pub mod MasterSteps
+pub mod Heads
 pub mod Standing
 pub mod Commands
 pub mod Rolls

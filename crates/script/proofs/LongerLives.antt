@@ -1,7 +1,7 @@
 -- What lines tell of a life, they tell of a longer one.
 use Rattle.std.proofs.Common.{◌≡◌, ℕ, zero, suc, ◌≤◌, List, [], ◌∷◌, ◌++◌, take, length, refl, sym, ap, subst, inl, inr, ◌∙◌, arith}
 use Rattle.std.proofs.lemmas.List.{length-append, take-append-le}
-use Rattle.std.specs.Prelude.{Option, None, Some, slice_get}
+use Rattle.std.specs.Prelude.{Option, None, Some, Result, Ok, slice_get}
 use Rattle.lines.specs.Grammar.{LineValue}
 use Rattle.versioned_map.specs.declared.command.Command.{Command}
 use Rattle.versioned_map.specs.declared.command.Record.{Record}
@@ -11,12 +11,13 @@ use Rattle.versioned_map.specs.Versioned.{State, after as map_after}
 use Rattle.script.specs.declared.answer.Answer.{Answer}
 use Rattle.script.specs.declared.answer.Answer.TheVariants as answer
 use Rattle.script.specs.Lives.{Life, life_to, Left, IsLeftBy, IsLeftBySpent}
+use Rattle.master_core.specs.declared.step.Refusal.{Refusal}
 use Rattle.master_core.specs.declared.step.Step.{Step}
 use Rattle.master_core.specs.declared.step.StepAnswer.{StepAnswer}
 use Rattle.master_core.specs.declared.step.Step.TheVariants as step
 use Rattle.master_core.specs.declared.step.StepAnswer.TheVariants as step_answer
-use Rattle.script.specs.Told.{Told, Position, IsRecordAt, IsIn, IsRollRefused, IsCause, IsImageAt, Tells, AreTelling}
-use Rattle.script.specs.Told.{IsHeadAt, IsStepAt, IsDigestAt, IsRoomAt, AreHeldAt}
+use Rattle.script.specs.Told.{Told, Position, IsRecordAt, IsIn, IsCause, IsImageAt, Tells, AreTelling}
+use Rattle.script.specs.Told.{IsStepAt, IsRollAt, IsStepRefusal, IsDigestAt, IsRoomAt, AreHeldAt}
 
 -- ---- a longer history tells the same
 
@@ -41,7 +42,7 @@ module _ (config : Config) (life : Life) where
   rises at line (answer.Refused r) next t = elim t [
     | inl (none, inl (inl (out, why))) ↦ let made = ap (λ (p : Position). p.made) out.2 in omega arith
     | inl (none, inl (inr (added, pushed))) ↦ let made = ap (λ (p : Position). p.made) added.2 in omega arith
-    | inl (none, inr refused) ↦ let made = ap (λ (p : Position). p.made) refused.1.2 in omega arith
+    | inl (none, inr refused) ↦ let made = ap (λ (p : Position). p.made) refused.3 in omega arith
     | inr u ↦ as_before at next u.2
   ]
   rises at line (answer.Head id) next t = as_before at next t.3
@@ -92,7 +93,7 @@ module _ (config : Config) (opening : State) (history more : List Record) where
   in_longer : (at : Position) (line : LineValue) (left : Option Left) (next : Position) → IsIn life at line left next → IsIn longer at line left next
   in_longer at line left next (reply, there, is) = (reply, record_longer at.made line reply there, is)
 
-  step_longer : (at : Position) (is : Type 0) (s : Step) (a : StepAnswer) (next : Position) → at.made ≤ length history
+  step_longer : (at : Position) (is : Type 0) (s : Step) (a : Result StepAnswer Refusal) (next : Position) → at.made ≤ length history
       → (at.left ≡ None) × is × IsStepAt config (life_to life at.made) s a × (next ≡ at)
       → (at.left ≡ None) × is × IsStepAt config (life_to longer at.made) s a × (next ≡ at)
   step_longer at is s a next within t =
@@ -111,24 +112,22 @@ module _ (config : Config) (opening : State) (history more : List Record) where
       none,
       inr (
         refused.0,
-        (
-          refused.1.0,
-          subst (λ (l : Life). IsRollRefused config l r) (same_front at.made within) refused.1.1,
-          refused.1.2,
-        ),
+        subst (λ (l : Life). IsStepRefusal config l line r) (same_front at.made within) refused.1,
+        refused.2,
+        refused.3,
       ),
     )
     | inr u ↦ inr u
   ]
   tells_longer at line (answer.Head id) next within after t =
-      (t.0, t.1, subst (λ (l : Life). IsHeadAt config l id) (same_front at.made within) t.2, t.3)
-  tells_longer at line (answer.Opening id) next within after t = step_longer at _ step.BeginRoll (step_answer.Rolling id) next within t
+      (t.0, t.1, subst (λ (l : Life). IsRollAt config l (Ok id)) (same_front at.made within) t.2, t.3)
+  tells_longer at line (answer.Opening id) next within after t = step_longer at _ step.BeginRoll (Ok (step_answer.Rolling id)) next within t
   tells_longer at line (answer.Extended backup segment) next within after t =
-      step_longer at _ step.Push (step_answer.Extended backup segment) next within t
+      step_longer at _ step.Push (Ok (step_answer.Extended backup segment)) next within t
   tells_longer at line (answer.Opened backup segment) next within after t =
-      step_longer at _ step.Push (step_answer.Opened backup segment) next within t
+      step_longer at _ step.Push (Ok (step_answer.Opened backup segment)) next within t
   tells_longer at line (answer.Closed backup segment) next within after t =
-      step_longer at _ step.Push (step_answer.Closed backup segment) next within t
+      step_longer at _ step.Push (Ok (step_answer.Closed backup segment)) next within t
   tells_longer at line (answer.Log ids) next within after t =
       (t.0, t.1, subst (λ (l : Life). IsDigestAt config l ids) (same_front at.made within) t.2, t.3)
   tells_longer at line (answer.Room used free) next within after t =

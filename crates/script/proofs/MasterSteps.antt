@@ -16,7 +16,7 @@ use Rattle.master_core.specs.Data.{MasterData}
 use Rattle.master.specs.Keeps.{Keeps}
 use Rattle.master.specs.Steps.{Steps, Declines, FailsTake}
 use Rattle.master.specs.World.{World}
-use Rattle.script.specs.Served.{LivesOn, IsNotRolled, IsSpent, record_of}
+use Rattle.script.specs.Served.{LivesOn, IsSpent, record_of}
 use Rattle.script.specs.Told.{is_of_push}
 
 -- ---- a master goes on
@@ -110,11 +110,6 @@ begin_goes_on old new r begin kept = record {
   durable = kept.durable;
   history = begun_history old new r begin ∙ sym (append-nil old.knows.history);
 }
-
--- why it was refused
-pub refused_begin : (old new : World) (r : Refusal) → Declines old BeginRoll r new → IsNotRolled old.knows r
-refused_begin old new r (same, inl test) = inl test
-refused_begin old new r (same, inr memory) = inr (ap is_of_push memory.1)
 
 -- no test refuses a roll as spent, and a roll takes nothing
 pub spent_begin : (old new : World) (r : Refusal) → Declines old BeginRoll r new → r ≡ refusal.Spent → ⊥

@@ -1,8 +1,8 @@
 -- Commands that wait for a roll.
-use Rattle.std.proofs.Common.{◌≡◌, [], ◌++◌, refl, sym, ap, subst, inl, inr, ◌∙◌}
+use Rattle.std.proofs.Common.{◌≡◌, true, [], ◌++◌, refl, sym, ap, subst, inl, inr, ◌∙◌}
 use Rattle.std.proofs.lemmas.List.{append-nil}
 use Rattle.std.specs.Prelude.{Some, None}
-use Rattle.lines.specs.Grammar.{LineValue}
+use Rattle.lines.specs.Grammar.{LineValue, Roll}
 use Rattle.replica.specs.Picture.{FleetState}
 use Rattle.versioned_map.specs.declared.command.Command.{Command}
 use Rattle.master_core.specs.declared.config.Config.{Config}
@@ -15,8 +15,8 @@ use Rattle.script.specs.declared.answer.Answer.{Answer}
 use Rattle.script.specs.declared.answer.Answer.TheVariants as answer
 use Rattle.script.specs.declared.node.Node.{Node}
 use Rattle.script.specs.Lives.{Life, life_to, IsLeftBySpent}
-use Rattle.script.specs.Served.{LivesOn, IsUnserved, IsNotRolled, IsSpent, IsOf, IsNodeAt, Refuses, AnswersLine, StaysAt, WaitsForRoll, MakesRoom, fleet_of, left_now, life_of}
-use Rattle.script.specs.Told.{Position, command_of, is_of_push, IsTest, TellsNoRoll, Tells}
+use Rattle.script.specs.Served.{LivesOn, IsUnserved, IsSpent, IsOf, IsNodeAt, Refuses, AnswersLine, StaysAt, WaitsForRoll, MakesRoom, fleet_of, left_now, life_of}
+use Rattle.script.specs.Told.{Position, command_of, is_of_push, pushes, IsTest, IsStepRefusal, TellsNoStep, Tells}
 use Rattle.script.proofs.Standing.{Answered, asks_master, still_stands, lived, lived_longer}
 use Rattle.script.proofs.Commands.{stopped_told, refused_told}
 
@@ -27,10 +27,10 @@ pub unserved_told : (d e : MasterData) (old mid new : Node) (config : Config) (a
     (line : LineValue) (command : Command) → command_of line ≡ Some command → (r : Refusal) (a : Answer) (f g : FleetState)
     → IsValid d f → IsOf mid None e → fleet_of mid ≡ Some g → IsValid e g → (r ≡ refusal.Spent → IsSpent g)
     → IsUnserved d e command r → Refuses mid r new a → Answered d new config at line a
-unserved_told d e old mid new config at s none line command asks r a f g valid of fleet now spent left (inl (is, same)) =
+unserved_told d e old mid new config at s none line command asks r a f g valid of fleet now spent left (inl (is, unspent, same)) =
     subst (λ (x : Answer). Answered d new config at line x) (sym is)
     (refused_told d e old new config at s none line command asks r f valid (subst (λ (n : Node). IsOf n None e) (sym same) of) left)
-unserved_told d e old mid new config at s none line command asks r a f g valid of fleet now spent left (inr (is, why, dropped)) =
+unserved_told d e old mid new config at s none line command asks r a f g valid of fleet now spent left (inr (is, why, dropped, lifted)) =
     subst (λ (x : Answer). Answered d new config at line x) (sym is)
     (stopped_told d e old new config at s none line command asks r g now (spent why) (dropped e g of fleet) left)
 
@@ -53,38 +53,34 @@ waits_told d e old new config at s none command r f valid of is (inl (g, inr tes
       (d, f, lived d e old new config at None of s f valid [] g.history, test ∙ ap Some is),
     )
 
--- ---- a roll that was not made
+-- ---- a step or a roll that was not made
 
-pub no_roll_told : (d e : MasterData) (old mid new : Node) (config : Config) (at : Position) → IsNodeAt old config d at → at.left ≡ None
-    → (r : Refusal) (a : Answer) (f g : FleetState) → IsValid d f → IsOf mid None e → fleet_of mid ≡ Some g → IsValid e g
-    → (r ≡ refusal.Spent → IsSpent g) → LivesOn d e [] → IsNotRolled d r → Refuses mid r new a
-    → (e : MasterData) × (next : Position) × IsNodeAt new config e next × (e.history ≡ d.history) × TellsNoRoll config (life_of e) at a next
-no_roll_told d e old mid new config at s none r a f g valid of fleet now spent on why (inl (is, same)) =
+pub no_step_told : (d e : MasterData) (old mid new : Node) (config : Config) (at : Position) → IsNodeAt old config d at → at.left ≡ None
+    → (line : LineValue) (r : Refusal) (a : Answer) (g : FleetState) → IsOf mid None e → fleet_of mid ≡ Some g → IsValid e g
+    → (r ≡ refusal.Spent → IsSpent g) → (r ≡ refusal.Spent → pushes line ≡ true) → LivesOn d e []
+    → IsStepRefusal config (life_to (life_of e) at.made) line r → Refuses mid r new a
+    → (e : MasterData) × (next : Position) × IsNodeAt new config e next × (e.history ≡ d.history) × TellsNoStep config (life_of e) at line a next
+no_step_told d e old mid new config at s none line r a g of fleet now spent may on why (inl (is, unspent, same)) =
     let stays = subst (λ (n : Node). IsOf n None e) (sym same) of in (
       e,
       record { made = at.made; acknowledged = at.acknowledged; left = None },
       still_stands d e old new config at None stays s on,
       on.history ∙ append-nil d.history,
-      subst (λ (x : Answer). TellsNoRoll config (life_of e) at x (record { made = at.made; acknowledged = at.acknowledged; left = None })) (sym is) (
-        none,
-        elim why [
-          | inl test ↦ inl (d, f, lived d e old new config at None stays s f valid [] on.history, test)
-          | inr pushed ↦ inr pushed
-        ],
-        refl,
-      ),
+      subst (λ (x : Answer). TellsNoStep config (life_of e) at line x (record { made = at.made; acknowledged = at.acknowledged; left = None })) (sym is)
+          (none, why, unspent, refl),
     )
-no_roll_told d e old mid new config at s none r a f g valid of fleet now spent on why (inr (is, rest, dropped)) =
+no_step_told d e old mid new config at s none line r a g of fleet now spent may on why (inr (is, rest, dropped, lifted)) =
     let gone = dropped e g of fleet in
     let stands = still_stands d e old new config at (Some (left_now g)) gone s on in (
       e,
       record { made = at.made; acknowledged = at.acknowledged; left = Some (left_now g) },
       stands,
       on.history ∙ append-nil d.history,
-      subst (λ (x : Answer). TellsNoRoll config (life_of e) at x (record { made = at.made; acknowledged = at.acknowledged; left = Some (left_now g) })) (sym is) (
+      subst (λ (x : Answer). TellsNoStep config (life_of e) at line x (record { made = at.made; acknowledged = at.acknowledged; left = Some (left_now g) })) (sym is) (
         none,
         left_now g,
         (e, g, lived_longer d e old new config at (Some (left_now g)) gone s g now at.made stands.configured stands.made, refl, spent rest),
+        may rest,
         refl,
       ),
     )
@@ -118,14 +114,14 @@ rolling_told old new config line command asks waits d at s =
 
 -- the roll that it waits for is refused
 no_room_tells : (config : Config) (life : Life) (at : Position) (line : LineValue) (command : Command) (a : Answer) (next : Position) → command_of line ≡ Some command
-    → at.left ≡ None → IsTest config (life_to life at.made) command refusal.Rolling → TellsNoRoll config life at a next → Tells config life at line a next
+    → at.left ≡ None → IsTest config (life_to life at.made) command refusal.Rolling → TellsNoStep config life at Roll a next → Tells config life at line a next
 no_room_tells config life at line command (answer.Refused r) next asks none test t =
-    inl (none, inl (inl ((command, asks, t.2), inr (command, asks, inr (test, t.1)))))
+    inl (none, inl (inl ((command, asks, t.3), inr (command, asks, inr (test, t.1)))))
 no_room_tells config life at line command answer.Stopped next asks none test t = (
   none,
   t.1,
-  subst (λ n. IsLeftBySpent config (life_to life n) t.1) (sym (ap (λ (p : Position). p.made) t.3)) t.2,
-  inl (command, asks, t.3),
+  subst (λ n. IsLeftBySpent config (life_to life n) t.1) (sym (ap (λ (p : Position). p.made) t.4)) t.2,
+  inl (command, asks, t.4),
 )
 no_room_tells config life at line command answer.Down next asks none test t = (t.0, asks_master line command asks, t.1)
 no_room_tells config life at line command a next asks none test t = absurd t

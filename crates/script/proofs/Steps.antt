@@ -1,54 +1,35 @@
 -- Lines of steps that make no record, told of a master's life.
-use Rattle.std.proofs.Common.{◌≡◌, ℕ, true, List, [], refl, sym, ap, subst, inl, inr, ◌∙◌}
+use Rattle.std.proofs.Common.{◌≡◌, ℕ, true, List, [], refl, sym, ap, subst, inl, inr, ◌∙◌, arith}
 use Rattle.std.proofs.lemmas.List.{append-nil}
 use Rattle.std.specs.Prelude.{Option, Some, None}
+use Rattle.std.specs.Option.{option_map}
 use Rattle.lines.specs.Grammar.{LineValue, Roll, Holdings}
 use Rattle.std.specs.Prelude.{Result, Ok, Err, IfOk}
 use Rattle.std.specs.declared.alloc.AllocError.{AllocError}
 use Rattle.replica.specs.declared.holding.Holding.{Holding}
-use Rattle.log_head.specs.Head.{is_open}
 use Rattle.replica.specs.Picture.{FleetState, AreHeld}
+use Rattle.replica.specs.Take.{limited, no_limit}
 use Rattle.master_core.specs.declared.config.Config.{Config}
 use Rattle.master_core.specs.declared.step.Refusal.{Refusal}
 use Rattle.master_core.specs.declared.step.Refusal.TheVariants as refusal
 use Rattle.master_core.specs.declared.step.Step.{Step}
 use Rattle.master_core.specs.declared.step.StepAnswer.{StepAnswer}
 use Rattle.master_core.specs.Data.{MasterData}
-use Rattle.master.specs.Steps.{Accepts}
+use Rattle.master.specs.Steps.{Steps}
+use Rattle.master.specs.World.{World}
 use Rattle.master.specs.Valid.{IsValid}
 use Rattle.script.specs.declared.answer.Answer.{Answer}
 use Rattle.script.specs.declared.answer.Answer.TheVariants as answer
 use Rattle.script.specs.declared.node.Node.{Node}
 use Rattle.script.specs.Lives.{Life, life_to, HasLived, Left, IsLeftBySpent}
-use Rattle.script.specs.Served.{LivesOn, IsNotRolled, IsSpent, IsOf, IsNodeAt, Refuses, fleet_of, life_of, held_answer}
-use Rattle.script.specs.Told.{Position, is_step, is_for_master, IsStepAt, AreHeldAt, TellsNoRoll, Tells}
-use Rattle.script.proofs.Rolls.{no_roll_told}
+use Rattle.script.specs.Rolls.{Rolls}
+use Rattle.script.specs.Served.{LivesOn, IsSpent, IsOf, IsNodeAt, Refuses, fleet_of, life_of, held_answer}
+use Rattle.script.specs.Served.{IsLeftIn, LiftsLimit, refusal_answer, world_of}
+use Rattle.script.specs.Told.{Position, pushes, is_for_master, IsStepAt, IsRollAt, IsStepRefusal, AreHeldAt, TellsNoStep, Tells}
+use Rattle.script.proofs.Rolls.{no_step_told}
 use Rattle.script.proofs.Standing.{Answered, still_stands, lived, lived_longer}
 
--- ---- a step that is refused
-
-no_roll_tells : (config : Config) (life : Life) (at : Position) (line : LineValue) (a : Answer) (next : Position) → is_step line ≡ true → is_for_master line ≡ true
-    → TellsNoRoll config life at a next → Tells config life at line a next
-no_roll_tells config life at line (answer.Refused r) next step up t = inl (t.0, inr (step, t))
-no_roll_tells config life at line answer.Stopped next step up t = (
-  t.0,
-  t.1,
-  subst (λ n. IsLeftBySpent config (life_to life n) t.1) (sym (ap (λ (p : Position). p.made) t.3)) t.2,
-  inr (inr (step, t.3)),
-)
-no_roll_tells config life at line answer.Down next step up t = (t.0, up, t.1)
-no_roll_tells config life at line a next step up t = absurd t
-
--- a step that a master refuses
-pub no_step_told : (d e : MasterData) (old mid new : Node) (config : Config) (at : Position) → IsNodeAt old config d at → at.left ≡ None
-    → (line : LineValue) → is_step line ≡ true → is_for_master line ≡ true
-    → (r : Refusal) (a : Answer) (f g : FleetState) → IsValid d f → IsOf mid None e → fleet_of mid ≡ Some g → IsValid e g
-    → (r ≡ refusal.Spent → IsSpent g) → LivesOn d e [] → IsNotRolled d r → Refuses mid r new a → Answered d new config at line a
-no_step_told d e old mid new config at s none line step up r a f g valid of fleet now spent on why gives =
-    let t = no_roll_told d e old mid new config at s none r a f g valid of fleet now spent on why gives in
-    (t.0, t.1, t.2, ([], t.3 ∙ sym (append-nil d.history)), no_roll_tells config (life_of t.0) at line a t.1 step up t.4)
-
--- ---- a step that is taken
+-- ---- a step and a roll, of a master that goes on
 
 module _ (d e : MasterData) (old new : Node) (config : Config) (at : Position) (s : IsNodeAt old config d at) (none : at.left ≡ None)
     (of : IsOf new None e) (f g : FleetState) (valid : IsValid d f) (now : IsValid e g) (on : LivesOn d e []) where
@@ -58,24 +39,71 @@ module _ (d e : MasterData) (old new : Node) (config : Config) (at : Position) (
       λ i. record { made = at.made; acknowledged = at.acknowledged; left = sym none i } in
       subst (λ (p : Position). IsNodeAt new config e p) same (still_stands d e old new config at None of s on)
 
-  pub step_at : (step : Step) (a : StepAnswer) → Accepts (record { knows = d; fleet = f }) step a (record { knows = e; fleet = g })
-      → IsStepAt config (life_to (life_of e) at.made) step a
-  step_at step a accepts = (
-    record { knows = d; fleet = f },
-    record { knows = e; fleet = g },
-    lived d e old new config at None of s f valid [] on.history,
-    lived_longer d e old new config at None of s g now at.made stays.configured stays.made,
-    accepts,
-  )
+  before : HasLived config (life_to (life_of e) at.made) d f
+  before = lived d e old new config at None of s f valid [] on.history
 
-  pub head_told : (id : ℕ) → id ≡ e.head.id → is_open e.head ≡ true → Answered d new config at Roll (answer.Head id)
-  head_told id same opened = (
-    e,
-    at,
-    stays,
-    ([], on.history),
-    (none, refl, (e, g, lived_longer d e old new config at None of s g now at.made stays.configured stays.made, sym same, opened), refl),
-  )
+  after : HasLived config (life_to (life_of e) at.made) e g
+  after = lived_longer d e old new config at None of s g now at.made stays.configured stays.made
+
+  pub step_at : (step : Step) (r : Result StepAnswer Refusal) → Steps (record { knows = d; fleet = f }) step r (record { knows = e; fleet = g })
+      → IsStepAt config (life_to (life_of e) at.made) step r
+  step_at step r steps = (record { knows = d; fleet = f }, record { knows = e; fleet = g }, before, after, steps)
+
+  pub roll_at : (r : Result ℕ Refusal) → Rolls (record { knows = d; fleet = f }) r (record { knows = e; fleet = g })
+      → IsRollAt config (life_to (life_of e) at.made) r
+  roll_at r rolls = (record { knows = d; fleet = f }, record { knows = e; fleet = g }, before, after, rolls)
+
+  pub head_told : (id : ℕ) → Rolls (record { knows = d; fleet = f }) (Ok id) (record { knows = e; fleet = g })
+      → Answered d new config at Roll (answer.Head id)
+  head_told id rolls = (e, at, stays, ([], on.history), (none, refl, roll_at (Ok id) rolls, refl))
+
+-- ---- a step that is refused
+
+no_step_tells : (config : Config) (life : Life) (at : Position) (line : LineValue) (a : Answer) (next : Position) → is_for_master line ≡ true
+    → TellsNoStep config life at line a next → Tells config life at line a next
+no_step_tells config life at line (answer.Refused r) next up t = inl (t.0, inr t)
+no_step_tells config life at line answer.Stopped next up t = (
+  t.0,
+  t.1,
+  subst (λ n. IsLeftBySpent config (life_to life n) t.1) (sym (ap (λ (p : Position). p.made) t.4)) t.2,
+  inr (inr (t.3, t.4)),
+)
+no_step_tells config life at line answer.Down next up t = (t.0, up, t.1)
+no_step_tells config life at line a next up t = absurd t
+
+-- a step or a roll that a master refuses
+pub no_step_answered : (d e : MasterData) (old mid new : Node) (config : Config) (at : Position) → IsNodeAt old config d at → at.left ≡ None
+    → (line : LineValue) → is_for_master line ≡ true
+    → (r : Refusal) (a : Answer) (g : FleetState) → IsOf mid None e → fleet_of mid ≡ Some g → IsValid e g
+    → (r ≡ refusal.Spent → IsSpent g) → (r ≡ refusal.Spent → pushes line ≡ true) → LivesOn d e []
+    → IsStepRefusal config (life_to (life_of e) at.made) line r → Refuses mid r new a → Answered d new config at line a
+no_step_answered d e old mid new config at s none line up r a g of fleet now spent may on why gives =
+    let t = no_step_told d e old mid new config at s none line r a g of fleet now spent may on why gives in
+    (t.0, t.1, t.2, ([], t.3 ∙ sym (append-nil d.history)), no_step_tells config (life_of t.0) at line a t.1 up t.4)
+
+-- ---- what a refusal leaves
+
+unspent_answer : (r : Refusal) → (r ≡ refusal.Spent → ⊥) → refusal_answer r ≡ answer.Refused r
+unspent_answer refusal.Spent unspent = absurd (unspent refl)
+unspent_answer r unspent = refl
+
+pub refused_left : (mid new : Node) (w : World) (r : Refusal) (a : Answer) → world_of mid ≡ Some w → fleet_of mid ≡ Some w.fleet → Refuses mid r new a
+    → (a ≡ refusal_answer r) × IsLeftIn w a new
+refused_left mid new w r a up fleet (inl (is, unspent, same)) =
+    (is ∙ sym (unspent_answer r unspent), subst (λ (x : Answer). IsLeftIn w x new) (sym is) (ap world_of same ∙ up))
+refused_left mid new w r a up fleet (inr (is, spent, dropped, (down, lifted))) = (
+  is ∙ ap refusal_answer (sym spent),
+  subst (λ (x : Answer). IsLeftIn w x new) (sym is) (down, lifted ∙ ap (λ (o : Option FleetState). option_map (λ (f : FleetState). limited f no_limit) o) fleet),
+)
+
+pub refused_lifts : (mid new : Node) (g : FleetState) (r : Refusal) (a : Answer) → fleet_of mid ≡ Some g → Refuses mid r new a → LiftsLimit new a
+refused_lifts mid new g r a fleet (inl (is, unspent, same)) = subst (λ (x : Answer). LiftsLimit new x) (sym is) tt
+refused_lifts mid new g r a fleet (inr (is, spent, dropped, (down, lifted))) = subst (λ (x : Answer). LiftsLimit new x) (sym is) (
+  limited g no_limit,
+  down,
+  lifted ∙ ap (λ (o : Option FleetState). option_map (λ (f : FleetState). limited f no_limit) o) fleet,
+  omega arith,
+)
 
 -- ---- what backups hold
 

@@ -1,11 +1,13 @@
 -- What a session stands for, and what its lines do to it.
 use Rattle.std.specs.Prelude.{◌≡◌, ◌⊎◌, ℕ, ◌<◌, ◌≤◌, List, [], ◌∷◌, ◌++◌, Bool, true, false, Option, Some, None, length}
 use Rattle.backup.specs.State.{fleet_state}
-use Rattle.lines.specs.Grammar.{LineValue}
+use Rattle.lines.specs.Grammar.{LineValue, Roll}
 use Rattle.std.specs.Prelude.{Result, Ok, Err}
+use Rattle.std.specs.Option.{option_map}
 use Rattle.std.specs.declared.alloc.AllocError.{AllocError}
 use Rattle.replica.specs.declared.holding.Holding.{Holding}
 use Rattle.replica.specs.Picture.{FleetState, left_on}
+use Rattle.replica.specs.Take.{limited, no_limit}
 use Rattle.versioned_map.specs.declared.command.Command.{Command}
 use Rattle.versioned_map.specs.declared.command.Record.{Record}
 use Rattle.versioned_map.specs.declared.command.Reply.{Reply}
@@ -14,17 +16,24 @@ use Rattle.log_model.specs.Data.{durable_of}
 use Rattle.master_core.specs.declared.config.Config.{Config}
 use Rattle.master_core.specs.declared.step.Refusal.{Refusal}
 use Rattle.master_core.specs.declared.step.Refusal.TheVariants.{NoMemory, Rolling, Spent}
-use Rattle.master_core.specs.Causes.{command_refusal, roll_refusal}
+use Rattle.master_core.specs.declared.step.Step.{Step}
+use Rattle.master_core.specs.declared.step.StepAnswer.{StepAnswer}
+use Rattle.master_core.specs.declared.step.StepAnswer.TheVariants as step_answer
+use Rattle.master_core.specs.Causes.{command_refusal}
 use Rattle.master_core.specs.Data.{MasterData}
 use Rattle.master_core.specs.Log.{opening_of, log_of}
+use Rattle.master.specs.Steps.{Steps}
 use Rattle.master.specs.Valid.{IsValid}
+use Rattle.master.specs.World.{World, world}
 use Rattle.script.specs.declared.answer.Answer.{Answer}
-use Rattle.script.specs.declared.answer.Answer.TheVariants.{Refused, Stopped, Holdings}
+use Rattle.script.specs.declared.answer.Answer.TheVariants.{Refused, Stopped, Holdings, Reply as Replied, Head, Opening, Extended, Opened, Closed}
+use Rattle.script.specs.declared.answer.Answer.TheVariants as answers
 use Rattle.script.specs.declared.node.Node.{Node}
 use Rattle.script.specs.declared.node.Node.TheVariants.{Up, Down, Changing}
 use Rattle.script.specs.declared.session.Session.{Session}
 use Rattle.script.specs.Lives.{Life, life_to, Left, is_left}
-use Rattle.script.specs.Told.{Position, at_start, command_of, is_of_push, IsTest, TellsNoRoll, Tells}
+use Rattle.script.specs.Rolls.{Rolls}
+use Rattle.script.specs.Told.{Position, at_start, command_of, is_of_push, IsTest, TellsNoStep, Tells}
 
 -- the master goes on: its configuration is the same, as much is durable or more, and it has these records more
 pub record LivesOn (old new : MasterData) (more : List Record) : Type 0 where
@@ -50,10 +59,6 @@ abbrev pub IsUnserved : MasterData → MasterData → Command → Refusal → Ty
 IsUnserved old new command r =
     (LivesOn old new [] × ((r ≡ NoMemory) ⊎ (command_refusal old command ≡ Some r)))
     ⊎ (((reply : Reply) × LivesOn old new (record_of command reply)) × (is_of_push r ≡ true))
-
--- a test refused the roll, or a push was refused
-abbrev pub IsNotRolled : MasterData → Refusal → Type 0
-IsNotRolled old r = (roll_refusal old ≡ Some r) ⊎ (is_of_push r ≡ true)
 
 -- Of a master that is gone the fleet holds what its crash left, without the backups that were lost since.
 pub record IsLeftOf (d : MasterData) (l : Left) (f : FleetState) : Type 0 where
@@ -88,10 +93,22 @@ abbrev pub IsDropped : Node → Node → Type 0
 IsDropped old new = (d : MasterData) (f : FleetState) → IsOf old None d → fleet_of old ≡ Some f →
     IsOf new (Some (left_now f)) d
 
--- the refusal is the answer, and nothing changed; or the fleet takes no more ops, and the master was dropped
+-- the node has no master, and its fleet is the same, without a limit
+abbrev pub IsUnlimited : Node → Node → Type 0
+IsUnlimited old new =
+    (is_up new ≡ false) × (fleet_of new ≡ option_map (λ (f : FleetState). limited f no_limit) (fleet_of old))
+
+-- The refusal is the answer, and nothing changed. Or the fleet takes no more ops: then the master was dropped, and the
+-- limit was lifted.
 abbrev pub Refuses : Node → Refusal → Node → Answer → Type 0
 Refuses old r new answer =
-    ((answer ≡ Refused r) × (new ≡ old)) ⊎ ((answer ≡ Stopped) × (r ≡ Spent) × IsDropped old new)
+    ((answer ≡ Refused r) × (r ≡ Spent → ⊥) × (new ≡ old))
+    ⊎ ((answer ≡ Stopped) × (r ≡ Spent) × IsDropped old new × IsUnlimited old new)
+
+-- Once it has answered Stopped, a node has no master, and its fleet has no limit.
+abbrev pub LiftsLimit : Node → Answer → Type 0
+LiftsLimit new Stopped = (f : FleetState) × (is_up new ≡ false) × (fleet_of new ≡ Some f) × (f.end ≡ no_limit)
+LiftsLimit new answer = Unit {0}
 
 -- The node stands at this position for a master of this configuration that knows `d` or knew it. What was acknowledged
 -- is durable.
@@ -103,6 +120,49 @@ pub record IsNodeAt (node : Node) (config : Config) (d : MasterData) (at : Posit
 
 abbrev pub life_of : MasterData → Life
 life_of d = record { opening = opening_of d; history = d.history }
+
+-- ---- steps by hand
+
+-- the master of a node, with its fleet
+abbrev pub world_of : Node → Option World
+world_of (Up m) = Some (world fleet_state m)
+world_of (Down fleet) = None
+world_of Changing = None
+
+-- the node has the master of this world still; or it answered Stopped, and has the fleet alone, without a limit
+abbrev pub IsLeftIn : World → Answer → Node → Type 0
+IsLeftIn w Stopped new = (is_up new ≡ false) × (fleet_of new ≡ Some (limited w.fleet no_limit))
+IsLeftIn w answer new = world_of new ≡ Some w
+
+abbrev pub refusal_answer : Refusal → Answer
+refusal_answer Spent = Stopped
+refusal_answer r = Refused r
+
+-- what is answered to a step
+abbrev pub step_told : Result StepAnswer Refusal → Answer
+step_told (Ok (step_answer.Applied place reply)) = Replied reply
+step_told (Ok (step_answer.Rolling id)) = Opening id
+step_told (Ok (step_answer.Extended backup segment)) = Extended backup segment
+step_told (Ok (step_answer.Opened backup segment)) = Opened backup segment
+step_told (Ok (step_answer.Closed backup segment)) = Closed backup segment
+step_told (Err r) = refusal_answer r
+
+-- what is answered to a roll
+abbrev pub roll_told : Result ℕ Refusal → Answer
+roll_told (Ok id) = Head id
+roll_told (Err r) = refusal_answer r
+
+-- A node that is up makes just this step, and answers what comes of it. Any other does nothing.
+abbrev pub MakesStep : Node → Step → Node → Answer → Type 0
+MakesStep (Up m) step new answer = (result : Result StepAnswer Refusal) × (w : World)
+    × Steps (world fleet_state m) step result w × (answer ≡ step_told result) × IsLeftIn w answer new
+MakesStep old step new answer = (new ≡ old) × (answer ≡ answers.Down)
+
+-- A node that is up makes just this roll, and answers what comes of it. Any other does nothing.
+abbrev pub MakesRoll : Node → Node → Answer → Type 0
+MakesRoll (Up m) new answer = (result : Result ℕ Refusal) × (w : World)
+    × Rolls (world fleet_state m) result w × (answer ≡ roll_told result) × IsLeftIn w answer new
+MakesRoll old new answer = (new ≡ old) × (answer ≡ answers.Down)
 
 -- ---- lines
 
@@ -152,7 +212,7 @@ Serves old command new None = (config : Config) → WaitsForRoll old config comm
 abbrev pub MakesRoom : Node → Config → Node → Option Answer → Type 0
 MakesRoom old config new (Some answer) = (d : MasterData) (at : Position) → IsNodeAt old config d at →
     (e : MasterData) × (next : Position) × IsNodeAt new config e next × (e.history ≡ d.history)
-    × TellsNoRoll config (life_of e) at answer next
+    × TellsNoStep config (life_of e) at Roll answer next
 MakesRoom old config new None = (d : MasterData) (at : Position) → IsNodeAt old config d at →
     (e : MasterData) × StaysAt new config d at e × (is_open e.head ≡ true)
 

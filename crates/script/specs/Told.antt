@@ -1,5 +1,5 @@
 -- What the lines of a script tell of a master's life.
-use Rattle.std.specs.Prelude.{◌≡◌, ◌⊎◌, ◌↔◌, ℕ, suc, ◌≤◌, List, [], ◌∷◌, map, take, length, Bool, true, false, Option, Some, None, slice_get}
+use Rattle.std.specs.Prelude.{◌≡◌, ◌⊎◌, ◌↔◌, ℕ, suc, ◌≤◌, List, [], ◌∷◌, map, take, length, Bool, true, false, Option, Some, None, Result, Ok, Err, slice_get}
 use Rattle.std.specs.List.Sorted.{IsStrictlySortedBy}
 use Rattle.std.specs.Option.{option_map}
 use Rattle.entry.specs.declared.entry.Object.{Object}
@@ -22,14 +22,14 @@ use Rattle.versioned_map.specs.Versioned.{after}
 use Rattle.master_core.specs.declared.config.Config.{Config}
 use Rattle.master_core.specs.declared.step.Refusal.{Refusal}
 use Rattle.master_core.specs.declared.step.Refusal.TheVariants as refusal
-use Rattle.master_core.specs.Causes.{command_refusal, roll_refusal}
-use Rattle.log_head.specs.Head.{digest_of, is_open}
+use Rattle.master_core.specs.Causes.{command_refusal}
+use Rattle.log_head.specs.Head.{digest_of}
 use Rattle.master_core.specs.declared.step.Step.{Step}
 use Rattle.master_core.specs.declared.step.Step.TheVariants as step
 use Rattle.master_core.specs.declared.step.StepAnswer.{StepAnswer}
 use Rattle.master_core.specs.declared.step.StepAnswer.TheVariants as step_answer
 use Rattle.master_core.specs.Data.{MasterData}
-use Rattle.master.specs.Steps.{Accepts}
+use Rattle.master.specs.Steps.{Steps}
 use Rattle.master.specs.World.{World}
 use Rattle.master_core.specs.Budget.{used_seglets, free_seglets}
 use Rattle.master_core.specs.Log.{image_of}
@@ -39,6 +39,7 @@ use Rattle.recovery.specs.Recovered.{IsLossOrMemory, IsWant}
 use Rattle.script.specs.declared.answer.Answer.{Answer}
 use Rattle.script.specs.declared.answer.Answer.TheVariants as answer
 use Rattle.script.specs.Lives.{Life, life_to, HasLived, Left, is_left, IsLeftBy, IsLeftBySpent, IsHomeBy}
+use Rattle.script.specs.Rolls.{Rolls}
 
 -- a line that was run: its text without the line feed, what it says, and what it answered
 pub record Told : Type 0 where
@@ -91,6 +92,47 @@ abbrev pub IsIn : Life → Position → LineValue → Option Left → Position �
 IsIn life at line left next = (reply : Reply) × IsRecordAt life at.made line reply
     × (next ≡ record { made = suc at.made; acknowledged = at.acknowledged; left = left })
 
+-- ---- steps
+
+-- a master that has lived this life makes this step, this comes of it, and it has lived this life after it too
+abbrev pub IsStepAt : Config → Life → Step → Result StepAnswer Refusal → Type 0
+IsStepAt config life step result = (old : World) × (new : World) × HasLived config life old.knows old.fleet
+    × HasLived config life new.knows new.fleet × Steps old step result new
+
+-- the same of a roll, with its pushes
+abbrev pub IsRollAt : Config → Life → Result ℕ Refusal → Type 0
+IsRollAt config life result = (old : World) × (new : World) × HasLived config life old.knows old.fleet
+    × HasLived config life new.knows new.fleet × Rolls old result new
+
+-- a master that has lived this life refuses what the line asks for, a step or a roll
+abbrev pub IsStepRefusal : Config → Life → LineValue → Refusal → Type 0
+IsStepRefusal config life BeginRoll r = IsStepAt config life step.BeginRoll (Err r)
+IsStepRefusal config life Push r = IsStepAt config life step.Push (Err r)
+IsStepRefusal config life Roll r = IsRollAt config life (Err r)
+IsStepRefusal config life line r = ⊥
+
+-- the line hands ops to backups, and makes no record
+abbrev pub pushes : LineValue → Bool
+pushes Roll = true
+pushes Push = true
+pushes line = false
+
+-- What an answer tells of a step or a roll that wasn't made, and the position after it. No record was made.
+abbrev pub TellsNoStep : Config → Life → Position → LineValue → Answer → Position → Type 0
+TellsNoStep config life at line (answer.Refused r) next = (at.left ≡ None)
+    × IsStepRefusal config (life_to life at.made) line r × (r ≡ refusal.Spent → ⊥)
+    × (next ≡ record { made = at.made; acknowledged = at.acknowledged; left = None })
+TellsNoStep config life at line answer.Stopped next = (at.left ≡ None)
+    × (l : Left) × IsLeftBySpent config (life_to life at.made) l × (pushes line ≡ true)
+    × (next ≡ record { made = at.made; acknowledged = at.acknowledged; left = Some l })
+TellsNoStep config life at line answer.Down next = ((l : Left) × (at.left ≡ Some l)) × (next ≡ at)
+TellsNoStep config life at line _ next = ⊥
+
+-- the line's step made no record, and the master is gone
+abbrev pub IsStepOut : Position → LineValue → Left → Position → Type 0
+IsStepOut at line l next = (pushes line ≡ true)
+    × (next ≡ record { made = at.made; acknowledged = at.acknowledged; left = Some l })
+
 -- ---- refusals
 
 -- the test by which a master that has lived this life refuses the command
@@ -105,18 +147,10 @@ is_of_push refusal.Nothing = true
 is_of_push refusal.NoMemory = true
 is_of_push _ = false
 
--- the test by which a master that has lived this life refuses a roll
-abbrev pub IsRollTest : Config → Life → Refusal → Type 0
-IsRollTest config life r = (d : MasterData) × (f : FleetState) × HasLived config life d f × (roll_refusal d ≡ Some r)
-
--- a test refuses the roll, or one of its pushes is refused
-abbrev pub IsRollRefused : Config → Life → Refusal → Type 0
-IsRollRefused config life r = IsRollTest config life r ⊎ (is_of_push r ≡ true)
-
 -- A test refuses the command, or the command has to wait for a roll and the roll is refused.
 abbrev pub IsCause : Config → Life → Command → Refusal → Type 0
 IsCause config life c r =
-    IsTest config life c r ⊎ (IsTest config life c refusal.Rolling × IsRollRefused config life r)
+    IsTest config life c r ⊎ (IsTest config life c refusal.Rolling × IsRollAt config life (Err r))
 
 -- A command is refused. Either it made no record: memory ran out, a test refused it, or the roll that it waits for was
 -- refused. Or it made one, and then a push was refused.
@@ -125,45 +159,6 @@ IsRefused config life at line r next =
     (IsOut at line None next × ((r ≡ refusal.NoMemory)
     ⊎ ((c : Command) × (command_of line ≡ Some c) × IsCause config (life_to life at.made) c r)))
     ⊎ (IsIn life at line None next × (is_of_push r ≡ true))
-
--- What an answer tells of a roll that wasn't made, and the position after it. No record was made.
-abbrev pub TellsNoRoll : Config → Life → Position → Answer → Position → Type 0
-TellsNoRoll config life at (answer.Refused r) next = (at.left ≡ None)
-    × IsRollRefused config (life_to life at.made) r
-    × (next ≡ record { made = at.made; acknowledged = at.acknowledged; left = None })
-TellsNoRoll config life at answer.Stopped next = (at.left ≡ None)
-    × (l : Left) × IsLeftBySpent config (life_to life at.made) l
-    × (next ≡ record { made = at.made; acknowledged = at.acknowledged; left = Some l })
-TellsNoRoll config life at answer.Down next = ((l : Left) × (at.left ≡ Some l)) × (next ≡ at)
-TellsNoRoll config life at _ next = ⊥
-
--- ---- steps
-
--- the line asks for a step that makes no record
-abbrev pub is_step : LineValue → Bool
-is_step Roll = true
-is_step BeginRoll = true
-is_step Push = true
-is_step _ = false
-
--- a test of a roll refused the line's step, or it was refused as a push is
-abbrev pub IsStepRefused : Config → Life → Position → LineValue → Refusal → Position → Type 0
-IsStepRefused config life at line r next = (is_step line ≡ true) × TellsNoRoll config life at (answer.Refused r) next
-
--- the line's step made no record, and the master is gone
-abbrev pub IsStepOut : Position → LineValue → Left → Position → Type 0
-IsStepOut at line l next = (is_step line ≡ true)
-    × (next ≡ record { made = at.made; acknowledged = at.acknowledged; left = Some l })
-
--- a master that has lived this life has this head, and it is open
-abbrev pub IsHeadAt : Config → Life → ℕ → Type 0
-IsHeadAt config life id = (d : MasterData) × (f : FleetState) × HasLived config life d f
-    × (d.head.id ≡ id) × (is_open d.head ≡ true)
-
--- a master that has lived this life takes this step, with this answer, and has lived this life after it too
-abbrev pub IsStepAt : Config → Life → Step → StepAnswer → Type 0
-IsStepAt config life step a = (old : World) × (new : World) × HasLived config life old.knows old.fleet
-    × HasLived config life new.knows new.fleet × Accepts old step a new
 
 -- ---- what is shown
 
@@ -253,18 +248,19 @@ abbrev pub Tells : Config → Life → Position → LineValue → Answer → Pos
 Tells config life at line answer.Silent next = (line ≡ Idle) × (next ≡ at)
 Tells config life at line (answer.Reply reply) next = (at.left ≡ None) × IsReplied life at line reply next
 Tells config life at line (answer.Refused r) next =
-    ((at.left ≡ None) × (IsRefused config life at line r next ⊎ IsStepRefused config life at line r next))
+    ((at.left ≡ None)
+    × (IsRefused config life at line r next ⊎ TellsNoStep config life at line (answer.Refused r) next))
     ⊎ ((r ≡ refusal.NoMemory) × (shows line ≡ true) × (next ≡ at))
 Tells config life at line (answer.Head id) next = (at.left ≡ None) × (line ≡ Roll)
-    × IsHeadAt config (life_to life at.made) id × (next ≡ at)
+    × IsRollAt config (life_to life at.made) (Ok id) × (next ≡ at)
 Tells config life at line (answer.Opening id) next = (at.left ≡ None) × (line ≡ BeginRoll)
-    × IsStepAt config (life_to life at.made) step.BeginRoll (step_answer.Rolling id) × (next ≡ at)
+    × IsStepAt config (life_to life at.made) step.BeginRoll (Ok (step_answer.Rolling id)) × (next ≡ at)
 Tells config life at line (answer.Extended backup segment) next = (at.left ≡ None) × (line ≡ Push)
-    × IsStepAt config (life_to life at.made) step.Push (step_answer.Extended backup segment) × (next ≡ at)
+    × IsStepAt config (life_to life at.made) step.Push (Ok (step_answer.Extended backup segment)) × (next ≡ at)
 Tells config life at line (answer.Opened backup segment) next = (at.left ≡ None) × (line ≡ Push)
-    × IsStepAt config (life_to life at.made) step.Push (step_answer.Opened backup segment) × (next ≡ at)
+    × IsStepAt config (life_to life at.made) step.Push (Ok (step_answer.Opened backup segment)) × (next ≡ at)
 Tells config life at line (answer.Closed backup segment) next = (at.left ≡ None) × (line ≡ Push)
-    × IsStepAt config (life_to life at.made) step.Push (step_answer.Closed backup segment) × (next ≡ at)
+    × IsStepAt config (life_to life at.made) step.Push (Ok (step_answer.Closed backup segment)) × (next ≡ at)
 Tells config life at line (answer.Log ids) next = (at.left ≡ None) × (line ≡ Log)
     × IsDigestAt config (life_to life at.made) ids × (next ≡ at)
 Tells config life at line (answer.Room used free) next = (at.left ≡ None) × (line ≡ Room)

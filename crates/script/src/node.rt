@@ -1,6 +1,6 @@
 //! A fleet, and the master over it if there is one.
 
-ghost use Rattle.std.specs.Prelude.{◌≡◌, ◌<◌, [], true, false, None, Some, IfOk, IfErr};
+ghost use Rattle.std.specs.Prelude.{◌≡◌, ◌<◌, [], true, false, None, Some, IfOk, IfErr, IfSome};
 ghost use Rattle.std.specs.Option.{option_map};
 ghost use Rattle.backup.specs.State.{lost};
 ghost use Rattle.master_core.specs.declared.config.Config.{Config};
@@ -8,8 +8,10 @@ ghost use Rattle.log_model.specs.Data.{durable_of};
 ghost use Rattle.log_head.specs.Head.{is_open};
 ghost use Rattle.master_core.specs.Log.{log_of};
 ghost use Rattle.replica.specs.Take.{limited};
-ghost use Rattle.script.specs.Served.{LivesOn, IsServed, IsUnserved, IsNotRolled, IsSpent, IsDropped, fleet_of, is_up};
-ghost use Rattle.script.specs.Served.{AnswersLine, Refuses, Serves, MakesRoom};
+ghost use Rattle.master.specs.World.{world};
+ghost use Rattle.script.specs.Rolls.{PushesUntil, IsRolled, IsNotRolled};
+ghost use Rattle.script.specs.Served.{LivesOn, IsServed, IsUnserved, IsSpent, IsDropped, fleet_of, is_up};
+ghost use Rattle.script.specs.Served.{AnswersLine, LiftsLimit, MakesStep, MakesRoll, Refuses, Serves, MakesRoom};
 ghost use Rattle.script.specs.Served.{held_answer};
 ghost use Rattle.script.specs.Told.{is_of_push};
 
@@ -35,10 +37,13 @@ pub enum Node {
 pub fn push_all<F: Fleet>(master: &mut Master<F>) -> Result<(), Refusal>
     ensures goes_on { LivesOn master.old.knows master.new.knows [] }
     ensures open { IfOk result (λ _. is_open master.new.knows.head ≡ true) }
-    ensures refused { IfErr result (λ r. is_of_push r ≡ true) }
+    ensures pushed { IfOk result (λ _.
+        PushesUntil (world F.state master.old) Refusal.Nothing (world F.state master.new)) }
+    ensures refused { IfErr result (λ r. PushesUntil (world F.state master.old) r (world F.state master.new)) }
+    ensures waits { IfErr result (λ r. r ≡ Refusal.Nothing → ⊥) }
     ensures spent { IfErr result (λ r. r ≡ Refusal.Spent → IsSpent (F.state master.new.fleet)) }
 {
-    for _ in 0..u64::MAX {
+    loop {
         if let Err(refusal) = master.step(Step::Push) {
             return match refusal {
                 Refusal::Nothing => Ok(()),
@@ -46,14 +51,14 @@ pub fn push_all<F: Fleet>(master: &mut Master<F>) -> Result<(), Refusal>
             };
         }
     }
-    Err(Refusal::Nothing)
 }
 
 /// Begins a roll if none is under way, and pushes until nothing waits.
 fn roll_all<F: Fleet>(master: &mut Master<F>) -> Result<(), Refusal>
     ensures goes_on { LivesOn master.old.knows master.new.knows [] }
-    ensures open { IfOk result (λ _. is_open master.new.knows.head ≡ true) }
-    ensures refused { IfErr result (IsNotRolled master.old.knows) }
+    ensures rolled { IfOk result (λ _.
+        IsRolled (world F.state master.old) master.new.knows.head.id (world F.state master.new)) }
+    ensures refused { IfErr result (λ r. IsNotRolled (world F.state master.old) r (world F.state master.new)) }
     ensures spent { IfErr result (λ r. r ≡ Refusal.Spent → IsSpent (F.state master.new.fleet)) }
 {
     match master.step(Step::BeginRoll) {
@@ -118,7 +123,8 @@ impl Node {
     /// has to wait for a roll.
     #[inline(always)]
     pub fn serve(&mut self, command: Command) -> Option<Answer>
-        ensures { Serves self.old command self.new result }
+        ensures told { Serves self.old command self.new result }
+        ensures lifted { IfSome result (LiftsLimit self.new) }
     {
         let Node::Up(up) = self else {
             return Some(Answer::Down);
@@ -136,7 +142,8 @@ impl Node {
 
     /// Begins a roll if none is under way, and pushes until nothing waits. It answers `None` if the head is open then.
     pub fn make_room(&mut self) -> Option<Answer>
-        ensures { (config : Config) → MakesRoom self.old config self.new result }
+        ensures told { (config : Config) → MakesRoom self.old config self.new result }
+        ensures lifted { IfSome result (LiftsLimit self.new) }
     {
         let Node::Up(up) = self else {
             return Some(Answer::Down);
@@ -182,7 +189,8 @@ impl Node {
 
     /// Begins a roll if none is under way, and pushes until the head is open.
     pub fn roll(&mut self) -> Answer
-        ensures { (config : Config) → AnswersLine self.old config Roll self.new result }
+        ensures told { (config : Config) → AnswersLine self.old config Roll self.new result }
+        ensures rolled { MakesRoll self.old self.new result }
     {
         let Node::Up(up) = self else {
             return Answer::Down;
@@ -199,7 +207,8 @@ impl Node {
 
     /// Begins a roll.
     pub fn begin_roll(&mut self) -> Answer
-        ensures { (config : Config) → AnswersLine self.old config BeginRoll self.new result }
+        ensures told { (config : Config) → AnswersLine self.old config BeginRoll self.new result }
+        ensures stepped { MakesStep self.old Step.BeginRoll self.new result }
     {
         let Node::Up(up) = self else {
             return Answer::Down;
@@ -214,7 +223,8 @@ impl Node {
 
     /// Hands one op to one backup.
     pub fn push(&mut self) -> Answer
-        ensures { (config : Config) → AnswersLine self.old config Push self.new result }
+        ensures told { (config : Config) → AnswersLine self.old config Push self.new result }
+        ensures stepped { MakesStep self.old Step.Push self.new result }
     {
         let Node::Up(up) = self else {
             return Answer::Down;

@@ -1,20 +1,33 @@
 use Rattle.std.proofs.Common.{[], ap, refl, subst}
+use Rattle.std.specs.Prelude.{Err, None}
 use Rattle.backup.specs.State.{fleet_state}
+use Rattle.lines.specs.Grammar.{Roll}
 use Rattle.master_core.specs.Data.{MasterData}
 use Rattle.script.specs.declared.node.Node.{Node}
 use Rattle.script.specs.declared.node.Node.TheVariants.{Up}
-use Rattle.script.specs.Served.{LivesOn, IsNotRolled, IsOf, is_up}
-use Rattle.script.proofs.Rolls.{no_roll_told}
+use Rattle.script.specs.Rolls.{IsNotRolled}
+use Rattle.script.specs.Served.{LivesOn, IsOf, is_up}
+use Rattle.script.proofs.Rolls.{no_step_told}
 use Rattle.script.proofs.Standing.{is_up_none}
+use Rattle.script.proofs.Steps.{refused_lifts, roll_at}
 use Rattle.script.proofs.node.Node.make_room.Goals as goal
 
-pub returns-in-Err : goal.returns-in-Err
-returns-in-Err c = λ config d at s.
+pub returns-in-Err-clause-told : goal.returns-in-Err-clause-told
+returns-in-Err-clause-told c = λ config d at s.
     let m = c.roll_all-outcome.new.master in
     let r = c.in-Err.refusal in
+    let f = fleet_state c.in-Up.up.fleet in
+    let g = fleet_state m.fleet in
+    let none = is_up_none c.args.self.now d at.left (ap is_up c.in-Up.is) s.node_of in
     let was : IsOf (Up c.in-Up.up) at.left d = subst (λ (n : Node). IsOf n at.left d) c.in-Up.is s.node_of in
     let on : LivesOn d m.knows [] = subst (λ (x : MasterData). LivesOn x m.knows []) was.1 c.in-Err.ensures.goes_on in
-    let why : IsNotRolled d r = subst (λ (x : MasterData). IsNotRolled x r) was.1 c.in-Err.ensures.refused in
-    no_roll_told d m.knows c.args.self.now (Up m) c.refuse.new.self config at s (is_up_none c.args.self.now d at.left (ap is_up c.in-Up.is) s.node_of)
-    r c.refuse.result (fleet_state c.in-Up.up.fleet) (fleet_state m.fleet) was.2 (refl, refl, c.show_valid.ensures) refl c.show_valid.ensures
-    c.in-Err.ensures.spent on why c.refuse.ensures
+    let refused : IsNotRolled (record { knows = d; fleet = f }) r (record { knows = m.knows; fleet = g }) =
+    subst (λ (x : MasterData). IsNotRolled (record { knows = x; fleet = f }) r (record { knows = m.knows; fleet = g })) was.1 c.in-Err.ensures.refused in
+    let of : IsOf (Up m) None m.knows = (refl, refl, c.show_valid.ensures) in
+    let why = roll_at d m.knows c.args.self.now (Up m) config at s none of f g was.2 c.show_valid.ensures on (Err r) refused in
+    no_step_told d m.knows c.args.self.now (Up m) c.refuse.new.self config at s none Roll
+    r c.refuse.result g of refl c.show_valid.ensures c.in-Err.ensures.spent (λ is. refl) on why c.refuse.ensures
+
+pub returns-in-Err-clause-lifted : goal.returns-in-Err-clause-lifted
+returns-in-Err-clause-lifted c =
+    refused_lifts (Up c.roll_all-outcome.new.master) c.refuse.new.self (fleet_state c.roll_all-outcome.new.master.fleet) c.in-Err.refusal c.refuse.result refl c.refuse.ensures

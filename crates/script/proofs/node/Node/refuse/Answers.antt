@@ -1,10 +1,12 @@
 use Rattle.std.proofs.Common.{◌≡◌, ◌∙◌, [], ap, inr, refl, sym, subst}
 use Rattle.std.specs.Prelude.{None, Some, Option, unwrap_or}
+use Rattle.std.specs.Option.{option_map}
 use Rattle.backup.specs.State.{fleet_state}
 use Rattle.master.specs.Valid.{IsValid}
 use Rattle.master.specs.World.{World}
 use Rattle.master_core.specs.Data.{MasterData}
 use Rattle.replica.specs.Picture.{FleetState, Picture}
+use Rattle.replica.specs.Take.{limited, no_limit}
 use Rattle.script.specs.declared.node.Node.{Node}
 use Rattle.script.specs.declared.node.Node.TheVariants.{Up}
 use Rattle.script.specs.Served.{IsOf, fleet_of}
@@ -24,4 +26,9 @@ returns-in-Up c = inr (
       let valid = subst (λ (x : MasterData). IsValid x (fleet_state limited.fleet)) same c.limit.ensures.valid in
       subst (λ (p : Picture). IsOf c.drop_master.new.self (Some (record { picture = p; lost = [] })) d) picture
       (c.drop_master.ensures.left d (fleet_state limited.fleet) (refl, same, valid) refl),
+  (
+    c.drop_master.ensures.down,
+    c.drop_master.ensures.fleet ∙ ap (λ (w : World). Some w.fleet) c.limit.ensures.limited
+        ∙ ap (λ (n : Node). option_map (λ (f : FleetState). limited f no_limit) (fleet_of n)) (sym c.in-Up.is),
+  ),
 )

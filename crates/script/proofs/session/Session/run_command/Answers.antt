@@ -7,6 +7,6 @@ returns-in-None-clause-ran c =
     (λ answer ran. record {
       number = ran.number;
       backups = ran.backups;
-      answers = λ config number. ran.answers c.args.self.now.node config c.in_ok-command.command c.in_ok-command.ensures (c.in-None.ensures config);
+      answers = λ config number. ran.answers c.args.self.now.node config c.in_ok-command.command c.in_ok-command.ensures (c.in-None.ensures.told config);
     })
     c.run_after_roll.ensures.ran

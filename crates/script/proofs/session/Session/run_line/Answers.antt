@@ -23,13 +23,13 @@ pub returns-in-Recover-clause-ran : goal.returns-in-Recover-clause-ran
 returns-in-Recover-clause-ran c = rw c.in-Recover.is (record { number = refl; backups = refl; answers = c.recover.ensures })
 
 pub returns-in-Roll-clause-ran : goal.returns-in-Roll-clause-ran
-returns-in-Roll-clause-ran c = rw c.in-Roll.is (record { number = refl; backups = refl; answers = λ config number. c.roll.ensures config })
+returns-in-Roll-clause-ran c = rw c.in-Roll.is (record { number = refl; backups = refl; answers = λ config number. c.roll.ensures.told config })
 
 pub returns-in-BeginRoll-clause-ran : goal.returns-in-BeginRoll-clause-ran
-returns-in-BeginRoll-clause-ran c = rw c.in-BeginRoll.is (record { number = refl; backups = refl; answers = λ config number. c.begin_roll.ensures config })
+returns-in-BeginRoll-clause-ran c = rw c.in-BeginRoll.is (record { number = refl; backups = refl; answers = λ config number. c.begin_roll.ensures.told config })
 
 pub returns-in-Push-clause-ran : goal.returns-in-Push-clause-ran
-returns-in-Push-clause-ran c = rw c.in-Push.is (record { number = refl; backups = refl; answers = λ config number. c.push.ensures config })
+returns-in-Push-clause-ran c = rw c.in-Push.is (record { number = refl; backups = refl; answers = λ config number. c.push.ensures.told config })
 
 pub returns-in-Log-clause-ran : goal.returns-in-Log-clause-ran
 returns-in-Log-clause-ran c = rw c.in-Log.is (record { number = refl; backups = refl; answers = λ config number. c.log.ensures config })
