@@ -9,6 +9,7 @@ mod asks;
 mod backups;
 #[cfg(test)]
 mod compaction;
+#[cfg(test)]
 mod comparisons;
 #[cfg(test)]
 mod drills;
