@@ -72,6 +72,7 @@ LINES = {
     "cas": (number_word, key_word, number_word, word),
     "get": (number_word, key_word),
     "del": (number_word, key_word),
+    "compact": (number_word,),
     "roll": (),
     "beginroll": (),
     "push": (),
@@ -386,6 +387,20 @@ class Master:
         needed = whole_ones * (options.segment // options.seglet) + seglets(self.segments[-1], options)
         return ids + 1 <= most and ids + 1 <= most - 2 + 1 and needed <= free
 
+    def compacted(self, segment):
+        """The master after the compaction of a closed segment: its image has the kept entries alone."""
+        ids = {it.id for it in self.segments}
+
+        def is_kept(entry):
+            if isinstance(entry, Object):
+                live = self.live.get((entry.table, entry.key))
+                return live is not None and (live.segment, live.version) == (segment.id, entry.version)
+            return not isinstance(entry, Tombstone) or entry.segment in ids
+
+        text = b"".join(entry.spelled() for entry in read_segment(segment.text) if is_kept(entry))
+        segments = tuple(replace(it, text=text) if it is segment else it for it in self.segments)
+        return replace(self, segments=segments)
+
     def used(self, options):
         """How many seglets are counted: the last segment whole, and each other one by its length."""
         return options.segment // options.seglet + sum(seglets(it, options) for it in self.segments[:-1])
@@ -529,6 +544,19 @@ class Store:
             if not store:
                 return
         yield f"{reply}\n", 0, store
+
+    def line_compact(self, segment):
+        heads = {self.master.log()[-1].id, self.master.segments[-1].id}
+        image = next((it for it in self.master.log() if it.id == segment), None)
+        if segment in heads:
+            yield f"refused IsHead {segment}\n", 0, self
+        elif not image:
+            yield f"refused NotInLog {segment}\n", 0, self
+        else:
+            yield REFUSED, 1, self
+            master = self.master.compacted(image)
+            length = next(len(it.text) for it in master.segments if it.id == segment)
+            yield f"compacted {segment} {length}\n", 0, replace(self, master=master)
 
     def line_roll(self):
         store = yield from self.rolled()

@@ -18,6 +18,7 @@ pub(crate) const AFTER_HELP: &str = "Lines of a script:
   beginroll  Begins that, and 'push' hands one piece of the log to one backup
   log        Shows the numbers of the log's segments
   room       Shows how much memory is counted, and how much is free, in seglets
+  compact ID  Drops what segment ID doesn't keep from the master's memory: 'compacted ID LENGTH'
   hex ID     Shows the bytes of segment ID in the master's memory, in hexadecimal
   holdings   Shows what the backups hold
   stop N     Lets the backups take N more pieces of the log, and then no more

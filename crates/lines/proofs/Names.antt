@@ -4,7 +4,7 @@ use Rattle.std.specs.Str.Parse.{digits_value}
 use Rattle.std.specs.Fmt.{decimal}
 use Rattle.std.proofs.lemmas.Fmt.{decimal_is_IsNumeral}
 use Rattle.lines.specs.Grammar.{LineValue, words_of}
-use Rattle.lines.specs.Grammar.{Idle, Put, New, Cas, Get, Del, Roll, BeginRoll, Push, Log, Room, Hex, Stop, Crash, Lose, Recover, Holdings}
+use Rattle.lines.specs.Grammar.{Idle, Put, New, Cas, Get, Del, Compact, Roll, BeginRoll, Push, Log, Room, Hex, Stop, Crash, Lose, Recover, Holdings}
 use Rattle.lines.specs.Words.{AreWordsOf, ReadsWords}
 
 abbrev word_at : ℕ → List (List ℕ) → List ℕ
@@ -29,6 +29,7 @@ line_of ws =
     (cond (are_named (codes "cas") ws) (Cas (number_at 1 ws) (word_at 2 ws) (number_at 3 ws) (word_at 4 ws))
     (cond (are_named (codes "get") ws) (Get (number_at 1 ws) (word_at 2 ws))
     (cond (are_named (codes "del") ws) (Del (number_at 1 ws) (word_at 2 ws))
+    (cond (are_named (codes "compact") ws) (Compact (number_at 1 ws))
     (cond (are_named (codes "roll") ws) Roll
     (cond (are_named (codes "beginroll") ws) BeginRoll
     (cond (are_named (codes "push") ws) Push
@@ -39,7 +40,7 @@ line_of ws =
     (cond (are_named (codes "crash") ws) Crash
     (cond (are_named (codes "lose") ws) (Lose (number_at 1 ws))
     (cond (are_named (codes "recover") ws) Recover
-    (cond (are_named (codes "holdings") ws) Holdings Idle)))))))))))))))
+    (cond (are_named (codes "holdings") ws) Holdings Idle))))))))))))))))
 
 value : (n : ℕ) → n < 2 ^ 64 → digits_value 10 (decimal n) ≡ n
 value n small = (decimal_is_IsNumeral n small).1
@@ -53,6 +54,7 @@ line_is words (Cas t k n v) are =
     ap line_of are.spelled ∙ (ap (λ m. Cas m k read v) (value t are.limits.0) ∙ ap (λ m. Cas t k m v) (value n are.limits.2))
 line_is words (Get t k) are = ap line_of are.spelled ∙ ap (λ n. Get n k) (value t are.limits.0)
 line_is words (Del t k) are = ap line_of are.spelled ∙ ap (λ n. Del n k) (value t are.limits.0)
+line_is words (Compact n) are = ap line_of are.spelled ∙ ap Compact (value n are.limits)
 line_is words Roll are = ap line_of are.spelled
 line_is words BeginRoll are = ap line_of are.spelled
 line_is words Push are = ap line_of are.spelled

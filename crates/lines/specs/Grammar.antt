@@ -15,6 +15,7 @@ pub data LineValue : Type 0 where
   Cas : (table : ℕ) (key : List ℕ) (version : ℕ) (value : List ℕ) → LineValue
   Get : (table : ℕ) (key : List ℕ) → LineValue
   Del : (table : ℕ) (key : List ℕ) → LineValue
+  Compact : (segment : ℕ) → LineValue
   Roll : LineValue
   BeginRoll : LineValue
   Push : LineValue
@@ -35,6 +36,7 @@ shown_line (line.New table key value) = New table key.now value.now
 shown_line (line.Cas table key version value) = Cas table key.now version value.now
 shown_line (line.Get table key) = Get table key.now
 shown_line (line.Del table key) = Del table key.now
+shown_line (line.Compact segment) = Compact segment
 shown_line line.Roll = Roll
 shown_line line.BeginRoll = BeginRoll
 shown_line line.Push = Push
@@ -69,6 +71,7 @@ words_of (New table key value) = codes "new" ∷ decimal table ∷ key ∷ value
 words_of (Cas table key version value) = codes "cas" ∷ decimal table ∷ key ∷ decimal version ∷ value ∷ []
 words_of (Get table key) = codes "get" ∷ decimal table ∷ key ∷ []
 words_of (Del table key) = codes "del" ∷ decimal table ∷ key ∷ []
+words_of (Compact segment) = codes "compact" ∷ decimal segment ∷ []
 words_of Roll = codes "roll" ∷ []
 words_of BeginRoll = codes "beginroll" ∷ []
 words_of Push = codes "push" ∷ []
@@ -89,6 +92,7 @@ IsLine (New table key value) = (table < 2 ^ 64) × IsKeyWord key
 IsLine (Cas table key version value) = (table < 2 ^ 64) × IsKeyWord key × (version < 2 ^ 64)
 IsLine (Get table key) = (table < 2 ^ 64) × IsKeyWord key
 IsLine (Del table key) = (table < 2 ^ 64) × IsKeyWord key
+IsLine (Compact segment) = segment < 2 ^ 64
 IsLine Roll = Unit {0}
 IsLine BeginRoll = Unit {0}
 IsLine Push = Unit {0}

@@ -34,6 +34,10 @@ pub enum Line<'a> {
         table: u64,
         key: &'a [u8],
     },
+    /// Drop what a closed segment doesn't keep from its image in memory.
+    Compact {
+        segment: u64,
+    },
     /// Begin a roll, and push until the new head is open.
     Roll,
     /// Begin a roll.

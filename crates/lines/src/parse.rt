@@ -39,6 +39,7 @@ fn parse_words(mut words: Words<'_>) -> Option<Line<'_>>
         name if is(name, "cas") => cas(words),
         name if is(name, "del") => del(words),
         name if is(name, "hex") => hex(words),
+        name if is(name, "compact") => compact(words),
         name if is(name, "stop") => stop(words),
         name if is(name, "lose") => lose(words),
         name => only_name(name, words),
@@ -118,6 +119,15 @@ fn hex(words: Words<'_>) -> Option<Line<'_>>
 {
     let segment = only_number(words)?;
     Some(Line::Hex { segment })
+}
+
+/// The word behind `compact` as the number of a segment.
+#[tactic(auto, using(crate::proofs::Spelling::decimal_is_word))]
+fn compact(words: Words<'_>) -> Option<Line<'_>>
+    ensures { ReadsWords (codes "compact" ∷ words.entry) result }
+{
+    let segment = only_number(words)?;
+    Some(Line::Compact { segment })
 }
 
 /// The word behind `stop` as how many takes are left.

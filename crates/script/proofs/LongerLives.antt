@@ -47,6 +47,7 @@ module _ (config : Config) (life : Life) where
   ]
   rises at line (answer.Head id) next t = as_before at next t.3
   rises at line (answer.Opening id) next t = as_before at next t.3
+  rises at line (answer.Compacted segment len) next t = as_before at next t.3
   rises at line (answer.Extended backup segment) next t = as_before at next t.3
   rises at line (answer.Opened backup segment) next t = as_before at next t.3
   rises at line (answer.Closed backup segment) next t = as_before at next t.3
@@ -122,6 +123,8 @@ module _ (config : Config) (opening : State) (history more : List Record) where
   tells_longer at line (answer.Head id) next within after t =
       (t.0, t.1, subst (λ (l : Life). IsRollAt config l (Ok id)) (same_front at.made within) t.2, t.3)
   tells_longer at line (answer.Opening id) next within after t = step_longer at _ step.BeginRoll (Ok (step_answer.Rolling id)) next within t
+  tells_longer at line (answer.Compacted segment len) next within after t =
+      step_longer at _ (step.Compact segment) (Ok (step_answer.Compacted segment len)) next within t
   tells_longer at line (answer.Extended backup segment) next within after t =
       step_longer at _ step.Push (Ok (step_answer.Extended backup segment)) next within t
   tells_longer at line (answer.Opened backup segment) next within after t =

@@ -2,13 +2,14 @@
 use Rattle.std.proofs.Common.{◌≡◌, ℕ, Bool, true, false, [], ◌++◌, length, refl, sym, ap, subst, inl, inr, ◌∙◌, arith}
 use Rattle.std.proofs.lemmas.List.{append-nil}
 use Rattle.std.specs.Prelude.{Option, Some, None, Result, Ok, Err, is_none, ◌&&◌, if◌then◌else◌, unwrap_or}
+use Rattle.cleaner.specs.declared.fault.PassFault.TheVariants.{IsHead, NotInLog}
 use Rattle.versioned_map.specs.declared.command.Command.{Command}
 use Rattle.versioned_map.specs.declared.command.Reply.{Reply}
 use Rattle.log_head.specs.Head.{is_open}
 use Rattle.log_model.specs.Data.{LogData}
 use Rattle.master_core.specs.declared.step.Refusal.{Refusal}
 use Rattle.master_core.specs.declared.step.Refusal.TheVariants as refusal
-use Rattle.master_core.specs.declared.step.Step.TheVariants.{Apply, Push, BeginRoll}
+use Rattle.master_core.specs.declared.step.Step.TheVariants.{Apply, Push, BeginRoll, Compact}
 use Rattle.master_core.specs.declared.step.StepAnswer.{StepAnswer}
 use Rattle.master_core.specs.declared.step.StepAnswer.TheVariants.{Applied}
 use Rattle.master_core.specs.Causes.{is_pushed, command_refusal, early_refusal, late_refusal}
@@ -125,6 +126,36 @@ spent_begin old new r h is = go (subst (λ (x : Refusal). Declines old BeginRoll
 
     go : Declines old BeginRoll refusal.Spent new → ⊥
     go (same, inl test) = tested _ _ _ _ test
+    go (same, inr memory) = let none = memory.1 in cc
+
+-- ---- a compaction
+
+compacted_history : (old new : World) (id : ℕ) (r : Result StepAnswer Refusal) → Steps old (Compact id) r new
+    → new.knows.history ≡ old.knows.history
+compacted_history old new id (Ok a) h = ap (λ (d : MasterData). d.history) h.0.rest
+compacted_history old new id (Err r) h = ap (λ (w : World). w.knows.history) h.0
+
+pub compact_goes_on : (old new : World) (id : ℕ) (r : Result StepAnswer Refusal) → Steps old (Compact id) r new → Keeps 1 old new
+    → LivesOn old.knows new.knows []
+compact_goes_on old new id r compact kept = record {
+  config = kept.config;
+  durable = kept.durable;
+  history = compacted_history old new id r compact ∙ sym (append-nil old.knows.history);
+}
+
+-- no test refuses a compaction as spent, and it takes nothing
+pub spent_compact : (old new : World) (id : ℕ) (r : Refusal) → Declines old (Compact id) r new → r ≡ refusal.Spent → ⊥
+spent_compact old new id r h is = go (subst (λ (x : Refusal). Declines old (Compact id) x new) is h)
+  where
+    tested : (halted head listed : Bool) → (if halted then Some refusal.Halted else if head then Some (refusal.Pass (IsHead id))
+        else if listed then Some (refusal.Pass (NotInLog id)) else None) ≡ Some refusal.Spent → ⊥
+    tested true head listed e = cc
+    tested false true listed e = cc
+    tested false false true e = cc
+    tested false false false e = cc
+
+    go : Declines old (Compact id) refusal.Spent new → ⊥
+    go (same, inl test) = tested _ _ _ test
     go (same, inr memory) = let none = memory.1 in cc
 
 -- ---- a command

@@ -27,7 +27,7 @@ use Rattle.master.specs.Steps.{Steps}
 use Rattle.master.specs.Valid.{IsValid}
 use Rattle.master.specs.World.{World, world}
 use Rattle.script.specs.declared.answer.Answer.{Answer}
-use Rattle.script.specs.declared.answer.Answer.TheVariants.{Refused, Stopped, Holdings, Reply as Replied, Head, Opening, Extended, Opened, Closed}
+use Rattle.script.specs.declared.answer.Answer.TheVariants.{Refused, Stopped, Holdings, Reply as Replied, Head, Opening, Compacted, Extended, Opened, Closed}
 use Rattle.script.specs.declared.answer.Answer.TheVariants as answers
 use Rattle.script.specs.declared.node.Node.{Node}
 use Rattle.script.specs.declared.node.Node.TheVariants.{Up, Down, Changing}
@@ -143,6 +143,7 @@ refusal_answer r = Refused r
 abbrev pub step_told : Result StepAnswer Refusal → Answer
 step_told (Ok (step_answer.Applied place reply)) = Replied reply
 step_told (Ok (step_answer.Rolling id)) = Opening id
+step_told (Ok (step_answer.Compacted segment len)) = Compacted segment len
 step_told (Ok (step_answer.Extended backup segment)) = Extended backup segment
 step_told (Ok (step_answer.Opened backup segment)) = Opened backup segment
 step_told (Ok (step_answer.Closed backup segment)) = Closed backup segment

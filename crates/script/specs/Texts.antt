@@ -11,7 +11,7 @@ use Rattle.recovery.specs.Texts.{recovery_fault_text}
 use Rattle.versioned_map.specs.declared.command.Reply.{Reply}
 use Rattle.versioned_map.specs.declared.command.Reply.TheVariants as reply
 use Rattle.master_core.specs.declared.config.ConfigFault.{ConfigFault}
-use Rattle.master_core.specs.Names.{refusal_name, config_fault_name}
+use Rattle.master_core.specs.Names.{refusal_text, config_fault_name}
 use Rattle.script.specs.declared.answer.Answer.{Answer}
 use Rattle.script.specs.declared.answer.Answer.TheVariants as answer
 use Rattle.script.specs.declared.fault.ScriptFault.{ScriptFault}
@@ -41,9 +41,9 @@ object_text o = decimal o.key.table ++ 32 ∷ o.key.bytes ++ 32 ∷ decimal o.ve
 abbrev pub rebuilt_text : Rebuilt → List ℕ
 rebuilt_text r = flat_map object_text r.objects ++ codes "recovered " ++ decimal (length r.objects) ++ 10 ∷ []
 
--- words, the numbers of a backup and a segment
+-- words and two numbers: those of an op's backup and segment, for example
 abbrev pub op_text : List ℕ → ℕ → ℕ → List ℕ
-op_text words backup segment = words ++ decimal backup ++ 32 ∷ decimal segment ++ 10 ∷ []
+op_text words first second = words ++ decimal first ++ 32 ∷ decimal second ++ 10 ∷ []
 
 -- a space and a number
 abbrev pub spaced_text : ℕ → List ℕ
@@ -72,7 +72,7 @@ holding_text h =
 abbrev pub answer_text : Answer → List ℕ
 answer_text answer.Silent = []
 answer_text (answer.Reply reply) = reply_text reply
-answer_text (answer.Refused refusal) = codes "refused " ++ refusal_name refusal ++ 10 ∷ []
+answer_text (answer.Refused refusal) = codes "refused " ++ refusal_text refusal ++ 10 ∷ []
 answer_text (answer.Hex bytes) = hex_text bytes
 answer_text (answer.NotInLog segment) = codes "refused NotInLog " ++ decimal segment ++ 10 ∷ []
 answer_text (answer.Stop takes) = codes "stop " ++ decimal takes ++ 10 ∷ []
@@ -83,6 +83,7 @@ answer_text (answer.Recovered rebuilt) = rebuilt_text rebuilt
 answer_text (answer.NotRecovered fault) = codes "refused " ++ recovery_fault_text fault ++ 10 ∷ []
 answer_text (answer.Head id) = codes "head " ++ decimal id ++ 10 ∷ []
 answer_text (answer.Opening id) = codes "opening " ++ decimal id ++ 10 ∷ []
+answer_text (answer.Compacted segment len) = op_text (codes "compacted ") segment len
 answer_text (answer.Extended backup segment) = op_text (codes "extend ") backup segment
 answer_text (answer.Opened backup segment) = op_text (codes "open ") backup segment
 answer_text (answer.Closed backup segment) = op_text (codes "close ") backup segment

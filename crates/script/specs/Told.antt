@@ -6,7 +6,7 @@ use Rattle.entry.specs.declared.entry.Object.{Object}
 use Rattle.entry.specs.Meaning.{IsMeaning, among, contents_of}
 use Rattle.entry.specs.Order.{key_cmp}
 use Rattle.entry.specs.Text.{text_of}
-use Rattle.lines.specs.Grammar.{LineValue, Idle, Put, New, Cas, Get, Del, Roll, BeginRoll, Push, Log, Room, Hex, Stop, Crash}
+use Rattle.lines.specs.Grammar.{LineValue, Idle, Put, New, Cas, Get, Del, Compact, Roll, BeginRoll, Push, Log, Room, Hex, Stop, Crash}
 use Rattle.lines.specs.Grammar.{Lose, Recover, Holdings}
 use Rattle.replica.specs.Choice.{Choice, IsShownChoice, bag_of}
 use Rattle.entry.specs.Bag.{IsAmong}
@@ -107,6 +107,7 @@ IsRollAt config life result = (old : World) × (new : World) × HasLived config 
 -- a master that has lived this life refuses what the line asks for, a step or a roll
 abbrev pub IsStepRefusal : Config → Life → LineValue → Refusal → Type 0
 IsStepRefusal config life BeginRoll r = IsStepAt config life step.BeginRoll (Err r)
+IsStepRefusal config life (Compact segment) r = IsStepAt config life (step.Compact segment) (Err r)
 IsStepRefusal config life Push r = IsStepAt config life step.Push (Err r)
 IsStepRefusal config life Roll r = IsRollAt config life (Err r)
 IsStepRefusal config life line r = ⊥
@@ -230,6 +231,7 @@ is_for_master (Get table key) = true
 is_for_master (Del table key) = true
 is_for_master Roll = true
 is_for_master BeginRoll = true
+is_for_master (Compact segment) = true
 is_for_master Push = true
 is_for_master Log = true
 is_for_master Room = true
@@ -255,6 +257,8 @@ Tells config life at line (answer.Head id) next = (at.left ≡ None) × (line �
     × IsRollAt config (life_to life at.made) (Ok id) × (next ≡ at)
 Tells config life at line (answer.Opening id) next = (at.left ≡ None) × (line ≡ BeginRoll)
     × IsStepAt config (life_to life at.made) step.BeginRoll (Ok (step_answer.Rolling id)) × (next ≡ at)
+Tells config life at line (answer.Compacted segment len) next = (at.left ≡ None) × (line ≡ Compact segment)
+    × IsStepAt config (life_to life at.made) (step.Compact segment) (Ok (step_answer.Compacted segment len)) × (next ≡ at)
 Tells config life at line (answer.Extended backup segment) next = (at.left ≡ None) × (line ≡ Push)
     × IsStepAt config (life_to life at.made) step.Push (Ok (step_answer.Extended backup segment)) × (next ≡ at)
 Tells config life at line (answer.Opened backup segment) next = (at.left ≡ None) × (line ≡ Push)

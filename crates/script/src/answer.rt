@@ -38,6 +38,8 @@ pub enum Answer {
     Head(u64),
     /// The number of the next head: a roll to it began.
     Opening(u64),
+    /// The segment that was compacted, and how many bytes its image has now.
+    Compacted(u64, u64),
     /// The backup and the segment of a push that extended a replica.
     Extended(u64, u64),
     /// The backup and the segment of a push that opened a replica.
@@ -77,6 +79,7 @@ pub fn write_answer<W: Write>(writer: &mut W, answer: &Answer) -> io::Result<()>
         Answer::NotRecovered(fault) => writeln!(writer, "refused {fault}"),
         Answer::Head(id) => write_number(writer, b"head ", *id, b'\n'),
         Answer::Opening(id) => write_number(writer, b"opening ", *id, b'\n'),
+        Answer::Compacted(segment, len) => write_op(writer, b"compacted ", *segment, *len),
         Answer::Extended(backup, segment) => write_op(writer, b"extend ", *backup, *segment),
         Answer::Opened(backup, segment) => write_op(writer, b"open ", *backup, *segment),
         Answer::Closed(backup, segment) => write_op(writer, b"close ", *backup, *segment),
@@ -135,14 +138,14 @@ fn write_hex<W: Write>(writer: &mut W, bytes: &[u8]) -> io::Result<()>
     writer.write_all(b"\n")
 }
 
-/// Writes the line of an op: words, and the numbers of its backup and its segment.
-fn write_op<W: Write>(writer: &mut W, words: &[u8], backup: u64, segment: u64) -> io::Result<()>
+/// Writes a line of words and two numbers: those of an op's backup and segment, for example.
+fn write_op<W: Write>(writer: &mut W, words: &[u8], first: u64, second: u64) -> io::Result<()>
     requires { length words.now ≤ 20 }
     ensures { OnOk result (Appends (W.contents writer.old) (W.contents writer.new)
-        (op_text words.now backup segment)) }
+        (op_text words.now first second)) }
 {
-    write_number(writer, words, backup, b' ')?;
-    write_number(writer, b"", segment, b'\n')
+    write_number(writer, words, first, b' ')?;
+    write_number(writer, b"", second, b'\n')
 }
 
 /// Writes the line of the seglets that are counted, and free.

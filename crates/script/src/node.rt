@@ -117,7 +117,7 @@ fn held(inventory: Result<Inventory, NoMemory>) -> Answer
 }
 
 impl Node {
-    ghost use Rattle.lines.specs.Grammar.{Roll, BeginRoll, Push, Log, Room, Hex, Stop, Crash, Lose, Recover, Holdings};
+    ghost use Rattle.lines.specs.Grammar.{Roll, BeginRoll, Compact, Push, Log, Room, Hex, Stop, Crash, Lose, Recover, Holdings};
 
     /// Applies a command, and pushes until its record is durable. It answers `None`, and does nothing, if the command
     /// has to wait for a roll.
@@ -216,6 +216,22 @@ impl Node {
         up.show_valid();
         match up.step(Step::BeginRoll) {
             Ok(StepAnswer::Rolling(id)) => Answer::Opening(id),
+            Ok(_) => unreachable!(),
+            Err(refusal) => self.refuse(refusal),
+        }
+    }
+
+    /// Drops from the image of a closed segment what it doesn't keep.
+    pub fn compact(&mut self, segment: u64) -> Answer
+        ensures told { (config : Config) → AnswersLine self.old config (Compact segment) self.new result }
+        ensures stepped { MakesStep self.old (Step.Compact segment) self.new result }
+    {
+        let Node::Up(up) = self else {
+            return Answer::Down;
+        };
+        up.show_valid();
+        match up.step(Step::Compact(segment)) {
+            Ok(StepAnswer::Compacted(id, len)) => Answer::Compacted(id, len),
             Ok(_) => unreachable!(),
             Err(refusal) => self.refuse(refusal),
         }

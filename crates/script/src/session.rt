@@ -99,6 +99,7 @@ impl Session {
             Line::Recover => Ok(self.node.recover(self.alloc, self.master)),
             Line::Roll => Ok(self.node.roll()),
             Line::BeginRoll => Ok(self.node.begin_roll()),
+            Line::Compact { segment } => Ok(self.node.compact(segment)),
             Line::Push => Ok(self.node.push()),
             Line::Log => Ok(self.node.log()),
             Line::Room => Ok(self.node.room()),

@@ -8,6 +8,8 @@ mod asks;
 #[cfg(test)]
 mod backups;
 #[cfg(test)]
+mod compaction;
+#[cfg(test)]
 mod comparisons;
 #[cfg(test)]
 mod drills;

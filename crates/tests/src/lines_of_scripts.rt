@@ -29,6 +29,7 @@ const GOOD: &[(&str, &str)] = &[
     ("crash", "Some(Crash)"),
     ("lose 3", "Some(Lose { backup: 3 })"),
     ("lose 64", "Some(Lose { backup: 64 })"),
+    ("compact 2", "Some(Compact { segment: 2 })"),
     ("recover", "Some(Recover)"),
 ];
 
@@ -61,6 +62,8 @@ const BAD: &[&[u8]] = &[
     b"get 1",
     b"hex",
     b"hex 1 2",
+    b"compact",
+    b"compact 1 2",
     b"crash 1",
     b"recover reverse",
     b" # no comment",
