@@ -3,7 +3,7 @@ use Rattle.std.proofs.Common.{◌≡◌, ℕ, true, List, [], refl, sym, ap, sub
 use Rattle.std.proofs.lemmas.List.{append-nil}
 use Rattle.std.specs.Prelude.{Option, Some, None, IsSome}
 use Rattle.std.specs.Option.{option_map}
-use Rattle.lines.specs.Grammar.{LineValue, Roll, BeginRoll, Push, Holdings}
+use Rattle.lines.specs.Grammar.{LineValue, Roll, BeginRoll, Compact, Push, Holdings}
 use Rattle.std.specs.Prelude.{Result, Ok, Err, IfOk}
 use Rattle.std.specs.declared.alloc.AllocError.{AllocError}
 use Rattle.replica.specs.declared.holding.Holding.{Holding}
@@ -109,6 +109,7 @@ refused_lifts mid new g r a fleet (inr (is, spent, dropped, (down, lifted))) = s
 pub command_makes : (old : Node) (line : LineValue) (new : Node) (a : Answer) → LiftsLimit new a → IsSome (command_of line) → MakesLine old line new a
 command_makes old Roll new a lifts some = absurd (cc)
 command_makes old BeginRoll new a lifts some = absurd (cc)
+command_makes old (Compact segment) new a lifts some = absurd (cc)
 command_makes old Push new a lifts some = absurd (cc)
 command_makes old line new a lifts some = λ again. lifts
 

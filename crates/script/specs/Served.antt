@@ -1,7 +1,7 @@
 -- What a session stands for, and what its lines do to it.
 use Rattle.std.specs.Prelude.{◌≡◌, ◌⊎◌, ℕ, ◌<◌, ◌≤◌, List, [], ◌∷◌, ◌++◌, Bool, true, false, Option, Some, None, length}
 use Rattle.backup.specs.State.{fleet_state}
-use Rattle.lines.specs.Grammar.{LineValue, Roll, BeginRoll, Push}
+use Rattle.lines.specs.Grammar.{LineValue, Roll, BeginRoll, Compact, Push}
 use Rattle.std.specs.Prelude.{Result, Ok, Err, IsSome}
 use Rattle.std.specs.Option.{option_map}
 use Rattle.std.specs.declared.alloc.AllocError.{AllocError}
@@ -179,6 +179,7 @@ AnswersLine old config line new answer = (d : MasterData) (at : Position) → Is
 abbrev pub MakesLine : Node → LineValue → Node → Answer → Type 0
 MakesLine old Roll new answer = MakesRoll old new answer
 MakesLine old BeginRoll new answer = MakesStep old step.BeginRoll new answer
+MakesLine old (Compact segment) new answer = MakesStep old (step.Compact segment) new answer
 MakesLine old Push new answer = MakesStep old step.Push new answer
 MakesLine old line new answer = IsSome (command_of line) → LiftsLimit new answer
 

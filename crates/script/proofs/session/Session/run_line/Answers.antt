@@ -29,7 +29,7 @@ pub returns-in-BeginRoll-clause-ran : goal.returns-in-BeginRoll-clause-ran
 returns-in-BeginRoll-clause-ran c = rw c.in-BeginRoll.is (record { number = refl; backups = refl; answers = λ config number. c.begin_roll.ensures.told config; makes = c.begin_roll.ensures.stepped })
 
 pub returns-in-Compact-clause-ran : goal.returns-in-Compact-clause-ran
-returns-in-Compact-clause-ran c = rw c.in-Compact.is (record { number = refl; backups = refl; answers = λ config number. c.compact.ensures.told config })
+returns-in-Compact-clause-ran c = rw c.in-Compact.is (record { number = refl; backups = refl; answers = λ config number. c.compact.ensures.told config; makes = c.compact.ensures.stepped })
 
 pub returns-in-Push-clause-ran : goal.returns-in-Push-clause-ran
 returns-in-Push-clause-ran c = rw c.in-Push.is (record { number = refl; backups = refl; answers = λ config number. c.push.ensures.told config; makes = c.push.ensures.stepped })
