@@ -4,3 +4,5 @@ pub mod Moving
 pub mod Following
 pub mod Walking
 pub mod Ids
+pub mod FollowPlaces
+pub mod FollowLaw

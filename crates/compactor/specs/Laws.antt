@@ -1,25 +1,36 @@
 -- What compaction of a segment does to the map that an index is.
-use Rattle.std.specs.Prelude.{◌≡◌, ℕ, ◌==◌, List, if◌then◌else◌}
+use Rattle.std.specs.Prelude.{◌≡◌, ℕ, ◌==◌, List, Option, Some, if◌then◌else◌}
 use Rattle.std.specs.Option.{option_map}
 use Rattle.entry.specs.declared.key.Key.{Key}
+use Rattle.entry.specs.declared.entry.Object.{Object}
 use Rattle.entry.specs.declared.entry.Entry.{Entry}
+use Rattle.entry.specs.declared.entry.Entry.TheVariants as entry
 use Rattle.entry.specs.Text.{IsSegment}
 use Rattle.hash_index.specs.declared.place.Held.{Held}
+use Rattle.hash_index.specs.declared.place.Place.{Place}
 use Rattle.hash_index.specs.Map.{found, AreKept}
 use Rattle.compactor.specs.Kept.{kept_of, moved_place, moved_all}
-use Rattle.compactor.specs.Places.{keys_in, LieIn}
+use Rattle.compactor.specs.Places.{IsAtPlace, keys_in, LieIn}
 
 -- the images once a segment's is compacted
 abbrev pub compacted_images : List ℕ → List Held → (ℕ → List Entry) → ℕ → ℕ → List Entry
 compacted_images ids held images segment s =
     if s == segment then kept_of ids held segment (images segment) else images s
 
--- The index leads to the same objects, in the images after the compaction.
-pub record IsFollowed (ids : List ℕ) (held : List Held) (images : ℕ → List Entry) (segment : ℕ) : Type 0 where
-  pub kept : AreKept (keys_in (compacted_images ids held images segment)) (moved_all ids held segment (images segment))
-  pub lie : LieIn (compacted_images ids held images segment) (moved_all ids held segment (images segment))
-  pub finds : (k : Key) → found (keys_in (compacted_images ids held images segment)) k (moved_all ids held segment (images segment))
-      ≡ option_map (moved_place ids held segment (images segment)) (found (keys_in images) k held)
+-- The new index leads to the same objects as the old one, in the later images: a key is found at the place to which its
+-- old one goes, and its object lies there.
+pub record LeadsOn (images later : ℕ → List Entry) (goes : Place → Place) (old new : List Held) : Type 0 where
+  pub kept : AreKept (keys_in later) new
+  pub lie : LieIn later new
+  pub finds : (k : Key) → found (keys_in later) k new ≡ option_map goes (found (keys_in images) k old)
+  pub carries : (k : Key) (p : Place) (o : Object) → found (keys_in images) k old ≡ Some p
+      → IsAtPlace images p (entry.Object o) → IsAtPlace later (goes p) (entry.Object o)
+
+-- the index follows the compaction of a segment
+abbrev pub IsFollowed : List ℕ → List Held → (ℕ → List Entry) → ℕ → Type 0
+IsFollowed ids held images segment =
+    LeadsOn images (compacted_images ids held images segment) (moved_place ids held segment (images segment)) held
+    (moved_all ids held segment (images segment))
 
 abbrev pub CompactionFollows : Type 0
 CompactionFollows = (ids : List ℕ) (held : List Held) (images : ℕ → List Entry) (segment : ℕ) → IsSegment (images segment)

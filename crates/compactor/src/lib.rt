@@ -6,8 +6,10 @@
 
 mod compacting;
 mod keeping;
+mod laws;
 mod log_set;
 
 pub use compacting::compact;
 pub use keeping::kept;
+pub use laws::index_follows;
 pub use log_set::LogSet;

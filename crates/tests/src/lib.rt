@@ -1,6 +1,6 @@
-//! The tests of all crates: vectors of entries and of segments, images in memory, the index, the lines of scripts, ops on
-//! backups, plans and rebuilt logs from replicas that are made by hand, runs of masters, drills, comparisons with the
-//! plain programs, and whole scripts.
+//! The tests of all crates: vectors of entries and of segments, images in memory, the index, compaction, the lines of
+//! scripts, ops on backups, plans and rebuilt logs from replicas that are made by hand, runs of masters, drills,
+//! comparisons with the plain programs, and whole scripts.
 #![tactic(auto)]
 
 #[cfg(test)]
@@ -8,7 +8,11 @@ mod asks;
 #[cfg(test)]
 mod backups;
 #[cfg(test)]
+<<<<<<< HEAD
 mod compaction;
+=======
+mod compactions;
+>>>>>>> 7348840f466af6497f0d0e840dbc1eb6b312c2ac
 #[cfg(test)]
 mod comparisons;
 #[cfg(test)]
