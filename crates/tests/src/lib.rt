@@ -8,11 +8,9 @@ mod asks;
 #[cfg(test)]
 mod backups;
 #[cfg(test)]
-<<<<<<< HEAD
-mod compaction;
-=======
+mod compacted_scripts;
+#[cfg(test)]
 mod compactions;
->>>>>>> 7348840f466af6497f0d0e840dbc1eb6b312c2ac
 #[cfg(test)]
 mod comparisons;
 #[cfg(test)]
