@@ -9,7 +9,7 @@ use Rattle.std.proofs.lemmas.Bool.Decides.{Decides-eqb}
 use Rattle.entry.specs.declared.key.Key.{Key}
 use Rattle.hash_index.specs.declared.place.Place.{Place}
 use Rattle.hash_index.specs.declared.place.Held.{Held}
-use Rattle.hash_index.specs.Map.{hash_of, tells, is_of, found, IsTold, AreKept, IsSet}
+use Rattle.hash_index.specs.Map.{hash_of, tells, has_hash, is_of, found, IsTold, AreKept, IsCandidate, IsSet}
 use Rattle.hash_index.proofs.Finding.{tells_is, found_later, found_at}
 use Rattle.hash_index.proofs.Changing.{cut, put, swap}
 
@@ -45,6 +45,10 @@ past_none p xs none = go (nat_lt (position_or_len p xs) (length xs)) refl
         ap (λ (b : Bool). cond b (Some (position_or_len p xs)) None) so in
         absurd (cc)
     go false isnt = ltb-false (position_or_len p xs) (length xs) isnt
+
+-- what a walk by the hash over a copy of the list finds
+pub first_along : (hash : ℕ) (xs hs : List Held) (o : Option ℕ) → o ≡ position (has_hash hash) xs → xs ≡ hs → position (has_hash hash) hs ≡ o
+first_along hash xs hs o found same = ap (λ (l : List Held). position (has_hash hash) l) (sym same) ∙ sym found
 
 module _ (keys : Place → Option Key) (k : Key) (hash : ℕ) where
   -- the hash hides no place of the key
@@ -118,3 +122,29 @@ module _ (keys : Place → Option Key) (k : Key) (hash : ℕ) where
       let done = put keys hs [] x k (subst (λ (xs : List Held). AreKept keys xs) (sym same) all) is of
       (ap (λ (xs : List Held). found keys k xs) same ∙ none) in
       subst (λ (xs : List Held). IsSet keys xs k (Some p) (hs ++ x ∷ [])) same done
+
+  -- ---- the first place with the hash
+
+  past_first : (hs : List Held) → hash ≡ hash_of k → AllByRecursion (IsTold keys) hs → length hs ≤ position_or_len (has_hash hash) hs → found keys k hs ≡ None
+  past_first [] of told past = refl
+  past_first (h ∷ hs) of told past =
+      let isnt = not_met (has_hash hash) h hs past in
+      found_later keys k h hs (test_told h of told.0 (ap (λ (b : Bool). b && tells keys k h.place) isnt))
+      ∙ past_first hs of told.1 (past_tail (has_hash hash) h hs isnt past)
+
+  -- where no place has the hash the key has none
+  pub first_none : (hs : List Held) → hash ≡ hash_of k → AllByRecursion (IsTold keys) hs → position (has_hash hash) hs ≡ None → found keys k hs ≡ None
+  first_none hs of told none = past_first hs of told (past_none (has_hash hash) hs none)
+
+  -- a key that stands at the first is found there
+  pub first_some : (hs : List Held) (i : ℕ) (d : Held) → position (has_hash hash) hs ≡ Some i → AreKept keys hs → keys (get_or hs i d).place ≡ Some k → found keys k hs ≡ Some (get_or hs i d).place
+  first_some hs i d some all is =
+      let parts = split_at hs i d (position-Some (has_hash hash) hs i d some).0 in
+      ap (λ (xs : List Held). found keys k xs) parts
+      ∙ found_at keys k (take i hs) (drop (suc i) hs) (get_or hs i d)
+      (subst (λ (xs : List Held). AreKept keys xs) parts all) is
+
+  -- another list in which the key is found as in this one has the same candidate
+  pub candidate_same : (xs ys : List Held) (o : Option Place) → found keys k ys ≡ found keys k xs → IsCandidate keys k xs o → IsCandidate keys k ys o
+  candidate_same xs ys None same is = same ∙ is
+  candidate_same xs ys (Some p) same is = λ there. same ∙ is there

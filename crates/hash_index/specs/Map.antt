@@ -17,6 +17,10 @@ hash_of k = folding.finish (folding.write (folding.write folding.initial (fed.le
 abbrev pub tells : (Place → Option Key) → Key → Place → Bool
 tells keys k p = option_map_or (key_eq k) (keys p) false
 
+-- the hash is held at the place
+abbrev pub has_hash : ℕ → Held → Bool
+has_hash hash h = h.hash == hash
+
 -- the hash is held at the place, and the key stands there
 abbrev pub is_of : (Place → Option Key) → Key → ℕ → Held → Bool
 is_of keys k hash h = (h.hash == hash) && tells keys k h.place
@@ -25,6 +29,12 @@ is_of keys k hash h = (h.hash == hash) && tells keys k h.place
 abbrev pub found : (Place → Option Key) → Key → List Held → Option Place
 found keys k [] = None
 found keys k (h ∷ hs) = if tells keys k h.place then Some h.place else found keys k hs
+
+-- The one place that the key may have: if the key stands there, it is found there, and if there is none, the key has no
+-- place.
+abbrev pub IsCandidate : (Place → Option Key) → Key → List Held → Option Place → Type 0
+IsCandidate keys k hs None = found keys k hs ≡ None
+IsCandidate keys k hs (Some p) = keys p ≡ Some k → found keys k hs ≡ Some p
 
 -- a key stands at the place, and its hash is the one that is held
 abbrev pub IsTold : (Place → Option Key) → Held → Type 0

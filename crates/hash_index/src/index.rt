@@ -4,7 +4,7 @@ ghost use Rattle.std.specs.Prelude.{◌≡◌, ◌+◌, ◌<◌, ◌≤◌, [], 
 ghost use Rattle.entry.specs.declared.key.Key.{Key};
 ghost use Rattle.entry.specs.View.{shown_key};
 ghost use Rattle.hash_index.specs.declared.place.Place.{Place as PlaceValue};
-ghost use Rattle.hash_index.specs.Map.{found, AreKept, IsSet, IsSameMap};
+ghost use Rattle.hash_index.specs.Map.{found, AreKept, IsSet, IsSameMap, IsCandidate};
 ghost use Rattle.hash_index.specs.Relocation.{holds, relocated};
 
 use crate::hashing::hash_key;
@@ -73,6 +73,20 @@ impl Index {
         match self.table.get(hash, resolver, key) {
             Some(place) => Some(place),
             None => self.waiting.get_hashed(hash, resolver, key),
+        }
+    }
+
+    /// The one place that a key may have, without a look at a key: the first that is held with its hash. It is the key's
+    /// if the key stands there. If another key does, only `get` can tell.
+    #[inline]
+    pub fn candidate(&self, key: &KeyRef<'_>) -> Option<Place>
+        ensures { (keys : PlaceValue → Option Key) → AreKept keys self.now.held
+            → IsCandidate keys (shown_key key.now) self.now.held result }
+    {
+        let hash = hash_key(key);
+        match self.table.candidate(hash) {
+            Some(place) => Some(place),
+            None => self.waiting.candidate(hash),
         }
     }
 

@@ -5,14 +5,14 @@ ghost use Rattle.std.specs.List.{remove};
 ghost use Rattle.entry.specs.declared.key.Key.{Key};
 ghost use Rattle.entry.specs.View.{shown_key};
 ghost use Rattle.hash_index.specs.declared.place.Place.{Place as PlaceValue};
-ghost use Rattle.hash_index.specs.Map.{found, hash_of, AreKept, IsSet, IsSameMap};
+ghost use Rattle.hash_index.specs.Map.{found, hash_of, AreKept, IsSet, IsSameMap, IsCandidate};
 ghost use Rattle.hash_index.specs.Relocation.{holds, relocated};
 ghost use Rattle.hash_index.specs.Steps.{Moves, Removes};
 
 use crate::hashing::hash_key;
 use crate::place::{Held, Place};
 use crate::resolve::Resolve;
-use crate::walk::{slot_at, slot_of};
+use crate::walk::{slot_at, slot_of, first_slot};
 use entry::{KeyRef, NoMemory};
 use std::alloc::Global;
 use std::marker::Model;
@@ -77,6 +77,16 @@ impl PlainIndex {
             → result ≡ found (R.keys resolver.now) (shown_key key.now) self.now.held }
     {
         let slot = slot_of(&self.held, hash, resolver, key)?;
+        Some(self.held[slot].place)
+    }
+
+    /// The first place that is held with a hash.
+    #[inline]
+    pub(crate) fn candidate(&self, hash: u64) -> Option<Place>
+        ensures { (keys : PlaceValue → Option Key) (k : Key) → hash ≡ hash_of k → AreKept keys self.now.held
+            → IsCandidate keys k self.now.held result }
+    {
+        let slot = first_slot(&self.held, hash)?;
         Some(self.held[slot].place)
     }
 

@@ -3,8 +3,9 @@
 ghost use Rattle.std.specs.Prelude.{◌≡◌, ◌+◌, ◌<◌, ◌≤◌, ◌∷◌, ◌++◌, [], Option, Some, None, length, IfOk, OnOk, OnErr};
 ghost use Rattle.entry.specs.declared.key.Key.{Key};
 ghost use Rattle.entry.specs.View.{shown_key};
-ghost use Rattle.hash_index.specs.Map.{found, hash_of, AreKept};
+ghost use Rattle.hash_index.specs.Map.{found, hash_of, AreKept, IsCandidate};
 ghost use Rattle.hash_index.specs.Relocation.{holds, relocated};
+ghost use Rattle.hash_index.specs.declared.place.Place.{Place as PlaceValue};
 ghost use Rattle.hash_index.specs.Steps.{Moves, Removes, IsShuffled, chain_of};
 
 use crate::place::{Held, Place};
@@ -82,6 +83,20 @@ impl Table {
         let at = chain_at(self.chains.len(), hash);
         let chain = &self.chains[at];
         chain.get_hashed(hash, resolver, key)
+    }
+
+    /// The first place that is held with a hash.
+    #[inline]
+    pub(crate) fn candidate(&self, hash: u64) -> Option<Place>
+        ensures { (keys : PlaceValue → Option Key) (k : Key) → hash ≡ hash_of k → AreKept keys self.now
+            → IsCandidate keys k self.now result }
+    {
+        if self.chains.is_empty() {
+            return None;
+        }
+        let at = chain_at(self.chains.len(), hash);
+        let chain = &self.chains[at];
+        chain.candidate(hash)
     }
 
     /// The place of a key of this hash that has one becomes this one. Whether it has one.

@@ -3,7 +3,7 @@
 ghost use Rattle.std.specs.Prelude.{◌≡◌};
 ghost use Rattle.std.specs.List.{position};
 ghost use Rattle.entry.specs.View.{shown_key};
-ghost use Rattle.hash_index.specs.Map.{is_of};
+ghost use Rattle.hash_index.specs.Map.{is_of, has_hash};
 ghost use Rattle.hash_index.specs.Relocation.{is_same};
 
 use crate::place::Held;
@@ -34,4 +34,12 @@ pub(crate) fn slot_at(held: &[Held], sought: Held) -> Option<usize>
             && one.place.segment == sought.place.segment
             && one.place.at == sought.place.at
     })
+}
+
+/// Which of these is the first that has the hash.
+#[inline]
+pub(crate) fn first_slot(held: &[Held], hash: u64) -> Option<usize>
+    ensures { result ≡ position (has_hash hash) held.now }
+{
+    held.iter().position(|one| one.hash == hash)
 }
