@@ -1,17 +1,15 @@
 -- A chain: its first place and the others as one list.
-use Rattle.std.proofs.Common.{◌≡◌, ℕ, ◌+◌, Bool, true, false, ◌||◌, List, [], ◌∷◌, ◌++◌, length, length-append, append_assoc, refl, sym, ap, subst, ◌∙◌, arith, if◌then◌else◌}
-use Rattle.std.specs.Prelude.{Option, Some, None, is_some, Result, Ok, Err, OnOk}
+use Rattle.std.proofs.Common.{◌≡◌, Bool, true, false, List, [], ◌∷◌, ◌++◌, length-append, append_assoc, refl, sym, ap, subst, ◌∙◌, arith}
+use Rattle.std.specs.Prelude.{Option, Some, None, Result, Ok, Err, OnOk}
 use Rattle.entry.specs.declared.key.Key.{Key}
 use Rattle.entry.proofs.ListLemmas.{all_append, all_split}
 use Rattle.hash_index.specs.declared.place.Place.{Place}
 use Rattle.hash_index.specs.declared.place.Held.{Held}
-use Rattle.hash_index.specs.Map.{found, AreKept, IsSet, IsCandidate}
 use Rattle.hash_index.specs.Relocation.{holds, relocated}
 use Rattle.hash_index.specs.Steps.{BringsNoHash, Moves, Removes, IsShuffled}
 use Rattle.hash_index.proofs.Joining.{kept_right, shuffled_itself, shuffled_then, shuffled_left, shuffled_turned}
-use Rattle.hash_index.proofs.Slots.{candidate_same}
-use Rattle.hash_index.proofs.Relocating.{holds_append, relocated_first, relocated_right, relocated_none}
-use Rattle.hash_index.proofs.Whole.{found_table, found_waiting, table_had, table_set, table_removed, table_gone, waiting_set, other_had, other_gone, other_removed}
+use Rattle.hash_index.proofs.Relocating.{relocated_first, relocated_right, relocated_none}
+use Rattle.hash_index.proofs.Whole.{table_had, table_set, table_removed, table_gone, waiting_set, other_had, other_gone, other_removed}
 
 pub brings_both : (xs new ys others : List Held) → BringsNoHash xs new → BringsNoHash ys others → BringsNoHash (xs ++ ys) (new ++ others)
 brings_both xs new ys others first second p all =

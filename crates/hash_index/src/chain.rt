@@ -16,7 +16,7 @@ use entry::{KeyRef, NoMemory};
 use std::alloc::Global;
 use std::marker::Model;
 
-/// The places of some hashes: the first lies in the table itself, and the others in memory of their own. Where the first
+/// The places of some hashes: the first lies in the table itself, and the others in memory of their own. If the first
 /// is taken out, the next place that is pushed becomes the first.
 #[derive(Drop)]
 pub(crate) struct Chain {

@@ -48,12 +48,7 @@ impl First {
 
     /// The place, if it is the key's of this hash.
     #[inline]
-    pub(crate) fn get<R: Resolve>(
-        &self,
-        hash: u64,
-        resolver: &R,
-        key: &KeyRef<'_>,
-    ) -> Option<Place>
+    pub(crate) fn get<R: Resolve>(&self, hash: u64, resolver: &R, key: &KeyRef<'_>) -> Option<Place>
         requires { hash ≡ hash_of (shown_key key.now) }
         ensures { AreKept (R.keys resolver.now) self.now
             → result ≡ found (R.keys resolver.now) (shown_key key.now) self.now }

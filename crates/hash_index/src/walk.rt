@@ -10,14 +10,9 @@ use crate::place::Held;
 use crate::resolve::{Resolve, stands};
 use entry::KeyRef;
 
-/// Whether this is the key's. The key is read only where the hash agrees.
+/// Whether this is the key's. The key is read only if the hash agrees.
 #[inline]
-pub(crate) fn is_place_of<R: Resolve>(
-    one: &Held,
-    hash: u64,
-    resolver: &R,
-    key: &KeyRef<'_>,
-) -> bool
+pub(crate) fn is_place_of<R: Resolve>(one: &Held, hash: u64, resolver: &R, key: &KeyRef<'_>) -> bool
     ensures { result ≡ is_of (R.keys resolver.now) (shown_key key.now) hash one.now }
 {
     one.hash == hash && stands(resolver, key, one.place)

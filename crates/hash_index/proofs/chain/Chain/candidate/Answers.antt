@@ -1,7 +1,5 @@
-use Rattle.std.proofs.Common.{◌++◌, sym, subst, ◌∙◌}
-use Rattle.std.specs.Prelude.{Option, Some}
-use Rattle.entry.specs.declared.key.Key.{Key}
-use Rattle.hash_index.specs.declared.place.Place.{Place}
+use Rattle.std.proofs.Common.{◌++◌, subst}
+use Rattle.std.specs.Prelude.{Some}
 use Rattle.hash_index.specs.Map.{IndexValue, AreKept, IsCandidate}
 use Rattle.hash_index.proofs.Joining.{kept_left, kept_right}
 use Rattle.hash_index.proofs.Slots.{candidate_same}

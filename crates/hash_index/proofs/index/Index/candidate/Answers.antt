@@ -1,4 +1,4 @@
-use Rattle.std.proofs.Common.{◌++◌, sym, subst, ◌∙◌}
+use Rattle.std.proofs.Common.{◌++◌, subst}
 use Rattle.std.specs.Prelude.{Option, Some}
 use Rattle.entry.specs.declared.key.Key.{Key}
 use Rattle.entry.specs.View.{shown_key}

@@ -1,4 +1,4 @@
-use Rattle.std.proofs.Common.{List, ◌++◌, ap, subst, ◌∙◌}
+use Rattle.std.proofs.Common.{List, ◌++◌, ap, subst}
 use Rattle.hash_index.specs.declared.place.Held.{Held}
 use Rattle.hash_index.specs.Map.{IndexValue}
 use Rattle.hash_index.specs.Steps.{IsShuffled}
