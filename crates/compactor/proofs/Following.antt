@@ -17,7 +17,7 @@ use Rattle.hash_index.specs.declared.place.Held.{Held}
 use Rattle.hash_index.specs.Map.{hash_of, tells, found, IsTold, AreApart}
 use Rattle.hash_index.specs.Relocation.{is_same, relocated}
 use Rattle.hash_index.proofs.Finding.{found_here, found_later, tells_from}
-use Rattle.compactor.specs.Kept.{kept_of, moved_at, moved_place, moved_all}
+use Rattle.compactor.specs.Kept.{kept_of, moved_at, moved_place}
 use Rattle.compactor.specs.Places.{LiesAt, IsAtPlace, keys_in, LieIn}
 use Rattle.compactor.proofs.KeptEntries.{kept_length}
 use Rattle.compactor.proofs.Cutting.{IsCut, before_cut}

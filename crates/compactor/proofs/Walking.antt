@@ -2,7 +2,6 @@
 use Rattle.std.proofs.Common.{◌≡◌, ℕ, ◌+◌, ◌-◌, ◌<◌, ◌≤◌, Bool, true, false, cond, List, [], ◌∷◌, ◌++◌, length, take, drop, refl, sym, ap, subst, ◌∙◌, arith}
 use Rattle.std.specs.List.{AllByRecursion}
 use Rattle.std.proofs.lemmas.List.{length-append, append-nil}
-use Rattle.entry.specs.declared.entry.Object.{Object}
 use Rattle.entry.specs.declared.entry.Entry.{Entry}
 use Rattle.entry.specs.declared.entry.Entry.TheVariants as entry
 use Rattle.entry.specs.Format.{spelling, IsEntry}
@@ -12,12 +11,12 @@ use Rattle.segment.proofs.RowLemmas.{text_of-append}
 use Rattle.hash_index.specs.declared.place.Place.{Place}
 use Rattle.hash_index.specs.declared.place.Held.{Held}
 use Rattle.hash_index.specs.Map.{hash_of, AreKept}
-use Rattle.hash_index.specs.Relocation.{is_same, holds}
-use Rattle.compactor.specs.Kept.{kept, kept_from, kept_of, moved_all}
+use Rattle.hash_index.specs.Relocation.{holds}
+use Rattle.compactor.specs.Kept.{kept, kept_from, kept_of}
 use Rattle.compactor.specs.Moved.{moved_one, Follows}
 use Rattle.compactor.specs.Places.{keys_in, LieIn}
 use Rattle.compactor.proofs.KeptEntries.{kept_push, kept_length, kept_segment}
-use Rattle.compactor.proofs.Cutting.{IsCut, IsCut-start, first_at, cut_next, cut_end, cut_length}
+use Rattle.compactor.proofs.Cutting.{IsCut, IsCut-start, first_at, cut_next, cut_end}
 use Rattle.compactor.proofs.Moving.{other_at, holds_relocated}
 use Rattle.compactor.proofs.Following.{AllUntil, until_start, until_end, until_plain, until_object}
 

@@ -34,13 +34,7 @@ fn kept_len(id: u64, segment: &Segment, index: &Index, log: &LogSet<'_>) -> usiz
 }
 
 /// Copies the kept entries of a segment. The index has each object where its copy lies.
-fn copy_kept(
-    id: u64,
-    segment: &Segment,
-    index: &mut Index,
-    log: &LogSet<'_>,
-    out: &mut Vec<u8>,
-)
+fn copy_kept(id: u64, segment: &Segment, index: &mut Index, log: &LogSet<'_>, out: &mut Vec<u8>)
     requires empty { out.old.items ≡ [] }
     requires room { length (text_of (kept_of (ids_of_log log.now) index.old.held id segment.now)) ≤ vec_capacity out.old }
     ensures copied { IsTextOf out.new.items (kept_of (ids_of_log log.now) index.old.held id segment.now) }

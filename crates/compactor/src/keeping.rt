@@ -41,7 +41,6 @@ pub(crate) fn kept_and_moved(
             let hash = hash_key(&object.key);
             index.relocate(Held { hash, place }, to)
         }
-        EntryRef::Tombstone(tombstone) => log.has(tombstone.segment),
-        _ => true,
+        _ => kept(entry, place, index, log),
     }
 }

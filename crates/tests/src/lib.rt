@@ -1,12 +1,14 @@
-//! The tests of all crates: vectors of entries and of segments, images in memory, the index, the lines of scripts, ops on
-//! backups, plans and rebuilt logs from replicas that are made by hand, runs of masters, drills, comparisons with the
-//! plain programs, and whole scripts.
+//! The tests of all crates: vectors of entries and of segments, images in memory, the index, compaction, the lines of
+//! scripts, ops on backups, plans and rebuilt logs from replicas that are made by hand, runs of masters, drills,
+//! comparisons with the plain programs, and whole scripts.
 #![tactic(auto)]
 
 #[cfg(test)]
 mod asks;
 #[cfg(test)]
 mod backups;
+#[cfg(test)]
+mod compactions;
 #[cfg(test)]
 mod comparisons;
 #[cfg(test)]

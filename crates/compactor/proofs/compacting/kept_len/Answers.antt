@@ -1,8 +1,7 @@
-use Rattle.std.proofs.Common.{◌≡◌, ◌≤◌, ◌+◌, true, false, sym, ◌∙◌, arith}
+use Rattle.std.proofs.Common.{◌≤◌, ◌+◌, sym, ◌∙◌, arith}
 use Rattle.entry.specs.View.{shown}
 use Rattle.compactor.specs.Log.{ids_of_log}
-use Rattle.compactor.specs.Kept.{kept}
-use Rattle.compactor.proofs.Walking.{IsSummed, IsSummed-start, IsSummed-kept, IsSummed-dropped, IsSummed-end}
+use Rattle.compactor.proofs.Walking.{IsSummed, IsSummed-kept, IsSummed-dropped, IsSummed-end}
 use Rattle.compactor.proofs.Walking.{here_of, not_unread}
 use Rattle.compactor.proofs.compacting.kept_len.Goals.{then-kept, else-kept}
 use Rattle.compactor.proofs.compacting.kept_len.Goals as goal

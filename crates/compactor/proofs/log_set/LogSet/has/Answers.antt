@@ -1,4 +1,4 @@
-use Rattle.std.proofs.Common.{◌≡◌, ℕ, ap, ◌∙◌, sym}
+use Rattle.std.proofs.Common.{ℕ, ap, ◌∙◌, sym}
 use Rattle.std.specs.Prelude.{Option, is_some}
 use Rattle.compactor.proofs.Ids.{is_new, copied_some, has_closed, has_new}
 use Rattle.compactor.proofs.log_set.LogSet.has.Goals as goal
