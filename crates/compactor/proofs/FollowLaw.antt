@@ -1,6 +1,6 @@
 -- After a compaction an index that follows it leads to the same objects.
 use Rattle.std.proofs.Common.{◌≡◌, ℕ, ◌+◌, Bool, true, false, ◌||◌, ◌==◌, List, [], ◌∷◌, ◌++◌, length, drop, refl, sym, ap, subst, ◌∙◌, inl, inr, arith, if◌then◌else◌}
-use Rattle.std.specs.Prelude.{Option, Some, None}
+use Rattle.std.specs.Prelude.{Option, Some}
 use Rattle.std.specs.List.{AllByRecursion}
 use Rattle.std.specs.Option.{option_map, option_and_then}
 use Rattle.std.proofs.lemmas.Bool.{and_from}
@@ -21,12 +21,12 @@ use Rattle.hash_index.specs.declared.place.Held.{Held}
 use Rattle.hash_index.specs.Map.{hash_of, found, AreKept}
 use Rattle.hash_index.specs.Relocation.{is_same, holds}
 use Rattle.hash_index.proofs.Finding.{found_contained}
-use Rattle.compactor.specs.Kept.{kept, kept_from, kept_of, entries_before, moved_at, moved_place, moved_all}
+use Rattle.compactor.specs.Kept.{kept, kept_from, kept_of, entries_before, moved_at, moved_place}
 use Rattle.compactor.specs.Laws.{compacted_images, IsFollowed}
 use Rattle.compactor.specs.Places.{LiesAt, IsAtPlace, as_object, object_in, keys_in, LieIn}
 use Rattle.compactor.proofs.Cutting.{before_cut, behind_cut}
 use Rattle.compactor.proofs.KeptEntries.{kept_append, kept_segment}
-use Rattle.compactor.proofs.FollowPlaces.{carried, IsSeen, found_carried, kept_carried, all_carried}
+use Rattle.compactor.proofs.FollowPlaces.{IsSeen, found_carried, kept_carried, all_carried}
 
 -- ---- what is read where an entry lies
 

@@ -184,38 +184,36 @@ pub own_brings : (cs : List IndexValue) (i : ℕ) (d c : IndexValue) → AreInCh
 own_brings cs i d c own below brings =
     own_put cs i c own below (brings (belongs (length cs) i) (chain_own (length cs) cs 0 i i d own below (omega arith)))
 
-pub own_pushed : (cs : List IndexValue) (i : ℕ) (d c : IndexValue) (h : Held) → AreInChains (length cs) 0 cs → i < length cs → i ≡ chain_of (length cs) h.hash → c.held ≡ (get_or cs i d).held ++ h ∷ [] → AreInChains (length (set cs i c)) 0 (set cs i c)
-own_pushed cs i d c h own below at pushed =
+pub own_pushed : (cs : List IndexValue) (i : ℕ) (d c : IndexValue) (h : Held) → AreInChains (length cs) 0 cs → i < length cs → i ≡ chain_of (length cs) h.hash → BringsNoHash ((get_or cs i d).held ++ h ∷ []) c.held → AreInChains (length (set cs i c)) 0 (set cs i c)
+own_pushed cs i d c h own below at brings =
     let P = λ (y : Held). belongs (length cs) i y.hash ≡ true in
     let there : belongs (length cs) i h.hash ≡ true = (Decides-eqb (chain_of (length cs) h.hash) i).1 (sym at) in
     let all = all_append P (get_or cs i d).held (h ∷ []) (chain_own (length cs) cs 0 i i d own below (omega arith)) (there, tt) in
-    own_put cs i c own below (subst (λ (xs : List Held). HashesPass (belongs (length cs) i) xs) (sym pushed) all)
+    own_put cs i c own below (brings (belongs (length cs) i) all)
 
-pub own_result : {E : Type 0} (cs : List IndexValue) (i : ℕ) (d c : IndexValue) (h : Held) (r : Result (Unit {0}) E) → AreInChains (length cs) 0 cs → i < length cs → i ≡ chain_of (length cs) h.hash → OnOk r (c.held ≡ (get_or cs i d).held ++ h ∷ []) → OnErr r (c ≡ get_or cs i d) → AreInChains (length (set cs i c)) 0 (set cs i c)
-own_result cs i d c h (Ok u) own below at pushed same = own_pushed cs i d c h own below at pushed
-own_result cs i d c h (Err e) own below at pushed same =
+pub own_result : {E : Type 0} (cs : List IndexValue) (i : ℕ) (d c : IndexValue) (h : Held) (r : Result (Unit {0}) E) → AreInChains (length cs) 0 cs → i < length cs → i ≡ chain_of (length cs) h.hash → OnOk r (BringsNoHash ((get_or cs i d).held ++ h ∷ []) c.held) → OnErr r (c ≡ get_or cs i d) → AreInChains (length (set cs i c)) 0 (set cs i c)
+own_result cs i d c h (Ok u) own below at brings same = own_pushed cs i d c h own below at brings
+own_result cs i d c h (Err e) own below at brings same =
     own_brings cs i d c own below
     (λ p all. subst (λ (v : IndexValue). HashesPass p v.held) (sym same) all)
 
-pub pushed_chain : (cs : List IndexValue) (i : ℕ) (d c : IndexValue) (h : Held) → i < length cs → c.held ≡ (get_or cs i d).held ++ h ∷ [] → IsShuffled (places_in cs ++ h ∷ []) (places_in (set cs i c))
+pub pushed_chain : (cs : List IndexValue) (i : ℕ) (d c : IndexValue) (h : Held) → i < length cs → IsShuffled ((get_or cs i d).held ++ h ∷ []) c.held → IsShuffled (places_in cs ++ h ∷ []) (places_in (set cs i c))
 pushed_chain cs i d c h below pushed =
     let before = places_in (take i cs) in
     let after = places_in (drop (suc i) cs) in
     let x = (get_or cs i d).held in
-    let inner = shuffled_right x (after ++ h ∷ []) (h ∷ after) (shuffled_turned after (h ∷ [])) in
-    let whole = shuffled_right before (x ++ (after ++ h ∷ [])) (x ++ h ∷ after) inner in
+    let turned = shuffled_right x (after ++ h ∷ []) (h ∷ after) (shuffled_turned after (h ∷ [])) in
+    let within = subst (λ (xs : List Held). IsShuffled xs (c.held ++ after)) (append_assoc x (h ∷ []) after) (shuffled_left (x ++ h ∷ []) c.held after pushed) in
+    let inner = shuffled_then (x ++ (after ++ h ∷ [])) (x ++ h ∷ after) (c.held ++ after) turned within in
+    let whole = shuffled_right before (x ++ (after ++ h ∷ [])) (c.held ++ after) inner in
     let old : places_in cs ++ h ∷ [] ≡ before ++ (x ++ (after ++ h ∷ [])) =
     ap (λ (xs : List Held). xs ++ h ∷ []) (places_split cs i d below)
     ∙ append_assoc before (x ++ after) (h ∷ [])
     ∙ ap (λ (xs : List Held). before ++ xs) (append_assoc x after (h ∷ [])) in
-    let new : places_in (set cs i c) ≡ before ++ (x ++ h ∷ after) =
-    places_set cs i c below
-    ∙ ap (λ (xs : List Held). before ++ (xs ++ after)) pushed
-    ∙ ap (λ (xs : List Held). before ++ xs) (append_assoc x (h ∷ []) after) in
-    let from = subst (λ (xs : List Held). IsShuffled xs (before ++ (x ++ h ∷ after))) (sym old) whole in
-    subst (λ (xs : List Held). IsShuffled (places_in cs ++ h ∷ []) xs) (sym new) from
+    let from = subst (λ (xs : List Held). IsShuffled xs (before ++ (c.held ++ after))) (sym old) whole in
+    subst (λ (xs : List Held). IsShuffled (places_in cs ++ h ∷ []) xs) (sym (places_set cs i c below)) from
 
-pub pushed_result : {E : Type 0} (cs : List IndexValue) (i : ℕ) (d c : IndexValue) (h : Held) (r : Result (Unit {0}) E) → i < length cs → OnOk r (c.held ≡ (get_or cs i d).held ++ h ∷ []) → OnOk r (IsShuffled (places_in cs ++ h ∷ []) (places_in (set cs i c)))
+pub pushed_result : {E : Type 0} (cs : List IndexValue) (i : ℕ) (d c : IndexValue) (h : Held) (r : Result (Unit {0}) E) → i < length cs → OnOk r (IsShuffled ((get_or cs i d).held ++ h ∷ []) c.held) → OnOk r (IsShuffled (places_in cs ++ h ∷ []) (places_in (set cs i c)))
 pushed_result cs i d c h (Ok u) below pushed = pushed_chain cs i d c h below pushed
 pushed_result cs i d c h (Err e) below pushed = pushed
 

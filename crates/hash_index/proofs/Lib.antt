@@ -8,3 +8,4 @@ pub mod Chains
 pub mod Whole
 pub mod Each
 pub mod Relocating
+pub mod Parts

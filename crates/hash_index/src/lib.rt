@@ -1,8 +1,9 @@
 //! An index of a log: which place of the log has a key's object.
 //!
 //! It holds no keys: of each place it holds the hash of its key, and who owns the log tells which key stands where
-//! (`Resolve`). `Index` is a table of chains of places. A look-up takes one hash. It walks one chain, of two places
-//! on average at most, and the few places that wait for their chain. A key is read only where the hash agrees.
+//! (`Resolve`). `Index` is a table of chains of places. The first place of a chain lies in the table itself, the others
+//! in memory of their own. A look-up takes one hash. It walks one chain, of two places on average at most, and the few
+//! places that wait for their chain. A key is read only where the hash agrees.
 //!
 //! A key that is set waits in a list, in memory that `reserve` took for it, so `set` can't fail. `settle` puts it into its
 //! chain. It makes twice as many chains or more once there would be more than two keys for each. It puts each place anew
@@ -18,6 +19,8 @@
 //! `PlainIndex` promises the same over one list that is walked. What both are is in `specs/Map.antt`.
 #![tactic(auto)]
 
+mod chain;
+mod first;
 mod hashing;
 mod index;
 mod laws;

@@ -12,7 +12,7 @@ ghost use Rattle.hash_index.specs.Steps.{Moves, Removes};
 use crate::hashing::hash_key;
 use crate::place::{Held, Place};
 use crate::resolve::Resolve;
-use crate::walk::{slot_at, slot_of, first_slot};
+use crate::walk::{first_slot, slot_at, slot_of};
 use entry::{KeyRef, NoMemory};
 use std::alloc::Global;
 use std::marker::Model;

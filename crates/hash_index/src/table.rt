@@ -8,6 +8,7 @@ ghost use Rattle.hash_index.specs.Relocation.{holds, relocated};
 ghost use Rattle.hash_index.specs.declared.place.Place.{Place as PlaceValue};
 ghost use Rattle.hash_index.specs.Steps.{Moves, Removes, IsShuffled, chain_of};
 
+use crate::chain::Chain;
 use crate::place::{Held, Place};
 use crate::plain::PlainIndex;
 use crate::resolve::Resolve;
@@ -19,7 +20,7 @@ use std::marker::Model;
 /// one after another.
 #[derive(Drop)]
 pub(crate) struct Table {
-    chains: Vec<PlainIndex>,
+    chains: Vec<Chain>,
 }
 
 impl Model for Table {
@@ -60,7 +61,7 @@ impl Table {
     {
         let mut chains = Vec::with_capacity(alloc, count)?;
         for _ in 0..count {
-            chains.push(PlainIndex::new(alloc))?;
+            chains.push(Chain::new(alloc))?;
         }
         Ok(Table { chains })
     }
@@ -172,7 +173,7 @@ impl Table {
         }
         let at = chain_at(self.chains.len(), held.hash);
         let chain = &mut self.chains[at];
-        chain.push_exact(held)
+        chain.push(held)
     }
 
     /// Pushes each of these.
@@ -185,12 +186,21 @@ impl Table {
         Ok(())
     }
 
+    /// Pushes each place of a chain.
+    pub(crate) fn push_chain(&mut self, chain: &Chain) -> Result<(), NoMemory>
+        ensures { OnOk result (IsShuffled (self.old ++ chain.now.held) self.new) }
+    {
+        let (first, more) = chain.parts();
+        self.push_all(first)?;
+        self.push_all(more)
+    }
+
     /// Pushes each place of another table.
     pub(crate) fn push_table(&mut self, other: &Table) -> Result<(), NoMemory>
         ensures { OnOk result (IsShuffled (self.old ++ other.now) self.new) }
     {
         for chain in &other.chains {
-            self.push_all(chain.as_slice())?;
+            self.push_chain(chain)?;
         }
         Ok(())
     }

@@ -10,7 +10,25 @@ use crate::place::Held;
 use crate::resolve::{Resolve, stands};
 use entry::KeyRef;
 
-/// Which of these is the key's. A key is read only where the hash agrees.
+/// Whether this is the key's. The key is read only if the hash agrees.
+#[inline]
+pub(crate) fn is_place_of<R: Resolve>(one: &Held, hash: u64, resolver: &R, key: &KeyRef<'_>) -> bool
+    ensures { result ≡ is_of (R.keys resolver.now) (shown_key key.now) hash one.now }
+{
+    one.hash == hash && stands(resolver, key, one.place)
+}
+
+/// Whether this is the same place under the same hash.
+#[inline]
+pub(crate) fn is_same_held(one: &Held, sought: Held) -> bool
+    ensures { result ≡ is_same sought one.now }
+{
+    one.hash == sought.hash
+        && one.place.segment == sought.place.segment
+        && one.place.at == sought.place.at
+}
+
+/// Which of these is the key's.
 #[inline]
 pub(crate) fn slot_of<R: Resolve>(
     held: &[Held],
@@ -21,7 +39,7 @@ pub(crate) fn slot_of<R: Resolve>(
     ensures { result ≡ position (is_of (R.keys resolver.now) (shown_key key.now) hash) held.now }
 {
     held.iter()
-        .position(|one| one.hash == hash && stands(resolver, key, one.place))
+        .position(|one| is_place_of(one, hash, resolver, key))
 }
 
 /// Which of these is this place under this hash.
@@ -29,11 +47,7 @@ pub(crate) fn slot_of<R: Resolve>(
 pub(crate) fn slot_at(held: &[Held], sought: Held) -> Option<usize>
     ensures { result ≡ position (is_same sought) held.now }
 {
-    held.iter().position(|one| {
-        one.hash == sought.hash
-            && one.place.segment == sought.place.segment
-            && one.place.at == sought.place.at
-    })
+    held.iter().position(|one| is_same_held(one, sought))
 }
 
 /// Which of these is the first that has the hash.

@@ -9,6 +9,7 @@ use log_head::Head;
 use segment::Segment;
 
 /// The image of the segment of this number.
+#[inline(always)]
 pub fn image_of<'a>(head: &'a Head, closed: &'a Images, id: u64) -> Option<&'a Segment>
     ensures { option_copied result ≡ image_among head.entry.now closed.entry.now.images id }
 {

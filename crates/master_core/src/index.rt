@@ -36,6 +36,7 @@ impl<'a> Resolve for LogImages<'a> {
 }
 
 /// The object that begins at an offset of the image.
+#[inline(always)]
 fn object_in(image: &Segment, at: usize) -> Option<ObjectRef<'_>>
     ensures { option_map shown_object result ≡ object_in image.entry.now at }
 {
@@ -46,6 +47,7 @@ fn object_in(image: &Segment, at: usize) -> Option<ObjectRef<'_>>
 }
 
 /// The object at a place of the images.
+#[inline(always)]
 fn object_there<'a>(head: &'a Head, closed: &'a Images, place: Place) -> Option<ObjectRef<'a>>
     ensures { option_map shown_object result ≡ object_there (images_among head.entry.now closed.entry.now.images) place }
 {

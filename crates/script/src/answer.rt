@@ -124,9 +124,31 @@ fn write_versioned<W: Write>(writer: &mut W, version: Version, value: &Value) ->
     ensures { OnOk result (Appends (W.contents writer.old) (W.contents writer.new)
         (decimal version ++ 32 ∷ value.now ++ 10 ∷ [])) }
 {
+    let value = value.as_slice();
+    if value.len() <= SHORT_VALUE_LEN {
+        return write_short(writer, version.get(), value);
+    }
     write_number(writer, b"", version.get(), b' ')?;
-    writer.write_all(value.as_slice())?;
+    writer.write_all(value)?;
     writer.write_all(b"\n")
+}
+
+/// The most bytes of a value that is written together with its version.
+const SHORT_VALUE_LEN: usize = 128;
+
+/// Writes a number in decimal digits, a space, a short value and a line feed, in one write.
+#[inline(always)]
+fn write_short<W: Write>(writer: &mut W, number: u64, value: &[u8]) -> io::Result<()>
+    requires { length value.now ≤ 128 }
+    ensures { OnOk result (Appends (W.contents writer.old) (W.contents writer.new)
+        (decimal number ++ 32 ∷ value.now ++ 10 ∷ [])) }
+{
+    let mut line = [b'\n'; 160];
+    let end = 21 + value.len();
+    line[20] = b' ';
+    line[21..end].copy_from_slice(value);
+    let start = write_digits(number, &mut line, 20);
+    writer.write_all(&line[start..end + 1])
 }
 
 fn write_hex<W: Write>(writer: &mut W, bytes: &[u8]) -> io::Result<()>

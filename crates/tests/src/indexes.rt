@@ -123,7 +123,9 @@ fn is_alike(index: &mut Index, plain: &mut PlainIndex, keys: &Keys, roll: u64) -
     };
     match roll % 10 {
         0 | 1 | 2 => set(index, plain, keys, &key, place),
-        3 | 4 => is_same(index.get(keys, &key), plain.get(keys, &key)),
+        3 => is_same(index.get(keys, &key), plain.get(keys, &key)),
+        // No two of these keys have the same hash.
+        4 => is_same(index.candidate(&key), plain.get(keys, &key)),
         5 => index.move_to(keys, &key, place) == plain.move_to(keys, &key, place),
         6 | 7 => relocate(index, plain, keys, &key, place),
         _ => is_same(index.remove(keys, &key), plain.remove(keys, &key)),

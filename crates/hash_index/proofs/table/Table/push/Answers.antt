@@ -2,7 +2,7 @@ use Rattle.std.proofs.Common.{◌≡◌, ℕ, ◌<◌, List, [], ◌∷◌, ◌+
 use Rattle.std.specs.Prelude.{OnOk, OnErr}
 use Rattle.hash_index.specs.declared.place.Held.{Held}
 use Rattle.hash_index.specs.Map.{IndexValue}
-use Rattle.hash_index.specs.Steps.{chain_of, places_in, IsShuffled}
+use Rattle.hash_index.specs.Steps.{BringsNoHash, chain_of, places_in, IsShuffled}
 use Rattle.hash_index.proofs.Chains.{own_result, pushed_result}
 use Rattle.hash_index.proofs.table.Table.push.Goals as goal
 
@@ -11,22 +11,22 @@ invariant_of-self c =
     let cs = c.self.inside.chains.items in
     let t = c.chain_at-at.result in
     let d = c.index_mut-chain.result.now in
-    let new = c.push_exact.new.self in
+    let new = c.push.new.self in
     let count : c.len.result ≡ length cs = omega (arith, c.len.ensures, c.self.inside.chains.ok.0) in
     let at : t ≡ chain_of (length cs) c.args.held.hash = c.chain_at-at.ensures.chain ∙ ap (λ (n : ℕ). chain_of n c.args.held.hash) count in
     let below : t < length cs = omega (arith, c.chain_at-at.ensures.within, count) in
-    own_result cs t d new c.args.held c.push_exact.result c.self.invariant below at
-    (subst (λ (x : IndexValue). OnOk c.push_exact.result (new.held ≡ x.held ++ c.args.held ∷ [])) c.index_mut-chain.ensures.value c.push_exact.ensures.ok)
-    (subst (λ (x : IndexValue). OnErr c.push_exact.result (new ≡ x)) c.index_mut-chain.ensures.value c.push_exact.ensures.err)
+    own_result cs t d new c.args.held c.push.result c.self.invariant below at
+    (subst (λ (x : IndexValue). OnOk c.push.result (BringsNoHash (x.held ++ c.args.held ∷ []) new.held)) c.index_mut-chain.ensures.value c.push.ensures.hashes)
+    (subst (λ (x : IndexValue). OnErr c.push.result (new ≡ x)) c.index_mut-chain.ensures.value c.push.ensures.err)
 
 pub returns-clause-ok : goal.returns-clause-ok
 returns-clause-ok c =
     let cs = c.self.inside.chains.items in
     let t = c.chain_at-at.result in
     let d = c.index_mut-chain.result.now in
-    let new = c.push_exact.new.self in
+    let new = c.push.new.self in
     let count : c.len.result ≡ length cs = omega (arith, c.len.ensures, c.self.inside.chains.ok.0) in
     let below : t < length cs = omega (arith, c.chain_at-at.ensures.within, count) in
-    subst (λ (xs : List Held). OnOk c.push_exact.result (IsShuffled (xs ++ c.args.held ∷ []) (places_in (set cs t new)))) c.self.view_is
-    (pushed_result cs t d new c.args.held c.push_exact.result below
-    (subst (λ (x : IndexValue). OnOk c.push_exact.result (new.held ≡ x.held ++ c.args.held ∷ [])) c.index_mut-chain.ensures.value c.push_exact.ensures.ok))
+    subst (λ (xs : List Held). OnOk c.push.result (IsShuffled (xs ++ c.args.held ∷ []) (places_in (set cs t new)))) c.self.view_is
+    (pushed_result cs t d new c.args.held c.push.result below
+    (subst (λ (x : IndexValue). OnOk c.push.result (IsShuffled (x.held ++ c.args.held ∷ []) new.held)) c.index_mut-chain.ensures.value c.push.ensures.ok))

@@ -1,0 +1,146 @@
+//! A chain of places.
+
+ghost use Rattle.std.specs.Prelude.{◌≡◌, ◌∷◌, ◌++◌, [], Option, OnOk, OnErr};
+ghost use Rattle.entry.specs.declared.key.Key.{Key};
+ghost use Rattle.entry.specs.View.{shown_key};
+ghost use Rattle.hash_index.specs.declared.place.Place.{Place as PlaceValue};
+ghost use Rattle.hash_index.specs.Map.{found, hash_of, AreKept, IsCandidate};
+ghost use Rattle.hash_index.specs.Relocation.{holds, relocated};
+ghost use Rattle.hash_index.specs.Steps.{Moves, Removes, BringsNoHash, IsShuffled};
+
+use crate::first::First;
+use crate::place::{Held, Place};
+use crate::plain::PlainIndex;
+use crate::resolve::Resolve;
+use entry::{KeyRef, NoMemory};
+use std::alloc::Global;
+use std::marker::Model;
+
+/// The places of some hashes: the first lies in the table itself, and the others in memory of their own. If the first
+/// is taken out, the next place that is pushed becomes the first.
+#[derive(Drop)]
+pub(crate) struct Chain {
+    first: First,
+    more: PlainIndex,
+}
+
+impl Model for Chain {
+    ghost use Rattle.std.specs.Prelude.{◌++◌};
+    ghost use Rattle.hash_index.specs.Map.{IndexValue};
+
+    ghost Value = { IndexValue };
+
+    ghost view = { λ c. record { held = c.first ++ c.more.held; room = c.more.room } };
+}
+
+impl Chain {
+    /// A chain of no places. It takes no memory.
+    pub(crate) fn new(alloc: Global) -> Chain
+        ensures { result ≡ record { held = []; room = 0 } }
+    {
+        Chain {
+            first: First::new(),
+            more: PlainIndex::new(alloc),
+        }
+    }
+
+    /// The first place, if there is one, and the others.
+    #[inline]
+    pub(crate) fn parts(&self) -> (&[Held], &[Held])
+        ensures { result.0.now ++ result.1.now ≡ self.now.held }
+    {
+        (self.first.as_slice(), self.more.as_slice())
+    }
+
+    /// The place of a key of this hash.
+    #[inline]
+    pub(crate) fn get_hashed<R: Resolve>(
+        &self,
+        hash: u64,
+        resolver: &R,
+        key: &KeyRef<'_>,
+    ) -> Option<Place>
+        requires { hash ≡ hash_of (shown_key key.now) }
+        ensures { AreKept (R.keys resolver.now) self.now.held
+            → result ≡ found (R.keys resolver.now) (shown_key key.now) self.now.held }
+    {
+        match self.first.get(hash, resolver, key) {
+            Some(place) => Some(place),
+            None => self.more.get_hashed(hash, resolver, key),
+        }
+    }
+
+    /// The first place that is held with a hash.
+    #[inline]
+    pub(crate) fn candidate(&self, hash: u64) -> Option<Place>
+        ensures { (keys : PlaceValue → Option Key) (k : Key) → hash ≡ hash_of k → AreKept keys self.now.held
+            → IsCandidate keys k self.now.held result }
+    {
+        match self.first.candidate(hash) {
+            Some(place) => Some(place),
+            None => self.more.candidate(hash),
+        }
+    }
+
+    /// The place of a key of this hash that has one becomes this one. Whether it has one.
+    pub(crate) fn move_hashed<R: Resolve>(
+        &mut self,
+        hash: u64,
+        resolver: &R,
+        key: &KeyRef<'_>,
+        place: Place,
+    ) -> bool
+        requires { hash ≡ hash_of (shown_key key.now) }
+        ensures { Moves (R.keys resolver.now) (shown_key key.now) place self.old.held result self.new.held }
+    {
+        if self.first.move_to(hash, resolver, key, place) {
+            return true;
+        }
+        self.more.move_hashed(hash, resolver, key, place)
+    }
+
+    /// The key of this hash has no place any more. The place that it had.
+    pub(crate) fn remove_hashed<R: Resolve>(
+        &mut self,
+        hash: u64,
+        resolver: &R,
+        key: &KeyRef<'_>,
+    ) -> Option<Place>
+        requires { hash ≡ hash_of (shown_key key.now) }
+        ensures { Removes (R.keys resolver.now) (shown_key key.now) self.old.held result self.new.held }
+    {
+        match self.first.remove(hash, resolver, key) {
+            Some(place) => Some(place),
+            None => self.more.remove_hashed(hash, resolver, key),
+        }
+    }
+
+    /// Whether it holds this place under this hash.
+    #[inline]
+    pub(crate) fn holds(&self, held: Held) -> bool
+        ensures { result ≡ holds self.now.held held }
+    {
+        self.first.holds(held) || self.more.holds(held)
+    }
+
+    /// A place that it holds under this hash becomes another place. Whether it was there.
+    pub(crate) fn relocate(&mut self, held: Held, to: Place) -> bool
+        ensures had { result ≡ holds self.old.held held }
+        ensures moved { self.new.held ≡ relocated held to self.old.held }
+    {
+        self.first.relocate(held, to) || self.more.relocate(held, to)
+    }
+
+    /// One more place: the first if there is none, or else in memory for just as many.
+    #[inline]
+    pub(crate) fn push(&mut self, held: Held) -> Result<(), NoMemory>
+        ensures ok { OnOk result (IsShuffled (self.old.held ++ held ∷ []) self.new.held) }
+        ensures hashes { OnOk result (BringsNoHash (self.old.held ++ held ∷ []) self.new.held) }
+        ensures err { OnErr result (self.new ≡ self.old) }
+    {
+        if self.first.fill(held) {
+            return Ok(());
+        }
+        self.more.push_exact(held)
+    }
+}
