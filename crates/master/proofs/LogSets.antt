@@ -11,7 +11,7 @@ use Rattle.log_model.specs.Data.{Start, Ready, ids_of, new_of}
 use Rattle.clean_model.specs.Memory.{Memory, no_pass, new_ids, log_ids}
 use Rattle.hash_index.specs.declared.place.Place.{Place}
 use Rattle.master_core.specs.Data.{MasterData}
-use Rattle.master_core.specs.Index.{IsAtPlace}
+use Rattle.compactor.specs.Places.{IsAtPlace}
 use Rattle.master_core.specs.Invariant.{IsCore}
 use Rattle.master_core.specs.Log.{log_of, image_of, images_of}
 use Rattle.master_core.proofs.Rolls.{has_image}
