@@ -9,6 +9,7 @@
 #![tactic(auto)]
 
 mod change;
+mod compacting;
 mod config;
 mod image;
 mod index;
@@ -17,6 +18,7 @@ mod state;
 mod step;
 mod unit;
 
+pub use cleaner::PassFault;
 pub use config::{Config, ConfigFault};
 pub use hash_index::Place;
 pub use state::Core;

@@ -11,7 +11,7 @@ use Rattle.recovery.specs.Texts.{recovery_fault_text}
 use Rattle.versioned_map.specs.declared.command.Reply.{Reply}
 use Rattle.versioned_map.specs.declared.command.Reply.TheVariants as reply
 use Rattle.master_core.specs.declared.config.ConfigFault.{ConfigFault}
-use Rattle.master_core.specs.Names.{refusal_name, config_fault_name}
+use Rattle.master_core.specs.Names.{refusal_text, config_fault_name}
 use Rattle.script.specs.declared.answer.Answer.{Answer}
 use Rattle.script.specs.declared.answer.Answer.TheVariants as answer
 use Rattle.script.specs.declared.fault.ScriptFault.{ScriptFault}
@@ -72,7 +72,7 @@ holding_text h =
 abbrev pub answer_text : Answer → List ℕ
 answer_text answer.Silent = []
 answer_text (answer.Reply reply) = reply_text reply
-answer_text (answer.Refused refusal) = codes "refused " ++ refusal_name refusal ++ 10 ∷ []
+answer_text (answer.Refused refusal) = codes "refused " ++ refusal_text refusal ++ 10 ∷ []
 answer_text (answer.Hex bytes) = hex_text bytes
 answer_text (answer.NotInLog segment) = codes "refused NotInLog " ++ decimal segment ++ 10 ∷ []
 answer_text (answer.Stop takes) = codes "stop " ++ decimal takes ++ 10 ∷ []
