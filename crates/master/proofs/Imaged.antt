@@ -9,7 +9,6 @@ use Rattle.entry.proofs.BagLemmas.{among_left, among_last, among_push}
 use Rattle.log_head.specs.declared.head.Roll.{Roll}
 use Rattle.log_head.specs.Head.{digest_of}
 use Rattle.log_head.specs.Log.{head_of}
-use Rattle.log_head.proofs.RollLog.{digest_is}
 use Rattle.log_model.specs.Data.{ids_of}
 use Rattle.images.specs.declared.image.Image.{Image}
 use Rattle.images.specs.Sorted.{segment_of}
@@ -19,8 +18,8 @@ use Rattle.master_core.specs.Images.{new_image_or}
 use Rattle.master_core.specs.Invariant.{IsCore}
 use Rattle.master_core.specs.Log.{image_of}
 use Rattle.master_core.proofs.Imaging.{ids_in}
-use Rattle.master_core.proofs.Rolls.{rolls_of, has_image}
-use Rattle.master.proofs.NextOps.{id_is}
+use Rattle.master_core.proofs.Digests.{in_force, begun}
+use Rattle.master_core.proofs.Rolls.{has_image}
 
 module _ (d : MasterData) (core : IsCore d) (s : ℕ) where
   -- ---- what the newest digest lists
@@ -30,15 +29,6 @@ module _ (d : MasterData) (core : IsCore d) (s : ℕ) where
 
   abbrev newest_of : Option Roll → List ℕ
   newest_of o = option_map_or (λ (r : Roll). digest_of r.image) o (digest_of d.head.image)
-
-  in_force : digest_of d.head.image ≡ ids
-  in_force = digest_is d.config.master d.head (head_of d.head) core.image
-
-  -- that of a begun roll has one id more
-  begun : (r : Roll) → d.head.roll ≡ Some r → digest_of r.image ≡ ids ++ r.id ∷ []
-  begun r rolls =
-      ap digest_of (rolls_of d core r rolls).image
-      ∙ (λ i. (rolls_of d core r rolls).lists i ++ id_is d core r rolls i ∷ [])
 
   -- ---- each of these has an image
 
@@ -87,8 +77,8 @@ module _ (d : MasterData) (core : IsCore d) (s : ℕ) where
   ]
 
   newest_has : (o : Option Roll) → d.head.roll ≡ o → IsAmong s (newest_of o) → IsSome (image_of d s)
-  newest_has None none i = listed_has (subst (λ (l : List ℕ). IsAmong s l) in_force i)
-  newest_has (Some r) rolls i = elim (among_push s ids r.id (subst (λ (l : List ℕ). IsAmong s l) (begun r rolls) i)) as (λ _. IsSome (image_of d s)) [
+  newest_has None none i = listed_has (subst (λ (l : List ℕ). IsAmong s l) (in_force d core) i)
+  newest_has (Some r) rolls i = elim (among_push s ids r.id (subst (λ (l : List ℕ). IsAmong s l) (begun d core r rolls) i)) as (λ _. IsSome (image_of d s)) [
     | inl old ↦ listed_has old
     | inr own ↦ roll_has r rolls own
   ]
@@ -96,12 +86,12 @@ module _ (d : MasterData) (core : IsCore d) (s : ℕ) where
   -- ---- and no other
 
   listed : (o : Option Roll) → d.head.roll ≡ o → IsAmong s ids → IsAmong s (newest_of o)
-  listed None none i = subst (λ (l : List ℕ). IsAmong s l) (sym in_force) i
-  listed (Some r) rolls i = subst (λ (l : List ℕ). IsAmong s l) (sym (begun r rolls)) (among_left s ids (r.id ∷ []) i)
+  listed None none i = subst (λ (l : List ℕ). IsAmong s l) (sym (in_force d core)) i
+  listed (Some r) rolls i = subst (λ (l : List ℕ). IsAmong s l) (sym (begun d core r rolls)) (among_left s ids (r.id ∷ []) i)
 
   new_listed : (r : Roll) → d.head.roll ≡ Some r → s ≡ r.id → IsAmong s (newest_digest d.head)
   new_listed r rolls own =
-      subst (λ (o : Option Roll). IsAmong s (newest_of o)) (sym rolls) (subst (λ (l : List ℕ). IsAmong s l) (sym (begun r rolls))
+      subst (λ (o : Option Roll). IsAmong s (newest_of o)) (sym rolls) (subst (λ (l : List ℕ). IsAmong s l) (sym (begun d core r rolls))
       (subst (λ (z : ℕ). IsAmong z (ids ++ r.id ∷ [])) (sym own) (among_last ids r.id)))
 
   of_image : (x : Option (List Entry)) → image_of d s ≡ x → IsSome x → IsAmong s (newest_digest d.head)

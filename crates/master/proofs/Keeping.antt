@@ -17,13 +17,13 @@ use Rattle.log_model.proofs.Pictures.{place_tells}
 use Rattle.master_core.specs.declared.step.Refusal.{Refusal}
 use Rattle.master_core.specs.declared.step.Refusal.TheVariants as refusal
 use Rattle.master_core.specs.declared.step.Step.{Step}
-use Rattle.master_core.specs.declared.step.Step.TheVariants.{Apply, Push, BeginRoll}
+use Rattle.master_core.specs.declared.step.Step.TheVariants.{Apply, Push, BeginRoll, Compact}
 use Rattle.master_core.specs.declared.step.StepAnswer.{StepAnswer}
-use Rattle.master_core.specs.declared.step.StepAnswer.TheVariants.{Applied, Opened, Extended, Closed, Rolling}
+use Rattle.master_core.specs.declared.step.StepAnswer.TheVariants.{Applied, Opened, Extended, Closed, Rolling, Compacted}
 use Rattle.master_core.specs.Causes.{dead_segment}
 use Rattle.master_core.specs.Data.{MasterData}
 use Rattle.master_core.specs.Log.{log_of}
-use Rattle.master_core.specs.Steps.{Applies, BeginsRoll, record_now}
+use Rattle.master_core.specs.Steps.{Applies, BeginsRoll, Compacts, record_now}
 use Rattle.master.specs.Invariant.{IsWellKept}
 use Rattle.master.specs.Keeps.{Keeps}
 use Rattle.master.specs.Pushes.{IsNextOp, Pushes}
@@ -107,6 +107,7 @@ is_next d e o (Extended backup segment) is = inr (inl is.0.extends)
 is_next d e o (Closed backup segment) is = inr (inr (inr is.0))
 is_next d e o (Applied place reply) is = absurd is
 is_next d e o (Rolling segment) is = absurd is
+is_next d e o (Compacted segment len) is = absurd is
 
 module _ (old new : World) (kept : IsWellKept old.knows old.fleet) where
   log_kept : IsLogKept (log_of old.knows) kept.before
@@ -146,6 +147,13 @@ module _ (old new : World) (kept : IsWellKept old.knows old.fleet) where
       (subst (IsBeside d.config.master old.fleet) (sym fleet) (beside_same d.config.master old.fleet))
       (subst (λ (l : LogData). durable_of (log_of old.knows) ≤ durable_of l) (sym b.log) (durable_stays_rolling (log_of d) (next_start (log_of d))))
 
+  compacted : (id : ℕ) (answer : StepAnswer) → Compacts old.knows id answer new.knows → new.fleet ≡ old.fleet → Keeps 1 old new
+  compacted id answer c fleet =
+      let d = old.knows in
+      silent (ap (λ (x : MasterData). x.config) c.rest) (ap (λ (x : MasterData). x.history) c.rest)
+      (subst (IsBeside d.config.master old.fleet) (sym fleet) (beside_same d.config.master old.fleet))
+      (subst (λ (l : LogData). durable_of (log_of old.knows) ≤ durable_of l) (sym c.log) (omega arith))
+
   pushed : (answer : StepAnswer) → Pushes old answer new → Keeps 1 old new
   pushed answer p =
       silent (ap (λ (d : MasterData). d.config) p.rest) (ap (λ (d : MasterData). d.history) p.rest)
@@ -169,6 +177,7 @@ module _ (old new : World) (kept : IsWellKept old.knows old.fleet) where
   failed refusal.HistoryFull t = absurd t
   failed refusal.Rolling t = absurd t
   failed refusal.Nothing t = absurd t
+  failed (refusal.Pass fault) t = absurd t
   failed refusal.NoTablet t = absurd t
   failed refusal.SegmentsSpent t = absurd t
 
@@ -178,6 +187,8 @@ module _ (old new : World) (kept : IsWellKept old.knows old.fleet) where
   step_keeps Push (Ok answer) t = pushed answer t
   step_keeps BeginRoll (Ok answer) t = rolled answer t.0 t.1
   step_keeps BeginRoll (Err r) t = unchanged t.0
+  step_keeps (Compact id) (Ok answer) t = compacted id answer t.0 t.1
+  step_keeps (Compact id) (Err r) t = unchanged t.0
   step_keeps Push (Err r) (inl t) = unchanged t.1
   step_keeps Push (Err r) (inr t) = failed r t.1
 

@@ -6,6 +6,9 @@ pub mod Imaged
 pub mod Applied
 pub mod Rolled
 pub mod Pushed
+pub mod HeldPlaces
+pub mod KeptByEntries
+pub mod Compacted
 pub mod NextOps
 pub mod Keeping
 pub mod Runs

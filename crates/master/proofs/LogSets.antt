@@ -11,11 +11,11 @@ use Rattle.log_model.specs.Data.{Start, Ready, ids_of, new_of}
 use Rattle.clean_model.specs.Memory.{Memory, no_pass, new_ids, log_ids}
 use Rattle.hash_index.specs.declared.place.Place.{Place}
 use Rattle.master_core.specs.Data.{MasterData}
-use Rattle.master_core.specs.Index.{IsAtPlace}
+use Rattle.compactor.specs.Places.{IsAtPlace}
 use Rattle.master_core.specs.Invariant.{IsCore}
 use Rattle.master_core.specs.Log.{log_of, image_of, images_of}
+use Rattle.master_core.proofs.Digests.{id_is}
 use Rattle.master_core.proofs.Rolls.{has_image}
-use Rattle.master.proofs.NextOps.{id_is}
 
 -- an entry that is at a place is in the image
 pub among_at_place : (d : MasterData) (p : Place) (e : Entry) → IsAtPlace (images_of d) p e → IsAmong e (images_of d p.segment)
@@ -23,7 +23,7 @@ among_at_place d p e there =
     subst (λ (es : List Entry). IsAmong e es) (sym there.split) (among_right e there.before (e ∷ there.after) (inl refl))
 
 -- the head that a roll is opening
-new_is : (replicas : ℕ) (r : Roll) → new_of (phase_in replicas r) ≡ Some (start_of r)
+pub new_is : (replicas : ℕ) (r : Roll) → new_of (phase_in replicas r) ≡ Some (start_of r)
 new_is replicas r = go (r.opened == replicas) refl where
   go : (t : Bool) → (r.opened == replicas) ≡ t → new_of (phase_in replicas r) ≡ Some (start_of r)
   go true test = rw test refl

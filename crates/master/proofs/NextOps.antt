@@ -22,6 +22,7 @@ use Rattle.master_core.specs.Data.{MasterData}
 use Rattle.master_core.specs.Invariant.{IsCore}
 use Rattle.master_core.specs.Log.{home, log_of}
 use Rattle.master_core.specs.Steps.{closed_data, taken_data}
+use Rattle.master_core.proofs.Digests.{id_is}
 use Rattle.master_core.proofs.Rolls.{rolls_of, values}
 use Rattle.master.specs.Pushes.{reach, ExtendsNext, IsNextOp, answer_of}
 use Rattle.master.proofs.Placing.{home_of}
@@ -105,18 +106,13 @@ module _ (d : MasterData) (core : IsCore d) where
     phase_is : phase_of d.head ≡ phase_in d.head.replicas r
     phase_is = ap (λ (o : Option Roll). option_map_or (phase_in d.head.replicas) o Ready) rolls
 
-    pub id_is : (start_of r).id ≡ r.id
-    id_is =
-        ap (λ (l : Head). l.start.id) (sym (head_in_force d.config.master d.head r (rolls_of d core r rolls).image (values d core r rolls).segment))
-        ∙ (image_in_force d.config.master d.head r (rolls_of d core r rolls).image (values d core r rolls).segment).id
-
   opens_new : (j : ℕ) → IsNextPush d.head (Some (next.OpenNew j)) → OpensNew (log_of d) (log_op d (next.OpenNew j)) (log_of (taken_data d (next.OpenNew j)))
   opens_new j is =
       let r = is.1 in
       let roll = is.2 in
       let few : r.opened < d.head.replicas = (let at = is.3 in let lt = is.4 in omega arith) in
       let segment : segment_of d.head (next.OpenNew j) ≡ r.id = ap (λ (o : Option Roll). option_map_or (λ (q : Roll). q.id) o d.head.id) roll in
-      let id = id_is r roll in
+      let id = id_is d core r roll in
       record {
         j = r.opened;
         n = start_of r;

@@ -8,7 +8,7 @@ use Rattle.log_model.specs.Ops.{LogOp, op_of}
 use Rattle.log_model.specs.Steps.{OpensFirst, Extends, OpensNew, ClosesOld}
 use Rattle.replica.specs.Take.{Takes}
 use Rattle.master_core.specs.declared.step.StepAnswer.{StepAnswer}
-use Rattle.master_core.specs.declared.step.StepAnswer.TheVariants.{Applied, Opened, Extended, Closed, Rolling}
+use Rattle.master_core.specs.declared.step.StepAnswer.TheVariants.{Applied, Opened, Extended, Closed, Rolling, Compacted}
 use Rattle.master_core.specs.Log.{log_of, image_of}
 use Rattle.master.specs.World.{World}
 
@@ -34,6 +34,7 @@ IsNextOp d o (Extended backup segment) e = ExtendsNext d o e × (backup ≡ o.ba
 IsNextOp d o (Closed backup segment) e = ClosesOld d o e × (backup ≡ o.backup) × (segment ≡ o.segment)
 IsNextOp d o (Applied place reply) e = ⊥
 IsNextOp d o (Rolling segment) e = ⊥
+IsNextOp d o (Compacted segment len) e = ⊥
 
 -- A push that is accepted: one op, which the fleet took.
 pub record Pushes (old : World) (answer : StepAnswer) (new : World) : Type 0 where

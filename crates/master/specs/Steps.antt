@@ -6,12 +6,12 @@ use Rattle.replica.specs.declared.op.TakeFault.TheVariants as take_fault
 use Rattle.master_core.specs.declared.step.Refusal.{Refusal}
 use Rattle.master_core.specs.declared.step.Refusal.TheVariants as refusal
 use Rattle.master_core.specs.declared.step.Step.{Step}
-use Rattle.master_core.specs.declared.step.Step.TheVariants.{Apply, Push, BeginRoll}
+use Rattle.master_core.specs.declared.step.Step.TheVariants.{Apply, Push, BeginRoll, Compact}
 use Rattle.master_core.specs.declared.step.StepAnswer.{StepAnswer}
-use Rattle.master_core.specs.Causes.{command_refusal, roll_refusal, push_refusal}
+use Rattle.master_core.specs.Causes.{command_refusal, roll_refusal, compact_refusal, push_refusal}
 use Rattle.master_core.specs.Data.{MasterData}
 use Rattle.master_core.specs.Log.{log_of}
-use Rattle.master_core.specs.Steps.{Applies, BeginsRoll, halted}
+use Rattle.master_core.specs.Steps.{Applies, BeginsRoll, Compacts, halted}
 use Rattle.master.specs.Keeps.{Keeps}
 use Rattle.master.specs.Pushes.{IsNextOp, Pushes}
 use Rattle.master.specs.Valid.{IsValid}
@@ -19,11 +19,13 @@ use Rattle.master.specs.World.{World}
 
 -- ---- accepted
 
--- a command is applied, or a roll begins, and the fleet stays as it was; a push is one op that the fleet took
+-- a command is applied, a roll begins, or a segment is compacted, and the fleet stays as it was; a push is one op that
+-- the fleet took
 abbrev pub Accepts : World → Step → StepAnswer → World → Type 0
 Accepts old (Apply seat command) answer new = Applies old.knows seat command answer new.knows × (new.fleet ≡ old.fleet)
 Accepts old Push answer new = Pushes old answer new
 Accepts old BeginRoll answer new = BeginsRoll old.knows answer new.knows × (new.fleet ≡ old.fleet)
+Accepts old (Compact id) answer new = Compacts old.knows id answer new.knows × (new.fleet ≡ old.fleet)
 
 -- ---- refused
 
@@ -44,6 +46,8 @@ Declines old (Apply seat command) r new = (new ≡ old)
     ⊎ ((command_refusal old.knows command ≡ None) × (r ≡ refusal.NoMemory)))
 Declines old BeginRoll r new = (new ≡ old)
     × ((roll_refusal old.knows ≡ Some r) ⊎ ((roll_refusal old.knows ≡ None) × (r ≡ refusal.NoMemory)))
+Declines old (Compact id) r new = (new ≡ old)
+    × ((compact_refusal old.knows id ≡ Some r) ⊎ ((compact_refusal old.knows id ≡ None) × (r ≡ refusal.NoMemory)))
 Declines old Push r new =
     ((push_refusal old.knows ≡ Some r) × (new ≡ old)) ⊎ ((push_refusal old.knows ≡ None) × FailsTake old r new)
 

@@ -158,6 +158,7 @@ impl<F: Fleet> Master<F> {
             Step::Apply(seat, command) => self.apply(seat, command),
             Step::Push => self.push(),
             Step::BeginRoll => self.begin_roll(),
+            Step::Compact(id) => self.compact(id),
         };
         self.show_valid();
         outcome
@@ -181,6 +182,16 @@ impl<F: Fleet> Master<F> {
             Declines (world F.state self.old) Step.BeginRoll r (world F.state self.new)) }
     {
         self.core.begin_roll()
+    }
+
+    /// Compacts a segment.
+    fn compact(&mut self, id: u64) -> Result<StepAnswer, Refusal>
+        ensures accepted { IfOk result (λ a.
+            Accepts (world F.state self.old) (Step.Compact id) a (world F.state self.new)) }
+        ensures refused { IfErr result (λ r.
+            Declines (world F.state self.old) (Step.Compact id) r (world F.state self.new)) }
+    {
+        self.core.compact(id)
     }
 
     /// Hands one op to one backup.

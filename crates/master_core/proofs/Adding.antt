@@ -33,7 +33,8 @@ use Rattle.master_core.specs.Causes.{command_refusal, dead_segment, unit_now}
 use Rattle.master_core.specs.Change.{unit_of_change, is_empty, safe_of_change, appended}
 use Rattle.master_core.specs.Data.{MasterData}
 use Rattle.master_core.specs.Images.{images_among}
-use Rattle.master_core.specs.Index.{keys_in, LiesFound, IsMoved}
+use Rattle.compactor.specs.Places.{keys_in}
+use Rattle.master_core.specs.Index.{LiesFound, IsMoved}
 use Rattle.master_core.specs.Invariant.{IsIndex, IsRollOf, IsCore, IsJudged}
 use Rattle.master_core.specs.Log.{log_config, opening_of, log_of, state_now, held_now, images_of, find}
 use Rattle.master_core.specs.Steps.{reply_now, record_now, Applies}

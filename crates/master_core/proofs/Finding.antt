@@ -19,7 +19,8 @@ use Rattle.log_head.specs.Head.{HeadValue, IsHeadValue, IsRollValue}
 use Rattle.images.specs.declared.image.Image.{Image}
 use Rattle.master_core.specs.Data.{MasterData}
 use Rattle.master_core.specs.Images.{images_among}
-use Rattle.master_core.specs.Index.{IsAtPlace, object_there, keys_in, LiesFound, place_found, FindsObject, object_found}
+use Rattle.compactor.specs.Places.{IsAtPlace, object_there, keys_in}
+use Rattle.master_core.specs.Index.{LiesFound, place_found, FindsObject, object_found}
 use Rattle.master_core.specs.Invariant.{IsCore}
 use Rattle.master_core.specs.Log.{find, Finds, images_of, IsIndexed, state_now}
 use Rattle.master_core.proofs.Imaging.{each_image}

@@ -22,7 +22,8 @@ use Rattle.versioned_map.proofs.Keys.{key_eq-tells}
 use Rattle.master_core.specs.declared.change.Change.{Change}
 use Rattle.master_core.specs.declared.change.Change.TheVariants as change
 use Rattle.master_core.specs.Change.{unit_of_change, IsChangeOf}
-use Rattle.master_core.specs.Index.{IsAtPlace, keys_in, IsMoved}
+use Rattle.compactor.specs.Places.{IsAtPlace, keys_in}
+use Rattle.master_core.specs.Index.{IsMoved}
 use Rattle.master_core.proofs.Changes.{unmet, undeleted, clashes}
 use Rattle.master_core.proofs.Indexing.{Grow, Indexes, key_seen, kept_grown, index_grown, index_set}
 

@@ -22,7 +22,8 @@ use Rattle.hash_index.proofs.Again.{kept_again, found_again}
 use Rattle.hash_index.proofs.Each.{each_found}
 use Rattle.versioned_map.specs.Versioned.{with_contents}
 use Rattle.versioned_map.proofs.Keys.{key_eq-tells}
-use Rattle.master_core.specs.Index.{LiesAt, IsAtPlace, as_object, object_there, keys_in, LiesFound}
+use Rattle.compactor.specs.Places.{LiesAt, IsAtPlace, as_object, object_there, keys_in}
+use Rattle.master_core.specs.Index.{LiesFound}
 
 -- ---- what stands in images that grow
 

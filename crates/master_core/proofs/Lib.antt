@@ -10,3 +10,8 @@ pub mod Beginning
 pub mod Adding
 pub mod Rolls
 pub mod Budgets
+pub mod Replacing
+pub mod CompactedCore
+pub mod CompactedIndex
+pub mod Digests
+pub mod CompactedData

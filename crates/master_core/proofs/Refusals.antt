@@ -30,7 +30,7 @@ use Rattle.log_head.proofs.Heads.{fewest_all, fewest_at}
 
 -- ---- rows of tests
 
-passes : {R : Type 0} (b : Bool) (r : R) (rest : Option R) → cond b (Some r) rest ≡ None → (b ≡ false) × (rest ≡ None)
+pub passes : {R : Type 0} (b : Bool) (r : R) (rest : Option R) → cond b (Some r) rest ≡ None → (b ≡ false) × (rest ≡ None)
 passes true r rest e = absurd (cc)
 passes false r rest e = (refl, e)
 

@@ -1,6 +1,9 @@
 -- Why a step is refused.
 use Rattle.std.specs.Prelude.{ℕ, ◌+◌, ◌^◌, ◌==◌, ◌&&◌, length, Bool, nat_le, nat_lt, not, Option, Some, None, List}
-use Rattle.std.specs.Prelude.{is_none, if◌then◌else◌}
+use Rattle.std.specs.Prelude.{is_none, false, ◌||◌, if◌then◌else◌}
+use Rattle.std.specs.Option.{option_map_or}
+use Rattle.cleaner.specs.declared.fault.PassFault.TheVariants.{IsHead, NotInLog}
+use Rattle.compactor.specs.Kept.{has_id}
 use Rattle.entry.specs.declared.entry.Entry.{Entry}
 use Rattle.entry.specs.Tablet.{have_key}
 use Rattle.entry.specs.Text.{text_of}
@@ -9,10 +12,11 @@ use Rattle.versioned_map.specs.Command.{command_key}
 use Rattle.versioned_map.specs.Represents.{unit_of}
 use Rattle.versioned_map.specs.Versioned.{is_spent}
 use Rattle.log_model.specs.Data.{fewest}
-use Rattle.log_head.specs.Head.{HeadValue, is_open}
+use Rattle.log_head.specs.declared.head.Roll.{Roll}
+use Rattle.log_head.specs.Head.{HeadValue, is_open, digest_of}
 use Rattle.master_core.specs.declared.step.Refusal.{Refusal}
 use Rattle.master_core.specs.declared.step.Refusal.TheVariants.{Halted, TooBig, NoTablet, HistoryFull, VersionsSpent, Full, Rolling, Nothing}
-use Rattle.master_core.specs.declared.step.Refusal.TheVariants.{SegmentsSpent}
+use Rattle.master_core.specs.declared.step.Refusal.TheVariants.{SegmentsSpent, Pass}
 use Rattle.master_core.specs.Budget.{segments_for, may_roll}
 use Rattle.master_core.specs.Change.{is_too_big, is_empty}
 use Rattle.master_core.specs.Data.{MasterData}
@@ -71,6 +75,20 @@ roll_refusal d =
     else if not (is_open d.head) then Some Rolling
     else if nat_lt (2 ^ 62) d.next then Some SegmentsSpent
     else if not (may_roll d 2) then Some Full
+    else None
+
+-- ---- a compaction
+
+-- the id is the head's, or that of the head that a roll is opening
+abbrev pub is_head : HeadValue → ℕ → Bool
+is_head h id = (h.id == id) || option_map_or (λ (r : Roll). r.id == id) h.roll false
+
+-- the test that refuses a compaction, apart from memory
+abbrev pub compact_refusal : MasterData → ℕ → Option Refusal
+compact_refusal d id =
+    if d.is_halted then Some Halted
+    else if is_head d.head id then Some (Pass (IsHead id))
+    else if not (has_id (digest_of d.head.image) id) then Some (Pass (NotInLog id))
     else None
 
 -- ---- a push

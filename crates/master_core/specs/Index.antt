@@ -1,53 +1,17 @@
--- Where entries stand in an image, and what the index finds.
-use Rattle.std.specs.Prelude.{◌≡◌, ℕ, List, ◌∷◌, ◌++◌, length, Option, Some, None}
-use Rattle.std.specs.Option.{option_map, option_map_or, option_and_then}
+-- What the index finds, and what becomes of it.
+use Rattle.std.specs.Prelude.{◌≡◌, ℕ, List, Option, Some, None}
+use Rattle.std.specs.Option.{option_map, option_map_or}
 use Rattle.entry.specs.declared.key.Key.{Key}
-use Rattle.entry.specs.declared.entry.Object.{Object}
 use Rattle.entry.specs.declared.entry.Entry.{Entry}
-use Rattle.entry.specs.declared.entry.Entry.TheVariants as entry
 use Rattle.entry.specs.declared.view.ObjectRef.{ObjectRef}
 use Rattle.entry.specs.Meaning.{Versioned, versioned, object_at}
-use Rattle.entry.specs.Text.{text_of}
 use Rattle.entry.specs.View.{shown_object}
-use Rattle.segment.specs.Bytes.{standing_at}
 use Rattle.hash_index.specs.declared.place.Held.{Held}
 use Rattle.hash_index.specs.declared.place.Place.{Place}
 use Rattle.hash_index.specs.Map.{found, AreKept, IsSet}
+use Rattle.compactor.specs.Places.{IsAtPlace, object_there, keys_in}
 use Rattle.master_core.specs.declared.change.Change.{Change}
 use Rattle.master_core.specs.declared.change.Change.TheVariants as change
-
--- the entry stands at this offset of the image
-pub record LiesAt (image : List Entry) (at : ℕ) (e : Entry) : Type 0 where
-  pub before : List Entry
-  pub after : List Entry
-  pub split : image ≡ before ++ e ∷ after
-  pub offset : at ≡ length (text_of before)
-
--- the entry is at this place of the images
-abbrev pub IsAtPlace : (ℕ → List Entry) → Place → Entry → Type 0
-IsAtPlace images p e = LiesAt (images p.segment) p.at e
-
--- ---- what images tell an index
-
--- the object, if the entry is one
-abbrev pub as_object : Entry → Option Object
-as_object (entry.Header h) = None
-as_object (entry.Digest ids) = None
-as_object (entry.Safe version) = None
-as_object (entry.Object o) = Some o
-as_object (entry.Tombstone t) = None
-
--- the object that stands at an offset of an image
-abbrev pub object_in : List Entry → ℕ → Option Object
-object_in image at = option_and_then as_object (standing_at at (text_of image))
-
--- the object that stands at a place
-abbrev pub object_there : (ℕ → List Entry) → Place → Option Object
-object_there images p = object_in (images p.segment) p.at
-
--- the key of the object at each place
-abbrev pub keys_in : (ℕ → List Entry) → Place → Option Key
-keys_in images p = option_map (λ (o : Object). o.key) (object_there images p)
 
 -- ---- what the index finds
 

@@ -20,7 +20,8 @@ use Rattle.master_core.specs.Budget.{used_seglets}
 use Rattle.master_core.specs.Causes.{dead_segment}
 use Rattle.master_core.specs.Config.{config_fault}
 use Rattle.master_core.specs.Data.{MasterData}
-use Rattle.master_core.specs.Index.{keys_in, LiesFound}
+use Rattle.compactor.specs.Places.{keys_in}
+use Rattle.master_core.specs.Index.{LiesFound}
 use Rattle.master_core.specs.Log.{opening_of, state_now, held_now, images_of, find}
 
 -- The index leads to the objects that the versioned map has, and to no other.

@@ -18,7 +18,7 @@ use Rattle.hash_index.specs.declared.place.Place.{Place}
 use Rattle.hash_index.specs.Map.{found}
 use Rattle.master_core.specs.Data.{MasterData}
 use Rattle.master_core.specs.Images.{image_among, images_among}
-use Rattle.master_core.specs.Index.{keys_in}
+use Rattle.compactor.specs.Places.{keys_in}
 
 -- ---- placement
 

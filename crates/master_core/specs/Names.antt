@@ -1,23 +1,26 @@
--- The name of each refusal, and of each fault of a configuration.
+-- The text of each refusal, and the name of each fault of a configuration.
 use Rattle.std.specs.Prelude.{ℕ, List, codes}
+use Rattle.cleaner.specs.Texts.{pass_fault_text}
 use Rattle.master_core.specs.declared.step.Refusal.{Refusal}
 use Rattle.master_core.specs.declared.step.Refusal.TheVariants.{TooBig, Full, VersionsSpent, HistoryFull, NoMemory, Halted, Rolling, Nothing, Spent, SegmentsSpent}
-use Rattle.master_core.specs.declared.step.Refusal.TheVariants.{NoTablet}
+use Rattle.master_core.specs.declared.step.Refusal.TheVariants.{NoTablet, Pass}
 use Rattle.master_core.specs.declared.config.ConfigFault.{ConfigFault}
 use Rattle.master_core.specs.declared.config.ConfigFault.TheVariants.{BadBackups, BadStep, BadSegment, BadSeglet, BadBudget, BadTablets, BadHistory}
 
-abbrev pub refusal_name : Refusal → List ℕ
-refusal_name TooBig = codes "TooBig"
-refusal_name Full = codes "Full"
-refusal_name VersionsSpent = codes "VersionsSpent"
-refusal_name HistoryFull = codes "HistoryFull"
-refusal_name NoMemory = codes "NoMemory"
-refusal_name Halted = codes "Halted"
-refusal_name Rolling = codes "Rolling"
-refusal_name Nothing = codes "Nothing"
-refusal_name Spent = codes "Spent"
-refusal_name SegmentsSpent = codes "SegmentsSpent"
-refusal_name NoTablet = codes "NoTablet"
+-- its name; that of a pass's fault, with its number
+abbrev pub refusal_text : Refusal → List ℕ
+refusal_text TooBig = codes "TooBig"
+refusal_text Full = codes "Full"
+refusal_text VersionsSpent = codes "VersionsSpent"
+refusal_text HistoryFull = codes "HistoryFull"
+refusal_text NoMemory = codes "NoMemory"
+refusal_text Halted = codes "Halted"
+refusal_text Rolling = codes "Rolling"
+refusal_text Nothing = codes "Nothing"
+refusal_text (Pass fault) = pass_fault_text fault
+refusal_text Spent = codes "Spent"
+refusal_text SegmentsSpent = codes "SegmentsSpent"
+refusal_text NoTablet = codes "NoTablet"
 
 abbrev pub config_fault_name : ConfigFault → List ℕ
 config_fault_name BadBackups = codes "BadBackups"

@@ -1,6 +1,11 @@
--- What a master's core becomes: a command is applied, an op was taken, a take failed.
-use Rattle.std.specs.Prelude.{◌≡◌, ℕ, ◌+◌, length, Bool, false, true, None, if◌then◌else◌}
+-- What a master's core becomes: a command is applied, a segment is compacted, an op was taken, a take failed.
+use Rattle.std.specs.Prelude.{◌≡◌, ℕ, ◌+◌, List, length, Bool, false, true, None, if◌then◌else◌}
 use Rattle.std.specs.Option.{option_map_or}
+use Rattle.entry.specs.declared.entry.Entry.{Entry}
+use Rattle.entry.specs.Text.{text_of}
+use Rattle.images.specs.Sorted.{changed}
+use Rattle.images.specs.Steps.{replaced_by}
+use Rattle.compactor.specs.Kept.{kept_of, moved_all}
 use Rattle.log_head.specs.declared.head.Roll.{Roll}
 use Rattle.log_head.specs.declared.next.Next.{Next}
 use Rattle.log_head.specs.declared.next.Next.TheVariants as next
@@ -16,12 +21,13 @@ use Rattle.versioned_map.specs.Versioned.{reply_to}
 use Rattle.master_core.specs.declared.step.Refusal.{Refusal}
 use Rattle.master_core.specs.declared.step.Refusal.TheVariants as refusal
 use Rattle.master_core.specs.declared.step.StepAnswer.{StepAnswer}
-use Rattle.master_core.specs.declared.step.StepAnswer.TheVariants.{Applied, Rolling as RollingTo}
-use Rattle.master_core.specs.Causes.{command_refusal, roll_refusal, dead_segment, unit_now}
+use Rattle.master_core.specs.declared.step.StepAnswer.TheVariants.{Applied, Rolling as RollingTo, Compacted}
+use Rattle.master_core.specs.Budget.{newest_digest}
+use Rattle.master_core.specs.Causes.{command_refusal, roll_refusal, compact_refusal, dead_segment, unit_now}
 use Rattle.master_core.specs.Change.{appended}
 use Rattle.master_core.specs.Data.{MasterData}
 use Rattle.master_core.specs.Images.{with_closed}
-use Rattle.master_core.specs.Log.{log_of, state_now}
+use Rattle.master_core.specs.Log.{log_of, state_now, images_of}
 
 -- the reply to a command: the versioned map's
 abbrev pub reply_now : MasterData → Command → Reply
@@ -63,6 +69,24 @@ pub record BeginsRoll (d : MasterData) (answer : StepAnswer) (e : MasterData) : 
   pub told : answer ≡ RollingTo d.next
   pub log : log_of e ≡ rolling (log_of d) (next_start (log_of d))
   pub rest : e ≡ rolling_data d
+
+-- the entries of a segment that compaction keeps; the log set is the digest in force and the head that a roll is opening
+abbrev pub kept_now : MasterData → ℕ → List Entry
+kept_now d id = kept_of (newest_digest d.head) d.index id (images_of d id)
+
+-- what a core becomes when a segment is compacted: its image is the kept entries, and the index follows
+abbrev pub compacted_data : MasterData → ℕ → MasterData
+compacted_data d id = record d {
+  closed = changed d.closed id (replaced_by (kept_now d id));
+  index = moved_all (newest_digest d.head) d.index id (images_of d id);
+}
+
+-- A compaction that no test refuses replaces the image, and tells its length. The log stays as it was.
+pub record Compacts (d : MasterData) (id : ℕ) (answer : StepAnswer) (e : MasterData) : Type 0 where
+  pub passed : compact_refusal d id ≡ None
+  pub told : answer ≡ Compacted id (length (text_of (kept_now d id)))
+  pub log : log_of e ≡ log_of d
+  pub rest : e ≡ compacted_data d id
 
 -- one more replica of the old head was closed; with the last one its segment is one of the closed ones
 abbrev pub closed_data : MasterData → Roll → MasterData

@@ -6,7 +6,8 @@ ghost use Rattle.entry.specs.View.{shown_key, shown_object};
 ghost use Rattle.hash_index.specs.Map.{AreKept};
 ghost use Rattle.master_core.specs.Change.{is_nothing};
 ghost use Rattle.master_core.specs.Images.{images_among};
-ghost use Rattle.master_core.specs.Index.{object_in, object_there, keys_in, FindsObject, IsMoved};
+ghost use Rattle.compactor.specs.Places.{object_in, object_there, keys_in};
+ghost use Rattle.master_core.specs.Index.{FindsObject, IsMoved};
 
 use crate::change::Change;
 use crate::image::image_of;

@@ -8,6 +8,7 @@
 #![tactic(auto)]
 
 mod change;
+mod compacting;
 mod config;
 mod image;
 mod index;
@@ -16,6 +17,7 @@ mod state;
 mod step;
 mod unit;
 
+pub use cleaner::PassFault;
 pub use config::{Config, ConfigFault};
 pub use hash_index::Place;
 pub use state::Core;

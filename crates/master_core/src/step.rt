@@ -2,8 +2,9 @@
 
 ghost use Rattle.std.specs.Prelude.{◌≡◌, IfOk, Some};
 ghost use Rattle.master_core.specs.declared.step.Refusal.TheVariants as refusal;
-ghost use Rattle.master_core.specs.Names.{refusal_name};
+ghost use Rattle.master_core.specs.Names.{refusal_text};
 
+use cleaner::PassFault;
 use entry::Row;
 use replica::Bytes;
 use std::alloc::{AllocError, AllocFailed};
@@ -20,6 +21,8 @@ pub enum Step {
     Push,
     /// A roll to the next head begins. It takes nothing from the fleet.
     BeginRoll,
+    /// The image of a closed segment becomes its kept entries. It takes nothing from the fleet.
+    Compact(u64),
 }
 
 impl Step {
@@ -31,6 +34,7 @@ impl Step {
             Step::Apply(seat, command) => Ok(Step::Apply(*seat, command.copy()?)),
             Step::Push => Ok(Step::Push),
             Step::BeginRoll => Ok(Step::BeginRoll),
+            Step::Compact(id) => Ok(Step::Compact(*id)),
         }
     }
 }
@@ -48,6 +52,8 @@ pub enum StepAnswer {
     Closed(u64, u64),
     /// The number of the new head.
     Rolling(u64),
+    /// The segment, and how many bytes its image has now.
+    Compacted(u64, u64),
 }
 
 /// Why a step was refused. The numbers are fixed; those that are missing belong to steps that don't exist yet.
@@ -69,6 +75,8 @@ pub enum Refusal {
     Rolling,
     /// 8: nothing waits.
     Nothing,
+    /// 9: this segment can't be compacted.
+    Pass(PassFault),
     /// 10: the fleet takes no more ops.
     Spent,
     /// 11: no number is left for a segment.
@@ -80,22 +88,23 @@ pub enum Refusal {
 impl Error for Refusal {}
 
 impl fmt::Display for Refusal {
-    ghost output = { λ refusal. Some (refusal_name refusal) };
+    ghost output = { λ refusal. Some (refusal_text refusal) };
 
     fn fmt<W: fmt::Write>(&self, f: &mut fmt::Formatter<W>) -> fmt::Result {
-        f.write_str(match self {
-            Refusal::TooBig => "TooBig",
-            Refusal::Full => "Full",
-            Refusal::VersionsSpent => "VersionsSpent",
-            Refusal::HistoryFull => "HistoryFull",
-            Refusal::NoMemory => "NoMemory",
-            Refusal::Halted => "Halted",
-            Refusal::Rolling => "Rolling",
-            Refusal::Nothing => "Nothing",
-            Refusal::Spent => "Spent",
-            Refusal::SegmentsSpent => "SegmentsSpent",
-            Refusal::NoTablet => "NoTablet",
-        })
+        match self {
+            Refusal::TooBig => write!(f, "TooBig"),
+            Refusal::Full => write!(f, "Full"),
+            Refusal::VersionsSpent => write!(f, "VersionsSpent"),
+            Refusal::HistoryFull => write!(f, "HistoryFull"),
+            Refusal::NoMemory => write!(f, "NoMemory"),
+            Refusal::Halted => write!(f, "Halted"),
+            Refusal::Rolling => write!(f, "Rolling"),
+            Refusal::Nothing => write!(f, "Nothing"),
+            Refusal::Pass(fault) => write!(f, "{fault}"),
+            Refusal::Spent => write!(f, "Spent"),
+            Refusal::SegmentsSpent => write!(f, "SegmentsSpent"),
+            Refusal::NoTablet => write!(f, "NoTablet"),
+        }
     }
 }
 

@@ -5,7 +5,7 @@ use Rattle.entry.specs.declared.entry.Object.{Object}
 use Rattle.entry.specs.View.{shown_key}
 use Rattle.hash_index.proofs.Finding.{found_is}
 use Rattle.master_core.specs.Images.{images_among}
-use Rattle.master_core.specs.Index.{keys_in}
+use Rattle.compactor.specs.Places.{keys_in}
 use Rattle.master_core.proofs.index.find_by_keys.Goals as goal
 
 pub returns-in-None : goal.returns-in-None

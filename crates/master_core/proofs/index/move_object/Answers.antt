@@ -1,7 +1,7 @@
 use Rattle.entry.specs.View.{shown_key}
 use Rattle.hash_index.proofs.Each.{set_settled}
 use Rattle.master_core.specs.Images.{images_among}
-use Rattle.master_core.specs.Index.{keys_in}
+use Rattle.compactor.specs.Places.{keys_in}
 use Rattle.master_core.proofs.index.move_object.Goals as goal
 
 pub returns-in-Create : goal.returns-in-Create

@@ -2,12 +2,12 @@ use Rattle.std.proofs.Common.{IfOk, IfErr, Ok, Err}
 use Rattle.std.specs.Prelude.{Result}
 use Rattle.master_core.specs.declared.step.Refusal.{Refusal}
 use Rattle.master_core.specs.declared.step.Step.{Step}
-use Rattle.master_core.specs.declared.step.Step.TheVariants.{Apply, Push, BeginRoll}
+use Rattle.master_core.specs.declared.step.Step.TheVariants.{Apply, Push, BeginRoll, Compact}
 use Rattle.master_core.specs.declared.step.StepAnswer.{StepAnswer}
 use Rattle.master.specs.Steps.{Accepts, Declines, Steps}
 use Rattle.master.specs.World.{World, world}
 use Rattle.master.proofs.Keeping.{steps_keep}
-use Rattle.master.proofs.master.Master.step.Goals.{in-Apply, in-Push, in-BeginRoll}
+use Rattle.master.proofs.master.Master.step.Goals.{in-Apply, in-Push, in-BeginRoll, in-Compact}
 use Rattle.master.proofs.master.Master.step.Goals as goal
 
 by_result : (old : World) (step : Step) (r : Result StepAnswer Refusal) (new : World) → IfOk r (λ a. Accepts old step a new)
@@ -26,6 +26,9 @@ returns-clause-gives g c = elim c.match-step.branch [
   | in-BeginRoll w ↦ rw (w.in-BeginRoll.is, w.self-is, w.outcome-is) (by_result (world g.F.Fleet.state c.args.self.now) BeginRoll
       w.begin_roll-outcome.result (world g.F.Fleet.state w.begin_roll-outcome.new.self) w.begin_roll-outcome.ensures.accepted
       w.begin_roll-outcome.ensures.refused)
+  | in-Compact w ↦ rw (w.in-Compact.is, w.self-is, w.outcome-is) (by_result (world g.F.Fleet.state c.args.self.now)
+      (Compact w.in-Compact.id) w.compact-outcome.result (world g.F.Fleet.state w.compact-outcome.new.self)
+      w.compact-outcome.ensures.accepted w.compact-outcome.ensures.refused)
 ]
 
 pub returns-clause-keeps : goal.returns-clause-keeps

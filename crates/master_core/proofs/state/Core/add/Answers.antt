@@ -13,7 +13,8 @@ use Rattle.master_core.specs.contracts.state.Core.{the_view}
 use Rattle.master_core.specs.Data.{MasterData}
 use Rattle.versioned_map.specs.Command.{command_key}
 use Rattle.master_core.specs.Images.{images_among}
-use Rattle.master_core.specs.Index.{keys_in, IsMoved}
+use Rattle.compactor.specs.Places.{keys_in}
+use Rattle.master_core.specs.Index.{IsMoved}
 use Rattle.master_core.specs.Invariant.{IsCore, IsJudged}
 use Rattle.master_core.specs.Steps.{reply_now, record_now, Applies}
 use Rattle.std.specs.Prelude.{IsSome}

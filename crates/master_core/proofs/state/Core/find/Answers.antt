@@ -5,7 +5,8 @@ use Rattle.master_core.specs.contracts.state.Core.{the_view}
 use Rattle.images.specs.declared.image.Image.{Image}
 use Rattle.master_core.specs.Data.{MasterData}
 use Rattle.master_core.specs.Images.{images_among}
-use Rattle.master_core.specs.Index.{keys_in, FindsObject}
+use Rattle.compactor.specs.Places.{keys_in}
+use Rattle.master_core.specs.Index.{FindsObject}
 use Rattle.master_core.specs.Log.{images_of}
 use Rattle.master_core.proofs.Finding.{finds_place, finds_held}
 use Rattle.hash_index.specs.Map.{AreKept}

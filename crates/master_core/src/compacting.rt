@@ -1,0 +1,74 @@
+//! How a core compacts a segment.
+
+ghost use Rattle.std.specs.Prelude.{◌⊎◌, ◌≡◌, None, Some, IfOk, IfErr, OnOk, OnErr};
+ghost use Rattle.std.specs.Result.{result_err};
+ghost use Rattle.master_core.specs.Causes.{is_head, compact_refusal};
+ghost use Rattle.master_core.specs.Invariant.{IsCore};
+ghost use Rattle.master_core.specs.Steps.{Compacts};
+
+use crate::state::Core;
+use crate::step::{Refusal, StepAnswer};
+use cleaner::PassFault;
+use compactor::{LogSet, compact};
+
+impl Core {
+    /// Whether this is the number of the head, or of the head that a roll is opening.
+    fn is_head(&self, id: u64) -> bool
+        ensures { result ≡ is_head self.now.head id }
+    {
+        if self.head.id() == id {
+            return true;
+        }
+        match self.head.roll() {
+            None => false,
+            Some(roll) => roll.id == id,
+        }
+    }
+
+    /// The tests of a compaction.
+    fn admit_compaction(&self, id: u64) -> Result<(), Refusal>
+        ensures { result_err result ≡ compact_refusal self.now id }
+    {
+        if self.is_halted {
+            return Err(Refusal::Halted);
+        }
+        if self.is_head(id) {
+            return Err(Refusal::Pass(PassFault::IsHead(id)));
+        }
+        if self.closed.get(id).is_none() {
+            return Err(Refusal::Pass(PassFault::NotInLog(id)));
+        }
+        Ok(())
+    }
+
+    /// Compacts a closed segment: its image becomes its kept entries, and the index follows. The replicas stay as they
+    /// are. Or it is refused, and nothing changes.
+    pub fn compact(&mut self, id: u64) -> Result<StepAnswer, Refusal>
+        ensures compacted { IfOk result (λ answer. Compacts self.old id answer self.new) }
+        ensures valid { OnOk result (IsCore self.new) }
+        ensures refused { IfErr result (λ r. (compact_refusal self.old id ≡ Some r)
+            ⊎ ((compact_refusal self.old id ≡ None) × (r ≡ Refusal.NoMemory))) }
+        ensures err { OnErr result (self.new ≡ self.old) }
+    {
+        self.admit_compaction(id)?;
+        self.closed.show_valid();
+        let new = match self.head.roll() {
+            None => None,
+            Some(roll) => Some(roll.id),
+        };
+        let log = LogSet {
+            closed: &self.closed,
+            head: self.head.id(),
+            new,
+        };
+        let Some(image) = self.closed.get(id) else {
+            unreachable!()
+        };
+        let segment = compact(self.alloc, id, image, &mut self.index, &log)?;
+        let len = segment.bytes().len() as u64;
+        let Ok(()) = self.closed.replace(id, segment) else {
+            unreachable!()
+        };
+        Ok(StepAnswer::Compacted(id, len))
+    }
+}
