@@ -2,13 +2,15 @@
 use Rattle.std.proofs.Common.{◌≡◌, ℕ, ◌+◌, ◌-◌, ◌<◌, ◌≤◌, List, [], ◌∷◌, ◌++◌, length, take, drop, refl, sym, ap, ◌∙◌}
 use Rattle.std.proofs.Common.{append_assoc, arith}
 use Rattle.std.specs.List.{AllByRecursion}
-use Rattle.std.proofs.lemmas.List.{length-append, length-take, append-nil, take_rest, drop_at, take_at}
+use Rattle.std.proofs.lemmas.List.{length-append, length-take-le, length-drop, append-nil, take_rest, drop_at, drop-drop, take_at}
+use Rattle.std.proofs.Math.Seq.{take-add}
 use Rattle.entry.specs.declared.entry.Entry.{Entry}
 use Rattle.entry.specs.Format.{spelling, IsEntry}
 use Rattle.entry.specs.Text.{text_of, entries_in}
 use Rattle.entry.proofs.ListLemmas.{all_split}
 use Rattle.entry.proofs.TextLemmas.{spelling-some, entries_in-text}
 use Rattle.segment.proofs.RowLemmas.{text_of-append}
+use Rattle.compactor.specs.Piece.{piece}
 
 -- the entries fall into those before an offset and those from it on
 pub record IsCut (es before rest : List Entry) (at : ℕ) : Type 0 where
@@ -100,14 +102,24 @@ cut_end es before (e ∷ later) at cut past =
       spelling-some e,
     ))
 
--- ---- a slice of the text
+-- ---- pieces of the text
 
-pub part_length : (at n : ℕ) (text : List ℕ) → length (take (at + n - at) (drop at text)) ≤ n
-part_length at n text = omega (arith, length-take (at + n - at) (drop at text))
+pub piece_length : (from at : ℕ) (text : List ℕ) → at ≤ length text → length (piece from at text) ≡ at - from
+piece_length from at text within =
+    length-take-le (at - from) (drop from text) (omega (arith, within, length-drop from text))
 
--- the bytes of the entry at the offset
-pub part_is : (at n : ℕ) (text bytes : List ℕ) → take n (take (length text - at) (drop at text)) ≡ bytes
-    → take (at + n - at) (drop at text) ≡ bytes
-part_is at n text bytes is =
-    let size : at + n - at ≡ n = omega arith in
-    ap (λ (k : ℕ). take k (drop at text)) size ∙ ap (λ (l : List ℕ). take n l) (sym (take_rest text at)) ∙ is
+-- no bytes
+pub piece_none : (at : ℕ) (text : List ℕ) → piece at at text ≡ []
+piece_none at text = let size : at - at ≡ 0 = omega arith in ap (λ (k : ℕ). take k (drop at text)) size
+
+-- an entry behind the piece
+pub piece_more : (from at n : ℕ) (text bytes : List ℕ) → from ≤ at
+    → take n (take (length text - at) (drop at text)) ≡ bytes → piece from (at + n) text ≡ piece from at text ++ bytes
+piece_more from at n text bytes le is =
+    let size : at + n - from ≡ (at - from) + n = omega (arith, le) in
+    let there : from + (at - from) ≡ at = omega (arith, le) in
+    ap (λ (k : ℕ). take k (drop from text)) size
+    ∙ take-add (at - from) n (drop from text)
+    ∙ ap (λ (l : List ℕ). piece from at text ++ take n l)
+    (drop-drop (at - from) from text ∙ ap (λ (k : ℕ). drop k text) there ∙ sym (take_rest text at))
+    ∙ ap (λ (l : List ℕ). piece from at text ++ l) is

@@ -91,7 +91,7 @@ module _ (ids : List ℕ) (held : List Held) (segment : ℕ) (es : List Entry) w
       (kept_from ids held segment (at + m) later)))) (sym size)
       ∙ cond_size b e (kept_from ids held segment (at + n) later) n size
 
-  cut_behind : (before later : List Entry) (e : Entry) (at n : ℕ) → IsCut es before (e ∷ later) at
+  pub cut_behind : (before later : List Entry) (e : Entry) (at n : ℕ) → IsCut es before (e ∷ later) at
       → n ≡ length (spelling e) → IsCut es (before ++ e ∷ []) later (at + n)
   cut_behind before later e at n cut size =
       subst (λ (m : ℕ). IsCut es (before ++ e ∷ []) later (at + m)) (sym size) (cut_next es before later e at cut)
@@ -265,6 +265,20 @@ module _ (ids : List ℕ) (held : List Held) (segment : ℕ) (es : List Entry) w
           same = same_next at n m now e (omega (arith, here.size, spelling-some e)) copied_low s.same;
           follows = follows_next;
         }
+
+  -- the same bytes, with more room
+  pub IsCopied-as : (at : ℕ) (out again : List ℕ) (capacity wide : ℕ) (now : List Held) → again ≡ out
+      → capacity ≤ wide → IsCopied at out capacity now → IsCopied at again wide now
+  IsCopied-as at out again capacity wide now is wider s =
+      record {
+        before = s.before;
+        rest = s.rest;
+        cut = s.cut;
+        text = is ∙ s.text;
+        room = omega (arith, s.room, wider, ap length is);
+        same = s.same;
+        follows = s.follows;
+      }
 
   -- ---- all is copied
 

@@ -1,10 +1,11 @@
 //! Compaction of one segment.
 
-ghost use Rattle.std.specs.Prelude.{◌≡◌, ◌≤◌, [], List, length, vec_capacity, IfOk, OnOk, OnErr};
+ghost use Rattle.std.specs.Prelude.{◌≡◌, ◌+◌, ◌-◌, ◌≤◌, ◌++◌, [], length, vec_len, vec_capacity, IfOk, OnOk, OnErr};
 ghost use Rattle.entry.specs.Text.{text_of, IsTextOf};
 ghost use Rattle.compactor.specs.Kept.{kept_of};
 ghost use Rattle.compactor.specs.Log.{ids_of_log};
 ghost use Rattle.compactor.specs.Moved.{Follows};
+ghost use Rattle.compactor.specs.Piece.{piece};
 
 use crate::keeping::{kept, kept_and_moved};
 use crate::log_set::LogSet;
@@ -33,16 +34,31 @@ fn kept_len(id: u64, segment: &Segment, index: &Index, log: &LogSet<'_>) -> usiz
     len
 }
 
-/// Copies the kept entries of a segment. The index has each object where its copy lies.
+/// Appends the bytes of a text between two offsets. There is room for them.
+fn append_piece(text: &[u8], from: usize, to: usize, out: &mut Vec<u8>)
+    requires order { from ≤ to }
+    requires within { to ≤ length text.now }
+    requires room { vec_len out.old + (to - from) ≤ vec_capacity out.old }
+    ensures items { out.new.items ≡ out.old.items ++ piece from to text.now }
+    ensures len { vec_len out.new ≡ vec_len out.old + (to - from) }
+    ensures capacity { vec_capacity out.old ≤ vec_capacity out.new }
+{
+    out.extend_from_slice(&text[from..to]).unwrap()
+}
+
+/// Copies the kept entries of a segment, those that lie together in one piece. The index has each object where its copy
+/// lies.
 fn copy_kept(id: u64, segment: &Segment, index: &mut Index, log: &LogSet<'_>, out: &mut Vec<u8>)
     requires empty { out.old.items ≡ [] }
-    requires room { length (text_of (kept_of (ids_of_log log.now) index.old.held id segment.now)) ≤ vec_capacity out.old }
+    requires room { length (text_of (kept_of (ids_of_log log.now) index.old.held id segment.now))
+        ≤ vec_capacity out.old }
     ensures copied { IsTextOf out.new.items (kept_of (ids_of_log log.now) index.old.held id segment.now) }
     ensures limit { length out.new.items ≤ 8388608 }
     ensures followed { Follows (ids_of_log log.now) id segment.now index.old.held index.new.held }
     ensures room { index.new.room ≡ index.old.room }
 {
     let text = segment.bytes();
+    let mut from = 0;
     let mut at = 0;
     while at < text.len() {
         let Ok((entry, taken)) = EntryRef::read(&text[at..]) else {
@@ -51,13 +67,15 @@ fn copy_kept(id: u64, segment: &Segment, index: &mut Index, log: &LogSet<'_>, ou
         let place = Place { segment: id, at };
         let to = Place {
             segment: id,
-            at: out.len(),
+            at: out.len() + (at - from),
         };
-        if kept_and_moved(&entry, place, to, index, log) {
-            out.extend_from_slice(&text[at..at + taken]).unwrap();
+        if !kept_and_moved(&entry, place, to, index, log) {
+            append_piece(text, from, at, out);
+            from = at + taken;
         }
         at += taken;
     }
+    append_piece(text, from, at, out);
 }
 
 /// The segment of a segment's kept entries, in memory that is taken once. The index then has each object of the segment
