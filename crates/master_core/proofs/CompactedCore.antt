@@ -1,8 +1,9 @@
 -- A segment that is compacted: its image, what is counted, and what the index leads to.
 use Rattle.std.proofs.Common.{◌≡◌, ℕ, ◌+◌, ◌%◌, ◌≤◌, ◌<◌, Bool, true, false, List, [], ◌∷◌, ◌++◌, map, length, refl, sym, ap, subst, ◌∙◌, inl, inr, arith}
-use Rattle.std.specs.Prelude.{Option, Some, None, IfSome, IsSome, unwrap_or, not, ◌==◌, ◌||◌, sum_by, if◌then◌else◌}
+use Rattle.std.specs.Borrow.{Bor}
+use Rattle.std.specs.Prelude.{Option, Some, None, IfSome, IsSome, is_some, is_none, unwrap_or, not, ◌==◌, ◌||◌, sum_by, if◌then◌else◌}
 use Rattle.std.specs.List.{AllByRecursion}
-use Rattle.std.specs.Option.{option_map, option_map_or}
+use Rattle.std.specs.Option.{option_copied, option_map_or}
 use Rattle.std.proofs.lemmas.Bool.{eqb-true, not-false}
 use Rattle.std.proofs.lemmas.Option.{same_Some}
 use Rattle.entry.specs.declared.entry.Entry.{Entry}
@@ -29,7 +30,7 @@ use Rattle.master_core.specs.Images.{new_image_or, images_among}
 use Rattle.master_core.specs.Invariant.{IsCore, IsRollOf, IsIndex}
 use Rattle.master_core.specs.Log.{images_of}
 use Rattle.master_core.specs.Steps.{kept_now, compacted_data}
-use Rattle.master_core.proofs.Digests.{in_force}
+use Rattle.master_core.proofs.Digests.{in_force, listed_is}
 use Rattle.master_core.proofs.Imaging.{same_id, other_id, ids_in}
 use Rattle.compactor.proofs.KeptEntries.{kept_length, kept_segment}
 use Rattle.master_core.proofs.Refusals.{passes, sizes_of}
@@ -60,6 +61,30 @@ has_among (z ∷ ids) id is = go (z == id) refl (has_among ids id) is where
 neither : (a b : Bool) → (a || b) ≡ false → (a ≡ false) × (b ≡ false)
 neither true b is = absurd (cc)
 neither false b is = (refl, is)
+
+-- whether a segment is listed, by whether there is one
+module _ (d : MasterData) (core : IsCore d) (id : ℕ) (running : d.is_halted ≡ false) (older : is_head d.head id ≡ false) where
+  listed_by : has_id (digest_of d.head.image) id ≡ is_some (segment_of d.closed id)
+  listed_by = listed_is d core id (neither (d.head.id == id) (option_map_or (λ (r : Roll). r.id == id) d.head.roll false) older).0
+
+  -- by what was got
+  none_got : {T : Type 0} (got : Option (Bor T)) (x : Option T) → option_copied got ≡ x → is_none got ≡ true → is_some x ≡ false
+  none_got None x is none = ap is_some (sym is)
+  none_got (Some b) x is none = absurd (cc)
+
+  some_got : {T : Type 0} (got : Option (Bor T)) (x : Option T) → option_copied got ≡ x → is_none got ≡ false → is_some x ≡ true
+  some_got None x is some = absurd (cc)
+  some_got (Some b) x is some = ap is_some (sym is)
+
+  pub not_listed_refused : (got : Option (Bor (List Entry))) → option_copied got ≡ segment_of d.closed id → is_none got ≡ true
+      → compact_refusal d id ≡ Some (Pass (NotInLog id))
+  not_listed_refused got is none =
+      let unlisted = listed_by ∙ none_got got (segment_of d.closed id) is none in rw (running, older, unlisted) refl
+
+  pub listed_passed : (got : Option (Bor (List Entry))) → option_copied got ≡ segment_of d.closed id → is_none got ≡ false
+      → compact_refusal d id ≡ None
+  listed_passed got is some =
+      let listed = listed_by ∙ some_got got (segment_of d.closed id) is some in rw (running, older, listed) refl
 
 -- a closed segment that the digest lists is there
 closed_has : (cs : List Image) (s : ℕ) → IsAmong s (ids_in cs) → (es : List Entry) × (segment_of cs s ≡ Some es)

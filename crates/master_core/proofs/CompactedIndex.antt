@@ -12,7 +12,7 @@ use Rattle.hash_index.specs.declared.place.Place.{Place}
 use Rattle.hash_index.specs.Map.{found, IsTold, AreKept}
 use Rattle.hash_index.proofs.Each.{each_found}
 use Rattle.compactor.specs.Kept.{moved_place, moved_all}
-use Rattle.compactor.specs.Laws.{compacted_images, IsFollowed, CompactionFollows}
+use Rattle.compactor.specs.Laws.{compacted_images, LeadsOn, CompactionFollows}
 use Rattle.compactor.specs.Places.{keys_in, LieIn}
 use Rattle.master_core.specs.Budget.{newest_digest}
 use Rattle.master_core.specs.Data.{MasterData}
@@ -38,7 +38,7 @@ held_lie images hs contents index = go hs index.kept.told (each_found (keys_in i
       ((o, there.2, told.0.2), go rest told.1 at.1)
 
 -- what lay where a key was found lies where it is found then
-moved_lies : (images later : ℕ → List Entry) (goes : Place → Place) (old new : List Held) → IsFollowed images later goes old new
+moved_lies : (images later : ℕ → List Entry) (goes : Place → Place) (old new : List Held) → LeadsOn images later goes old new
     → (k : Key) (f : Option Place) (x : Option Versioned) → found (keys_in images) k old ≡ f → LiesFound images k f x
     → LiesFound later k (option_map goes f) x
 moved_lies images later goes old new followed k None None is lies = tt
@@ -60,7 +60,7 @@ module _ (follows : CompactionFollows) (d : MasterData) (core : IsCore d) (id : 
   abbrev later : ℕ → List Entry
   later = compacted_images ids d.index (images_of d) id
 
-  followed : IsFollowed (images_of d) later (moved_place ids d.index id (images_of d id)) d.index (moved_all ids d.index id (images_of d id))
+  followed : LeadsOn (images_of d) later (moved_place ids d.index id (images_of d id)) d.index (moved_all ids d.index id (images_of d id))
   followed = follows ids d.index (images_of d) id (old_segment d core id is) lie_now core.index.kept
 
   same_images : later ≡ images_of e

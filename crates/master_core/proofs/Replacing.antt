@@ -144,7 +144,15 @@ image_there cs id es is = go (image_of cs id) refl is where
 pub has_image : (cs : List Image) (id : ℕ) (es : List Entry) → segment_of cs id ≡ Some es → IsSome (image_of cs id)
 has_image cs id es is = subst (λ (o : Option Image). IsSome o) (sym (image_there cs id es is).1) refl
 
--- a segment that is no longer than the old one is never refused
+-- a segment that is no longer than the old one is within the bytes of a segment
+pub still_within : (v : ImagesValue) → IsImages v → (id : ℕ) (es old : List Entry) → segment_of v.images id ≡ Some old
+    → length (text_of es) ≤ length (text_of old) → length (text_of es) ≤ v.segment
+still_within v valid id es old is le =
+    let within : length (text_of old) ≤ v.segment =
+    closed_each (λ (fs : List Entry). length (text_of fs) ≤ v.segment) v.images id old valid.within is in
+    omega arith
+
+-- and is never refused
 pub never_full : (v : ImagesValue) → IsImages v → (id : ℕ) (es old : List Entry) → segment_of v.images id ≡ Some old
     → length (text_of es) ≤ length (text_of old)
     → free_seglets v + count_at v id < div_ceil (length (text_of es)) v.seglet → ⊥

@@ -1,7 +1,9 @@
 //! How a core compacts a segment.
 
 ghost use Rattle.std.specs.Prelude.{◌⊎◌, ◌≡◌, None, Some, IfOk, IfErr, OnOk, OnErr};
+ghost use Rattle.std.specs.Option.{option_map};
 ghost use Rattle.std.specs.Result.{result_err};
+ghost use Rattle.log_head.specs.declared.head.Roll.{Roll};
 ghost use Rattle.master_core.specs.Causes.{is_head, compact_refusal};
 ghost use Rattle.master_core.specs.Invariant.{IsCore};
 ghost use Rattle.master_core.specs.Steps.{Compacts};
@@ -10,6 +12,17 @@ use crate::state::Core;
 use crate::step::{Refusal, StepAnswer};
 use cleaner::PassFault;
 use compactor::{LogSet, compact};
+use log_head::Head;
+
+/// The number of the head that a roll is opening.
+fn opening_id(head: &Head) -> Option<u64>
+    ensures { result ≡ option_map (λ (r : Roll). r.id) head.now.roll }
+{
+    match head.roll() {
+        None => None,
+        Some(roll) => Some(roll.id),
+    }
+}
 
 impl Core {
     /// Whether this is the number of the head, or of the head that a roll is opening.
@@ -52,14 +65,10 @@ impl Core {
     {
         self.admit_compaction(id)?;
         self.closed.show_valid();
-        let new = match self.head.roll() {
-            None => None,
-            Some(roll) => Some(roll.id),
-        };
         let log = LogSet {
             closed: &self.closed,
             head: self.head.id(),
-            new,
+            new: opening_id(&self.head),
         };
         let Some(image) = self.closed.get(id) else {
             unreachable!()

@@ -23,7 +23,7 @@ pub fn new_master(alloc: Global) -> Result<Master<MemoryFleet>, Fail> {
     }
 }
 
-/// What a step did, and then its backup and segment, or its place in the history and 0.
+/// What a step did, and its two numbers: backup and segment, segment and length, or place in the history and 0.
 type Kind = (&'static str, u64, u64);
 
 fn kind(answer: &Result<StepAnswer, Refusal>) -> Kind {
@@ -33,6 +33,7 @@ fn kind(answer: &Result<StepAnswer, Refusal>) -> Kind {
         Ok(StepAnswer::Extended(backup, segment)) => ("extended", *backup, *segment),
         Ok(StepAnswer::Closed(backup, segment)) => ("closed", *backup, *segment),
         Ok(StepAnswer::Rolling(segment)) => ("rolling", *segment, 0),
+        Ok(StepAnswer::Compacted(segment, len)) => ("compacted", *segment, *len),
         Err(Refusal::Nothing) => ("nothing", 0, 0),
         Err(_) => ("refused", 0, 0),
     }
