@@ -1,7 +1,7 @@
 -- A segment that is compacted: its image, what is counted, and what the index leads to.
 use Rattle.std.proofs.Common.{◌≡◌, ℕ, ◌+◌, ◌%◌, ◌≤◌, ◌<◌, Bool, true, false, List, [], ◌∷◌, ◌++◌, map, length, refl, sym, ap, subst, ◌∙◌, inl, inr, arith}
 use Rattle.std.specs.Borrow.{Bor}
-use Rattle.std.specs.Prelude.{Option, Some, None, IfSome, IsSome, is_some, is_none, unwrap_or, not, ◌==◌, ◌||◌, sum_by, if◌then◌else◌}
+use Rattle.std.specs.Prelude.{Option, Some, None, IfSome, IsSome, is_some, unwrap_or, not, ◌==◌, ◌||◌, sum_by, if◌then◌else◌}
 use Rattle.std.specs.List.{AllByRecursion}
 use Rattle.std.specs.Option.{option_copied, option_map_or}
 use Rattle.std.proofs.lemmas.Bool.{eqb-true, not-false}
@@ -32,6 +32,7 @@ use Rattle.master_core.specs.Log.{images_of}
 use Rattle.master_core.specs.Steps.{kept_now, compacted_data}
 use Rattle.master_core.proofs.Digests.{in_force, listed_is}
 use Rattle.master_core.proofs.Imaging.{same_id, other_id, ids_in}
+use Rattle.compactor.proofs.Ids.{copied_some}
 use Rattle.compactor.proofs.KeptEntries.{kept_length, kept_segment}
 use Rattle.master_core.proofs.Refusals.{passes, sizes_of}
 use Rattle.master_core.proofs.Replacing.{same_ids, changed_there, changed_here, changed_each, changed_count, each_one, closed_each}
@@ -68,23 +69,17 @@ module _ (d : MasterData) (core : IsCore d) (id : ℕ) (running : d.is_halted �
   listed_by = listed_is d core id (neither (d.head.id == id) (option_map_or (λ (r : Roll). r.id == id) d.head.roll false) older).0
 
   -- by what was got
-  none_got : {T : Type 0} (got : Option (Bor T)) (x : Option T) → option_copied got ≡ x → is_none got ≡ true → is_some x ≡ false
-  none_got None x is none = ap is_some (sym is)
-  none_got (Some b) x is none = absurd (cc)
+  listed_got : (got : Option (Bor (List Entry))) (t : Bool) → option_copied got ≡ segment_of d.closed id → is_some got ≡ t
+      → has_id (digest_of d.head.image) id ≡ t
+  listed_got got t is some = listed_by ∙ ap is_some (sym is) ∙ copied_some got ∙ some
 
-  some_got : {T : Type 0} (got : Option (Bor T)) (x : Option T) → option_copied got ≡ x → is_none got ≡ false → is_some x ≡ true
-  some_got None x is some = absurd (cc)
-  some_got (Some b) x is some = ap is_some (sym is)
-
-  pub not_listed_refused : (got : Option (Bor (List Entry))) → option_copied got ≡ segment_of d.closed id → is_none got ≡ true
+  pub not_listed_refused : (got : Option (Bor (List Entry))) → option_copied got ≡ segment_of d.closed id → is_some got ≡ false
       → compact_refusal d id ≡ Some (Pass (NotInLog id))
-  not_listed_refused got is none =
-      let unlisted = listed_by ∙ none_got got (segment_of d.closed id) is none in rw (running, older, unlisted) refl
+  not_listed_refused got is none = let unlisted = listed_got got false is none in rw (running, older, unlisted) refl
 
-  pub listed_passed : (got : Option (Bor (List Entry))) → option_copied got ≡ segment_of d.closed id → is_none got ≡ false
+  pub listed_passed : (got : Option (Bor (List Entry))) → option_copied got ≡ segment_of d.closed id → is_some got ≡ true
       → compact_refusal d id ≡ None
-  listed_passed got is some =
-      let listed = listed_by ∙ some_got got (segment_of d.closed id) is some in rw (running, older, listed) refl
+  listed_passed got is some = let listed = listed_got got true is some in rw (running, older, listed) refl
 
 -- a closed segment that the digest lists is there
 closed_has : (cs : List Image) (s : ℕ) → IsAmong s (ids_in cs) → (es : List Entry) × (segment_of cs s ≡ Some es)
