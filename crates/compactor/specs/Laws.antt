@@ -33,5 +33,5 @@ IsFollowed ids held images segment =
     (moved_all ids held segment (images segment))
 
 abbrev pub CompactionFollows : Type 0
-CompactionFollows = (ids : List ℕ) (held : List Held) (images : ℕ → List Entry) (segment : ℕ) → IsSegment (images segment)
-    → LieIn images held → AreKept (keys_in images) held → IsFollowed ids held images segment
+CompactionFollows = (ids : List ℕ) (held : List Held) (images : ℕ → List Entry) (segment : ℕ)
+    → IsSegment (images segment) → LieIn images held → AreKept (keys_in images) held → IsFollowed ids held images segment

@@ -76,7 +76,7 @@ impl Index {
         }
     }
 
-    /// The one place that a key may have, without a look at a key: the first that is held with its hash. It is the key's
+    /// The one place that a key may have, without a look at a key: the first held with its hash. It is the key's
     /// if the key stands there. If another key does, only `get` can tell.
     #[inline]
     pub fn candidate(&self, key: &KeyRef<'_>) -> Option<Place>

@@ -5,10 +5,10 @@
 //! in memory of their own. A look-up takes one hash. It walks one chain, of two places on average at most, and the few
 //! places that wait for their chain. A key is read only where the hash agrees.
 //!
-//! A key that is set waits in a list, in memory that `reserve` took for it, so `set` can't fail. `settle` puts it into its
-//! chain. It makes twice as many chains or more once there would be more than two keys for each. It puts each place anew
-//! by the hash that is held, so that no key is read. If `settle` is given no memory, keys wait on, and each look-up walks
-//! them.
+//! A key that is set waits in a list, in memory that `reserve` took for it, so `set` can't fail. `settle` puts it into
+//! its chain. It makes twice as many chains or more once there would be more than two keys for each. It puts each place
+//! anew by the hash that is held, so that no key is read. If `settle` is given no memory, keys wait on, and each look-up
+//! walks them.
 //!
 //! `holds` and `relocate` are for who moves objects within the log, and knows the hash and the place of each. They read
 //! no key, and say of the list of places itself what they did.

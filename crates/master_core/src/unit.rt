@@ -142,8 +142,8 @@ pub fn enact(
     ensures head { let unit = unit_of_change dead command.now change.now in
         OnOk result (head.new ≡ appended head.old (length history.old.items) unit) }
     ensures index { OnOk result ((at : ℕ) × BeginsAt head.old.image command.now change.now at
-        × IsMoved (keys_in (images_among head.new closed.now.images)) index.old.held change.now (command_key command.now)
-        (record { segment = head.old.id; at = at }) index.new.held) }
+        × IsMoved (keys_in (images_among head.new closed.now.images)) index.old.held change.now
+        (command_key command.now) (record { segment = head.old.id; at = at }) index.new.held) }
     ensures history { history.new.items ≡ history.old.items }
     ensures room { OnOk result (vec_len history.new < vec_capacity history.new) }
     ensures err { OnErr result ((head.new ≡ head.old) × (index.new.held ≡ index.old.held)) }

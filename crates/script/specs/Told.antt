@@ -153,8 +153,8 @@ abbrev pub IsCause : Config → Life → Command → Refusal → Type 0
 IsCause config life c r =
     IsTest config life c r ⊎ (IsTest config life c refusal.Rolling × IsRollAt config life (Err r))
 
--- A command is refused, by a fleet that isn't spent. Either it made no record: memory ran out, a test refused it, or the
--- roll that it waits for was refused. Or it made one, and then a push was refused.
+-- A command is refused, by a fleet that isn't spent. Either it made no record: memory ran out, a test refused it, or
+-- the roll that it waits for was refused. Or it made one, and then a push was refused.
 abbrev pub IsRefused : Config → Life → Position → LineValue → Refusal → Position → Type 0
 IsRefused config life at line r next = (r ≡ refusal.Spent → ⊥)
     × ((IsOut at line None next × ((r ≡ refusal.NoMemory)
@@ -258,7 +258,8 @@ Tells config life at line (answer.Head id) next = (at.left ≡ None) × (line �
 Tells config life at line (answer.Opening id) next = (at.left ≡ None) × (line ≡ BeginRoll)
     × IsStepAt config (life_to life at.made) step.BeginRoll (Ok (step_answer.Rolling id)) × (next ≡ at)
 Tells config life at line (answer.Compacted segment len) next = (at.left ≡ None) × (line ≡ Compact segment)
-    × IsStepAt config (life_to life at.made) (step.Compact segment) (Ok (step_answer.Compacted segment len)) × (next ≡ at)
+    × IsStepAt config (life_to life at.made) (step.Compact segment) (Ok (step_answer.Compacted segment len))
+    × (next ≡ at)
 Tells config life at line (answer.Extended backup segment) next = (at.left ≡ None) × (line ≡ Push)
     × IsStepAt config (life_to life at.made) step.Push (Ok (step_answer.Extended backup segment)) × (next ≡ at)
 Tells config life at line (answer.Opened backup segment) next = (at.left ≡ None) × (line ≡ Push)
