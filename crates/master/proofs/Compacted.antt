@@ -27,6 +27,7 @@ use Rattle.clean_model.proofs.NoPass.{none_passing}
 use Rattle.clean_model.proofs.SealedSurvivors.{still_sealed}
 use Rattle.hash_index.specs.declared.place.Place.{Place}
 use Rattle.compactor.specs.Kept.{kept_of}
+use Rattle.compactor.specs.Laws.{compacted_images}
 use Rattle.compactor.specs.Places.{IsAtPlace}
 use Rattle.master_core.specs.declared.config.Config.{Config}
 use Rattle.master_core.specs.declared.step.StepAnswer.{StepAnswer}
@@ -193,19 +194,28 @@ module _ (d e : MasterData) (f : FleetState) (id : ℕ) (answer : StepAnswer) (k
     pass = kept.memory_is.pass;
     commits = kept.memory_is.commits;
   } where
-    images_are : (s : ℕ) → images_of e s ≡ images_of (compacted_data d id) s
-    images_are s = ap (λ (x : MasterData). images_of x s) is.rest
+    images_are : (s : ℕ) → images_of e s ≡ compacted_images (newest_digest d.head) d.index (images_of d) id s
+    images_are s = ap (λ (x : MasterData). images_of x s) is.rest ∙ images_then d kept.core id fit s
+
+    here_is : (s : ℕ) → (s == id) ≡ true
+        → compacted_images (newest_digest d.head) d.index (images_of d) id s ≡ kept_of (newest_digest d.head) d.index id (images_of d id)
+    here_is s here = rw here refl
+
+    beside_is : (s : ℕ) → (s == id) ≡ false → compacted_images (newest_digest d.head) d.index (images_of d) id s ≡ images_of d s
+    beside_is s away = rw away refl
+
+    -- the kept entries, by entries and by offsets
+    kept_is : kept_from (log_ids (log_of d) kept.memory) (memory_of d).index id 0 (kept.memory.images id)
+        ≡ kept_of (newest_digest d.head) d.index id (images_of d id)
+    kept_is =
+        ap (λ (es : List Entry). kept_from (log_ids (log_of d) kept.memory) (memory_of d).index id 0 es) (kept.memory_is.images id counts_id)
+        ∙ kept_by_entries d kept.core (log_ids (log_of d) kept.memory) id
+        ∙ ap (λ (ids : List ℕ). kept_of ids d.index id (images_of d id)) (sym (newest_is d kept.core kept.memory kept.memory_is.pass))
 
     at_segment : (s : ℕ) → IsAmong s (log_ids (log_of d) kept.memory) → (t : Bool) → (s == id) ≡ t → then_memory.images s ≡ images_of e s
-    at_segment s i true here =
-        let old : kept.memory.images id ≡ images_of d id = kept.memory_is.images id counts_id in
-        rw here (
-          ap (λ (es : List Entry). kept_from (log_ids (log_of d) kept.memory) (memory_of d).index id 0 es) old
-          ∙ kept_by_entries d kept.core (log_ids (log_of d) kept.memory) id
-          ∙ ap (λ (ids : List ℕ). kept_of ids d.index id (images_of d id)) (sym (newest_is d kept.core kept.memory kept.memory_is.pass))
-          ∙ sym (images_are s ∙ images_then d kept.core id fit s ∙ (rw here refl)))
+    at_segment s i true here = let now = images_are s ∙ here_is s here in rw here (kept_is ∙ sym now)
     at_segment s i false away =
-        rw away (kept.memory_is.images s i ∙ sym (images_are s ∙ images_then d kept.core id fit s ∙ (rw away refl)))
+        let now = images_are s ∙ beside_is s away in rw away (kept.memory_is.images s i ∙ sym now)
 
   config_is : e.config ≡ d.config
   config_is = ap (λ (x : MasterData). x.config) is.rest

@@ -96,7 +96,7 @@ module _ (d : MasterData) (core : IsCore d) (ids : List ℕ) (s : ℕ) where
     abbrev held : Held
     held = record { hash = hash_of o.key; place = record { segment = s; at = length (text_of front) } }
 
-    lies : LiesAt (images_of d s) (length (text_of front)) (entry.Object o)
+    abbrev lies : LiesAt (images_of d s) (length (text_of front)) (entry.Object o)
     lies = record { before = front; after = rest; split = split; offset = refl }
 
     position : position_of (images_of d s) (length (text_of front)) ≡ length front
