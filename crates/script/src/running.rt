@@ -16,7 +16,6 @@ use command_line::Options;
 use lines::{ReadFault, Taken, next_line, one_line, parse_line};
 use std::alloc::Global;
 use std::io::{BufRead, Write};
-use std::mem::forget;
 
 /// Runs the lines of the reader in order, up to the first bad line, and hands the answer of each to the writer.
 pub fn run_script<R: BufRead, W: Write>(
@@ -33,10 +32,7 @@ pub fn run_script<R: BufRead, W: Write>(
     let Ok(mut session) = Session::start(alloc, &options) else {
         return Err(ScriptFault::NoMemory);
     };
-    let ran = run_and_flush(alloc, reader, writer, &mut session);
-    // The process ends next, so the store is not taken apart.
-    forget(session);
-    ran
+    run_and_flush(alloc, reader, writer, &mut session)
 }
 
 /// Runs all lines on a session at its start, and flushes the writer.

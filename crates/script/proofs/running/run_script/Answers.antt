@@ -6,4 +6,4 @@ pub returns-in_default : goal.returns-in_default
 returns-in_default g c = begins_not _ _ _
 
 pub returns : goal.returns
-returns g c = c.run_and_flush-ran.ensures (config_of c.args.options 1) c.in-Ok.ensures
+returns g c = c.run_and_flush.ensures (config_of c.args.options 1) c.in-Ok.ensures
