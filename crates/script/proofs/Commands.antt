@@ -43,13 +43,16 @@ module _ (d e : MasterData) (old new : Node) (config : Config) (at : Position) (
     ([], g.history),
     inl (
       none,
-      inl (unspent, inl (
-        (command, asks, refl),
-        elim why [
-          | inl memory ↦ inl memory
-          | inr test ↦ inr (command, asks, inl (d, f, lived d e old new config at None of s f valid [] g.history, test))
-        ],
-      )),
+      inl (
+        unspent,
+        inl (
+          (command, asks, refl),
+          elim why [
+            | inl memory ↦ inl memory
+            | inr test ↦ inr (command, asks, inl (d, f, lived d e old new config at None of s f valid [] g.history, test))
+          ],
+        ),
+      ),
     ),
   )
   refused_told r unspent f valid of (inr ((reply, g), pushed)) =

@@ -6,7 +6,7 @@ use Rattle.entry.specs.Text.{Opening, opening_of}
 use Rattle.log_head.specs.declared.head.Roll.{Roll}
 use Rattle.log_head.specs.Head.{is_open}
 use Rattle.log_head.specs.Log.{phase_in, start_in, start_of}
-use Rattle.log_model.specs.Data.{LogData, Phase, Ready, Opened as OpeningNew, Closed as ClosingOld, Start, new_of}
+use Rattle.log_model.specs.Data.{LogData, Ready, Opened as OpeningNew, Closed as ClosingOld, Start, new_of}
 use Rattle.log_model.specs.Ops.{LogOp, op_of}
 use Rattle.log_model.specs.Steps.{OpensNew, ClosesOld, next_start, new_head, with_counts}
 use Rattle.replica.specs.Op.{OpValue}
@@ -14,12 +14,11 @@ use Rattle.replica.specs.Picture.{Replica, FleetState}
 use Rattle.replica.specs.Take.{effect, taken, with_effect}
 use Rattle.master_core.specs.declared.step.Refusal.{Refusal}
 use Rattle.master_core.specs.declared.step.Refusal.TheVariants as refusal
-use Rattle.master_core.specs.declared.step.Step.TheVariants.{Push, BeginRoll}
+use Rattle.master_core.specs.declared.step.Step.TheVariants.{Push}
 use Rattle.master_core.specs.declared.step.StepAnswer.{StepAnswer}
 use Rattle.master_core.specs.declared.step.StepAnswer.TheVariants as answer
 use Rattle.master_core.specs.Data.{MasterData}
 use Rattle.master_core.specs.Log.{log_of}
-use Rattle.master_core.specs.Steps.{BeginsRoll}
 use Rattle.master.specs.Pushes.{IsNextOp}
 use Rattle.master.specs.Steps.{Accepts, Steps}
 use Rattle.master.specs.World.{World}

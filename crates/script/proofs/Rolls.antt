@@ -105,10 +105,13 @@ rolling_told old new config line command asks waits d at s =
       ([], told.1.1 ∙ sym (append-nil d.history)),
       inl (
         told.2,
-        inl (λ spent. cc, inl (
-          (command, asks, λ i. record { made = at.made; acknowledged = at.acknowledged; left = told.2 i }),
-          inr (command, asks, inl told.3),
-        )),
+        inl (
+          λ spent. cc,
+          inl (
+            (command, asks, λ i. record { made = at.made; acknowledged = at.acknowledged; left = told.2 i }),
+            inr (command, asks, inl told.3),
+          ),
+        ),
       ),
     )
 

@@ -1,5 +1,5 @@
 use Rattle.std.proofs.Common.{◌≡◌, inl, inr, subst}
-use Rattle.std.specs.Prelude.{IfErr, IfOk, Ok, Result}
+use Rattle.std.specs.Prelude.{IfErr, IfOk, Result}
 use Rattle.master.specs.Steps.{Declines, Steps}
 use Rattle.master.specs.World.{world}
 use Rattle.master_core.specs.declared.step.Refusal.{Refusal}

@@ -61,12 +61,12 @@ returns-clause-stepped c =
     let after = world fleet_state m in
     rw c.in-Up.is (elim c.match-step.branch as (λ _. MakesStep (Up c.in-Up.up) step.BeginRoll c.match-step.self c.match-step.result) [
       | in-Ok-Rolling w ↦ rw (w.self-is, w.result-is) (
-          Ok (answer.Rolling w.in-Ok-Rolling.id),
-          after,
-          subst (λ a. Accepts (world fleet_state c.in-Up.up) step.BeginRoll a after) w.in-Ok-Rolling.field-0-is w.in-Ok-Rolling.ensures.gives,
-          refl,
-          refl,
-        )
+        Ok (answer.Rolling w.in-Ok-Rolling.id),
+        after,
+        subst (λ a. Accepts (world fleet_state c.in-Up.up) step.BeginRoll a after) w.in-Ok-Rolling.field-0-is w.in-Ok-Rolling.ensures.gives,
+        refl,
+        refl,
+      )
       | in-Err w ↦ rw (w.self-is, w.result-is)
           (let left = refused_left (Up m) w.refuse.new.self after w.in-Err.refusal w.refuse.result refl refl w.refuse.ensures in
           (Err w.in-Err.refusal, after, w.in-Err.ensures.gives, left.0, left.1))

@@ -11,7 +11,7 @@ use Rattle.script.specs.declared.node.Node.TheVariants.{Up}
 use Rattle.master.specs.World.{world}
 use Rattle.script.specs.Served.{LivesOn, IsOf}
 use Rattle.script.proofs.MasterSteps.{goes_nowhere, push_goes_on, spent_push}
-use Rattle.script.proofs.Steps.{no_step_answered, refused_left, step_at}
+use Rattle.script.proofs.Steps.{no_step_answered, refused_left, stays, step_at}
 use Rattle.script.proofs.node.Node.push.Goals as goal
 
 pub returns-clause-told : goal.returns-clause-told
@@ -59,3 +59,66 @@ returns-in-Ok-Closed-clause-stepped c =
     let after = world fleet_state c.step.new.self in
     let w = c.in-Ok-Closed in
     rw c.in-Up.is (Ok (answer.Closed w.backup w.segment), after, subst (λ a. Accepts before step.Push a after) w.field-0-is w.ensures.gives, refl, refl)
+
+pub returns-in-Ok-Extended-clause-told : goal.returns-in-Ok-Extended-clause-told
+returns-in-Ok-Extended-clause-told c = λ config d at s.
+    let m = c.step.new.self in
+    let w = c.in-Ok-Extended in
+    let f = fleet_state c.in-Up.up.fleet in
+    let g = fleet_state m.fleet in
+    let before = world fleet_state c.in-Up.up in
+    let was : IsOf (Up c.in-Up.up) at.left d = subst (λ (n : Node). IsOf n at.left d) c.in-Up.is s.node_of in
+    let on : LivesOn d m.knows [] = subst (λ (x : MasterData). LivesOn x m.knows []) was.1
+    (push_goes_on c.in-Up.up.knows before (world fleet_state m) (Ok w.field-0) (goes_nowhere c.in-Up.up.knows) w.ensures.gives w.ensures.keeps) in
+    let accepts : Accepts (record { knows = d; fleet = f }) step.Push (answer.Extended w.backup w.segment) (record { knows = m.knows; fleet = g }) =
+    subst (λ (x : MasterData). Accepts (record { knows = x; fleet = f }) step.Push (answer.Extended w.backup w.segment) (record { knows = m.knows; fleet = g }))
+    was.1 (subst (λ a. Accepts before step.Push a (world fleet_state m)) w.field-0-is w.ensures.gives) in
+    let of : IsOf (Up m) None m.knows = (refl, refl, w.ensures.valid) in (
+      m.knows,
+      at,
+      stays d m.knows c.args.self.now (Up m) config at s was.0 of f g was.2 w.ensures.valid on,
+      ([], on.history),
+      (was.0, refl, step_at d m.knows c.args.self.now (Up m) config at s was.0 of f g was.2 w.ensures.valid on step.Push (Ok (answer.Extended w.backup w.segment)) accepts, refl),
+    )
+
+pub returns-in-Ok-Opened-clause-told : goal.returns-in-Ok-Opened-clause-told
+returns-in-Ok-Opened-clause-told c = λ config d at s.
+    let m = c.step.new.self in
+    let w = c.in-Ok-Opened in
+    let f = fleet_state c.in-Up.up.fleet in
+    let g = fleet_state m.fleet in
+    let before = world fleet_state c.in-Up.up in
+    let was : IsOf (Up c.in-Up.up) at.left d = subst (λ (n : Node). IsOf n at.left d) c.in-Up.is s.node_of in
+    let on : LivesOn d m.knows [] = subst (λ (x : MasterData). LivesOn x m.knows []) was.1
+    (push_goes_on c.in-Up.up.knows before (world fleet_state m) (Ok w.field-0) (goes_nowhere c.in-Up.up.knows) w.ensures.gives w.ensures.keeps) in
+    let accepts : Accepts (record { knows = d; fleet = f }) step.Push (answer.Opened w.backup w.segment) (record { knows = m.knows; fleet = g }) =
+    subst (λ (x : MasterData). Accepts (record { knows = x; fleet = f }) step.Push (answer.Opened w.backup w.segment) (record { knows = m.knows; fleet = g }))
+    was.1 (subst (λ a. Accepts before step.Push a (world fleet_state m)) w.field-0-is w.ensures.gives) in
+    let of : IsOf (Up m) None m.knows = (refl, refl, w.ensures.valid) in (
+      m.knows,
+      at,
+      stays d m.knows c.args.self.now (Up m) config at s was.0 of f g was.2 w.ensures.valid on,
+      ([], on.history),
+      (was.0, refl, step_at d m.knows c.args.self.now (Up m) config at s was.0 of f g was.2 w.ensures.valid on step.Push (Ok (answer.Opened w.backup w.segment)) accepts, refl),
+    )
+
+pub returns-in-Ok-Closed-clause-told : goal.returns-in-Ok-Closed-clause-told
+returns-in-Ok-Closed-clause-told c = λ config d at s.
+    let m = c.step.new.self in
+    let w = c.in-Ok-Closed in
+    let f = fleet_state c.in-Up.up.fleet in
+    let g = fleet_state m.fleet in
+    let before = world fleet_state c.in-Up.up in
+    let was : IsOf (Up c.in-Up.up) at.left d = subst (λ (n : Node). IsOf n at.left d) c.in-Up.is s.node_of in
+    let on : LivesOn d m.knows [] = subst (λ (x : MasterData). LivesOn x m.knows []) was.1
+    (push_goes_on c.in-Up.up.knows before (world fleet_state m) (Ok w.field-0) (goes_nowhere c.in-Up.up.knows) w.ensures.gives w.ensures.keeps) in
+    let accepts : Accepts (record { knows = d; fleet = f }) step.Push (answer.Closed w.backup w.segment) (record { knows = m.knows; fleet = g }) =
+    subst (λ (x : MasterData). Accepts (record { knows = x; fleet = f }) step.Push (answer.Closed w.backup w.segment) (record { knows = m.knows; fleet = g }))
+    was.1 (subst (λ a. Accepts before step.Push a (world fleet_state m)) w.field-0-is w.ensures.gives) in
+    let of : IsOf (Up m) None m.knows = (refl, refl, w.ensures.valid) in (
+      m.knows,
+      at,
+      stays d m.knows c.args.self.now (Up m) config at s was.0 of f g was.2 w.ensures.valid on,
+      ([], on.history),
+      (was.0, refl, step_at d m.knows c.args.self.now (Up m) config at s was.0 of f g was.2 w.ensures.valid on step.Push (Ok (answer.Closed w.backup w.segment)) accepts, refl),
+    )
