@@ -1,7 +1,7 @@
 //! One master: a log-structured store in memory whose head is replicated on a fleet of backups.
 //!
-//! The layer above calls `Master::step`: one command, the begin of a roll, the compaction of a segment, or one op handed
-//! to one backup.
+//! The layer above calls `Master::step`: one command, the begin of a roll, the compaction of a segment, or one op
+//! handed to one backup.
 //! `specs/Steps.antt` says what a step does and when it is refused, and `specs/Keeps.antt` what it keeps.
 //! `specs/Valid.antt` says what is true after each step: whatever backups are left, they hold a prefix of the history
 //! with each durable command in it, or the loss is named. A refused step changes nothing, except after a fault of a
@@ -12,6 +12,8 @@
 mod master;
 
 pub use master::Master;
-pub use master_core::{Config, ConfigFault, Core, Look, PassFault, Refusal, Shown, Step, StepAnswer};
+pub use master_core::{
+    Config, ConfigFault, Core, Look, PassFault, Refusal, Shown, Step, StepAnswer,
+};
 pub use segment::{Segment, SegmentFault, read_segment};
 pub use versioned_map::{Command, If, Record, Reply};

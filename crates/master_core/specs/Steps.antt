@@ -70,7 +70,7 @@ pub record BeginsRoll (d : MasterData) (answer : StepAnswer) (e : MasterData) : 
   pub log : log_of e ≡ rolling (log_of d) (next_start (log_of d))
   pub rest : e ≡ rolling_data d
 
--- the entries of a segment that compaction keeps; the log set is the digest in force and the head that a roll is opening
+-- the entries of a segment that compaction keeps; the log set is the digest in force and a head that is being opened
 abbrev pub kept_now : MasterData → ℕ → List Entry
 kept_now d id = kept_of (newest_digest d.head) d.index id (images_of d id)
 
