@@ -2,26 +2,24 @@
 use Rattle.std.proofs.Common.{◌≡◌, ℕ, ◌≤◌, Bool, true, false, inl, inr, List, [], ◌∷◌, ◌++◌, refl, sym, ap, subst, ◌∙◌}
 use Rattle.std.specs.Prelude.{Option, Some, None, ◌==◌}
 use Rattle.std.specs.Option.{option_map, option_map_or}
-use Rattle.std.proofs.lemmas.Bool.{eqb-true}
 use Rattle.std.proofs.lemmas.List.{append-nil}
 use Rattle.std.proofs.lemmas.Option.{same_Some}
 use Rattle.entry.specs.declared.key.Key.{Key}
 use Rattle.entry.specs.declared.entry.Entry.{Entry}
 use Rattle.entry.specs.declared.entry.Object.{Object}
-use Rattle.entry.specs.declared.entry.Entry.TheVariants as entry
 use Rattle.entry.specs.Bag.{IsAmong}
 use Rattle.entry.specs.Meaning.{Versioned, object_at}
 use Rattle.entry.proofs.BagLemmas.{among_left}
 use Rattle.replica.specs.Picture.{FleetState}
 use Rattle.log_head.specs.declared.head.Roll.{Roll}
 use Rattle.log_head.specs.Head.{digest_of}
-use Rattle.log_head.specs.Log.{head_of, start_of, phase_in, phase_of}
+use Rattle.log_head.specs.Log.{head_of, phase_in, phase_of}
 use Rattle.log_model.specs.Data.{Start, Ready, LogData, ids_of, new_of}
 use Rattle.clean_model.specs.Compaction.{kept_from}
 use Rattle.clean_model.specs.Intact.{IsIntact}
 use Rattle.clean_model.specs.Memory.{Place as EntryPlace, Memory, Pass, no_pass, IsAt, SegmentHas, new_ids, log_ids, log_set_of}
 use Rattle.clean_model.specs.Steps.{compacted, MayCompact}
-use Rattle.clean_model.specs.Tracked.{IsCopied, IsFound, IsPassing, LiesAt, IsTracked}
+use Rattle.clean_model.specs.Tracked.{IsFound, IsPassing, LiesAt, IsTracked}
 use Rattle.clean_model.proofs.Compacting.{compact_keeps}
 use Rattle.clean_model.proofs.NoPass.{none_passing}
 use Rattle.clean_model.proofs.SealedSurvivors.{still_sealed}
@@ -36,11 +34,10 @@ use Rattle.master_core.specs.Data.{MasterData}
 use Rattle.master_core.specs.Index.{LiesFound}
 use Rattle.master_core.specs.Invariant.{IsCore}
 use Rattle.master_core.specs.Log.{log_of, state_now, images_of, find, position_of, entry_place, memory_of}
-use Rattle.master_core.specs.Steps.{kept_now, compacted_data, Compacts}
+use Rattle.master_core.specs.Steps.{Compacts}
 use Rattle.master_core.proofs.CompactedCore.{IsAdmitted, admitted, in_digest, images_then}
 use Rattle.master_core.proofs.Digests.{in_force, id_is, begun}
 use Rattle.master_core.proofs.Finding.{each_of, found_place}
-use Rattle.master_core.proofs.Imaging.{same_id}
 use Rattle.master.specs.Invariant.{IsMemoryOf, IsWellKept}
 use Rattle.master.proofs.KeptByEntries.{stands_by_entries, kept_by_entries}
 use Rattle.master.proofs.LogSets.{among_at_place, in_log_set, new_is}

@@ -1,13 +1,11 @@
 -- What is kept by the places that entries are counted by is what is kept by their offsets.
-use Rattle.std.proofs.Common.{◌≡◌, ℕ, zero, suc, ◌+◌, Bool, true, false, inl, inr, List, [], ◌∷◌, ◌++◌, length, take, refl, sym, ap, subst, ◌∙◌, append_assoc, arith}
+use Rattle.std.proofs.Common.{◌≡◌, ℕ, suc, ◌+◌, Bool, true, false, List, [], ◌∷◌, ◌++◌, length, take, refl, sym, ap, subst, ◌∙◌, append_assoc, arith}
 use Rattle.std.specs.Prelude.{Option, Some, None, ◌==◌, ◌||◌, if◌then◌else◌}
 use Rattle.std.specs.List.{AllByRecursion}
 use Rattle.std.specs.Option.{option_map}
 use Rattle.std.proofs.lemmas.Bool.{and_from, and_parts}
 use Rattle.std.proofs.lemmas.Bool.Decides.{Decides-eqb}
 use Rattle.std.proofs.lemmas.List.{length-append, take_at}
-use Rattle.std.proofs.lemmas.Option.{same_Some}
-use Rattle.entry.specs.declared.key.Key.{Key}
 use Rattle.entry.specs.declared.entry.Entry.{Entry}
 use Rattle.entry.specs.declared.entry.Object.{Object}
 use Rattle.entry.specs.declared.entry.Entry.TheVariants as entry
@@ -21,7 +19,7 @@ use Rattle.clean_model.specs.Compaction.{has, is_place, kept as entry_kept, kept
 use Rattle.clean_model.specs.Memory.{IsAt, Index as EntryIndex}
 use Rattle.hash_index.specs.declared.place.Held.{Held}
 use Rattle.hash_index.specs.declared.place.Place.{Place}
-use Rattle.hash_index.specs.Map.{hash_of, found}
+use Rattle.hash_index.specs.Map.{hash_of}
 use Rattle.hash_index.specs.Relocation.{holds}
 use Rattle.compactor.specs.Kept.{has_id, kept, kept_from, kept_of, entries_before}
 use Rattle.compactor.specs.Places.{LiesAt, IsAtPlace, keys_in}

@@ -14,8 +14,8 @@ use Rattle.log_head.specs.Log.{head_of, start_of, phase_in, phase_of}
 use Rattle.log_head.specs.Next.{IsWholeHead, IsNextPush, replica_of, units_of, segment_of, act_of, bytes_between}
 use Rattle.log_head.specs.Steps.{with_new_replica}
 use Rattle.log_head.proofs.HeadLog.{end_is, front_is, part_is, count_is}
-use Rattle.log_head.proofs.RollLog.{phase_opened, phase_opening, phase_closing, head_in_force, image_in_force}
-use Rattle.log_model.specs.Data.{Head, Ready, IsHomeAt, entries_of, head_entries}
+use Rattle.log_head.proofs.RollLog.{phase_opened, phase_opening, phase_closing, head_in_force}
+use Rattle.log_model.specs.Data.{Ready, IsHomeAt, entries_of, head_entries}
 use Rattle.log_model.specs.Ops.{LogOp}
 use Rattle.log_model.specs.Steps.{OpensFirst, OpensNew, ClosesOld, IsNext, units_between, one_opened, one_closed, new_head}
 use Rattle.master_core.specs.Data.{MasterData}

@@ -12,6 +12,8 @@
 mod master;
 
 pub use master::Master;
-pub use master_core::{Config, ConfigFault, Core, Look, PassFault, Refusal, Shown, Step, StepAnswer};
+pub use master_core::{
+    Config, ConfigFault, Core, Look, PassFault, Refusal, Shown, Step, StepAnswer,
+};
 pub use segment::{Segment, SegmentFault, read_segment};
 pub use versioned_map::{Command, If, Record, Reply};

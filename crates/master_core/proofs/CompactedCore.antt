@@ -1,11 +1,10 @@
 -- A segment that is compacted: its image, what is counted, and what the index leads to.
-use Rattle.std.proofs.Common.{◌≡◌, ℕ, ◌+◌, ◌%◌, ◌≤◌, ◌<◌, Bool, true, false, List, [], ◌∷◌, ◌++◌, map, length, refl, sym, ap, subst, ◌∙◌, inl, inr, arith}
+use Rattle.std.proofs.Common.{◌≡◌, ℕ, ◌≤◌, Bool, true, false, List, [], ◌∷◌, map, length, refl, sym, ap, subst, ◌∙◌, inl, inr, arith}
 use Rattle.std.specs.Borrow.{Bor}
-use Rattle.std.specs.Prelude.{Option, Some, None, IfSome, IsSome, is_some, unwrap_or, not, ◌==◌, ◌||◌, sum_by, if◌then◌else◌}
+use Rattle.std.specs.Prelude.{Option, Some, None, IfSome, IsSome, is_some, unwrap_or, not, ◌==◌, ◌||◌, if◌then◌else◌}
 use Rattle.std.specs.List.{AllByRecursion}
 use Rattle.std.specs.Option.{option_copied, option_map_or}
 use Rattle.std.proofs.lemmas.Bool.{eqb-true, not-false}
-use Rattle.std.proofs.lemmas.Option.{same_Some}
 use Rattle.entry.specs.declared.entry.Entry.{Entry}
 use Rattle.entry.specs.Bag.{IsAmong}
 use Rattle.entry.specs.Text.{text_of, IsSegment}
@@ -19,11 +18,11 @@ use Rattle.images.specs.declared.image.Image.{Image}
 use Rattle.images.specs.Images.{AreWithin}
 use Rattle.images.specs.Sorted.{AreRising, segment_of, changed}
 use Rattle.images.specs.Steps.{replaced_by}
-use Rattle.compactor.specs.Kept.{has_id, kept_of}
+use Rattle.compactor.specs.Kept.{has_id}
 use Rattle.compactor.specs.Laws.{compacted_images}
 use Rattle.cleaner.specs.declared.fault.PassFault.TheVariants.{IsHead, NotInLog}
 use Rattle.master_core.specs.declared.step.Refusal.TheVariants.{Halted, Pass}
-use Rattle.master_core.specs.Budget.{newest_digest, used_seglets, head_seglets}
+use Rattle.master_core.specs.Budget.{newest_digest, used_seglets}
 use Rattle.master_core.specs.Causes.{is_head, compact_refusal}
 use Rattle.master_core.specs.Data.{MasterData}
 use Rattle.master_core.specs.Images.{new_image_or, images_among}
@@ -31,7 +30,7 @@ use Rattle.master_core.specs.Invariant.{IsCore, IsRollOf, IsIndex}
 use Rattle.master_core.specs.Log.{images_of}
 use Rattle.master_core.specs.Steps.{kept_now, compacted_data}
 use Rattle.master_core.proofs.Digests.{in_force, listed_is}
-use Rattle.master_core.proofs.Imaging.{same_id, other_id, ids_in}
+use Rattle.master_core.proofs.Imaging.{same_id, ids_in}
 use Rattle.compactor.proofs.Ids.{copied_some}
 use Rattle.compactor.proofs.KeptEntries.{kept_length, kept_segment}
 use Rattle.master_core.proofs.Refusals.{passes, sizes_of}

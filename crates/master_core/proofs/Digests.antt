@@ -1,5 +1,5 @@
 -- What the newest digest lists.
-use Rattle.std.proofs.Common.{◌≡◌, ℕ, Bool, true, false, List, [], ◌∷◌, ◌++◌, map, refl, sym, ap, ◌∙◌, append_assoc}
+use Rattle.std.proofs.Common.{◌≡◌, ℕ, Bool, true, false, List, [], ◌∷◌, ◌++◌, refl, sym, ap, ◌∙◌, append_assoc}
 use Rattle.std.specs.Prelude.{Option, Some, None, is_some, ◌==◌, ◌||◌}
 use Rattle.std.specs.Option.{option_map, option_map_or, option_to_list}
 use Rattle.std.proofs.Math.Bool.{or-false}

@@ -115,7 +115,7 @@ each_one (c ∷ cs) id es rising is = first (c.id == id) refl (each_one cs id es
       let own : Some c.segment ≡ Some es = rw here at is in (
         (λ e. sym (same_Some c.segment es own)),
         all_weaker (λ (x : Image). c.id < x.id) (λ (x : Image). x.id ≡ id → es ≡ x.segment)
-        (λ x lt e. absurd (omega arith)) cs rising.0,
+            (λ x lt e. absurd (omega arith)) cs rising.0,
       )
   first false away later =
       let rest : segment_of cs id ≡ Some es = rw away at is in (

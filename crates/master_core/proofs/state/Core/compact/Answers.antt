@@ -1,10 +1,9 @@
-use Rattle.std.proofs.Common.{◌≡◌, ℕ, List, ◌∷◌, ◌++◌, length, refl, sym, ap, subst, ◌∙◌}
+use Rattle.std.proofs.Common.{◌≡◌, ℕ, List, ◌∷◌, ◌++◌, length, refl, sym, ap, ◌∙◌}
 use Rattle.std.specs.Prelude.{Option, None}
 use Rattle.std.specs.Option.{option_map, option_to_list}
 use Rattle.std.specs.Result.{result_err}
 use Rattle.entry.specs.declared.entry.Entry.{Entry}
 use Rattle.hash_index.specs.declared.place.Held.{Held}
-use Rattle.images.specs.Images.{ImagesValue}
 use Rattle.compactor.specs.Kept.{moved_all}
 use Rattle.compactor.specs.Laws.{CompactionFollows}
 use Rattle.compactor.specs.Moved.{Follows}
@@ -83,10 +82,10 @@ invariant_of-self-2 c =
           c.in_ok-segment.segment c.compact.new.index.held listed image c.in_ok-segment.ensures.compacted moved c.replace.new.self
           c.in-Ok.ensures.ok (c.self.invariant.0 some),
       sizes_then d core c.args.id none c.self.inside.closed refl c.show_valid.ensures c.self.invariant.1 ids c.in-Some.image.now
-      c.in_ok-segment.segment c.compact.new.index.held listed image c.in_ok-segment.ensures.compacted moved c.replace.new.self c.in-Ok.ensures.ok,
+          c.in_ok-segment.segment c.compact.new.index.held listed image c.in_ok-segment.ensures.compacted moved c.replace.new.self c.in-Ok.ensures.ok,
       compacted_valid d core c.args.id none c.self.inside.closed refl c.show_valid.ensures c.self.invariant.1 ids c.in-Some.image.now
-      c.in_ok-segment.segment c.compact.new.index.held listed image c.in_ok-segment.ensures.compacted moved c.replace.new.self c.in-Ok.ensures.ok
-      law,
+          c.in_ok-segment.segment c.compact.new.index.held listed image c.in_ok-segment.ensures.compacted moved c.replace.new.self c.in-Ok.ensures.ok
+          law,
     )
 
 pub returns-clause-valid : goal.returns-clause-valid
