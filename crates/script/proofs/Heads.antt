@@ -97,6 +97,7 @@ leads_on id d e o (answer.Opened b s) (inl first, backup, segment) leads = count
 leads_on id d e o (answer.Opened b s) (inr new, backup, segment) leads = opens_new id d e o new leads
 leads_on id d e o (answer.Extended b s) (next, backup, segment) leads = counted id d e _ next.extends.gives leads
 leads_on id d e o (answer.Closed b s) (close, backup, segment) leads = closes_old id d e o close leads
+leads_on id d e o (answer.Compacted segment len) h leads = absurd h
 leads_on id d e o (answer.Applied place reply) h leads = absurd h
 leads_on id d e o (answer.Rolling s) h leads = absurd h
 

@@ -1,4 +1,4 @@
-use Rattle.std.proofs.Common.{ℕ, [], refl, sym, ap, subst}
+use Rattle.std.proofs.Common.{◌≡◌, ℕ, [], refl, sym, ap, subst}
 use Rattle.std.specs.Prelude.{Ok, Err, None}
 use Rattle.backup.specs.State.{fleet_state}
 use Rattle.lines.specs.Grammar.{Compact}
