@@ -31,6 +31,7 @@ const OF_LEFT: &str = "05 0000000000000001 0000000000000002 0000000000000007 000
 
 /// What the segment has, and what it keeps.
 const BEFORE: &[&str] = &[FIRST, OBJECT, OF_CLOSED, OF_LEFT, NEWER, OF_NEW, OTHER];
+
 const AFTER: &[&str] = &[FIRST, OF_CLOSED, NEWER, OF_NEW, OTHER];
 
 /// The image of every segment.

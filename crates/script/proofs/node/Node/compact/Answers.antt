@@ -50,8 +50,8 @@ returns-clause-told c = λ config.
               was.0,
               ap Compact same,
               subst (λ (z : ℕ). IsStepAt config (life_to (life_of m.knows) at.made) (step.Compact z) (Ok (answer.Compacted id len))) same
-              (step_at d m.knows c.args.self.now (Up m) config at s was.0 of f g was.2 w.in-Ok-Compacted.ensures.valid on
-              (step.Compact c.args.segment) (Ok (answer.Compacted id len)) accepts),
+                  (step_at d m.knows c.args.self.now (Up m) config at s was.0 of f g was.2 w.in-Ok-Compacted.ensures.valid on
+                  (step.Compact c.args.segment) (Ok (answer.Compacted id len)) accepts),
               refl,
             ),
           ))
@@ -78,12 +78,12 @@ returns-clause-stepped c =
     let after = world fleet_state m in
     rw c.in-Up.is (elim c.match-step.branch as (λ _. MakesStep (Up c.in-Up.up) (step.Compact c.args.segment) c.match-step.self c.match-step.result) [
       | in-Ok-Compacted w ↦ rw (w.self-is, w.result-is) (
-          Ok (answer.Compacted w.in-Ok-Compacted.id w.in-Ok-Compacted.len),
-          after,
-          subst (λ a. Accepts (world fleet_state c.in-Up.up) (step.Compact c.args.segment) a after) w.in-Ok-Compacted.field-0-is w.in-Ok-Compacted.ensures.gives,
-          refl,
-          refl,
-        )
+        Ok (answer.Compacted w.in-Ok-Compacted.id w.in-Ok-Compacted.len),
+        after,
+        subst (λ a. Accepts (world fleet_state c.in-Up.up) (step.Compact c.args.segment) a after) w.in-Ok-Compacted.field-0-is w.in-Ok-Compacted.ensures.gives,
+        refl,
+        refl,
+      )
       | in-Err w ↦ rw (w.self-is, w.result-is)
           (let left = refused_left (Up m) w.refuse.new.self after w.in-Err.refusal w.refuse.result refl refl w.refuse.ensures in
           (Err w.in-Err.refusal, after, w.in-Err.ensures.gives, left.0, left.1))
