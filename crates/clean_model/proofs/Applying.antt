@@ -141,8 +141,8 @@ apply_keeps d m p segment r i may named = record {
   around = around d m p segment r i may named;
   chosen = i.chosen;
   sealing = still_sealed d.config m i.log.texts (log d m p segment r i may named).texts p p
-      (recorded d m segment r).images (recorded d m segment r).index m.commits i.sealing
+      (recorded d m segment r).images (recorded d m segment r).index m.commits m.freed i.sealing
       (image_same d m p segment r i may named) (text_same d m p segment r i may named) (λ b s survivor. refl);
   rolling = i.rolling;
-  waiting = i.waiting;
+  waiting = record { out = i.waiting.out; below = i.waiting.below; held = i.waiting.held };
 }

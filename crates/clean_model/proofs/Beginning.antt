@@ -182,5 +182,6 @@ begin_keeps d m p victims i may =
           | inr same ↦ (let lt = i.waiting.below s w in omega arith)
         ];
         below = λ s w. let lt = i.waiting.below s w in omega arith;
+        held = i.waiting.held;
       };
     }

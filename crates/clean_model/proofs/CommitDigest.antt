@@ -3,14 +3,13 @@ use Rattle.std.proofs.Common.{◌≡◌, ℕ, ◌⊎◌, inl, inr, Bool, true, f
 use Rattle.std.specs.Prelude.{nat_lt}
 use Rattle.entry.specs.Bag.{IsAmong}
 use Rattle.log_model.specs.Data.{ids_of}
-use Rattle.clean_model.specs.Compaction.{has}
+use Rattle.log_model.specs.Ids.{has, inserted, all_inserted, without}
 use Rattle.clean_model.specs.Laws.{CommitDigest}
-use Rattle.clean_model.specs.Steps.{inserted, all_inserted, without}
 use Rattle.clean_model.proofs.KeptEntries.{has_is, is_has}
 
 -- the log set less the victims
 module _ (victims : List ℕ) where
-  without_stays : (ids : List ℕ) (s : ℕ) → IsAmong s ids → (IsAmong s victims → ⊥) → IsAmong s (without victims ids)
+  pub without_stays : (ids : List ℕ) (s : ℕ) → IsAmong s ids → (IsAmong s victims → ⊥) → IsAmong s (without victims ids)
   without_stays [] s m not = m
   without_stays (z ∷ ids) s m not = told (λ l. without_stays ids s l not) (has victims z) refl m
     where
@@ -21,7 +20,7 @@ module _ (victims : List ℕ) where
       told later false e (inl same) = inl same
       told later false e (inr m) = inr (later m)
 
-  without_from : (ids : List ℕ) (s : ℕ) → IsAmong s (without victims ids) → IsAmong s ids × (IsAmong s victims → ⊥)
+  pub without_from : (ids : List ℕ) (s : ℕ) → IsAmong s (without victims ids) → IsAmong s ids × (IsAmong s victims → ⊥)
   without_from [] s m = absurd m
   without_from (z ∷ ids) s m = told (without_from ids s) (has victims z) refl m
     where
@@ -37,7 +36,7 @@ module _ (victims : List ℕ) where
 
 -- ---- insertion
 
-inserted_out : (s : ℕ) (ids : List ℕ) (x : ℕ) → IsAmong x (inserted s ids) → (s ≡ x) ⊎ IsAmong x ids
+pub inserted_out : (s : ℕ) (ids : List ℕ) (x : ℕ) → IsAmong x (inserted s ids) → (s ≡ x) ⊎ IsAmong x ids
 inserted_out s [] x m = m
 inserted_out s (z ∷ ids) x m = go (λ l. inserted_out s ids x l) (nat_lt s z) m where
   go : (IsAmong x (inserted s ids) → (s ≡ x) ⊎ IsAmong x ids) → (b : Bool)
@@ -46,7 +45,7 @@ inserted_out s (z ∷ ids) x m = go (λ l. inserted_out s ids x l) (nat_lt s z) 
   go later false (inl same) = inr (inl same)
   go later false (inr l) = elim (later l) [ inl e ↦ inl e | inr r ↦ inr (inr r) ]
 
-inserted_in : (s : ℕ) (ids : List ℕ) (x : ℕ) → (s ≡ x) ⊎ IsAmong x ids → IsAmong x (inserted s ids)
+pub inserted_in : (s : ℕ) (ids : List ℕ) (x : ℕ) → (s ≡ x) ⊎ IsAmong x ids → IsAmong x (inserted s ids)
 inserted_in s [] x m = m
 inserted_in s (z ∷ ids) x m = go (λ l. inserted_in s ids x l) (nat_lt s z) m where
   go : ((s ≡ x) ⊎ IsAmong x ids → IsAmong x (inserted s ids)) → (b : Bool) → (s ≡ x) ⊎ ((z ≡ x) ⊎ IsAmong x ids)
@@ -56,14 +55,14 @@ inserted_in s (z ∷ ids) x m = go (λ l. inserted_in s ids x l) (nat_lt s z) m 
   go later false (inr (inl same)) = inl same
   go later false (inr (inr l)) = inr (later (inr l))
 
-all_out : (more ids : List ℕ) (x : ℕ) → IsAmong x (all_inserted more ids) → IsAmong x ids ⊎ IsAmong x more
+pub all_out : (more ids : List ℕ) (x : ℕ) → IsAmong x (all_inserted more ids) → IsAmong x ids ⊎ IsAmong x more
 all_out [] ids x m = inl m
 all_out (s ∷ more) ids x m = elim (inserted_out s (all_inserted more ids) x m) [
   | inl same ↦ inr (inl same)
   | inr l ↦ elim (all_out more ids x l) [ inl a ↦ inl a | inr b ↦ inr (inr b) ]
 ]
 
-all_in : (more ids : List ℕ) (x : ℕ) → IsAmong x ids ⊎ IsAmong x more → IsAmong x (all_inserted more ids)
+pub all_in : (more ids : List ℕ) (x : ℕ) → IsAmong x ids ⊎ IsAmong x more → IsAmong x (all_inserted more ids)
 all_in [] ids x (inl m) = m
 all_in [] ids x (inr never) = absurd never
 all_in (s ∷ more) ids x (inl m) = inserted_in s (all_inserted more ids) x (inr (all_in more ids x (inl m)))

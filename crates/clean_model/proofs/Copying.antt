@@ -14,7 +14,8 @@ use Rattle.entry.specs.Meaning.{IsOfKey, version_of, object_at}
 use Rattle.entry.proofs.KeyOrder.{key_eq_tells}
 use Rattle.replica.specs.Picture.{Picture}
 use Rattle.log_model.specs.Data.{Start, LogData, new_of, state_of}
-use Rattle.clean_model.specs.Compaction.{has, is_place}
+use Rattle.log_model.specs.Ids.{has}
+use Rattle.clean_model.specs.Compaction.{is_place}
 use Rattle.clean_model.specs.Intact.{survivor_entries, AreSealed, IsRollOf, IsIntact}
 use Rattle.clean_model.specs.Laws.{CopyKeeps}
 use Rattle.clean_model.specs.Memory.{Place, Index, Memory, Images, LogSet, log_ids, log_set_of, grown, copied, StandsAt}
@@ -166,7 +167,7 @@ module _ (d : LogData) (m : Memory) (p : Picture) (i : IsIntact d m p) (first : 
         chosen = i.chosen;
         sealing = sealing_then (grown m.images s (Object o)) index (begin_grown (Object o));
         rolling = rolling_then (grown m.images s (Object o)) index;
-        waiting = i.waiting;
+        waiting = record { out = i.waiting.out; below = i.waiting.below; held = i.waiting.held };
       }
 
   carried : (t : TombstoneValue) → StandsAt m.images first (Tombstone t)
@@ -181,7 +182,7 @@ module _ (d : LogData) (m : Memory) (p : Picture) (i : IsIntact d m p) (first : 
     chosen = i.chosen;
     sealing = sealing_then (grown m.images s (Tombstone t)) m.index (begin_grown (Tombstone t));
     rolling = rolling_then (grown m.images s (Tombstone t)) m.index;
-    waiting = i.waiting;
+    waiting = record { out = i.waiting.out; below = i.waiting.below; held = i.waiting.held };
   }
 
   dropped : (e : Entry) → StandsAt m.images first e
@@ -197,7 +198,7 @@ module _ (d : LogData) (m : Memory) (p : Picture) (i : IsIntact d m p) (first : 
     chosen = i.chosen;
     sealing = sealing_then m.images m.index i.sealing.begins;
     rolling = rolling_then m.images m.index;
-    waiting = i.waiting;
+    waiting = record { out = i.waiting.out; below = i.waiting.below; held = i.waiting.held };
   }
 
   -- the entry at the cursor, whichever it is

@@ -11,7 +11,8 @@ use Rattle.entry.specs.declared.entry.Entry.TheVariants.{Tombstone}
 use Rattle.entry.specs.Bag.{IsAmong}
 use Rattle.entry.specs.Meaning.{object_at}
 use Rattle.entry.proofs.BagLemmas.{among_left, among_right}
-use Rattle.clean_model.specs.Compaction.{has, is_place, kept, kept_from, kept_before, moved_place, moved_index}
+use Rattle.log_model.specs.Ids.{has}
+use Rattle.clean_model.specs.Compaction.{is_place, kept, kept_from, kept_before, moved_place, moved_index}
 use Rattle.clean_model.specs.Compaction.{places_from, places}
 use Rattle.clean_model.specs.Memory.{Place, Index, Images, IsAt, StandsAt}
 use Rattle.clean_model.proofs.Lists.{equal_true}

@@ -53,5 +53,9 @@ fresh_is_intact c p may = record {
   chosen = none_chosen _ _;
   sealing = none_sealed c (first_memory c) (log c p may).texts p (λ s never. never);
   rolling = λ n is. absurd (cc);
-  waiting = record { out = λ s never. absurd never; below = λ s never. absurd never };
+  waiting = record {
+    out = λ s never. absurd never;
+    below = λ s never. absurd never;
+    held = λ s j b never. absurd never;
+  };
 }

@@ -109,8 +109,8 @@ module _ (d : LogData) (m : Memory) (p : Picture) (i : IsIntact d m p) (n : Star
       not_new = λ s x survivor is same.
           survivor_older s survivor (sym same ∙ ap (λ (y : Start). y.id) (sym (same_Some n x is)));
     };
-    sealing = still_sealed d.config m i.log.texts then_log.texts p p memory.images m.index commits i.sealing image_same
-        text_same (λ b s survivor. refl);
+    sealing = still_sealed d.config m i.log.texts then_log.texts p p memory.images m.index commits m.freed i.sealing
+        image_same text_same (λ b s survivor. refl);
     rolling = λ x is. subst (λ (y : Start). IsRollOf d memory y) (same_Some n x is) which;
     waiting = record {
       out = λ s w c. elim (either_id s c) as (λ _. ⊥) [
@@ -118,6 +118,7 @@ module _ (d : LogData) (m : Memory) (p : Picture) (i : IsIntact d m p) (n : Star
         | inr same ↦ (let lt = i.waiting.below s w in let next = roll.next in omega arith)
       ];
       below = λ s w. let lt = i.waiting.below s w in omega arith;
+      held = i.waiting.held;
     };
   }
 

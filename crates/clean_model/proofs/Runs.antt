@@ -6,7 +6,7 @@ use Rattle.clean_model.specs.Intact.{IsIntact}
 use Rattle.clean_model.specs.Memory.{Memory}
 use Rattle.clean_model.specs.Runs.{CleanWorld, CleanEvent, Applies, Compacts, Begins, Copies, Seals, Rolls, Commits}
 use Rattle.clean_model.specs.Runs.{Takes, Frees, CleanBecomes, RunsStayIntact, CleanRunsAreSound}
-use Rattle.clean_model.specs.Steps.{sealed_more, after_take}
+use Rattle.clean_model.specs.Steps.{sealed_more, freed_more, after_take}
 use Rattle.clean_model.proofs.Applying.{apply_keeps}
 use Rattle.clean_model.proofs.Beginning.{begin_keeps}
 use Rattle.clean_model.proofs.Compacting.{compact_keeps}
@@ -42,7 +42,8 @@ goes_on (Takes o) w v i is =
 goes_on (Frees s b) w v i is =
     let t = free_keeps w.knows w.memory w.picture s b i is.0 in
     subst Intact (sym is.2)
-    (subst (λ (q : Picture). IsIntact w.knows w.memory q) (same_Some t.0 v.picture (sym t.1 ∙ is.1)) t.2)
+    (subst (λ (q : Picture). IsIntact w.knows (freed_more w.memory s) q)
+    (same_Some t.0 v.picture (sym t.1 ∙ is.1)) t.2)
 
 pub runs_stay_intact : RunsStayIntact
 runs_stay_intact w v [] i is = subst Intact (sym is) i

@@ -12,12 +12,12 @@ use Rattle.clean_model.specs.Memory.{Memory, Images, Index}
 
 -- with images, texts and replicas of survivors as they were
 pub still_sealed : (c : LogConfig) (m : Memory) (texts other : Texts) (p q : Picture) (image : Images) (index : Index)
-    (commits : Bool) → AreSealed c m texts p
+    (commits : Bool) (freed : ℕ → ℕ) → AreSealed c m texts p
     → ((s : ℕ) → IsAmong s m.pass.survivors → image s ≡ m.images s)
     → ((s : ℕ) → IsAmong s m.pass.survivors → other s ≡ texts s)
     → ((b s : ℕ) → IsAmong s m.pass.survivors → q b c.master s ≡ p b c.master s)
-    → AreSealed c (record m { images = image; index = index; commits = commits }) other q
-still_sealed c m texts other p q image index commits is image_same text_same picture_same = record {
+    → AreSealed c (record m { images = image; index = index; commits = commits; freed = freed }) other q
+still_sealed c m texts other p q image index commits freed is image_same text_same picture_same = record {
   few = is.few;
   begins = λ s survivor. let begins = is.begins s survivor in (begins.0, image_same s survivor ∙ begins.1);
   bare = λ s survivor. ap opening_of (text_same s survivor) ∙ is.bare s survivor;

@@ -1,7 +1,7 @@
 -- A replica of a survivor that is sealed fits its backup, and leaves all intact.
 use Rattle.std.proofs.Common.{◌≡◌, ℕ, suc, ◌<◌, ◌≤◌, ◌⊎◌, inl, inr, true, false, List, [], ◌∷◌, ◌++◌, refl, sym, ap}
 use Rattle.std.proofs.Common.{subst, ◌∙◌, arith}
-use Rattle.std.specs.Prelude.{Some, None, IsSomeAnd, slice_get}
+use Rattle.std.specs.Prelude.{Option, Some, None, IsSome, IsSomeAnd, slice_get}
 use Rattle.std.proofs.lemmas.Bool.{cases_Bool, cases_eq, ne_eqb}
 use Rattle.std.proofs.lemmas.Option.{same_Some}
 use Rattle.entry.specs.declared.entry.Entry.{Entry}
@@ -20,7 +20,7 @@ use Rattle.log_model.specs.Mirror.{IsOther}
 use Rattle.log_model.specs.Ops.{LogOp, taken}
 use Rattle.log_model.specs.Spares.{IsFree, Seals}
 use Rattle.log_model.proofs.Lists.{is_none}
-use Rattle.log_model.proofs.Pictures.{changed, unchanged, either, taken_is}
+use Rattle.log_model.proofs.Pictures.{changed, unchanged, either, still_held, taken_is}
 use Rattle.log_model.proofs.Replicas.{digest_is_whole}
 use Rattle.log_model.proofs.Spares.{sealed_is_kept}
 use Rattle.log_model.proofs.Texts.{text_there, text_other}
@@ -266,6 +266,11 @@ module _ (d : LogData) (m : Memory) (p : Picture) (s b : ℕ) (i : IsIntact d m 
     only = only_then;
   }
 
+  -- what waits is held, as it was
+  waiting_then : (z j c : ℕ) → IsAmong z m.waiting → IsHomeAt d z j c → m.freed z ≤ j → IsSome (q c master z)
+  waiting_then z j c waits home le = subst (λ (x : Option Replica). IsSome x) (sym (at c z))
+      (still_held p master b s replica c z (i.waiting.held z j c waits home le))
+
 pub seal_keeps : SealKeeps
 seal_keeps d m p s b i may =
     let log = log_set_of d m i.log.texts in
@@ -288,6 +293,10 @@ seal_keeps d m p s b i may =
         chosen = i.chosen;
         sealing = sealing d m p s b i may;
         rolling = λ n is. ((i.rolling n is).0, λ c. absurd (no_commit d m p s b i may n is c));
-        waiting = i.waiting;
+        waiting = record {
+          out = i.waiting.out;
+          below = i.waiting.below;
+          held = waiting_then d m p s b i may;
+        };
       },
     )

@@ -22,15 +22,16 @@ use Rattle.clean_model.specs.Steps.{finished, ended, after_take}
 use Rattle.clean_model.specs.Tracked.{IsTracked, IsPassing, IsAround}
 use Rattle.clean_model.proofs.CommitBase.{passing_done, ready_text}
 use Rattle.clean_model.proofs.LogSetChanges.{IsMore, more_tracked, more_passing, more_around}
-use Rattle.clean_model.proofs.LogSetIds.{ids_out, in_digest, in_survivors, head_in, new_in}
+use Rattle.clean_model.proofs.LogSetIds.{ids_out, in_digest, in_survivors, new_in}
 use Rattle.clean_model.proofs.NoPass.{none_passing, none_chosen}
 use Rattle.clean_model.proofs.SealedSurvivors.{still_sealed, none_sealed}
 use Rattle.clean_model.proofs.CommittedPass.{committed}
 use Rattle.clean_model.proofs.Premises.{IsLess}
+use Rattle.clean_model.proofs.Waiting.{IsNoHead, survivor_no_head, waiting_held, finished_held}
 
--- the log holds the same texts, and survivors' replicas are as they were
+-- the log holds the same texts, and of each segment but the heads the backups have what they had
 module _ (d : LogData) (m : Memory) (p q : Picture) (i : IsIntact d m p)
-    (same : (c s : ℕ) → IsAmong s m.pass.survivors → q c d.config.master s ≡ p c d.config.master s) where
+    (same : (c s : ℕ) → IsNoHead d s → q c d.config.master s ≡ p c d.config.master s) where
   abbrev log : LogSet
   log = log_set_of d m i.log.texts
 
@@ -51,8 +52,8 @@ module _ (d : LogData) (m : Memory) (p q : Picture) (i : IsIntact d m p)
   }
 
   sealing : AreSealed d.config m i.log.texts q
-  sealing = still_sealed d.config m i.log.texts i.log.texts p q m.images m.index m.commits i.sealing
-      (λ s survivor. refl) (λ s survivor. refl) same
+  sealing = still_sealed d.config m i.log.texts i.log.texts p q m.images m.index m.commits m.freed i.sealing
+      (λ s survivor. refl) (λ s survivor. refl) (λ c s survivor. same c s (survivor_no_head d m p i s survivor))
 
   -- ---- the digest in force stays, and the new head
 
@@ -87,6 +88,7 @@ module _ (d : LogData) (m : Memory) (p q : Picture) (i : IsIntact d m p)
       waiting = record {
         out = λ s w c. i.waiting.out s w (subst (λ (x : Option Start). IsAmong s (Ids x)) still c);
         below = i.waiting.below;
+        held = waiting_held d m p i q same;
       };
     }
 
@@ -167,7 +169,11 @@ module _ (d : LogData) (m : Memory) (p q : Picture) (i : IsIntact d m p)
         };
         sealing = sealing;
         rolling = λ x is. absurd (cc);
-        waiting = record { out = λ s w c. i.waiting.out s w (from_last s c); below = i.waiting.below };
+        waiting = record {
+          out = λ s w c. i.waiting.out s w (from_last s c);
+          below = i.waiting.below;
+          held = waiting_held d m p i q same;
+        };
       }
 
     -- ---- a commit
@@ -239,6 +245,7 @@ module _ (d : LogData) (m : Memory) (p q : Picture) (i : IsIntact d m p)
             | inl victim ↦ i.around.below s (i.passing.victims_count s victim)
             | inr old ↦ i.waiting.below s old
           ];
+          held = finished_held d m p i q same;
         };
       }
 
@@ -252,25 +259,23 @@ ended_same : (x : Option Start) (m : Memory) → ended x x m ≡ m
 ended_same None m = refl
 ended_same (Some n) m = refl
 
--- no survivor is the head or the new one
-survivors_stay : (d e : LogData) (m : Memory) (p q : Picture) (o : LogOp) → IsIntact d m p → IsNext d o e
-    → taken p d.config.master o ≡ Some q → (c s : ℕ) → IsAmong s m.pass.survivors
-    → q c d.config.master s ≡ p c d.config.master s
-survivors_stay d e m p q o i next is c s survivor = taken_elsewhere p q d.config.master o is c s (λ at.
+-- an op of the head changes nothing of other segments
+others_stay : (d e : LogData) (p q : Picture) (o : LogOp) → IsNext d o e → taken p d.config.master o ≡ Some q
+    → (c s : ℕ) → IsNoHead d s → q c d.config.master s ≡ p c d.config.master s
+others_stay d e p q o next is c s no_head = taken_elsewhere p q d.config.master o is c s (λ at.
     elim (next_is_of_heads d e o next) as (λ _. ⊥) [
-      | inl head ↦ i.chosen.outside s survivor
-          (subst (λ (x : ℕ). IsAmong x (ids_of d.head.start)) (sym (at ∙ head)) (head_in d))
-      | inr new ↦ i.chosen.not_new s new.0 survivor new.1 (sym (at ∙ new.2))
+      | inl head ↦ no_head.head (at ∙ head)
+      | inr new ↦ no_head.new new.0 new.1 (at ∙ new.2)
     ])
 
 -- what is to be shown of the master then
 abbrev Then : (d : LogData) (m : Memory) (p q : Picture) (i : IsIntact d m p)
-    (same : (c s : ℕ) → IsAmong s m.pass.survivors → q c d.config.master s ≡ p c d.config.master s) → LogData → Type 0
+    (same : (c s : ℕ) → IsNoHead d s → q c d.config.master s ≡ p c d.config.master s) → LogData → Type 0
 Then d m p q i same x = Logs d m p q i same x → IsIntact x (after_take d x m) q
 
 -- whichever it is
 either_end : (d e : LogData) (m : Memory) (p q : Picture) (o : LogOp) (i : IsIntact d m p)
-    (same : (c s : ℕ) → IsAmong s m.pass.survivors → q c d.config.master s ≡ p c d.config.master s) → IsNext d o e
+    (same : (c s : ℕ) → IsNoHead d s → q c d.config.master s ≡ p c d.config.master s) → IsNext d o e
     → Logs d m p q i same e → IsIntact e (after_take d e m) q
 either_end d e m p q o i same next logs = elim (next_goes_on d e o next) as (λ _. IsIntact e (after_take d e m) q) [
   | inl on ↦ subst (Then d m p q i same) (sym on.gives) (λ its.
@@ -286,7 +291,7 @@ pub take_keeps : TakeKeeps
 take_keeps d e m p o i next =
     let t = next_is_held d e i.log.texts p o i.log.held next in
     let before = past_then d e p o i.log next in
-    let same = survivors_stay d e m p t.0 o i next t.1 in (
+    let same = others_stay d e p t.0 o next t.1 in (
       t.0,
       t.1,
       either_end d e m p t.0 o i same next (record {

@@ -1,16 +1,12 @@
 -- What compaction keeps of a segment, and where it goes.
-use Rattle.std.specs.Prelude.{ℕ, zero, suc, ◌==◌, Bool, true, false, ◌&&◌, ◌||◌, if◌then◌else◌, List, [], ◌∷◌, ◌++◌}
+use Rattle.std.specs.Prelude.{ℕ, zero, suc, ◌==◌, Bool, true, false, ◌&&◌, if◌then◌else◌, List, [], ◌∷◌, ◌++◌}
 use Rattle.std.specs.Prelude.{Option, Some, None}
 use Rattle.entry.specs.declared.entry.Entry.{Entry}
 use Rattle.entry.specs.declared.entry.Entry.TheVariants as entry
+use Rattle.log_model.specs.Ids.{has}
 use Rattle.clean_model.specs.Memory.{Place, Index, Images}
 
 -- ---- the kept entries
-
--- whether the id is among these
-abbrev pub has : List ℕ → ℕ → Bool
-has [] s = false
-has (z ∷ ids) s = (z == s) || has ids s
 
 -- whether this is the place of a segment's entry
 abbrev pub is_place : Option Place → ℕ → ℕ → Bool

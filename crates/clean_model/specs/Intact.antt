@@ -1,12 +1,13 @@
 -- What holds of a master, its memory and the backups.
-use Rattle.std.specs.Prelude.{◌≡◌, ℕ, ◌<◌, ◌≤◌, ◌⊎◌, List, [], ◌∷◌, ◌++◌, true, false, Option, Some, None, slice_get}
+use Rattle.std.specs.Prelude.{◌≡◌, ℕ, ◌<◌, ◌≤◌, ◌⊎◌, List, [], ◌∷◌, ◌++◌, true, false, Option, Some, None, IsSome}
+use Rattle.std.specs.Prelude.{slice_get}
 use Rattle.entry.specs.declared.entry.Entry.{Entry}
 use Rattle.entry.specs.declared.entry.Entry.TheVariants as entry
 use Rattle.entry.specs.declared.entry.Role.TheVariants as role
 use Rattle.entry.specs.Bag.{IsAmong}
 use Rattle.entry.specs.Text.{text_of, opening_of}
 use Rattle.replica.specs.Picture.{Replica, Picture}
-use Rattle.log_model.specs.Data.{LogConfig, Start, LogData, ids_of, new_of, state_of}
+use Rattle.log_model.specs.Data.{LogConfig, Start, LogData, IsHomeAt, ids_of, new_of, state_of}
 use Rattle.log_model.specs.Kept.{IsKept}
 use Rattle.log_model.specs.Log.{Texts}
 use Rattle.clean_model.specs.Covered.{map_of}
@@ -76,10 +77,12 @@ IsRollOf d m n = (m.commits ≡ false → n.others ≡ ids_of d.head.start)
 
 -- ---- all
 
--- What may be freed is out of the log set, and of an id that was used.
-pub record AreGone (ids : List ℕ) (unused : ℕ) (waiting : List ℕ) : Type 0 where
-  pub out : (s : ℕ) → IsAmong s waiting → IsAmong s ids → ⊥
-  pub below : (s : ℕ) → IsAmong s waiting → s < unused
+-- What waits to be freed is out of the log set, and of an id that was used.
+pub record AreGone (d : LogData) (m : Memory) (p : Picture) : Type 0 where
+  pub out : (s : ℕ) → IsAmong s m.waiting → IsAmong s (log_ids d m) → ⊥
+  pub below : (s : ℕ) → IsAmong s m.waiting → s < d.next
+  -- each home of a segment that waits holds a replica, but for those that were freed
+  pub held : (s j b : ℕ) → IsAmong s m.waiting → IsHomeAt d s j b → m.freed s ≤ j → IsSome (p b d.config.master s)
 
 -- The log is kept, images and index track the map over the log's texts, and a pass, its survivors, its commit and what
 -- it leaves are in order.
@@ -91,4 +94,4 @@ pub record IsIntact (d : LogData) (m : Memory) (p : Picture) : Type 0 where
   pub chosen : IsPassOf d.head.start (new_of d.phase) m.pass
   pub sealing : AreSealed d.config m log.texts p
   pub rolling : (n : Start) → new_of d.phase ≡ Some n → IsRollOf d m n
-  pub waiting : AreGone (log_ids d m) d.next m.waiting
+  pub waiting : AreGone d m p

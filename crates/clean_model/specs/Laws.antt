@@ -13,9 +13,10 @@ use Rattle.log_model.specs.Steps.{fresh, MayBegin, applied, MayApply, next_start
 use Rattle.clean_model.specs.Covered.{IsCovered}
 use Rattle.clean_model.specs.Intact.{IsCommit, IsReady, IsIntact}
 use Rattle.clean_model.specs.Memory.{Place, Memory}
+use Rattle.clean_model.specs.Same.{IsSameMemory}
 use Rattle.clean_model.specs.Steps.{first_memory, compacted, MayCompact, pass_begun, MayBeginClean, copy_done, MayCopy}
 use Rattle.clean_model.specs.Steps.{recorded, IsNamed, rolled, commit_start, MayCommit, after_take, seal_op}
-use Rattle.clean_model.specs.Steps.{sealed_more, MaySeal, free_op, MayFree, IsFault}
+use Rattle.clean_model.specs.Steps.{sealed_more, MaySeal, free_op, freed_more, MayFree, IsFault}
 
 -- ---- what is intact
 
@@ -92,10 +93,16 @@ abbrev pub SealKeeps : Type 0
 SealKeeps = (d : LogData) (m : Memory) (p : Picture) (s b : ℕ) → IsIntact d m p → MaySeal d m s b
     → (q : Picture) × (taken p d.config.master (seal_op m s b) ≡ Some q) × IsIntact d (sealed_more m s) q
 
--- A replica of a victim that is freed after the commit fits, and leaves all intact.
+-- The next replica of a victim that is freed after the commit fits, and leaves all intact.
 abbrev pub FreeKeeps : Type 0
-FreeKeeps = (d : LogData) (m : Memory) (p : Picture) (s b : ℕ) → IsIntact d m p → MayFree d m p s b
-    → (q : Picture) × (taken p d.config.master (free_op s b) ≡ Some q) × IsIntact d m q
+FreeKeeps = (d : LogData) (m : Memory) (p : Picture) (s b : ℕ) → IsIntact d m p → MayFree d m s b
+    → (q : Picture) × (taken p d.config.master (free_op s b) ≡ Some q) × IsIntact d (freed_more m s) q
+
+-- ---- the same memory
+
+-- What is intact is so of another memory with the same images and pass, whose index leads to the same objects.
+abbrev pub SameIsIntact : Type 0
+SameIsIntact = (d : LogData) (m n : Memory) (p : Picture) → IsIntact d m p → IsSameMemory d m n → IsIntact d n p
 
 -- ---- a fault
 

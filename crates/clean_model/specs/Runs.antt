@@ -13,7 +13,7 @@ use Rattle.clean_model.specs.Intact.{IsIntact}
 use Rattle.clean_model.specs.Memory.{Place, Memory}
 use Rattle.clean_model.specs.Steps.{compacted, MayCompact, pass_begun, MayBeginClean, copy_done, MayCopy, recorded}
 use Rattle.clean_model.specs.Steps.{IsNamed, rolled, MayCommit, after_take, seal_op, sealed_more, MaySeal, free_op}
-use Rattle.clean_model.specs.Steps.{MayFree}
+use Rattle.clean_model.specs.Steps.{freed_more, MayFree}
 
 -- A master, its memory and the backups.
 pub record CleanWorld : Type 0 where
@@ -60,9 +60,9 @@ CleanBecomes (Commits n) w v = MayCommit w.knows w.memory n × (v ≡ record w {
 })
 CleanBecomes (Takes o) w v = IsNext w.knows o v.knows × (taken w.picture w.knows.config.master o ≡ Some v.picture)
     × (v.memory ≡ after_take w.knows v.knows w.memory)
-CleanBecomes (Frees s b) w v = MayFree w.knows w.memory w.picture s b
+CleanBecomes (Frees s b) w v = MayFree w.knows w.memory s b
     × (taken w.picture w.knows.config.master (free_op s b) ≡ Some v.picture)
-    × (v ≡ record { knows = w.knows; memory = w.memory; picture = v.picture })
+    × (v ≡ record { knows = w.knows; memory = freed_more w.memory s; picture = v.picture })
 
 -- the events in order make the second of these from the first
 abbrev pub IsCleanRun : CleanWorld → List CleanEvent → CleanWorld → Type 0

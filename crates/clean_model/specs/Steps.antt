@@ -1,6 +1,6 @@
 -- What a master and its memory become: compaction, a pass, a command, a roll, an op taken.
 use Rattle.std.specs.Prelude.{◌≡◌, ℕ, suc, ◌<◌, ◌≤◌, ◌⊎◌, ◌==◌, List, [], ◌∷◌, ◌++◌, length, Bool, false, Option}
-use Rattle.std.specs.Prelude.{Some, None, IsSome, nat_lt, if◌then◌else◌}
+use Rattle.std.specs.Prelude.{Some, None, if◌then◌else◌}
 use Rattle.entry.specs.declared.key.Key.{Key}
 use Rattle.entry.specs.declared.entry.Entry.{Entry}
 use Rattle.entry.specs.declared.entry.Entry.TheVariants as entry
@@ -14,7 +14,8 @@ use Rattle.versioned_map.specs.Command.{command_key}
 use Rattle.log_model.specs.Data.{LogConfig, Start, Ready, LogData, IsHomeAt, ids_of, start_entries, new_of, state_of}
 use Rattle.log_model.specs.Ops.{LogOp, taken}
 use Rattle.log_model.specs.Steps.{first_start, unit_now, IsNext}
-use Rattle.clean_model.specs.Compaction.{has, kept, kept_from, moved_index, places}
+use Rattle.log_model.specs.Ids.{has, all_inserted, without}
+use Rattle.clean_model.specs.Compaction.{kept, kept_from, moved_index, places}
 use Rattle.clean_model.specs.Intact.{survivor_entries, IsCommit, IsReady}
 use Rattle.clean_model.specs.Memory.{Place, Index, Images, no_pass, Memory, log_ids, with_image, grown, StandsAt}
 
@@ -30,6 +31,7 @@ first_memory c = record {
   sealed = λ s. 0;
   commits = false;
   waiting = [];
+  freed = λ s. 0;
 }
 
 -- ---- compaction
@@ -145,21 +147,6 @@ abbrev pub rolled : LogData → Memory → Start → Bool → Memory
 rolled d m n commits =
     record m { images = with_image m.images n.id (start_entries d.config.master n); commits = commits }
 
--- ids that rise with one more at its place
-abbrev pub inserted : ℕ → List ℕ → List ℕ
-inserted s [] = s ∷ []
-inserted s (z ∷ ids) = if nat_lt s z then s ∷ z ∷ ids else z ∷ inserted s ids
-
--- ids that rise with several more at their places
-abbrev pub all_inserted : List ℕ → List ℕ → List ℕ
-all_inserted [] ids = ids
-all_inserted (s ∷ more) ids = inserted s (all_inserted more ids)
-
--- the ids that aren't among the victims
-abbrev pub without : List ℕ → List ℕ → List ℕ
-without victims [] = []
-without victims (s ∷ ids) = if has victims s then without victims ids else s ∷ without victims ids
-
 -- the next head of a commit
 abbrev pub commit_start : LogData → Memory → Start
 commit_start d m = record {
@@ -178,9 +165,14 @@ pub record MayCommit (d : LogData) (m : Memory) (n : Start) : Type 0 where
   pub segment : IsSegment (start_entries d.config.master n)
   pub limit : length (text_of (start_entries d.config.master n)) ≤ 8388608
 
--- memory once the pass has ended, and its victims may be freed
+-- memory once the pass has ended: its victims may be freed, and no replica of them was
 abbrev pub finished : Memory → Memory
-finished m = record m { pass = no_pass; commits = false; waiting = m.pass.victims ++ m.waiting }
+finished m = record m {
+  pass = no_pass;
+  commits = false;
+  waiting = m.pass.victims ++ m.waiting;
+  freed = λ s. if has m.pass.victims s then 0 else m.freed s;
+}
 
 -- memory after an op, by the new head before and after it: if a commit's roll has ended, so has its pass
 abbrev pub ended : Option Start → Option Start → Memory → Memory
@@ -215,19 +207,23 @@ pub record MaySeal (d : LogData) (m : Memory) (s b : ℕ) : Type 0 where
 abbrev pub free_op : ℕ → ℕ → LogOp
 free_op s b = record { backup = b; segment = s; act = Free }
 
--- A victim of an earlier pass has a replica there.
-pub record MayFree (d : LogData) (m : Memory) (p : Picture) (s b : ℕ) : Type 0 where
+-- memory once one more replica of the segment is freed
+abbrev pub freed_more : Memory → ℕ → Memory
+freed_more m s = record m { freed = λ z. if z == s then suc (m.freed s) else m.freed z }
+
+-- The next replica of a victim of an earlier pass is freed, on this backup.
+pub record MayFree (d : LogData) (m : Memory) (s b : ℕ) : Type 0 where
   pub waits : IsAmong s m.waiting
-  pub there : IsSome (p b d.config.master s)
+  pub home : IsHomeAt d s (m.freed s) b
 
 -- ---- a fault
 
 -- the op is the head's next, or one that seals or frees
-abbrev pub IsOp : LogData → Memory → Picture → LogOp → Type 0
-IsOp d m p o = ((e : LogData) × IsNext d o e)
+abbrev pub IsOp : LogData → Memory → LogOp → Type 0
+IsOp d m o = ((e : LogData) × IsNext d o e)
     ⊎ (((s : ℕ) × (b : ℕ) × MaySeal d m s b × (o ≡ seal_op m s b))
-    ⊎ ((s : ℕ) × (b : ℕ) × MayFree d m p s b × (o ≡ free_op s b)))
+    ⊎ ((s : ℕ) × (b : ℕ) × MayFree d m s b × (o ≡ free_op s b)))
 
 -- the picture after a fault: as it was, or with an op taken
 abbrev pub IsFault : LogData → Memory → Picture → Picture → Type 0
-IsFault d m p q = (q ≡ p) ⊎ ((o : LogOp) × IsOp d m p o × (taken p d.config.master o ≡ Some q))
+IsFault d m p q = (q ≡ p) ⊎ ((o : LogOp) × IsOp d m o × (taken p d.config.master o ≡ Some q))
