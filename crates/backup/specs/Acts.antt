@@ -1,10 +1,15 @@
 -- What an act does to the replica that it names, by its answer.
-use Rattle.std.specs.Prelude.{◌≡◌, ℕ, ◌<◌, Option, Some, None, IsSome, Result, Ok, Err}
+use Rattle.std.specs.Prelude.{◌≡◌, ℕ, ◌<◌, List, Bool, true, false, Option, Some, None, IsSome, Result, Ok, Err}
 use Rattle.replica.specs.declared.op.TakeFault.{TakeFault}
 use Rattle.replica.specs.declared.op.TakeFault.TheVariants as take_fault
-use Rattle.replica.specs.Op.{ActValue, OpValue}
+use Rattle.replica.specs.Op.{ActValue, Open, Seal, OpValue}
 use Rattle.replica.specs.Picture.{Replica, FleetState}
 use Rattle.replica.specs.Take.{effect, taken}
+
+-- a replica is made with these bytes, open or closed
+abbrev pub adding : List ℕ → Bool → ActValue
+adding bytes true = Open bytes
+adding bytes false = Seal bytes
 
 -- it is done; or it fits and nothing is done; or it doesn't fit
 abbrev pub Acts : ActValue → Option Replica → Result Unit TakeFault → Option Replica → Type 0

@@ -1,7 +1,8 @@
 //! What one backup holds.
 
-ghost use Rattle.std.specs.Prelude.{◌≡◌, ℕ, ◌++◌, OnOk, Some, None};
-ghost use Rattle.replica.specs.Op.{shown_act, Open, Extend, Close};
+ghost use Rattle.std.specs.Prelude.{◌≡◌, ℕ, ◌++◌, OnOk, None};
+ghost use Rattle.replica.specs.Op.{shown_act, Extend, Close, Free};
+ghost use Rattle.backup.specs.Acts.{adding};
 ghost use Rattle.backup.specs.Shelf.{replica_at, holdings_of, ActsAt, KeepsOthers, IsInOrder};
 
 use crate::stored::Stored;
@@ -33,14 +34,22 @@ impl MemoryBackup {
     {
         let place = (op.master, op.segment);
         match op.act {
-            Act::Open(bytes) => self.open(alloc, place, bytes),
+            Act::Open(bytes) => self.add(alloc, place, bytes, true),
             Act::Extend { at, bytes } => self.extend(place, at, bytes),
             Act::Close => self.close(place),
+            Act::Seal(bytes) => self.add(alloc, place, bytes, false),
+            Act::Free => self.free(place),
         }
     }
 
-    fn open(&mut self, alloc: Global, place: (u64, u64), bytes: &[u8]) -> Result<(), TakeFault>
-        ensures named { ActsAt (Open bytes.now) place.0 place.1 self.old result self.new }
+    fn add(
+        &mut self,
+        alloc: Global,
+        place: (u64, u64),
+        bytes: &[u8],
+        is_open: bool,
+    ) -> Result<(), TakeFault>
+        ensures named { ActsAt (adding bytes.now is_open) place.0 place.1 self.old result self.new }
         ensures others { KeepsOthers place.0 place.1 self.old self.new }
     {
         if self.replicas.contains_key(&place) {
@@ -49,7 +58,7 @@ impl MemoryBackup {
         let Ok(bytes) = Vec::from_slice(alloc, bytes) else {
             return Err(TakeFault::NoMemory);
         };
-        match self.replicas.insert(place, Stored::open(bytes)) {
+        match self.replicas.insert(place, Stored::new(bytes, is_open)) {
             Ok(_) => Ok(()),
             Err(_) => Err(TakeFault::NoMemory),
         }
@@ -71,6 +80,16 @@ impl MemoryBackup {
     {
         match self.replicas.get_mut(&place) {
             Some(stored) => stored.close(),
+            None => Err(TakeFault::Wrong),
+        }
+    }
+
+    fn free(&mut self, place: (u64, u64)) -> Result<(), TakeFault>
+        ensures named { ActsAt Free place.0 place.1 self.old result self.new }
+        ensures others { KeepsOthers place.0 place.1 self.old self.new }
+    {
+        match self.replicas.remove(&place) {
+            Some(_) => Ok(()),
             None => Err(TakeFault::Wrong),
         }
     }

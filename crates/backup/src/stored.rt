@@ -1,6 +1,6 @@
 //! A replica in memory.
 
-ghost use Rattle.std.specs.Prelude.{◌≡◌, Some, IfOk, true};
+ghost use Rattle.std.specs.Prelude.{◌≡◌, Some, IfOk};
 ghost use Rattle.replica.specs.Op.{Extend, Close};
 ghost use Rattle.backup.specs.Acts.{Acts};
 ghost use Rattle.backup.specs.Shelf.{holding_of};
@@ -26,14 +26,11 @@ impl Model for Stored {
 }
 
 impl Stored {
-    /// An open replica with these bytes. It takes no memory.
-    pub fn open(bytes: Vec<u8>) -> Stored
-        ensures { result ≡ record { bytes = bytes.items; is_open = true } }
+    /// A replica with these bytes, open or closed. It takes no memory.
+    pub fn new(bytes: Vec<u8>, is_open: bool) -> Stored
+        ensures { result ≡ record { bytes = bytes.items; is_open = is_open } }
     {
-        Stored {
-            bytes,
-            is_open: true,
-        }
+        Stored { bytes, is_open }
     }
 
     /// The replica as its backup shows it.

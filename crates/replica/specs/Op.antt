@@ -21,6 +21,8 @@ abbrev pub shown_act : Act → ActValue
 shown_act (act.Open bytes) = Open bytes.now
 shown_act (act.Extend at bytes) = Extend at bytes.now
 shown_act act.Close = Close
+shown_act (act.Seal bytes) = Seal bytes.now
+shown_act act.Free = Free
 
 abbrev pub shown_op : Op → OpValue
 shown_op op = record { master = op.master; segment = op.segment; act = shown_act op.act }

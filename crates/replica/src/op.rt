@@ -11,6 +11,10 @@ pub enum Act<'a> {
     Extend { at: usize, bytes: &'a [u8] },
     /// The open replica is closed.
     Close,
+    /// Makes a closed replica with these bytes, if there was none.
+    Seal(&'a [u8]),
+    /// The replica is gone, open or closed.
+    Free,
 }
 
 /// An op on the replica of a master's segment.

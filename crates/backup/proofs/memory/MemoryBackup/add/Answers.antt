@@ -1,6 +1,6 @@
 use Rattle.std.proofs.Common.{◌∙◌, rules}
 use Rattle.backup.proofs.Places.{is_eq-place_cmp}
-use Rattle.backup.proofs.memory.MemoryBackup.open.Goals as goal
+use Rattle.backup.proofs.memory.MemoryBackup.add.Goals as goal
 
 pub returns-in_default-clause-named : goal.returns-in_default-clause-named
 returns-in_default-clause-named c = search rules
