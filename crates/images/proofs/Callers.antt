@@ -1,12 +1,13 @@
 -- What the images keep through each step, for callers.
-use Rattle.std.proofs.Common.{◌≡◌, ℕ, ◌+◌, ◌<◌, ◌≤◌, Bool, true, false, List, [], ◌∷◌, ◌++◌, refl, sym, ap, subst, ◌∙◌, arith}
+use Rattle.std.proofs.Common.{◌≡◌, ℕ, ◌+◌, ◌<◌, ◌≤◌, Bool, true, false, List, [], ◌∷◌, refl, sym, ap, subst, ◌∙◌, arith}
 use Rattle.std.specs.Prelude.{◌==◌, Option, Some, None, IsSomeAnd}
 use Rattle.entry.specs.declared.entry.Entry.{Entry}
 use Rattle.images.specs.declared.image.Image.{Image}
 use Rattle.images.specs.Images.{ImagesValue}
-use Rattle.images.specs.Sorted.{AreBelow, IsWhole, image_of, changed, without}
+use Rattle.images.specs.Sorted.{AreBelow, IsWhole, image_of, added, changed, without}
 use Rattle.images.specs.Steps.{with_unit}
-use Rattle.images.proofs.Listing.{all_more, all_without, same_id, other_id}
+use Rattle.images.proofs.Listing.{all_without}
+use Rattle.images.proofs.Adding.{all_added, image_own}
 
 -- ---- each id is below the next one
 
@@ -14,9 +15,9 @@ pub below_le : (xs : List Image) (m n : ℕ) → AreBelow m xs → m ≤ n → A
 below_le [] m n all le = tt
 below_le (x ∷ xs) m n all le = (let lt = all.0 in (omega arith, below_le xs m n all.1 le))
 
-pub below_more : (xs : List Image) (y : Image) → AreBelow y.id xs → AreBelow (y.id + 1) (xs ++ y ∷ [])
-below_more xs y all =
-    all_more (λ (x : Image). x.id < y.id + 1) xs y (below_le xs y.id (y.id + 1) all (omega arith)) (omega arith)
+pub below_added : (xs : List Image) (y : Image) → AreBelow y.id xs → AreBelow (y.id + 1) (added y xs)
+below_added xs y all =
+    all_added (λ (x : Image). x.id < y.id + 1) y xs (below_le xs y.id (y.id + 1) all (omega arith)) (omega arith)
 
 pub below_changed : (xs : List Image) (id n : ℕ) (f : Image → Image) → ((x : Image) → (f x).id ≡ x.id) → AreBelow n xs → AreBelow n (changed xs id f)
 below_changed [] id n f same all = tt
@@ -30,14 +31,6 @@ pub below_without : (xs : List Image) (id n : ℕ) → AreBelow n xs → AreBelo
 below_without xs id n all = all_without (λ (x : Image). x.id < n) xs id all
 
 -- ---- the image of an id
-
--- the newest image is found
-pub image_more : (xs : List Image) (y : Image) → AreBelow y.id xs → image_of (xs ++ y ∷ []) y.id ≡ Some y
-image_more [] y all = let test = same_id y.id y.id refl in rw test refl
-image_more (x ∷ xs) y all =
-    let lt = all.0 in
-    let test : (x.id == y.id) ≡ false = other_id x.id y.id (λ (e : x.id ≡ y.id). omega arith) in
-    rw test (image_more xs y all.1)
 
 -- what is changed is found changed
 pub image_changed : (xs : List Image) (id : ℕ) (f : Image → Image) (y : Image) → ((x : Image) → (f x).id ≡ x.id) → image_of xs id ≡ Some y
@@ -58,9 +51,9 @@ image_changed (x ∷ xs) id f y same is = go (x.id == id) refl (image_changed xs
 
 -- ---- what takes appends
 
--- the newest image does if it is whole
-pub whole_more : (xs : List Image) (y : Image) → AreBelow y.id xs → y.is_whole ≡ true → IsWhole (xs ++ y ∷ []) y.id
-whole_more xs y all is = subst (λ (o : Option Image). IsSomeAnd o (λ (x : Image). x.is_whole ≡ true)) (sym (image_more xs y all)) is
+-- the image that was added does if it is whole
+pub whole_added : (xs : List Image) (y : Image) → image_of xs y.id ≡ None → y.is_whole ≡ true → IsWhole (added y xs) y.id
+whole_added xs y none is = subst (λ (o : Option Image). IsSomeAnd o (λ (x : Image). x.is_whole ≡ true)) (sym (image_own y xs none)) is
 
 -- what did still does with a unit at its end
 pub whole_grown : (xs : List Image) (id : ℕ) (unit : List Entry) → IsWhole xs id → IsWhole (changed xs id (with_unit unit)) id

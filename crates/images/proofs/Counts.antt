@@ -1,15 +1,15 @@
 -- What is counted, through each step.
-use Rattle.std.proofs.Common.{◌≡◌, ℕ, ◌+◌, ◌-◌, ◌*◌, ◌/◌, ◌%◌, ◌<◌, ◌≤◌, ◌↔◌, Bool, true, false, List, [], ◌∷◌, ◌++◌, length, get_or, refl, sym, ap, subst, ◌∙◌, arith}
+use Rattle.std.proofs.Common.{◌≡◌, ℕ, ◌+◌, ◌-◌, ◌*◌, ◌/◌, ◌%◌, ◌<◌, ◌≤◌, ◌↔◌, Bool, true, false, List, ◌++◌, length, get_or, refl, sym, ap, subst, ◌∙◌, arith}
 use Rattle.std.proofs.Math.ListN.{set, length-set}
 use Rattle.std.proofs.Math.Nat.{mod-eq-sub-div-mul, div-mul-le_self, lt_of_mul-lt-mul_right}
-use Rattle.std.specs.Prelude.{Option, Some, Result, Ok, Err, IsSomeAnd, OnOk, OnErr, IsErrOf, remove, sum_by}
+use Rattle.std.specs.Prelude.{Option, Some, None, Result, Ok, Err, IsSomeAnd, OnOk, OnErr, IsErrOf, remove, sum_by}
 use Rattle.std.specs.Int.{div_ceil}
 use Rattle.std.specs.List.{AllByRecursion}
 use Rattle.std.specs.Option.{option_map, option_map_or}
 use Rattle.std.proofs.lemmas.Grind.{div_ceil_times, flat_map-append}
 use Rattle.std.proofs.lemmas.List.{length-append, set-get_or}
 use Rattle.std.proofs.lemmas.List.Edits.{length-remove}
-use Rattle.std.proofs.lemmas.List.Sums.{sum_by-set, sum_by-remove, sum_by_push, get_or-le-sum_by}
+use Rattle.std.proofs.lemmas.List.Sums.{sum_by-set, sum_by-remove, get_or-le-sum_by}
 use Rattle.entry.specs.declared.entry.Entry.{Entry}
 use Rattle.entry.specs.Format.{spelling}
 use Rattle.entry.specs.Text.{text_of}
@@ -17,10 +17,11 @@ use Rattle.segment.specs.declared.fault.AppendFault.{AppendFault}
 use Rattle.segment.specs.declared.fault.AppendFault.TheVariants.{Full}
 use Rattle.images.specs.declared.image.Image.{Image}
 use Rattle.images.specs.Images.{ImagesValue, IsImages, count_of, count_at, used_seglets, free_seglets}
-use Rattle.images.specs.Sorted.{AreRising, AreBelow, IsWhole, image_of, changed, without}
+use Rattle.images.specs.Sorted.{AreRising, IsWhole, image_of, added, changed, without}
 use Rattle.images.specs.Place.{IsPlaceOf}
 use Rattle.images.specs.Steps.{with_unit, trimmed, replaced_by, len_at}
-use Rattle.images.proofs.Listing.{all_at, all_set, all_more, all_without, image_at, changed_at, without_at, rising_set, rising_without, rising_more}
+use Rattle.images.proofs.Listing.{all_at, all_set, all_without, absent_from_none, image_at, changed_at, without_at, rising_set, rising_without}
+use Rattle.images.proofs.Adding.{all_added, rising_added, sum_added}
 
 -- ---- one image
 
@@ -38,11 +39,11 @@ within_whole segment seglet len pos multiple le =
     let lt : div_ceil len seglet * seglet < (segment / seglet + 1) * seglet = omega arith in
     let below : div_ceil len seglet < segment / seglet + 1 = lt_of_mul-lt-mul_right seglet lt in omega arith
 
-not_full : (n : ℕ) → IsErrOf {T = ℕ} {E = AppendFault} (Ok n) Full → ⊥
+pub not_full : (n : ℕ) → IsErrOf {T = ℕ} {E = AppendFault} (Ok n) Full → ⊥
 not_full n e = cc
 
 -- the length of a text of two parts
-text_more : (es fs : List Entry) → length (text_of (es ++ fs)) ≡ length (text_of es) + length (text_of fs)
+pub text_more : (es fs : List Entry) → length (text_of (es ++ fs)) ≡ length (text_of es) + length (text_of fs)
 text_more es fs = ap (λ (bytes : List ℕ). length bytes) (flat_map-append spelling es fs) ∙ length-append (text_of es) (text_of fs)
 
 -- ---- the image of an id
@@ -198,18 +199,18 @@ module _ (v : ImagesValue) (valid : IsImages v) (id at : ℕ) (place : IsPlaceOf
   replaced_valid segment len fits = set_valid (replaced_by segment x) refl len fits
 
 -- one more image
-pub added_valid : (v : ImagesValue) (y : Image) (room : ℕ) → IsImages v → AreBelow y.id v.images → length (text_of y.segment) ≤ v.segment
-    → count_of v.segment v.seglet y ≤ v.seglets - used_seglets v → length (v.images ++ y ∷ []) ≤ room
-    → (used_seglets v + count_of v.segment v.seglet y ≡ sum_by (count_of v.segment v.seglet) (v.images ++ y ∷ []))
-    × IsImages (record v { images = v.images ++ y ∷ []; room = room })
-added_valid v y room valid below len fits enough =
-    let total = sum_by_push (count_of v.segment v.seglet) v.images y in
+pub added_valid : (v : ImagesValue) (y : Image) (room : ℕ) → IsImages v → image_of v.images y.id ≡ None → length (text_of y.segment) ≤ v.segment
+    → count_of v.segment v.seglet y ≤ v.seglets - used_seglets v → length (added y v.images) ≤ room
+    → (used_seglets v + count_of v.segment v.seglet y ≡ sum_by (count_of v.segment v.seglet) (added y v.images))
+    × IsImages (record v { images = added y v.images; room = room })
+added_valid v y room valid none len fits enough =
+    let total = sum_added (count_of v.segment v.seglet) y v.images in
     let most = valid.fits in (
       sym total,
       record {
         sizes = valid.sizes;
-        rising = rising_more v.images y valid.rising below;
-        within = all_more (λ (z : Image). length (text_of z.segment) ≤ v.segment) v.images y valid.within len;
+        rising = rising_added y v.images valid.rising (absent_from_none v.images y.id none);
+        within = all_added (λ (z : Image). length (text_of z.segment) ≤ v.segment) y v.images valid.within len;
         fits = omega arith;
         room = enough;
       },

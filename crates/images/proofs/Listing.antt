@@ -1,12 +1,12 @@
 -- Images in a list by rising id.
-use Rattle.std.proofs.Common.{◌≡◌, ℕ, zero, suc, ◌<◌, ◌≤◌, Bool, true, false, List, [], ◌∷◌, ◌++◌, length, get_or, refl, sym, ap, ◌∙◌, arith}
+use Rattle.std.proofs.Common.{◌≡◌, ℕ, zero, suc, ◌<◌, ◌≤◌, Bool, true, false, List, [], ◌∷◌, length, get_or, refl, sym, ap, ◌∙◌, arith}
 use Rattle.std.proofs.Math.ListN.{set}
 use Rattle.std.specs.Prelude.{◌==◌, Some, None, remove}
 use Rattle.std.specs.List.{AllByRecursion}
 use Rattle.std.proofs.lemmas.Bool.{eqb-true}
 use Rattle.std.proofs.lemmas.Bool.Decides.{nat_tests}
 use Rattle.images.specs.declared.image.Image.{Image}
-use Rattle.images.specs.Sorted.{AreRising, AreBelow, image_of, changed, without}
+use Rattle.images.specs.Sorted.{AreRising, image_of, changed, without}
 
 -- ---- tests of ids
 
@@ -30,10 +30,6 @@ pub all_set : (P : Image → Type 0) (xs : List Image) (at : ℕ) (y : Image) �
 all_set P [] at y all new = tt
 all_set P (x ∷ xs) zero y all new = (new, all.1)
 all_set P (x ∷ xs) (suc at) y all new = (all.0, all_set P xs at y all.1 new)
-
-pub all_more : (P : Image → Type 0) (xs : List Image) (y : Image) → AllByRecursion P xs → P y → AllByRecursion P (xs ++ y ∷ [])
-all_more P [] y all new = (new, tt)
-all_more P (x ∷ xs) y all new = (all.0, all_more P xs y all.1 new)
 
 pub all_without : (P : Image → Type 0) (xs : List Image) (id : ℕ) → AllByRecursion P xs → AllByRecursion P (without xs id)
 all_without P [] id all = tt
@@ -136,8 +132,3 @@ rising_without (x ∷ xs) id rising = go (x.id == id) refl (rising_without xs id
     go : (t : Bool) → (x.id == id) ≡ t → AreRising (without xs id) → AreRising (without (x ∷ xs) id)
     go true is rest = rw is rest
     go false is rest = rw is (all_without (λ (other : Image). x.id < other.id) xs id rising.0, rest)
-
-pub rising_more : (xs : List Image) (y : Image) → AreRising xs → AreBelow y.id xs → AreRising (xs ++ y ∷ [])
-rising_more [] y rising below = (tt, tt)
-rising_more (x ∷ xs) y rising below =
-    (all_more (λ (other : Image). x.id < other.id) xs y rising.0 below.0, rising_more xs y rising.1 below.1)

@@ -2,3 +2,4 @@ pub mod Images
 pub mod Sorted
 pub mod Place
 pub mod Steps
+pub mod Laws

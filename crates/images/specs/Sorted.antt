@@ -1,6 +1,6 @@
 -- Images by their ids.
 use Rattle.std.specs.Prelude.{◌≡◌, ℕ, ◌<◌, ◌==◌, List, [], ◌∷◌, map, filter, not, Option, IsSomeAnd, true}
-use Rattle.std.specs.Prelude.{find, if◌then◌else◌, ⊤}
+use Rattle.std.specs.Prelude.{find, nat_lt, if◌then◌else◌, ⊤}
 use Rattle.std.specs.List.{AllByRecursion}
 use Rattle.std.specs.Option.{option_map}
 use Rattle.entry.specs.declared.entry.Entry.{Entry}
@@ -30,6 +30,12 @@ IsWhole images id = IsSomeAnd (image_of images id) (λ (image : Image). image.is
 -- the image of this id is changed, and no other
 abbrev pub changed : List Image → ℕ → (Image → Image) → List Image
 changed images id change = map (λ (image : Image). if image.id == id then change image else image) images
+
+-- the images with one more, at its place
+abbrev pub added : Image → List Image → List Image
+added image [] = image ∷ []
+added image (other ∷ later) =
+    if nat_lt image.id other.id then image ∷ other ∷ later else other ∷ added image later
 
 -- all but the image of this id
 abbrev pub without : List Image → ℕ → List Image

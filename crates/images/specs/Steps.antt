@@ -1,8 +1,9 @@
 -- What steps make of an image.
-use Rattle.std.specs.Prelude.{ℕ, List, ◌++◌, length, false}
-use Rattle.std.specs.Option.{option_map_or}
+use Rattle.std.specs.Prelude.{ℕ, List, ◌++◌, length, false, Option}
+use Rattle.std.specs.Option.{option_map_or, option_and_then}
 use Rattle.entry.specs.declared.entry.Entry.{Entry}
 use Rattle.entry.specs.Text.{text_of}
+use Rattle.segment.specs.Bytes.{standing_at}
 use Rattle.images.specs.declared.image.Image.{Image}
 use Rattle.images.specs.Sorted.{segment_of}
 
@@ -21,3 +22,7 @@ replaced_by segment image = record image { segment = segment; is_whole = false }
 -- the bytes of the image of this id; 0 if there is none
 abbrev pub len_at : List Image → ℕ → ℕ
 len_at images id = option_map_or (λ (es : List Entry). length (text_of es)) (segment_of images id) 0
+
+-- the entry at an offset of the image of this id
+abbrev pub entry_at : List Image → ℕ → ℕ → Option Entry
+entry_at images from at = option_and_then (λ (es : List Entry). standing_at at (text_of es)) (segment_of images from)

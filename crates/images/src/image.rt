@@ -1,10 +1,10 @@
 //! One image, and images in a list.
 
-ghost use Rattle.std.specs.Prelude.{◌≡◌, ◌<◌, ◌≤◌, ◌^◌, length, slice_index_or, sum_by, IfSome, IfNone, None};
+ghost use Rattle.std.specs.Prelude.{◌≡◌, ◌<◌, ◌≤◌, ◌^◌, length, insert, sum_by, IfSome, IfNone, None};
 ghost use Rattle.std.specs.Int.{div_ceil};
 ghost use Rattle.entry.specs.Text.{text_of};
 ghost use Rattle.images.specs.Images.{count_of};
-ghost use Rattle.images.specs.Sorted.{AreRising, image_of};
+ghost use Rattle.images.specs.Sorted.{AreRising, image_of, added};
 ghost use Rattle.images.specs.Place.{IsPlaceOf};
 
 use segment::Segment;
@@ -58,4 +58,13 @@ pub(crate) fn place_of(images: &[Image], id: u64) -> Option<usize>
     ensures absent { IfNone result (image_of images.now id ≡ None) }
 {
     images.binary_search_by_key(&id, |image| image.id).ok()
+}
+
+/// Where an image with this id belongs in a list by rising id: behind all that have no higher one.
+pub(crate) fn place_for(images: &[Image], id: u64) -> usize
+    requires { AreRising images.now }
+    ensures within { result ≤ length images.now }
+    ensures place { (image : Image) → image.id ≡ id → insert images.now result image ≡ added image images.now }
+{
+    images.partition_point(|image| image.id <= id)
 }

@@ -1,14 +1,16 @@
 //! Images in memory, with the sum of what they count.
 
-ghost use Rattle.std.specs.Prelude.{◌≡◌, ◌+◌, ◌<◌, ◌≤◌, ◌↔◌, ◌++◌, ◌∷◌, [], true, false, length, map, sum_by};
-ghost use Rattle.std.specs.Prelude.{IfOk, IfErr, OnOk, OnErr, IsErrAnd, IsErrOf, IsErr, IsSome};
+ghost use Rattle.std.specs.Prelude.{◌≡◌, ◌+◌, ◌<◌, ◌≤◌, ◌↔◌, ◌∷◌, [], true, None, length, map, sum_by};
+ghost use Rattle.std.specs.Prelude.{IfOk, IfErr, OnOk, OnErr, IsErrAnd, IsErrOf, IsErr, IsSome, IsSomeAnd, IfSome};
 ghost use Rattle.std.specs.Int.{div_ceil};
 ghost use Rattle.std.specs.Option.{option_copied};
-ghost use Rattle.entry.specs.Text.{text_of, are_data};
+ghost use Rattle.entry.specs.Format.{spelling};
+ghost use Rattle.entry.specs.Text.{text_of, is_data, are_data};
 ghost use Rattle.entry.specs.View.{shown};
 
+use crate::copying::copy_entry;
 use crate::fault::ImagesFault;
-use crate::image::{Image, count_of, place_of, recounted, seglets_of};
+use crate::image::{Image, count_of, place_for, place_of, recounted, seglets_of};
 use entry::{EntryRef, NoMemory};
 use segment::{AppendFault, Segment};
 use std::alloc::Global;
@@ -55,8 +57,8 @@ impl Images {
     ghost use Rattle.images.specs.declared.image.Image.{Image as ImageValue};
     ghost use Rattle.images.specs.Images.{ImagesValue, IsImages, AreSizes};
     ghost use Rattle.images.specs.Images.{count_of, count_at, used_seglets, free_seglets};
-    ghost use Rattle.images.specs.Sorted.{AreBelow, IsWhole, image_of, segment_of, changed, without};
-    ghost use Rattle.images.specs.Steps.{with_unit, trimmed, replaced_by, len_at};
+    ghost use Rattle.images.specs.Sorted.{IsWhole, image_of, segment_of, added, changed, without};
+    ghost use Rattle.images.specs.Steps.{with_unit, trimmed, replaced_by, len_at, entry_at};
 
     /// No images yet: segments of at most `segment` bytes, in `seglets` seglets of `seglet` bytes each.
     pub fn new(alloc: Global, segment: usize, seglet: usize, seglets: u64) -> Images
@@ -109,6 +111,14 @@ impl Images {
         self.images.len()
     }
 
+    /// The images, by rising id.
+    pub fn as_slice(&self) -> &[Image]
+        ensures images { result.now ≡ self.entry.now.images }
+        ensures valid { IsImages self.now }
+    {
+        self.images.as_slice()
+    }
+
     /// The segment of this number.
     pub fn get(&self, id: u64) -> Option<&Segment>
         ensures { option_copied result ≡ segment_of self.entry.now.images id }
@@ -117,18 +127,18 @@ impl Images {
         Some(&self.images[at].segment)
     }
 
-    /// Makes room for one more image in the list, so that the next `add` takes no memory.
-    pub fn reserve(&mut self) -> Result<(), NoMemory>
+    /// Makes room for so many more images in the list, so that as many calls of `add` take no memory.
+    pub fn reserve(&mut self, more: usize) -> Result<(), NoMemory>
         ensures same { self.new ≡ record self.old { room = self.new.room } }
         ensures grown { self.old.room ≤ self.new.room }
-        ensures ok { OnOk result (length self.old.images < self.new.room) }
-        ensures full { OnErr result (self.old.room ≤ length self.old.images) }
+        ensures ok { OnOk result (length self.old.images + more ≤ self.new.room) }
+        ensures full { OnErr result (self.old.room < length self.old.images + more) }
     {
-        self.images.reserve(1)
+        self.images.reserve(more)
     }
 
-    /// Adds the image of a segment whose number is above all that are there, of at most `segment` bytes. A whole one
-    /// still takes appends, and the caller took its memory whole (`Segment::reserve`). An image that isn't added is
+    /// Adds the image of a segment, at its place. No image has its number, and it has at most `segment` bytes. A whole
+    /// one still takes appends, and the caller took its memory whole (`Segment::reserve`). An image that isn't added is
     /// handed back: `NoRoom` comes exactly if it counts more seglets than are free, `NoMemory` only if the list has no
     /// room for it.
     pub fn add(
@@ -137,10 +147,10 @@ impl Images {
         segment: Segment,
         is_whole: bool,
     ) -> Result<(), (ImagesFault, Segment)>
-        requires newest { AreBelow id self.old.images }
+        requires other { image_of self.old.images id ≡ None }
         requires within { length (text_of segment) ≤ self.old.segment }
         ensures ok { OnOk result (self.new ≡ record self.old {
-          images = self.old.images ++ record { id = id; segment = segment; is_whole = is_whole } ∷ [];
+          images = added (record { id = id; segment = segment; is_whole = is_whole }) self.old.images;
           room = self.new.room;
         }) }
         ensures err { OnErr result (self.new ≡ self.old) }
@@ -165,16 +175,16 @@ impl Images {
         Ok(())
     }
 
-    /// Adds an image as `add` does, where the list has room and the seglets are free. It can't fail.
+    /// Adds an image as `add` does, where the list has room and the seglets are free. It can't fail, takes no memory,
+    /// and moves only images with a higher number.
     pub fn add_reserved(&mut self, id: u64, segment: Segment, is_whole: bool)
-        requires newest { AreBelow id self.old.images }
+        requires other { image_of self.old.images id ≡ None }
         requires within { length (text_of segment) ≤ self.old.segment }
         requires room { length self.old.images < self.old.room }
         requires free { count_of self.old.segment self.old.seglet
             (record { id = id; segment = segment; is_whole = is_whole }) ≤ free_seglets self.old }
         ensures { self.new ≡ record self.old {
-          images = self.old.images ++ record { id = id; segment = segment; is_whole = is_whole } ∷ [];
-          room = self.new.room;
+          images = added (record { id = id; segment = segment; is_whole = is_whole }) self.old.images;
         } }
     {
         let image = Image {
@@ -183,7 +193,8 @@ impl Images {
             is_whole,
         };
         self.used += count_of(&image, self.segment, self.seglet);
-        self.images.push_reserved(image);
+        let at = place_for(self.images.as_slice(), id);
+        self.images.insert(at, image).unwrap();
     }
 
     /// Appends a unit to a whole image, all or none of it. The answer is the offset of its first entry. `Full` comes
@@ -203,6 +214,23 @@ impl Images {
             unreachable!()
         };
         self.images[at].segment.append(unit, self.segment)
+    }
+
+    /// Appends a copy of the object or tombstone at an offset of one image to a later image, which is whole. The answer
+    /// is its offset there. `Full` comes exactly if the segment would have too many bytes. No memory is taken if the
+    /// image's was taken whole. A refusal changes nothing.
+    pub fn copy_entry(&mut self, from: u64, at: usize, to: u64) -> Result<usize, AppendFault>
+        requires order { from < to }
+        requires whole { IsWhole self.old.images to }
+        requires data { IsSomeAnd (entry_at self.old.images from at) (λ e. is_data e ≡ true) }
+        ensures ok { OnOk result (IfSome (entry_at self.old.images from at)
+            (λ e. self.new ≡ record self.old { images = changed self.old.images to (with_unit (e ∷ [])) })) }
+        ensures place { IfOk result (λ at. at ≡ len_at self.old.images to) }
+        ensures full { IfSome (entry_at self.old.images from at) (λ e. IsErrOf result AppendFault.Full ↔
+            (self.old.segment < len_at self.old.images to + length (spelling e))) }
+        ensures err { OnErr result (self.new ≡ self.old) }
+    {
+        copy_entry(self.images.as_mut_slice(), from, at, to, self.segment)
     }
 
     /// Makes a whole image one that counts its length, and gives back the memory beyond its seglets. It changes nothing

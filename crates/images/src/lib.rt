@@ -6,10 +6,13 @@
 //! memory: the contract of a vector doesn't say that it shrinks when it is asked to, nor how much it grows.
 #![tactic(auto)]
 
+mod copying;
 mod fault;
 mod image;
 mod images;
+mod laws;
 
 pub use fault::ImagesFault;
 pub use image::Image;
 pub use images::Images;
+pub use laws::{images_are_added, images_are_found, images_stay_in_order};

@@ -7,7 +7,7 @@ use Rattle.std.specs.List.{flat_map, AllByRecursion}
 use Rattle.std.proofs.lemmas.Bool.{and_parts}
 use Rattle.std.proofs.lemmas.List.{length-append, append-nil, map-append, at_drop_more, take_more}
 use Rattle.std.proofs.lemmas.List.Folds.{length-flat_map-take, flat_map-map}
-use Rattle.entry.specs.declared.entry.Role.TheVariants.{Head}
+use Rattle.entry.specs.declared.entry.Role.TheVariants.{Head, Survivor}
 use Rattle.entry.specs.declared.entry.Header.{Header}
 use Rattle.entry.specs.declared.entry.Entry.{Entry}
 use Rattle.entry.specs.declared.entry.Entry.TheVariants as entry
@@ -138,3 +138,23 @@ length-head master segment ids safe =
     length-three (spelling (entry.Header (head master segment))) (spelling (entry.Digest ids))
     (spelling (entry.Safe safe))
     ∙ rw (length-header, length-digest, length-safe) (omega arith)
+
+-- ---- the header of a survivor
+
+abbrev pub survivor : ℕ → ℕ → Header
+survivor master segment = record { master = master; segment = segment; role = Survivor }
+
+abbrev pub survivor_of : ℕ → ℕ → List Entry
+survivor_of master segment = entry.Header (survivor master segment) ∷ []
+
+pub IsTextOf-survivor : (master segment : ℕ) (a b : List ℕ) → IsEntry (entry.Header (survivor master segment)) → a ≡ []
+    → b ≡ a ++ spelling (entry.Header (survivor master segment)) → IsTextOf b (survivor_of master segment)
+IsTextOf-survivor master segment a b header p q = record {
+  segment = record { each = (header, tt); order = refl };
+  text = q ∙ ap (λ (l : List ℕ). l ++ spelling (entry.Header (survivor master segment))) p
+      ∙ sym (append-nil (spelling (entry.Header (survivor master segment))));
+}
+
+pub length-survivor : (master segment : ℕ) → length (text_of (survivor_of master segment)) ≡ 18
+length-survivor master segment =
+    ap length (append-nil (spelling (entry.Header (survivor master segment)))) ∙ length-header (survivor master segment)

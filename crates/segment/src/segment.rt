@@ -20,8 +20,11 @@ use std::marker::Model;
 /// The most bytes of a segment.
 pub const MAX_SEGMENT_LEN: usize = 8_388_608;
 
+/// The bytes of a header.
+const HEADER_LEN: usize = 18;
+
 /// The bytes of a head's opening entries, but for those of its ids.
-const OPENING_LEN: usize = 18 + 5 + 9;
+const OPENING_LEN: usize = HEADER_LEN + 5 + 9;
 
 /// A segment: its text. A contract sees the list of its entries.
 #[derive(Drop)]
@@ -77,6 +80,21 @@ impl Segment {
         let ids = Ids::new(Vec::from_slice(alloc, ids.as_slice())?);
         append_entry(Entry::Digest(ids), &mut bytes)?;
         append_entry(Entry::Safe(safe), &mut bytes)?;
+        Ok(Segment { bytes })
+    }
+
+    /// The survivor of a cleaning pass: its header alone.
+    pub fn begin_survivor(alloc: Global, master: u64, id: u64) -> Result<Segment, NoMemory>
+        ensures { IfOk result (λ segment.
+            segment ≡ Entry.Header (record { master = master; segment = id; role = Role.Survivor }) ∷ []) }
+    {
+        let mut bytes = Vec::with_capacity(alloc, HEADER_LEN)?;
+        let header = Header {
+            master,
+            segment: id,
+            role: Role::Survivor,
+        };
+        append_entry(Entry::Header(header), &mut bytes)?;
         Ok(Segment { bytes })
     }
 

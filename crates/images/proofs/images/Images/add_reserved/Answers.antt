@@ -1,21 +1,49 @@
-use Rattle.std.proofs.Common.{◌≡◌, ◌≤◌, ◌++◌, ◌∷◌, [], List, length, sym, subst, arith}
+use Rattle.std.proofs.Common.{◌≡◌, ◌<◌, ◌≤◌, ◌∙◌, List, length, ap, sym, subst, refl, arith}
+use Rattle.std.specs.Prelude.{None, insert}
+use Rattle.std.specs.Vec.{vec_len, vec_capacity}
 use Rattle.images.specs.contracts.images.Images.{the_view}
 use Rattle.images.specs.declared.image.Image.{Image}
 use Rattle.images.specs.Images.{ImagesValue, count_of, free_seglets}
-use Rattle.std.specs.Vec.{vec_capacity}
-use Rattle.images.specs.Sorted.{AreBelow}
+use Rattle.images.specs.Sorted.{image_of, added}
 use Rattle.images.proofs.Counts.{added_valid}
+use Rattle.images.proofs.images.Images.add_reserved.Goals.{After-unwrap}
 use Rattle.images.proofs.images.Images.add_reserved.Goals as goal
+
+items_are : (c : After-unwrap)
+    → c.insert.new.self.items ≡ added (record { id = c.args.id; segment = c.args.segment; is_whole = c.args.is_whole }) c.self.inside.images.items
+items_are c =
+    let image : Image = record { id = c.args.id; segment = c.args.segment; is_whole = c.args.is_whole } in
+    (rw c.unwrap.ensures at c.insert.ensures.items) ∙ ap (λ (xs : List Image). insert xs c.place_for-at.result image) (sym c.as_slice.ensures.value)
+    ∙ c.place_for-at.ensures.place image refl ∙ ap (added image) c.as_slice.ensures.value
 
 pub invariant_of-self : goal.invariant_of-self
 invariant_of-self c =
     let v = the_view c.self.inside in
     let image : Image = record { id = c.args.id; segment = c.args.segment; is_whole = c.args.is_whole } in
-    let items : c.push_reserved.new.self.items ≡ c.self.inside.images.items ++ image ∷ [] = c.push_reserved.ensures.items in
-    let below = subst (λ (w : ImagesValue). AreBelow c.args.id w.images) (sym c.self.view_is) c.requires.newest in
+    let items : c.insert.new.self.items ≡ added image v.images = items_are (goal.at.invariant_of-self c).After-unwrap in
+    let other = subst (λ (w : ImagesValue). image_of w.images c.args.id ≡ None) (sym c.self.view_is) c.requires.other in
     let len = rw (← c.self.view_is) at c.requires.within in
     let free = subst (λ (w : ImagesValue). count_of w.segment w.seglet image ≤ free_seglets w) (sym c.self.view_is) c.requires.free in
-    let room : length c.push_reserved.new.self.items ≤ vec_capacity c.push_reserved.new.self = omega arith in
-    let parts = added_valid v image (vec_capacity c.push_reserved.new.self) c.self.invariant.1 below len free
-    (subst (λ (xs : List Image). length xs ≤ vec_capacity c.push_reserved.new.self) items room) in
+    let room : length c.insert.new.self.items ≤ vec_capacity c.insert.new.self = omega arith in
+    let parts = added_valid v image (vec_capacity c.insert.new.self) c.self.invariant.1 other len free
+    (subst (λ (xs : List Image). length xs ≤ vec_capacity c.insert.new.self) items room) in
     rw (items, c.self.invariant.0, c.count_of.ensures) parts
+
+-- the list had room, so it has as much room as before
+room_is : (c : After-unwrap) → vec_capacity c.insert.new.self ≡ vec_capacity c.self.inside.images
+room_is c =
+    let lt = subst (λ (w : ImagesValue). length w.images < w.room) (sym c.self.view_is) c.requires.room in
+    let len = c.self.inside.images.ok.0 in
+    let below : vec_len c.self.inside.images < vec_capacity c.self.inside.images = omega arith in
+    (c.insert.ensures.in_place below).1.0
+
+pub returns : goal.returns
+returns c =
+    let all = (goal.at.returns c).After-unwrap in
+    rw (← c.self.view_is) (λ i. record {
+      segment = c.self.inside.segment;
+      seglet = c.self.inside.seglet;
+      seglets = c.self.inside.seglets;
+      images = items_are all i;
+      room = room_is all i;
+    })

@@ -1,0 +1,160 @@
+-- An entry copied from one image to a later one.
+use Rattle.std.proofs.Common.{◌≡◌, ℕ, zero, suc, ◌+◌, ◌<◌, ◌≤◌, ◌↔◌, Bool, true, false, List, [], ◌∷◌, ◌++◌, length, get_or, take, drop, refl, sym, ap, subst, ◌∙◌, arith, append-nil, get_or-take, get_or-drop, add-zero}
+use Rattle.std.proofs.Math.ListN.{set}
+use Rattle.std.specs.Prelude.{◌==◌, Option, Some, None, Result, Ok, Err, IfSome, OnOk, OnErr, IsErrOf, IsSomeAnd, sum_by}
+use Rattle.std.specs.Option.{option_map, option_map_or, option_and_then}
+use Rattle.std.proofs.lemmas.Bool.{eqb-true}
+use Rattle.std.proofs.lemmas.List.{take_all, drop_all}
+use Rattle.entry.specs.declared.entry.Entry.{Entry}
+use Rattle.entry.specs.Format.{spelling}
+use Rattle.entry.specs.Text.{text_of, is_data}
+use Rattle.segment.specs.declared.fault.AppendFault.{AppendFault}
+use Rattle.segment.specs.declared.fault.AppendFault.TheVariants.{Full}
+use Rattle.segment.specs.Bytes.{standing_at}
+use Rattle.images.specs.declared.image.Image.{Image}
+use Rattle.images.specs.Images.{ImagesValue, IsImages, count_of, used_seglets}
+use Rattle.images.specs.Sorted.{AreRising, IsWhole, image_of, changed}
+use Rattle.images.specs.Place.{IsPlaceOf}
+use Rattle.images.specs.Steps.{with_unit, len_at, entry_at}
+use Rattle.images.proofs.Adding.{ids_rise}
+use Rattle.images.proofs.Listing.{image_at, changed_at}
+use Rattle.images.proofs.Counts.{count_whole, not_full, text_more, set_valid, changed_is, read_count, len_is}
+
+-- ---- two places of a list
+
+pub set_part : (xs : List Image) (n : ℕ) (z : Image) → take n xs ++ set (drop n xs) 0 z ≡ set xs n z
+set_part [] zero z = refl
+set_part [] (suc n) z = refl
+set_part (x ∷ xs) zero z = refl
+set_part (x ∷ xs) (suc n) z = ap (λ (ys : List Image). x ∷ ys) (set_part xs n z)
+
+-- a list of the same length in the place of all items
+pub all_back : (n : ℕ) (old items new : List Image) → old ≡ items → length old ≡ n → length new ≡ length old
+    → take n (new ++ drop (length new) items) ≡ new
+all_back n old items new is len same =
+    let count : length items ≡ length old = ap (λ (xs : List Image). length xs) (sym is) in
+    let none : drop (length new) items ≡ [] = drop_all (length new) items (omega arith) in
+    ap (λ (xs : List Image). take n (new ++ xs)) none ∙ ap (λ (xs : List Image). take n xs) (append-nil new) ∙ take_all n new (omega arith)
+
+-- a lower id comes first
+pub places_rise : (xs : List Image) (a b i j : ℕ) → AreRising xs → IsPlaceOf xs a i → IsPlaceOf xs b j → a < b → i < j
+places_rise [] a b i j rising first second lt = (let none = first.within in absurd (omega arith))
+places_rise (x ∷ xs) a b i j rising first second lt = omega (arith, not_above)
+  where
+    not_above : j ≤ i → ⊥
+    not_above le =
+        let ids = ids_rise (x ∷ xs) rising j i x le first.within in
+        let low = first.is x in
+        let high = second.is x in omega arith
+
+-- ---- the place of an image
+
+pub found_at : (xs : List Image) (id : ℕ) (x : Image) → image_of xs id ≡ Some x → (at : ℕ) × IsPlaceOf xs id at × (x ≡ get_or xs at x)
+found_at [] id x is = absurd (cc)
+found_at (y ∷ ys) id x is = go (y.id == id) refl (found_at ys id x)
+  where
+    go : (t : Bool) → (y.id == id) ≡ t → (image_of ys id ≡ Some x → (at : ℕ) × IsPlaceOf ys id at × (x ≡ get_or ys at x))
+        → (at : ℕ) × IsPlaceOf (y ∷ ys) id at × (x ≡ get_or (y ∷ ys) at x)
+    go true test rest =
+        let own : Some y ≡ Some x = rw test at is in
+        let equal : x ≡ y = cc in
+        (zero, record { within = omega arith; is = λ (d : Image). eqb-true y.id id test }, equal)
+    go false test rest =
+        let later : image_of ys id ≡ Some x = rw test at is in
+        let found = rest later in
+        let lt = found.1.within in
+        (suc found.0, record { within = omega arith; is = λ (d : Image). found.1.is d }, found.2)
+
+-- ---- a unit at the end of a whole image
+
+pub grown : (v : ImagesValue) (id : ℕ) (unit : List Entry) → IsImages v → IsWhole v.images id → len_at v.images id + length (text_of unit) ≤ v.segment
+    → (used_seglets v ≡ sum_by (count_of v.segment v.seglet) (changed v.images id (with_unit unit)))
+    × IsImages (record v { images = changed v.images id (with_unit unit) })
+grown v id unit valid whole fits = go (image_of v.images id) refl whole
+  where
+    grown_at : (x : Image) → image_of v.images id ≡ Some x → x.is_whole ≡ true
+        → (used_seglets v ≡ sum_by (count_of v.segment v.seglet) (changed v.images id (with_unit unit)))
+        × IsImages (record v { images = changed v.images id (with_unit unit) })
+    grown_at x is own =
+        let found = found_at v.images id x is in
+        let at = found.0 in
+        let place = found.1 in
+        let read = found.2 in
+        let same : count_of v.segment v.seglet (with_unit unit x) ≡ count_of v.segment v.seglet x =
+        count_whole v.segment v.seglet (with_unit unit x) own ∙ sym (count_whole v.segment v.seglet x own) in
+        let more = text_more x.segment unit in
+        let len = len_is v valid id at place x read in
+        let count = read_count v valid id at place x read in
+        let most = valid.fits in
+        let parts = set_valid v valid id at place x read (with_unit unit x) refl (omega arith) (omega arith) in
+        let total = parts.0 in
+        subst (λ (zs : List Image). (used_seglets v ≡ sum_by (count_of v.segment v.seglet) zs) × IsImages (record v { images = zs }))
+        (changed_is v valid id at place x read (with_unit unit)) (omega arith, parts.1)
+
+    go : (o : Option Image) → image_of v.images id ≡ o → IsSomeAnd o (λ (x : Image). x.is_whole ≡ true)
+        → (used_seglets v ≡ sum_by (count_of v.segment v.seglet) (changed v.images id (with_unit unit)))
+        × IsImages (record v { images = changed v.images id (with_unit unit) })
+    go None is none = absurd none
+    go (Some x) is own = grown_at x is own
+
+pub text_one : (e : Entry) → length (text_of (e ∷ [])) ≡ length (spelling e)
+text_one e = ap (λ (bytes : List ℕ). length bytes) (append-nil (spelling e))
+
+-- ---- the copy of an entry
+
+module _ (xs : List Image) (from to source target : ℕ) (rising : AreRising xs) (first : IsPlaceOf xs from source) (second : IsPlaceOf xs to target)
+    (front back : List Image) (is_front : front ≡ take target xs) (is_back : back ≡ drop target xs) (x y : Image) where
+  pub source_below : from < to → source < target
+  source_below order = places_rise xs from to source target rising first second order
+
+  pub entry_is : (at : ℕ) → from < to → entry_at xs from at ≡ standing_at at (text_of (get_or front source x).segment)
+  entry_is at order =
+      let below = source_below order in
+      let found : image_of xs from ≡ Some (get_or xs source x) = image_at xs from source x rising first.within (first.is x) in
+      let same : get_or front source x ≡ get_or xs source x = ap (λ (zs : List Image). get_or zs source x) is_front ∙ get_or-take target xs source x below in
+      ap (λ (o : Option Image). option_and_then (λ (es : List Entry). standing_at at (text_of es)) (option_map (λ (z : Image). z.segment) o)) found
+      ∙ ap (λ (z : Image). standing_at at (text_of z.segment)) (sym same)
+
+  target_is : get_or back 0 y ≡ get_or xs target y
+  target_is = ap (λ (zs : List Image). get_or zs 0 y) is_back ∙ get_or-drop target xs 0 y ∙ ap (λ (n : ℕ). get_or xs n y) (add-zero target)
+
+  pub len_here : len_at xs to ≡ length (text_of (get_or back 0 y).segment)
+  len_here =
+      ap (λ (o : Option Image). option_map_or (λ (es : List Entry). length (text_of es)) (option_map (λ (z : Image). z.segment) o) 0)
+      (image_at xs to target y rising second.within (second.is y))
+      ∙ ap (λ (z : Image). length (text_of z.segment)) (sym target_is)
+
+  pub copied_is : (o : Option Entry) (r : Result ℕ AppendFault) (new : List Entry) (zs : List Image) → zs ≡ set xs target (record (get_or back 0 y) { segment = new })
+      → OnOk r (IfSome o (λ (e : Entry). new ≡ (get_or back 0 y).segment ++ e ∷ []))
+      → OnOk r (IfSome o (λ (e : Entry). zs ≡ changed xs to (with_unit (e ∷ []))))
+  copied_is None (Ok n) new zs is ok = tt
+  copied_is (Some e) (Ok n) new zs is ok =
+      is ∙ ap (λ (es : List Entry). set xs target (record (get_or back 0 y) { segment = es })) ok
+      ∙ ap (λ (z : Image). set xs target (with_unit (e ∷ []) z)) target_is
+      ∙ changed_at xs to target y (with_unit (e ∷ [])) rising second.within (second.is y)
+  copied_is o (Err fault) new zs is ok = tt
+
+-- the images stay valid, whatever comes of it
+pub copied_valid : (v : ImagesValue) (from at to : ℕ) (zs : List Image) (r : Result ℕ AppendFault) → IsImages v → IsWhole v.images to
+    → IsSomeAnd (entry_at v.images from at) (λ (e : Entry). is_data e ≡ true)
+    → OnOk r (IfSome (entry_at v.images from at) (λ (e : Entry). zs ≡ changed v.images to (with_unit (e ∷ []))))
+    → IfSome (entry_at v.images from at) (λ (e : Entry). IsErrOf r Full ↔ (v.segment < len_at v.images to + length (spelling e)))
+    → OnErr r (zs ≡ v.images)
+    → (used_seglets v ≡ sum_by (count_of v.segment v.seglet) zs) × IsImages (record v { images = zs })
+copied_valid v from at to zs r valid whole some ok full err = go (entry_at v.images from at) r some ok full err
+  where
+    go : (o : Option Entry) (q : Result ℕ AppendFault) → IsSomeAnd o (λ (e : Entry). is_data e ≡ true)
+        → OnOk q (IfSome o (λ (e : Entry). zs ≡ changed v.images to (with_unit (e ∷ []))))
+        → IfSome o (λ (e : Entry). IsErrOf q Full ↔ (v.segment < len_at v.images to + length (spelling e)))
+        → OnErr q (zs ≡ v.images)
+        → (used_seglets v ≡ sum_by (count_of v.segment v.seglet) zs) × IsImages (record v { images = zs })
+    go None q none is within same = absurd none
+    go (Some e) (Ok n) some is within same =
+        let fits : v.segment < len_at v.images to + length (spelling e) → ⊥ =
+        (λ (over : v.segment < len_at v.images to + length (spelling e)). not_full n (within.1 over)) in
+        let one = text_one e in
+        subst (λ (ys : List Image). (used_seglets v ≡ sum_by (count_of v.segment v.seglet) ys) × IsImages (record v { images = ys })) (sym is)
+        (grown v to (e ∷ []) valid whole (omega (arith, fits)))
+    go (Some e) (Err fault) some is within same =
+        subst (λ (ys : List Image). (used_seglets v ≡ sum_by (count_of v.segment v.seglet) ys) × IsImages (record v { images = ys })) (sym same)
+        (refl, valid)

@@ -1,0 +1,66 @@
+//! Copies of an entry from one image to another.
+
+ghost use Rattle.std.specs.Prelude.{◌≡◌, ◌+◌, ◌<◌, ◌≤◌, ◌↔◌, ◌++◌, ◌∷◌, [], true, length};
+ghost use Rattle.std.specs.Prelude.{IfSome, IfOk, OnOk, OnErr, IsErrOf, IsSome, IsSomeAnd};
+ghost use Rattle.entry.specs.Format.{spelling};
+ghost use Rattle.entry.specs.Text.{text_of, is_data};
+ghost use Rattle.segment.specs.Bytes.{standing_at};
+ghost use Rattle.images.specs.Sorted.{AreRising, image_of, changed};
+ghost use Rattle.images.specs.Steps.{with_unit, len_at, entry_at};
+
+use crate::image::{Image, place_of};
+use segment::{AppendFault, Segment};
+
+/// Appends a copy of the object or tombstone at an offset of one segment to another, if that then has at most `limit`
+/// bytes.
+fn append_copy(
+    source: &Segment,
+    at: usize,
+    target: &mut Segment,
+    limit: usize,
+) -> Result<usize, AppendFault>
+    requires data { IsSomeAnd (standing_at at (text_of source.now)) (λ e. is_data e ≡ true) }
+    requires limit { limit ≤ 8388608 }
+    ensures ok { OnOk result (IfSome (standing_at at (text_of source.now)) (λ e. target.new ≡ target.old ++ e ∷ [])) }
+    ensures place { IfOk result (λ at. at ≡ length (text_of target.old)) }
+    ensures full { IfSome (standing_at at (text_of source.now)) (λ e. IsErrOf result AppendFault.Full ↔
+        (limit < length (text_of target.old) + length (spelling e))) }
+    ensures err { OnErr result (target.new ≡ target.old) }
+{
+    let Some(entry) = source.entry_at(at) else {
+        unreachable!()
+    };
+    target.append(&[entry], limit)
+}
+
+/// In a list by rising id, appends a copy of the object or tombstone at an offset of one image to a later image, if
+/// that then has at most `limit` bytes.
+pub(crate) fn copy_entry(
+    images: &mut [Image],
+    from: u64,
+    at: usize,
+    to: u64,
+    limit: usize,
+) -> Result<usize, AppendFault>
+    requires rising { AreRising images.old }
+    requires order { from < to }
+    requires there { IsSome (image_of images.old to) }
+    requires data { IsSomeAnd (entry_at images.old from at) (λ e. is_data e ≡ true) }
+    requires limit { limit ≤ 8388608 }
+    ensures ok { OnOk result (IfSome (entry_at images.old from at)
+        (λ e. images.new ≡ changed images.old to (with_unit (e ∷ [])))) }
+    ensures place { IfOk result (λ at. at ≡ len_at images.old to) }
+    ensures full { IfSome (entry_at images.old from at) (λ e. IsErrOf result AppendFault.Full ↔
+        (limit < len_at images.old to + length (spelling e))) }
+    ensures err { OnErr result (images.new ≡ images.old) }
+    ensures len { length images.new ≡ length images.old }
+{
+    let Some(source) = place_of(images, from) else {
+        unreachable!()
+    };
+    let Some(target) = place_of(images, to) else {
+        unreachable!()
+    };
+    let (earlier, later) = images.split_at_mut(target);
+    append_copy(&earlier[source].segment, at, &mut later[0].segment, limit)
+}
