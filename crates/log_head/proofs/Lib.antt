@@ -1,4 +1,6 @@
 pub mod Heads
 pub mod HeadLog
+pub mod Digests
+pub mod RisingIds
 pub mod Rolls
 pub mod RollLog

@@ -1,9 +1,7 @@
 -- A roll ends with the last Close.
 use Rattle.std.proofs.Common.{◌≡◌, ℕ, zero, suc, ◌+◌, ◌≤◌, true, List, [], ◌∷◌, ◌++◌, length, refl, ap, subst, arith}
-use Rattle.std.specs.Prelude.{Some, IfSome, ◌==◌, replicate, slice_get, take}
+use Rattle.std.specs.Prelude.{Some, IfSome, ◌==◌, replicate}
 use Rattle.std.specs.List.{AllByRecursion}
-use Rattle.std.proofs.Common.{add-one}
-use Rattle.std.proofs.lemmas.Option.{same_Some}
 use Rattle.std.proofs.lemmas.Bool.Decides.{nat_tests}
 use Rattle.entry.specs.Text.{ends_with}
 use Rattle.log_model.specs.Steps.{no_units}
@@ -15,14 +13,6 @@ pub ends_with_push : (ids : List ℕ) (id : ℕ) → ends_with id (ids ++ id ∷
 ends_with_push [] id = grind (arith, nat_tests)
 ends_with_push (x ∷ []) id = grind (arith, nat_tests)
 ends_with_push (x ∷ y ∷ ys) id = ends_with_push (y ∷ ys) id
-
--- the first ids with one more
-pub take_next : (xs : List ℕ) (i x : ℕ) → slice_get xs i ≡ Some x → take (i + 1) xs ≡ take i xs ++ x ∷ []
-take_next xs i x is = rw add-one (go xs i is) where
-  go : (ys : List ℕ) (n : ℕ) → slice_get ys n ≡ Some x → take (suc n) ys ≡ take n ys ++ x ∷ []
-  go [] n is = absurd (cc)
-  go (y ∷ ys) zero is = ap (λ (z : ℕ). z ∷ []) (same_Some y x is)
-  go (y ∷ ys) (suc n) is = ap (λ (zs : List ℕ). y ∷ zs) (go ys n is)
 
 pub zeros_are : (n : ℕ) → replicate n 0 ≡ no_units n
 zeros_are zero = refl

@@ -1,12 +1,16 @@
 -- What is true of heads and the log, step by step.
-use Rattle.std.specs.Prelude.{◌≡◌, ℕ, suc, ◌-◌, ◌<◌, ◌≤◌, List, [], ◌∷◌, ◌++◌, length, take, drop}
+use Rattle.std.specs.Prelude.{◌≡◌, ℕ, suc, ◌+◌, ◌-◌, ◌<◌, ◌≤◌, List, [], ◌∷◌, ◌++◌, length, take, drop, IfSome}
+use Rattle.std.specs.List.Sorted.{IsStrictlyIncreasing}
+use Rattle.std.specs.Option.{option_len}
+use Rattle.entry.specs.Bag.{IsAmong}
 use Rattle.entry.specs.declared.entry.Entry.{Entry}
 use Rattle.entry.specs.Text.{text_of, IsSegment}
 use Rattle.log_model.specs.Data.{Start, Head, Opened, entries_of, head_entries}
 use Rattle.log_model.specs.Steps.{units_between, one_opened, new_head}
 use Rattle.log_head.specs.declared.head.Roll.{Roll}
-use Rattle.log_head.specs.Head.{HeadValue, IsRollValue, end_of}
-use Rattle.log_head.specs.Steps.{fresh_head, with_unit_end, fresh_roll, in_force}
+use Rattle.log_head.specs.declared.rolling.Leaving.{Leaving}
+use Rattle.log_head.specs.Head.{HeadValue, IsRollValue, digest_of, end_of}
+use Rattle.log_head.specs.Steps.{fresh_head, with_unit_end, start_after, others_after, fresh_roll, in_force}
 use Rattle.log_head.specs.Log.{head_of, start_of, phase_in, IsImageOf, IsNewImage}
 
 -- An image holds one head of the log, and that is the head which is read from it.
@@ -52,6 +56,23 @@ CountsAreImage = (master : ℕ) (h : HeadValue) (l : Head) (ks : List ℕ) → I
 abbrev pub RollBegins : Type 0
 RollBegins = (master : ℕ) (h : HeadValue) (n : Start) → 0 < h.replicas
     → (phase_in h.replicas (fresh_roll master n) ≡ Opened 0 n) × IsNewImage master (fresh_roll master n)
+
+-- With no victims and no survivors the other ids of the new head's digest are those of the digest in force.
+abbrev pub OrdinaryKeeps : Type 0
+OrdinaryKeeps = (h : HeadValue) (id safe : ℕ)
+    → start_after h [] [] id safe ≡ record { id = id; others = digest_of h.image; safe = safe }
+
+-- The ids of the new head's digest rise, if those of the digest in force and then the new id do, and the survivor is
+-- another id below the new one.
+abbrev pub DigestRises : Type 0
+DigestRises = (image : List Entry) (l : Leaving) (id : ℕ) → IsStrictlyIncreasing (digest_of image ++ id ∷ [])
+    → IfSome l.survivor (λ s. (IsAmong s (digest_of image) → ⊥) × (s < id))
+    → IsStrictlyIncreasing (others_after image l ++ id ∷ [])
+
+-- Besides the survivor they are at most as many as before.
+abbrev pub DigestIsFew : Type 0
+DigestIsFew = (image : List Entry) (l : Leaving)
+    → length (others_after image l) ≤ length (digest_of image) + option_len l.survivor
 
 -- If one more replica of the new head is opened, the phase becomes what the log says.
 abbrev pub RollOpens : Type 0

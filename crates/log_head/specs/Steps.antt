@@ -1,11 +1,14 @@
 -- What a head becomes.
 use Rattle.std.specs.Prelude.{ℕ, suc, ◌+◌, ◌==◌, List, [], ◌∷◌, ◌++◌, length, Option, Some, None, slice_get, slice_set, unwrap_or}
 use Rattle.std.specs.Prelude.{if◌then◌else◌}
+use Rattle.std.specs.Option.{option_to_list}
 use Rattle.entry.specs.declared.entry.Entry.{Entry}
 use Rattle.entry.specs.Text.{text_of}
 use Rattle.log_head.specs.declared.head.Roll.{Roll}
+use Rattle.log_head.specs.declared.rolling.Leaving.{Leaving}
 use Rattle.log_head.specs.Head.{HeadValue, digest_of}
 use Rattle.log_model.specs.Data.{Start, start_entries}
+use Rattle.log_model.specs.Ids.{all_inserted, without}
 use Rattle.log_model.specs.Steps.{no_units}
 
 -- what the first head of a master begins with: its digest lists itself alone
@@ -41,18 +44,24 @@ with_one_taken h j = record h { taken = slice_set h.taken j (unwrap_or (slice_ge
 
 -- ---- a roll
 
--- what the next head begins with: its id, the ids of the digest in force, and the safe version
-abbrev pub start_after : HeadValue → ℕ → ℕ → Start
-start_after h id safe = record { id = id; others = digest_of h.image; safe = safe }
+-- what the next head begins with: its id, the ids of the digest in force less the victims and with the survivors, and
+-- the safe version
+abbrev pub start_after : HeadValue → List ℕ → List ℕ → ℕ → ℕ → Start
+start_after h victims survivors id safe =
+    record { id = id; others = all_inserted survivors (without victims (digest_of h.image)); safe = safe }
+
+-- the other ids of the next head's digest, after the head with this image
+abbrev pub others_after : List Entry → Leaving → List ℕ
+others_after image l = all_inserted (option_to_list l.survivor) (without l.victims.now (digest_of image))
 
 -- a roll to this head, with no replica opened or closed yet
 abbrev pub fresh_roll : ℕ → Start → Roll
 fresh_roll master start =
     record { id = start.id; image = start_entries master start; opened = 0; closed = 0 }
 
--- a roll to the next head has begun
-abbrev pub with_roll : HeadValue → ℕ → ℕ → ℕ → HeadValue
-with_roll h master id safe = record h { roll = Some (fresh_roll master (start_after h id safe)) }
+-- a roll to this head has begun
+abbrev pub with_roll : HeadValue → ℕ → Start → HeadValue
+with_roll h master start = record h { roll = Some (fresh_roll master start) }
 
 -- one more replica of the new head is open
 abbrev pub with_new_replica : HeadValue → Roll → HeadValue

@@ -1,7 +1,8 @@
 //! Laws about heads and the log, for the proofs of callers.
 
 ghost use Rattle.log_head.specs.Laws.{HeadIsRead, EndsAreLengths, FrontsAreTexts, PartsAreUnits};
-ghost use Rattle.log_head.specs.Laws.{FreshIsImage, UnitIsImage, CountsAreImage, RollBegins, RollOpens, RollEnds};
+ghost use Rattle.log_head.specs.Laws.{FreshIsImage, UnitIsImage, CountsAreImage};
+ghost use Rattle.log_head.specs.Laws.{OrdinaryKeeps, DigestRises, DigestIsFew, RollBegins, RollOpens, RollEnds};
 
 /// An image holds one head of the log. What lies between two of its ends is whole units.
 pub fn heads_are_read()
@@ -23,4 +24,11 @@ pub fn rolls_go_on()
     ensures begins { RollBegins }
     ensures opens { RollOpens }
     ensures ends { RollEnds }
+{}
+
+/// What the digest of the next head lists: the same ids in an ordinary roll, and ids that rise in each roll.
+pub fn digests_go_on()
+    ensures ordinary { OrdinaryKeeps }
+    ensures rises { DigestRises }
+    ensures few { DigestIsFew }
 {}

@@ -12,5 +12,6 @@ mod next;
 mod rolling;
 
 pub use head::{Head, Roll, UnitEnd};
-pub use laws::{heads_are_read, images_go_on, rolls_go_on};
+pub use laws::{digests_go_on, heads_are_read, images_go_on, rolls_go_on};
 pub use next::Next;
+pub use rolling::Leaving;

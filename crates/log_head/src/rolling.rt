@@ -1,22 +1,32 @@
 //! What a head pushes next, and how it rolls to the next head.
 
-ghost use Rattle.std.specs.Prelude.{◌≡◌, ◌+◌, ◌<◌, ◌≤◌, ◌++◌, ◌∷◌, [], None, Some, true, length, take, IfOk, IfSome, IsSome, OnOk, OnErr, vec_len, vec_capacity};
+ghost use Rattle.std.specs.Prelude.{◌≡◌, ◌+◌, ◌<◌, ◌≤◌, ◌++◌, ◌∷◌, [], ℕ, List, None, Some, true, length, IfOk, IfSome, IsSome, OnOk, OnErr, vec_len, vec_capacity};
 ghost use Rattle.std.specs.List.Sorted.{IsStrictlyIncreasing};
-ghost use Rattle.std.specs.Option.{option_map};
-ghost use Rattle.entry.specs.Text.{opening_of};
+ghost use Rattle.std.specs.Option.{option_len, option_to_list};
+ghost use Rattle.entry.specs.View.{shown_ids};
 ghost use Rattle.log_model.specs.Data.{start_entries};
+ghost use Rattle.log_model.specs.Ids.{has, all_inserted, without};
 ghost use Rattle.replica.specs.Op.{shown_op};
 ghost use Rattle.log_head.specs.Head.{digest_of, is_open, IsHeadValue};
 ghost use Rattle.log_head.specs.Next.{IsNextPush, op_of};
-ghost use Rattle.log_head.specs.Steps.{start_after, with_roll, with_new_replica, with_closed_replica, old_image};
+ghost use Rattle.log_head.specs.Steps.{start_after, others_after, with_roll, with_new_replica, with_closed_replica, old_image};
 
 use crate::head::{Head, Roll};
 use crate::next::Next;
-use entry::{Ids, NoMemory, SafeVersion};
+use entry::{DigestRef, Ids, NoMemory, SafeVersion};
 use replica::{Act, Op};
 use segment::Segment;
 use std::alloc::Global;
 use std::mem::replace;
+
+/// How the digest of the next head differs from the digest in force.
+#[derive(Clone, Copy)]
+pub struct Leaving<'a> {
+    /// The ids that it leaves out. Each id is looked for among all of them.
+    pub victims: &'a [u64],
+    /// The id that it takes in, at its place.
+    pub survivor: Option<u64>,
+}
 
 impl Head {
     /// What the next push does. `None` if nothing waits.
@@ -79,29 +89,38 @@ impl Head {
     pub fn digest(&self, alloc: Global) -> Result<Vec<u64>, NoMemory>
         ensures { IfOk result (λ ids. ids.items ≡ digest_of self.now.image) }
     {
-        ids_in(alloc, &self.image, 0)
+        let leaving = Leaving {
+            victims: &[],
+            survivor: None,
+        };
+        next_ids(alloc, &self.image, leaving)
     }
 
-    /// Begins a roll to the head with this id. The new image gets room for `room` bytes. The old one gives back the
-    /// room that it has above `kept` bytes. A refusal changes nothing.
+    /// Begins a roll to the head with this id. Its digest lists the ids of the digest in force, less the victims and
+    /// with the survivor, and then the id. An ordinary roll has no victims and no survivor. The new image
+    /// gets room for `room` bytes. The old one gives back the room that it has above `kept` bytes. A refusal changes
+    /// nothing.
     pub fn begin_roll(
         &mut self,
         alloc: Global,
         master: u64,
         id: u64,
         safe: SafeVersion,
+        leaving: Leaving<'_>,
         room: usize,
         kept: usize,
     ) -> Result<(), NoMemory>
         requires open { is_open self.old ≡ true }
         requires some { 0 < self.old.replicas }
-        requires rise { IsStrictlyIncreasing (digest_of self.old.image ++ id ∷ []) }
-        requires count { length (digest_of self.old.image) < 262144 }
-        ensures begun { OnOk result (self.new ≡ with_roll self.old master id safe) }
+        requires rise { IsStrictlyIncreasing (others_after self.old.image leaving ++ id ∷ []) }
+        requires count { length (others_after self.old.image leaving) < 262144 }
+        ensures begun { let survivors = option_to_list leaving.entry.survivor in
+            let start = start_after self.old leaving.entry.victims.now survivors id safe in
+            OnOk result (self.new ≡ with_roll self.old master start) }
         ensures valid { OnOk result (IsHeadValue self.new) }
         ensures err { OnErr result (self.new ≡ self.old) }
     {
-        let mut image = next_image(alloc, &self.image, master, id, safe)?;
+        let mut image = next_image(alloc, &self.image, master, id, safe, leaving)?;
         image.reserve(room)?;
         self.image.trim(kept);
         self.roll = Some(Roll {
@@ -151,38 +170,95 @@ impl Head {
     }
 }
 
-/// The ids of an image's digest, in a vector with room for `more`.
-fn ids_in(alloc: Global, image: &Segment, more: usize) -> Result<Vec<u64>, NoMemory>
-    requires { more ≤ 1 }
-    ensures ids { IfOk result (λ ids. ids.items ≡ digest_of image.now) }
-    ensures room { IfOk result (λ ids. vec_len ids + more ≤ vec_capacity ids) }
+/// The ids of the next head's digest but for its own, in a vector that has room for one more.
+fn next_ids(alloc: Global, image: &Segment, leaving: Leaving<'_>) -> Result<Vec<u64>, NoMemory>
+    ensures ids { IfOk result (λ ids. ids.items ≡ others_after image.now leaving.entry) }
+    ensures room { IfOk result (λ ids. vec_len ids < vec_capacity ids) }
 {
+    let mut waits = leaving.survivor;
     let Some(digest) = image.view().digest() else {
-        return Ok(Vec::with_capacity(alloc, more)?);
+        let mut ids = Vec::with_capacity(alloc, 2)?;
+        push_some(&mut ids, waits);
+        return Ok(ids);
     };
+    let left = count_left(&digest, leaving.victims);
+    let mut ids = Vec::with_capacity(alloc, left + waits.is_some() as usize + 1)?;
     let count = digest.count();
-    let mut ids = Vec::with_capacity(alloc, count + more)?;
     for place in 0..count {
-        ids.push_reserved(digest.id(place));
+        let id = digest.id(place);
+        if is_victim(leaving.victims, id) {
+            continue;
+        }
+        waits = push_before(&mut ids, waits, id);
+        ids.push_reserved(id);
     }
+    push_some(&mut ids, waits);
     Ok(ids)
 }
 
-/// The opening of the head with this id. Its digest lists the segments of this image's digest, and then the head
-/// itself.
+/// How many ids of the digest aren't among the victims.
+fn count_left(digest: &DigestRef<'_>, victims: &[u64]) -> usize
+    ensures left { result ≡ length (without victims.now (shown_ids digest.now)) }
+    ensures few { result ≤ length (shown_ids digest.now) }
+{
+    let mut left = 0;
+    for place in 0..digest.count() {
+        if !is_victim(victims, digest.id(place)) {
+            left += 1;
+        }
+    }
+    left
+}
+
+/// Whether the id is among the victims.
+fn is_victim(victims: &[u64], id: u64) -> bool
+    ensures { result ≡ has victims.now id }
+{
+    victims.contains(&id)
+}
+
+/// Pushes the id that waits, if it is less than this one. What waits from then on is the result.
+fn push_before(ids: &mut Vec<u64>, waits: Option<u64>, id: u64) -> Option<u64>
+    requires { vec_len ids.old + option_len waits ≤ vec_capacity ids.old }
+    ensures items { (rest : List ℕ) → ids.new.items ++ id ∷ all_inserted (option_to_list result) rest
+        ≡ ids.old.items ++ all_inserted (option_to_list waits) (id ∷ rest) }
+    ensures capacity { vec_capacity ids.new ≡ vec_capacity ids.old }
+{
+    match waits {
+        Some(other) if other < id => {
+            ids.push_reserved(other);
+            None
+        }
+        _ => waits,
+    }
+}
+
+/// Pushes an id, if there is one.
+fn push_some(ids: &mut Vec<u64>, id: Option<u64>)
+    requires { vec_len ids.old + option_len id ≤ vec_capacity ids.old }
+    ensures items { ids.new.items ≡ ids.old.items ++ option_to_list id }
+    ensures capacity { vec_capacity ids.new ≡ vec_capacity ids.old }
+{
+    if let Some(id) = id {
+        ids.push_reserved(id);
+    }
+}
+
+/// The opening of the head with this id.
 fn next_image(
     alloc: Global,
     image: &Segment,
     master: u64,
     id: u64,
     safe: SafeVersion,
+    leaving: Leaving<'_>,
 ) -> Result<Segment, NoMemory>
-    requires rise { IsStrictlyIncreasing (digest_of image.now ++ id ∷ []) }
-    requires count { length (digest_of image.now) < 262144 }
-    ensures { IfOk result (λ next. next ≡
-        start_entries master (record { id = id; others = digest_of image.now; safe = safe })) }
+    requires rise { IsStrictlyIncreasing (others_after image.now leaving ++ id ∷ []) }
+    requires count { length (others_after image.now leaving) < 262144 }
+    ensures { let others = others_after image.now leaving.entry in
+        IfOk result (λ next. next ≡ start_entries master (record { id = id; others = others; safe = safe })) }
 {
-    let mut ids = ids_in(alloc, image, 1)?;
+    let mut ids = next_ids(alloc, image, leaving)?;
     ids.push_reserved(id);
     Segment::begin_head(alloc, master, id, &Ids::new(ids), safe)
 }

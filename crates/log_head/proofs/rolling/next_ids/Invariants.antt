@@ -1,0 +1,8 @@
+use Rattle.std.proofs.Common.{vec_capacity}
+use Rattle.entry.specs.View.{shown_ids}
+use Rattle.log_head.proofs.Digests.{IsPushed}
+use Rattle.log_head.proofs.rolling.next_ids.Given as goal
+
+abbrev pub invariant-loop-place : goal.invariant-loop-place
+invariant-loop-place l =
+    IsPushed l.leaving.victims.now (shown_ids l.digest) l.leaving.survivor l.ids.items l.waits l.place (vec_capacity l.ids)
