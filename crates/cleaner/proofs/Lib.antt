@@ -1,0 +1,9 @@
+pub mod Places
+pub mod Images
+pub mod Cursors
+pub mod Keeping
+pub mod Seeing
+pub mod Ends
+pub mod Leaving
+pub mod Copying
+pub mod Steps

@@ -1,1 +1,4 @@
 pub mod Texts
+pub mod Passes
+pub mod Walks
+pub mod Laws

@@ -6,3 +6,4 @@ pub mod Walking
 pub mod Ids
 pub mod FollowPlaces
 pub mod FollowLaw
+pub mod Counting

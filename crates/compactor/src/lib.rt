@@ -10,6 +10,6 @@ mod laws;
 mod log_set;
 
 pub use compacting::compact;
-pub use keeping::kept;
+pub use keeping::{kept, kept_bytes};
 pub use laws::index_follows;
 pub use log_set::LogSet;

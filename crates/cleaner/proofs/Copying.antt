@@ -1,0 +1,128 @@
+-- One entry is treated.
+use Rattle.std.proofs.Common.{◌≡◌, ℕ, ◌+◌, ◌≤◌, Bool, true, false, cond, List, [], ◌∷◌, length, refl, sym, ap, subst, ◌∙◌, arith}
+use Rattle.std.specs.Prelude.{Option, Some, None, IsSome, IsSomeAnd, IfSome, unwrap_or}
+use Rattle.std.specs.Option.{option_and_then}
+use Rattle.entry.specs.declared.entry.Entry.{Entry}
+use Rattle.entry.specs.declared.entry.Entry.TheVariants as entry
+use Rattle.entry.specs.Format.{spelling}
+use Rattle.entry.specs.Text.{text_of, is_data}
+use Rattle.segment.specs.Bytes.{standing_at}
+use Rattle.hash_index.specs.declared.place.Place.{Place}
+use Rattle.hash_index.specs.declared.place.Held.{Held}
+use Rattle.hash_index.specs.Map.{hash_of}
+use Rattle.hash_index.specs.Relocation.{relocated}
+use Rattle.images.specs.declared.image.Image.{Image}
+use Rattle.images.specs.Sorted.{segment_of, changed}
+use Rattle.images.specs.Images.{ImagesValue}
+use Rattle.images.specs.Steps.{entry_at, with_unit, len_at}
+use Rattle.compactor.specs.Kept.{kept}
+use Rattle.cleaner.specs.declared.pass.Copied.{Copied}
+use Rattle.cleaner.specs.declared.pass.Copied.TheVariants as copied
+use Rattle.cleaner.specs.declared.treating.Found.TheVariants as found
+use Rattle.cleaner.specs.Passes.{images_in, kept_len, copied_as, copy_place, images_with, held_with}
+use Rattle.cleaner.specs.Walks.{found_as, IsSeen, Treats}
+use Rattle.cleaner.proofs.Keeping.{stands, len_stands}
+
+-- the entry that is seen is read
+pub seen_at : (images : List Image) (p : Place) (n : ℕ) (e : Entry) → IsSome (segment_of images p.segment)
+    → IsSeen (images_in images) p n e → entry_at images p.segment p.at ≡ Some e
+seen_at images p n e there seen = go (segment_of images p.segment) refl there
+  where
+    go : (o : Option (List Entry)) → segment_of images p.segment ≡ o → IsSome o
+        → option_and_then (λ (es : List Entry). standing_at p.at (text_of es)) o ≡ Some e
+    go None is none = absurd (cc)
+    go (Some es) is some =
+        let own : images_in images p.segment ≡ es = ap (λ (x : Option (List Entry)). unwrap_or x []) is in
+        ap (λ (xs : List Entry). standing_at p.at (text_of xs)) (sym own)
+        ∙ stands (images_in images p.segment) p.at e seen.valid seen.stands
+
+-- ---- by what is found
+
+module _ (p : Place) (survivor : ℕ) (images : List Image) (held : List Held) where
+  -- what is told, and what the images and the index are then
+  abbrev pub Does : Bool → Entry → Copied → List Image → List Held → Type 0
+  Does b e copied after later =
+      (copied ≡ copied_as b e) × (after ≡ images_with b survivor e images)
+      × (later ≡ held_with b p (copy_place survivor images) e held)
+
+  pub does_object : (b : Bool) (e : Entry) (h : Held) (after : List Image) (later : List Held) → found_as b p e ≡ found.Object h
+      → after ≡ changed images survivor (with_unit (e ∷ [])) → later ≡ relocated h (copy_place survivor images) held
+      → Does b e copied.Moved after later
+  does_object false e h after later is grown index = absurd (cc)
+  does_object true (entry.Header x) h after later is grown index = absurd (cc)
+  does_object true (entry.Digest x) h after later is grown index = absurd (cc)
+  does_object true (entry.Safe x) h after later is grown index = absurd (cc)
+  does_object true (entry.Tombstone x) h after later is grown index = absurd (cc)
+  does_object true (entry.Object o) h after later is grown index =
+      let own : Held = record { hash = hash_of o.key; place = p } in
+      let same : h ≡ own = cc in
+      (refl, grown, index ∙ ap (λ (x : Held). relocated x (copy_place survivor images) held) same)
+
+  pub does_tombstone : (b : Bool) (e : Entry) (after : List Image) (later : List Held) → found_as b p e ≡ found.Tombstone
+      → after ≡ changed images survivor (with_unit (e ∷ [])) → later ≡ held → Does b e copied.Carried after later
+  does_tombstone false e after later is grown index = absurd (cc)
+  does_tombstone true (entry.Header x) after later is grown index = (refl, grown, index)
+  does_tombstone true (entry.Digest x) after later is grown index = (refl, grown, index)
+  does_tombstone true (entry.Safe x) after later is grown index = (refl, grown, index)
+  does_tombstone true (entry.Tombstone x) after later is grown index = (refl, grown, index)
+  does_tombstone true (entry.Object o) after later is grown index = absurd (cc)
+
+  pub does_dead : (b : Bool) (e : Entry) → found_as b p e ≡ found.Dead → Does b e copied.Dropped images held
+  does_dead false e is = (refl, refl, refl)
+  does_dead true (entry.Header x) is = absurd (cc)
+  does_dead true (entry.Digest x) is = absurd (cc)
+  does_dead true (entry.Safe x) is = absurd (cc)
+  does_dead true (entry.Tombstone x) is = absurd (cc)
+  does_dead true (entry.Object x) is = absurd (cc)
+
+-- what is found as an object or a tombstone is kept
+pub object_kept : (p : Place) (b : Bool) (e : Entry) (h : Held) → found_as b p e ≡ found.Object h → b ≡ true
+object_kept p true e h is = refl
+object_kept p false e h is = absurd (cc)
+
+pub tombstone_kept : (p : Place) (b : Bool) (e : Entry) → found_as b p e ≡ found.Tombstone → b ≡ true
+tombstone_kept p true e is = refl
+tombstone_kept p false e is = absurd (cc)
+
+-- ---- a copy
+
+-- nothing but the images changes
+pub others_are : (new old : ImagesValue) (xs : List Image) → new ≡ record old { images = xs }
+    → new ≡ record old { images = new.images }
+others_are new old xs is =
+    is ∙ ap (λ (ys : List Image). record old { images = ys }) (sym (ap (λ (v : ImagesValue). v.images) is))
+
+module _ (images : List Image) (p : Place) (n : ℕ) (e : Entry) where
+  module _ (there : IsSome (segment_of images p.segment)) (seen : IsSeen (images_in images) p n e) where
+    abbrev Read : Option Entry
+    Read = entry_at images p.segment p.at
+
+    pub copy_data : IsSomeAnd Read (λ (x : Entry). is_data x ≡ true)
+    copy_data =
+        subst (λ (o : Option Entry). IsSomeAnd o (λ (x : Entry). is_data x ≡ true))
+        (sym (seen_at images p n e there seen)) seen.of_data
+
+    pub copy_room : (ids : List ℕ) (held : List Held) (survivor segment : ℕ) → kept ids held p e ≡ true
+        → len_at images survivor + kept_len ids held (images_in images) p ≤ segment
+        → IfSome Read (λ (x : Entry). len_at images survivor + length (spelling x) ≤ segment)
+    copy_room ids held survivor segment keeps room =
+        let len : kept_len ids held (images_in images) p ≡ length (spelling e) =
+        len_stands ids held (images_in images) p e seen.valid seen.stands
+        ∙ ap (λ (b : Bool). cond b (length (spelling e)) 0) keeps in
+        subst (λ (o : Option Entry). IfSome o (λ (x : Entry). len_at images survivor + length (spelling x) ≤ segment))
+        (sym (seen_at images p n e there seen)) (omega (arith, room, len))
+
+    -- what is appended is the entry
+    pub copied_is : (survivor : ℕ) (new old : ImagesValue) → IfSome Read (λ (x : Entry). new ≡
+        record old { images = changed images survivor (with_unit (x ∷ [])) })
+        → new ≡ record old { images = changed images survivor (with_unit (e ∷ [])) }
+    copied_is survivor new old is =
+        subst (λ (o : Option Entry). IfSome o (λ (x : Entry). new ≡
+        record old { images = changed images survivor (with_unit (x ∷ [])) })) (seen_at images p n e there seen) is
+
+  pub treats : (seen : IsSeen (images_in images) p n e) (ids : List ℕ) (held : List Held) (survivor : ℕ)
+      (copied : Copied) (after : List Image) (later : List Held)
+      → Does p survivor images held (kept ids held p e) e copied after later
+      → Treats ids images held p survivor copied n after later
+  treats seen ids held survivor copied after later does =
+      record { entry = e; seen = seen; told = does.0; grown = does.1; index = does.2 }

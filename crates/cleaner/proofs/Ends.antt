@@ -1,0 +1,93 @@
+-- The places that a pass has before it.
+use Rattle.std.proofs.Common.{◌≡◌, ℕ, ◌+◌, ◌≤◌, true, List, [], ◌∷◌, length, drop, refl, sym, ap, subst, inl, inr, arith}
+use Rattle.std.specs.Prelude.{◌↔◌, Option, IsSome, unwrap_or}
+use Rattle.std.proofs.lemmas.Bool.{eqb-true, eq-eqb}
+use Rattle.std.proofs.lemmas.List.{length-drop, drop_all}
+use Rattle.entry.specs.declared.entry.Entry.{Entry}
+use Rattle.entry.specs.Bag.{IsAmong}
+use Rattle.entry.specs.Format.{spelling}
+use Rattle.hash_index.specs.declared.place.Place.{Place}
+use Rattle.images.specs.declared.image.Image.{Image}
+use Rattle.images.specs.Sorted.{IsWhole, segment_of}
+use Rattle.cleaner.specs.declared.pass.Pass.{Pass}
+use Rattle.cleaner.specs.Passes.{images_in, AreVictims, rest_of, is_at_end, places_on, IsAtData, IsCursorAt, IsPass}
+use Rattle.cleaner.specs.Laws.{AreSameAt}
+use Rattle.cleaner.proofs.Places.{place_at, on_data, on_same, on_segment, among_drop}
+
+pub rest_same : (images again : ℕ → List Entry) (p : Pass) → AreSameAt images again p.victims
+    → rest_of again p ≡ rest_of images p
+rest_same images again p same =
+    on_same images again (drop p.cursor.victim p.victims) p.cursor.at
+    (λ s m. same s (among_drop p.cursor.victim p.victims s m))
+
+pub cursor_same : (images again : ℕ → List Entry) (ids : List ℕ) (at : ℕ) → AreSameAt images again ids
+    → IsCursorAt images ids at → IsCursorAt again ids at
+cursor_same images again [] at same is = tt
+cursor_same images again (s ∷ ids) at same is =
+    subst (λ (es : List Entry). IsAtData es at) (sym (same s (inl refl))) is
+
+pub cursor_agrees : (images again : ℕ → List Entry) (p : Pass) → AreSameAt images again p.victims
+    → IsCursorAt images (drop p.cursor.victim p.victims) p.cursor.at
+    → IsCursorAt again (drop p.cursor.victim p.victims) p.cursor.at
+cursor_agrees images again p same is =
+    cursor_same images again (drop p.cursor.victim p.victims) p.cursor.at
+    (λ s m. same s (among_drop p.cursor.victim p.victims s m)) is
+
+-- victims that are found as before
+victims_agree : (images again : List Image) (survivor : ℕ) (ids : List ℕ)
+    → ((s : ℕ) → IsAmong s ids → segment_of again s ≡ segment_of images s) → AreVictims images survivor ids
+    → AreVictims again survivor ids
+victims_agree images again survivor [] same all = tt
+victims_agree images again survivor (s ∷ ids) same all = (
+  (subst (λ (o : Option (List Entry)). IsSome o) (sym (same s (inl refl))) all.0.0, all.0.1),
+  victims_agree images again survivor ids (λ t m. same t (inr m)) all.1,
+)
+
+pub pass_agrees : (images again : List Image) (p : Pass) → IsPass images p
+    → ((s : ℕ) → IsAmong s p.victims → segment_of again s ≡ segment_of images s) → IsWhole again p.survivor
+    → IsPass again p × (rest_of (images_in again) p ≡ rest_of (images_in images) p)
+pass_agrees images again p pass same whole =
+    let all : AreSameAt (images_in images) (images_in again) p.victims = λ s m.
+    ap (λ (o : Option (List Entry)). unwrap_or o []) (same s m) in (
+      record {
+        victims = victims_agree images again p.survivor p.victims same pass.victims;
+        whole = whole;
+        within = pass.within;
+        cursor = cursor_agrees (images_in images) (images_in again) p all pass.cursor;
+      },
+      rest_same (images_in images) (images_in again) p all,
+    )
+
+pub rest_segment : (images : ℕ → List Entry) (p : Pass) (place : Place) → IsAmong place (rest_of images p)
+    → IsAmong place.segment p.victims
+rest_segment images p place m =
+    among_drop p.cursor.victim p.victims place.segment
+    (on_segment images (drop p.cursor.victim p.victims) p.cursor.at place m)
+
+-- ---- the end
+
+pub end_none : (images : ℕ → List Entry) (p : Pass) → is_at_end p ≡ true → rest_of images p ≡ []
+end_none images p is =
+    let past : length p.victims ≤ p.cursor.victim =
+    omega (arith, eqb-true p.cursor.victim (length p.victims) is) in
+    ap (λ (ids : List ℕ). places_on images ids p.cursor.at) (drop_all p.cursor.victim p.victims past)
+
+not_none : {X : Type 0} (x : X) (xs ys : List X) → ys ≡ x ∷ xs → ys ≡ [] → ⊥
+not_none x xs ys some none = absurd (cc)
+
+-- where a segment is left, a place is left
+none_left : (images : ℕ → List Entry) (ids : List ℕ) (at : ℕ) → IsCursorAt images ids at → places_on images ids at ≡ [] → ids ≡ []
+none_left images [] at is none = refl
+none_left images (s ∷ ids) at is none =
+    absurd (not_none (place_at s at) (places_on images (s ∷ ids) (at + length (spelling is.0))) (places_on images (s ∷ ids) at)
+    (on_data images s ids at is.0 is.1 is.2) none)
+
+pub none_end : (images : List Image) (p : Pass) → IsPass images p → rest_of (images_in images) p ≡ [] → is_at_end p ≡ true
+none_end images p pass none =
+    let left = none_left (images_in images) (drop p.cursor.victim p.victims) p.cursor.at pass.cursor none in
+    eq-eqb p.cursor.victim (length p.victims)
+    (omega (arith, pass.within, length-drop p.cursor.victim p.victims, ap length left))
+
+pub end_is_none : (images : List Image) (p : Pass) → IsPass images p
+    → (is_at_end p ≡ true) ↔ (rest_of (images_in images) p ≡ [])
+end_is_none images p pass = (end_none (images_in images) p, none_end images p pass)

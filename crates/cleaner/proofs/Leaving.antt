@@ -1,0 +1,147 @@
+-- What is left to be copied after one entry.
+use Rattle.std.proofs.Common.{◌≡◌, ℕ, ◌+◌, ◌≤◌, Bool, true, false, cond, ◌||◌, ◌==◌, List, [], ◌∷◌, length, sym, ap, subst, ◌∙◌, inl, inr, ◌++◌, arith}
+use Rattle.std.specs.Prelude.{Option}
+use Rattle.std.specs.Option.{option_to_list}
+use Rattle.std.proofs.lemmas.Bool.{and_right, and_left, or_cases, or_left, or_right, ne_eqb}
+use Rattle.entry.specs.declared.entry.Entry.{Entry}
+use Rattle.entry.specs.declared.entry.Entry.TheVariants as entry
+use Rattle.entry.specs.Bag.{IsAmong}
+use Rattle.entry.specs.Format.{spelling}
+use Rattle.entry.specs.Text.{text_of}
+use Rattle.hash_index.specs.declared.place.Place.{Place}
+use Rattle.hash_index.specs.declared.place.Held.{Held}
+use Rattle.hash_index.specs.Map.{hash_of}
+use Rattle.hash_index.specs.Relocation.{is_same_place, is_same, holds, relocated}
+use Rattle.images.specs.declared.image.Image.{Image}
+use Rattle.images.specs.Sorted.{IsWhole}
+use Rattle.compactor.specs.Kept.{kept}
+use Rattle.cleaner.specs.declared.pass.Pass.{Pass}
+use Rattle.cleaner.specs.declared.pass.Copied.{Copied}
+use Rattle.cleaner.specs.Passes.{images_in, ids_in, rest_of, kept_left, IsPass, HasRoom, CopiesOne, images_with, held_with}
+use Rattle.cleaner.specs.Passes.{copy_place}
+use Rattle.cleaner.proofs.Places.{ends}
+use Rattle.cleaner.proofs.Images.{is_victim, grown_own, with_ids, with_same}
+use Rattle.cleaner.proofs.Keeping.{len_stands, left_cons, kept_no_more, kept_same}
+use Rattle.cleaner.proofs.Ends.{rest_segment}
+
+-- ---- the index
+
+other_segment : (h g : Held) → (g.place.segment ≡ h.place.segment → ⊥) → is_same h g ≡ false
+other_segment h g other =
+    and_right (g.hash == h.hash) (is_same_place h.place g.place)
+    (and_left (g.place.segment == h.place.segment) (g.place.at == h.place.at)
+    (ne_eqb g.place.segment h.place.segment other))
+
+-- a place that isn't moved to is held afterwards only if it was before
+module _ (h : Held) (to : Place) (q : Held) (other : to.segment ≡ q.place.segment → ⊥) where
+  was_held : (hs : List Held) → holds (relocated h to hs) q ≡ true → holds hs q ≡ true
+  was_held [] is = is
+  was_held (g ∷ gs) is = go (is_same h g) (was_held gs) is
+    where
+      go : (b : Bool) → (holds (relocated h to gs) q ≡ true → holds gs q ≡ true)
+          → holds (cond b (record g { place = to } ∷ gs) (g ∷ relocated h to gs)) q ≡ true
+          → (is_same q g || holds gs q) ≡ true
+      go true rest found =
+          let not_it : is_same q (record g { place = to }) ≡ false = other_segment q (record g { place = to }) other in
+          or_right (is_same q g) (holds gs q)
+          (sym (ap (λ (b : Bool). b || holds gs q) not_it) ∙ found)
+      go false rest found =
+          elim (or_cases (is_same q g) (holds (relocated h to gs) q) found) as (λ _. (is_same q g || holds gs q) ≡ true) [
+            | inl here ↦ or_left (is_same q g) (holds gs q) here
+            | inr later ↦ or_right (is_same q g) (holds gs q) (rest later)
+          ]
+
+-- the same by the entry that moved
+was_held_with : (b : Bool) (p to : Place) (e : Entry) (q : Held) → (to.segment ≡ q.place.segment → ⊥) → (hs : List Held)
+    → holds (held_with b p to e hs) q ≡ true → holds hs q ≡ true
+was_held_with false p to e q other hs is = is
+was_held_with true p to (entry.Header h) q other hs is = is
+was_held_with true p to (entry.Digest l) q other hs is = is
+was_held_with true p to (entry.Safe v) q other hs is = is
+was_held_with true p to (entry.Tombstone t) q other hs is = is
+was_held_with true p to (entry.Object o) q other hs is =
+    was_held (record { hash = hash_of o.key; place = p }) to q other hs is
+
+-- what is kept afterwards at a place that isn't moved to was kept before
+was_kept : (b : Bool) (p to : Place) (e : Entry) (ids : List ℕ) (hs : List Held) (q : Place) → (to.segment ≡ q.segment → ⊥)
+    → (f : Entry) → kept ids (held_with b p to e hs) q f ≡ true → kept ids hs q f ≡ true
+was_kept b p to e ids hs q other (entry.Header h) is = is
+was_kept b p to e ids hs q other (entry.Digest l) is = is
+was_kept b p to e ids hs q other (entry.Safe v) is = is
+was_kept b p to e ids hs q other (entry.Tombstone t) is = is
+was_kept b p to e ids hs q other (entry.Object o) is =
+    was_held_with b p to e (record { hash = hash_of o.key; place = q }) other hs is
+
+-- ---- the survivor
+
+grown_len : (images : List Image) (survivor : ℕ) (e : Entry) (b : Bool) → IsWhole images survivor
+    → length (text_of (images_in (images_with b survivor e images) survivor))
+    ≡ length (text_of (images_in images survivor)) + cond b (length (spelling e)) 0
+grown_len images survivor e true whole =
+    ap (λ (es : List Entry). length (text_of es)) (grown_own images survivor e whole)
+    ∙ ends (images_in images survivor) e
+grown_len images survivor e false whole = omega arith
+
+-- ---- what is left
+
+module _ (segment : ℕ) (ids : List ℕ) (p q : Pass) (images after : List Image) (held later : List Held) (copied : Copied)
+    (pass : IsPass images p) (c : CopiesOne ids p images held copied q after later) where
+  abbrev keeps : Bool
+  keeps = kept ids held c.place c.entry
+
+  abbrev To : Place
+  To = copy_place p.survivor images
+
+  -- the places that are left are of victims
+  left_victim : (r : Place) → IsAmong r c.later → IsAmong r.segment p.victims
+  left_victim r m =
+      rest_segment (images_in images) p r (subst (λ (ps : List Place). IsAmong r ps) (sym c.first) (inr m))
+
+  left_other : (r : Place) → IsAmong r c.later → To.segment ≡ r.segment → ⊥
+  left_other r m same =
+      let lt = (is_victim images p.survivor p.victims r.segment pass.victims (left_victim r m)).1 in
+      omega (arith, lt, same)
+
+  left_images : (r : Place) → IsAmong r c.later → images_in after r.segment ≡ images_in images r.segment
+  left_images r m =
+      ap (λ (xs : List Image). images_in xs r.segment) c.survivor
+      ∙ with_same images p.survivor c.entry keeps p.victims pass.victims r.segment (left_victim r m)
+
+  left_less : kept_left ids later (images_in after) c.later ≤ kept_left ids held (images_in images) c.later
+  left_less =
+      let same = kept_same ids later (images_in images) (images_in after) c.later left_images in
+      let less =
+      kept_no_more ids ids held (held_with keeps c.place To c.entry held) (images_in images) c.later
+      (λ r e m is so. was_kept keeps c.place To c.entry ids held r (left_other r m) e so) in
+      omega (
+        arith,
+        same,
+        less,
+        ap (λ (hs : List Held). kept_left ids hs (images_in images) c.later) c.index,
+      )
+
+  pub left_room : HasRoom segment ids p images held → HasRoom segment ids q after later
+  left_room room =
+      let rest : kept_left ids held (images_in images) (rest_of (images_in images) p)
+      ≡ cond keeps (length (spelling c.entry)) 0 + kept_left ids held (images_in images) c.later =
+      ap (kept_left ids held (images_in images)) c.first
+      ∙ left_cons ids held (images_in images) c.place c.later
+      ∙ ap (λ (n : ℕ). n + kept_left ids held (images_in images) c.later)
+      (len_stands ids held (images_in images) c.place c.entry c.valid c.stands) in
+      let len : length (text_of (images_in after q.survivor))
+      ≡ length (text_of (images_in images p.survivor)) + cond keeps (length (spelling c.entry)) 0 =
+      ap (λ (x : Pass). length (text_of (images_in after x.survivor))) c.pass
+      ∙ ap (λ (xs : List Image). length (text_of (images_in xs p.survivor))) c.survivor
+      ∙ grown_len images p.survivor c.entry keeps pass.whole in
+      let now : kept_left ids later (images_in after) (rest_of (images_in after) q)
+      ≡ kept_left ids later (images_in after) c.later =
+      ap (kept_left ids later (images_in after)) c.rest in
+      omega (arith, room, rest, len, now, left_less)
+
+pub ids_kept : (ids : List ℕ) (p q : Pass) (images after : List Image) (held later : List Held) (copied : Copied)
+    → CopiesOne ids p images held copied q after later → (head : ℕ) (new : Option ℕ)
+    → ids_in after head new ≡ ids_in images head new
+ids_kept ids p q images after held later copied c head new =
+    ap (λ (xs : List Image). ids_in xs head new) c.survivor
+    ∙ ap (λ (ns : List ℕ). ns ++ head ∷ option_to_list new)
+    (with_ids images p.survivor c.entry (kept ids held c.place c.entry))

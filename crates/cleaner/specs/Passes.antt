@@ -1,0 +1,147 @@
+-- A pass over victims: the places that it has before it, and what it does at one of them.
+use Rattle.std.specs.Prelude.{◌≡◌, ℕ, ◌+◌, ◌≤◌, ◌<◌, ◌==◌, Bool, true, false, ◌&&◌, if◌then◌else◌, nat_le}
+use Rattle.std.specs.Prelude.{List, [], ◌∷◌, ◌++◌, length, map, drop, filter, sum_by, Option, IsSome, unwrap_or}
+use Rattle.std.specs.List.{AllByRecursion}
+use Rattle.std.specs.Option.{option_map_or, option_to_list}
+use Rattle.entry.specs.declared.entry.Entry.{Entry}
+use Rattle.entry.specs.declared.entry.Entry.TheVariants as entry
+use Rattle.entry.specs.Bag.{IsAmong}
+use Rattle.entry.specs.Format.{spelling, IsEntry}
+use Rattle.entry.specs.Text.{text_of, is_data}
+use Rattle.segment.specs.Bytes.{standing_at}
+use Rattle.hash_index.specs.declared.place.Place.{Place}
+use Rattle.hash_index.specs.declared.place.Held.{Held}
+use Rattle.images.specs.declared.image.Image.{Image}
+use Rattle.images.specs.Sorted.{IsWhole, segment_of, changed}
+use Rattle.images.specs.Steps.{with_unit, len_at}
+use Rattle.compactor.specs.Kept.{kept}
+use Rattle.compactor.specs.Moved.{moved_one}
+use Rattle.compactor.specs.Places.{LiesAt, IsAtPlace}
+use Rattle.cleaner.specs.declared.pass.Pass.{Pass}
+use Rattle.cleaner.specs.declared.pass.Copied.{Copied}
+use Rattle.cleaner.specs.declared.pass.Copied.TheVariants.{Moved, Carried, Dropped}
+
+-- ---- images
+
+-- the entries of a segment among some images; none if it isn't there
+abbrev pub images_in : List Image → ℕ → List Entry
+images_in images s = unwrap_or (segment_of images s) []
+
+-- the ids of the log set: those of the images, the head, and the head that is being opened
+abbrev pub ids_in : List Image → ℕ → Option ℕ → List ℕ
+ids_in images head new = map (λ (image : Image). image.id) images ++ head ∷ option_to_list new
+
+-- each of the segments has an image, and is below the survivor
+abbrev pub AreVictims : List Image → ℕ → List ℕ → Type 0
+AreVictims images survivor ids = AllByRecursion (λ (s : ℕ). IsSome (segment_of images s) × (s < survivor)) ids
+
+-- ---- places
+
+-- the places of the objects and tombstones among a segment's entries, the first of which begins at the offset
+abbrev pub places_from : ℕ → ℕ → List Entry → List Place
+places_from segment at [] = []
+places_from segment at (e ∷ es) =
+    let later = places_from segment (at + length (spelling e)) es in
+    if is_data e then record { segment = segment; at = at } ∷ later else later
+
+-- those from an offset of a segment on
+abbrev pub places_past : ℕ → ℕ → List Entry → List Place
+places_past segment at es = filter (λ (p : Place). nat_le at p.at) (places_from segment 0 es)
+
+-- those of some segments, in order
+abbrev pub places_of : (ℕ → List Entry) → List ℕ → List Place
+places_of images [] = []
+places_of images (s ∷ ids) = places_from s 0 (images s) ++ places_of images ids
+
+-- those of the first segment from an offset on, and of the others
+abbrev pub places_on : (ℕ → List Entry) → List ℕ → ℕ → List Place
+places_on images [] at = []
+places_on images (s ∷ ids) at = places_past s at (images s) ++ places_of images ids
+
+-- ---- a pass
+
+-- the places that a pass has before it
+abbrev pub rest_of : (ℕ → List Entry) → Pass → List Place
+rest_of images p = places_on images (drop p.cursor.victim p.victims) p.cursor.at
+
+abbrev pub is_at_end : Pass → Bool
+is_at_end p = p.cursor.victim == length p.victims
+
+-- nothing is left to copy, and all replicas of the survivor are sealed
+abbrev pub is_ready : ℕ → Pass → Bool
+is_ready replicas p = is_at_end p && (p.sealed == replicas)
+
+-- an object or a tombstone stands at the offset
+abbrev pub IsAtData : List Entry → ℕ → Type 0
+IsAtData es at = (e : Entry) × LiesAt es at e × (is_data e ≡ true)
+
+-- the cursor is at an object or a tombstone of the first of these segments, or there is no segment
+abbrev pub IsCursorAt : (ℕ → List Entry) → List ℕ → ℕ → Type 0
+IsCursorAt images [] at = Unit {0}
+IsCursorAt images (s ∷ ids) at = IsAtData (images s) at
+
+-- What holds of an open pass and the images.
+pub record IsPass (images : List Image) (p : Pass) : Type 0 where
+  pub victims : AreVictims images p.survivor p.victims
+  pub whole : IsWhole images p.survivor
+  pub within : p.cursor.victim ≤ length p.victims
+  pub cursor : IsCursorAt (images_in images) (drop p.cursor.victim p.victims) p.cursor.at
+
+-- ---- kept bytes
+
+-- the bytes of the entry at a place if it is kept, else 0
+abbrev pub kept_len : List ℕ → List Held → (ℕ → List Entry) → Place → ℕ
+kept_len ids held images p =
+    option_map_or (λ (e : Entry). if kept ids held p e then length (spelling e) else 0)
+    (standing_at p.at (text_of (images p.segment))) 0
+
+-- the bytes of what is kept at some places
+abbrev pub kept_left : List ℕ → List Held → (ℕ → List Entry) → List Place → ℕ
+kept_left ids held images places = sum_by (kept_len ids held images) places
+
+-- a segment has room for what the survivor has and what is kept at the places before the pass
+abbrev pub HasRoom : ℕ → List ℕ → Pass → List Image → List Held → Type 0
+HasRoom segment ids p images held =
+    length (text_of (images_in images p.survivor))
+    + kept_left ids held (images_in images) (rest_of (images_in images) p) ≤ segment
+
+-- ---- one entry
+
+-- what becomes of an entry, by whether it is kept
+abbrev pub copied_as : Bool → Entry → Copied
+copied_as false e = Dropped
+copied_as true (entry.Header h) = Carried
+copied_as true (entry.Digest ids) = Carried
+copied_as true (entry.Safe version) = Carried
+copied_as true (entry.Object o) = Moved
+copied_as true (entry.Tombstone t) = Carried
+
+-- the place of the next copy: behind what the survivor has
+abbrev pub copy_place : ℕ → List Image → Place
+copy_place survivor images = record { segment = survivor; at = len_at images survivor }
+
+-- the survivor then ends with the entry, if that is kept
+abbrev pub images_with : Bool → ℕ → Entry → List Image → List Image
+images_with is_kept survivor e images = if is_kept then changed images survivor (with_unit (e ∷ [])) else images
+
+-- an object that is kept is then held where its copy lies
+abbrev pub held_with : Bool → Place → Place → Entry → List Held → List Held
+held_with is_kept p to e held = if is_kept then moved_one p to e held else held
+
+-- The entry at the next place that the pass has before it is treated.
+pub record CopiesOne (ids : List ℕ) (p : Pass) (images : List Image) (held : List Held) (copied : Copied) (q : Pass)
+    (images_after : List Image) (held_after : List Held) : Type 0 where
+  pub place : Place
+  pub later : List Place
+  pub entry : Entry
+  pub first : rest_of (images_in images) p ≡ place ∷ later
+  pub victim : IsAmong place.segment p.victims
+  pub stands : IsAtPlace (images_in images) place entry
+  pub valid : IsEntry entry
+  pub of_data : is_data entry ≡ true
+  -- Moved or Carried if it is kept, else Dropped
+  pub told : copied ≡ copied_as (kept ids held place entry) entry
+  pub survivor : images_after ≡ images_with (kept ids held place entry) p.survivor entry images
+  pub index : held_after ≡ held_with (kept ids held place entry) place (copy_place p.survivor images) entry held
+  pub rest : rest_of (images_in images_after) q ≡ later
+  pub pass : q ≡ record p { cursor = q.cursor }

@@ -1,0 +1,76 @@
+-- How a cursor goes on, and what a pass finds at its place.
+use Rattle.std.specs.Prelude.{◌≡◌, ℕ, ◌+◌, ◌≤◌, Bool, true, false, List, [], ◌∷◌, ◌++◌, length, drop, Option, Some, None}
+use Rattle.entry.specs.declared.entry.Entry.{Entry}
+use Rattle.entry.specs.declared.entry.Entry.TheVariants as entry
+use Rattle.entry.specs.Format.{spelling, IsEntry}
+use Rattle.entry.specs.Text.{text_of, is_data}
+use Rattle.hash_index.specs.declared.place.Place.{Place}
+use Rattle.hash_index.specs.declared.place.Held.{Held}
+use Rattle.hash_index.specs.Map.{hash_of}
+use Rattle.images.specs.declared.image.Image.{Image}
+use Rattle.compactor.specs.Kept.{kept}
+use Rattle.compactor.specs.Places.{IsAtPlace}
+use Rattle.cleaner.specs.declared.pass.Cursor.{Cursor}
+use Rattle.cleaner.specs.declared.pass.Copied.{Copied}
+use Rattle.cleaner.specs.declared.treating.Found.{Found}
+use Rattle.cleaner.specs.declared.treating.Found.TheVariants as found
+use Rattle.cleaner.specs.Passes.{images_in, places_past, places_on, IsAtData, IsCursorAt}
+use Rattle.cleaner.specs.Passes.{copied_as, copy_place, images_with, held_with}
+
+-- ---- the cursor
+
+-- An entry begins at the offset, or the entries end there.
+pub record IsBetween (es : List Entry) (at : ℕ) : Type 0 where
+  pub before : List Entry
+  pub rest : List Entry
+  pub split : es ≡ before ++ rest
+  pub offset : at ≡ length (text_of before)
+
+-- the same of the first of these segments, if there is one
+abbrev pub IsCursorBetween : (ℕ → List Entry) → List ℕ → ℕ → Type 0
+IsCursorBetween images [] at = Unit {0}
+IsCursorBetween images (s ∷ ids) at = IsBetween (images s) at
+
+-- the first object or tombstone from an offset on is at the found one, or there is none
+abbrev pub FindsData : List Entry → ℕ → Option ℕ → Type 0
+FindsData es at None = (s : ℕ) → places_past s at es ≡ []
+FindsData es at (Some n) = IsAtData es n × ((s : ℕ) → places_past s n es ≡ places_past s at es)
+
+-- A cursor is behind no victim but the last, at an object or tombstone if not there, and has the places before it that
+-- another one has.
+pub record GoesOn (images : ℕ → List Entry) (victims : List ℕ) (from to : Cursor) : Type 0 where
+  pub within : to.victim ≤ length victims
+  pub rest : places_on images (drop to.victim victims) to.at ≡ places_on images (drop from.victim victims) from.at
+  pub cursor : IsCursorAt images (drop to.victim victims) to.at
+
+-- ---- the entry
+
+-- what is found at a place, by whether the entry is kept
+abbrev pub found_as : Bool → Place → Entry → Found
+found_as false p e = found.Dead
+found_as true p (entry.Header h) = found.Tombstone
+found_as true p (entry.Digest ids) = found.Tombstone
+found_as true p (entry.Safe version) = found.Tombstone
+found_as true p (entry.Object o) = found.Object (record { hash = hash_of o.key; place = p })
+found_as true p (entry.Tombstone t) = found.Tombstone
+
+-- An object or tombstone stands at the place, of this many bytes.
+pub record IsSeen (images : ℕ → List Entry) (p : Place) (len : ℕ) (e : Entry) : Type 0 where
+  pub stands : IsAtPlace images p e
+  pub valid : IsEntry e
+  pub of_data : is_data e ≡ true
+  pub size : len ≡ length (spelling e)
+  pub limit : p.at + len ≤ 8388608
+
+-- the object or tombstone at the place is found
+abbrev pub Finds : List ℕ → List Held → (ℕ → List Entry) → Place → Found → ℕ → Type 0
+Finds ids held images p f len = (e : Entry) × IsSeen images p len e × (f ≡ found_as (kept ids held p e) p e)
+
+-- The object or tombstone at the place is treated.
+pub record Treats (ids : List ℕ) (images : List Image) (held : List Held) (p : Place) (survivor : ℕ) (copied : Copied)
+    (len : ℕ) (images_after : List Image) (held_after : List Held) : Type 0 where
+  pub entry : Entry
+  pub seen : IsSeen (images_in images) p len entry
+  pub told : copied ≡ copied_as (kept ids held p entry) entry
+  pub grown : images_after ≡ images_with (kept ids held p entry) survivor entry images
+  pub index : held_after ≡ held_with (kept ids held p entry) p (copy_place survivor images) entry held

@@ -1,0 +1,132 @@
+//! A pass over some segments of the log.
+
+ghost use Rattle.std.specs.Prelude.{◌≡◌, ◌+◌, ◌<◌, ◌≤◌, false, length, drop, IfOk, OnOk, OnErr};
+ghost use Rattle.cleaner.specs.Passes.{images_in, ids_in, AreVictims, places_of, rest_of, is_at_end, is_ready};
+ghost use Rattle.cleaner.specs.Passes.{IsCursorAt, IsPass, HasRoom, CopiesOne};
+
+use crate::treating::treat;
+use crate::walking::next_cursor;
+use entry::{NoMemory, Row};
+use hash_index::{Index, Place};
+use images::Images;
+
+/// Where a pass is among its victims.
+#[derive(Clone, Copy)]
+pub struct Cursor {
+    /// Which victim, in the order in which they were given. Behind the last one nothing is left.
+    pub victim: usize,
+    /// The offset in its image, in bytes.
+    pub at: usize,
+}
+
+/// What became of an entry.
+#[derive(Clone, Copy)]
+pub enum Copied {
+    /// An object was copied, and the index leads to the copy.
+    Moved,
+    /// A tombstone was copied.
+    Carried,
+    /// The entry isn't kept.
+    Dropped,
+}
+
+/// A pass copies what is kept of its victims to one segment, the survivor.
+#[derive(Drop)]
+pub struct Pass {
+    /// The segments that the pass empties, in the order in which they were given.
+    pub victims: Row<u64>,
+    /// The next entry to be treated.
+    pub cursor: Cursor,
+    /// The segment to which the kept entries are copied.
+    pub survivor: u64,
+    /// How many replicas of the survivor are sealed.
+    pub sealed: usize,
+    /// Whether the roll that is under way is the pass's commit.
+    pub is_committing: bool,
+}
+
+impl Pass {
+    /// A pass over some segments, of which nothing is copied yet. It takes no memory.
+    pub fn begin(victims: Row<u64>, survivor: u64, images: &Images) -> Pass
+        requires { AreVictims images.now.images survivor victims }
+        ensures begun { result ≡ record {
+          victims = victims;
+          cursor = result.cursor;
+          survivor = survivor;
+          sealed = 0;
+          is_committing = false;
+        } }
+        ensures rest { let images = images_in images.now.images in rest_of images result ≡ places_of images victims }
+        ensures within { result.cursor.victim ≤ length victims }
+        ensures cursor { IsCursorAt (images_in images.now.images) (drop result.cursor.victim victims)
+            result.cursor.at }
+    {
+        let start = Cursor { victim: 0, at: 0 };
+        let cursor = next_cursor(victims.as_slice(), images, start);
+        Pass {
+            victims,
+            cursor,
+            survivor,
+            sealed: 0,
+            is_committing: false,
+        }
+    }
+
+    /// Whether each entry of the victims was treated.
+    pub fn is_at_end(&self) -> bool
+        ensures { result ≡ is_at_end self.now }
+    {
+        self.cursor.victim == self.victims.as_slice().len()
+    }
+
+    /// Whether the pass may be committed: each entry was treated, and all replicas of the survivor are sealed.
+    pub fn is_ready(&self, replicas: usize) -> bool
+        ensures { result ≡ is_ready replicas self.now }
+    {
+        self.is_at_end() && self.sealed == replicas
+    }
+
+    /// The next replica of the survivor is sealed, which is this one.
+    pub fn sealed(&mut self, replica: usize)
+        requires next { replica ≡ self.old.sealed }
+        requires more { replica < usize.MAX }
+        ensures { self.new ≡ record self.old { sealed = replica + 1 } }
+    {
+        self.sealed = replica + 1;
+    }
+
+    /// Treats the next object or tombstone. If it is kept, it is copied to the end of the survivor's image, and the
+    /// index then leads to the copy of an object. It takes no memory if the survivor's was taken whole. On `Err`
+    /// nothing changed.
+    pub fn copy_one(
+        &mut self,
+        images: &mut Images,
+        index: &mut Index,
+        head: u64,
+        new: Option<u64>,
+    ) -> Result<Copied, NoMemory>
+        requires pass { IsPass images.old.images self.old }
+        requires more { is_at_end self.old ≡ false }
+        requires room { HasRoom images.old.segment (ids_in images.old.images head new) self.old images.old.images
+            index.old.held }
+        ensures copied { IfOk result (λ copied. CopiesOne (ids_in images.old.images head new) self.old
+            images.old.images index.old.held copied self.new images.new.images index.new.held) }
+        ensures pass { OnOk result (IsPass images.new.images self.new) }
+        ensures images { images.new ≡ record images.old { images = images.new.images } }
+        ensures room { index.new.room ≡ index.old.room }
+        ensures err { OnErr result ((self.new ≡ self.old) × (images.new ≡ images.old) × (index.new ≡ index.old)) }
+    {
+        let victims = self.victims.as_slice();
+        let place = Place {
+            segment: victims[self.cursor.victim],
+            at: self.cursor.at,
+        };
+        let (copied, len) = treat(place, self.survivor, images, index, head, new)?;
+        let behind = Cursor {
+            victim: self.cursor.victim,
+            at: place.at + len,
+        };
+        self.cursor = next_cursor(victims, images, behind);
+        Ok(copied)
+    }
+}

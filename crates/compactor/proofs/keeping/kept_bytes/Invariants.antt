@@ -1,0 +1,15 @@
+use Rattle.std.proofs.Common.{length, ◌-◌, ◌≤◌}
+use Rattle.compactor.specs.Log.{ids_of_log}
+use Rattle.compactor.proofs.Counting.{IsCounted}
+use Rattle.compactor.proofs.keeping.kept_bytes.Given as goal
+
+abbrev pub invariant-loop-at : goal.invariant-loop-at
+invariant-loop-at l =
+    record {
+      counted : IsCounted (ids_of_log l.log) l.index.held l.id l.segment l.at l.len;
+      low : l.len ≤ l.at;
+      within : l.at ≤ length l.text;
+    }
+
+abbrev pub decreases-loop-at : goal.decreases-loop-at
+decreases-loop-at l = length l.text - l.at
