@@ -15,7 +15,7 @@ use Rattle.hash_index.proofs.Finding.{tells_is}
 
 -- ---- the same place
 
-same_place : (p q : Place) → is_same_place p q ≡ true → q ≡ p
+pub same_place : (p q : Place) → is_same_place p q ≡ true → q ≡ p
 same_place p q is =
     let parts = and_parts (q.segment == p.segment) (q.at == p.at) is in
     let segment = (Decides-eqb q.segment p.segment).0 parts.0 in
@@ -27,7 +27,7 @@ place_same p q is =
     and_from (q.segment == p.segment) (q.at == p.at) ((Decides-eqb q.segment p.segment).1 (ap (λ (x : Place). x.segment) is))
     ((Decides-eqb q.at p.at).1 (ap (λ (x : Place). x.at) is))
 
-held_same : (h g : Held) → g.hash ≡ h.hash → g.place ≡ h.place → is_same h g ≡ true
+pub held_same : (h g : Held) → g.hash ≡ h.hash → g.place ≡ h.place → is_same h g ≡ true
 held_same h g hash place =
     and_from (g.hash == h.hash) (is_same_place h.place g.place) ((Decides-eqb g.hash h.hash).1 hash) (place_same h.place g.place place)
 

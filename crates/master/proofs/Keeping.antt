@@ -1,6 +1,6 @@
 -- What every step keeps.
-use Rattle.std.proofs.Common.{◌≡◌, ℕ, ◌+◌, ◌≤◌, inl, inr, Bool, true, false, List, [], ◌∷◌, ◌++◌, length, refl, sym, ap, subst, ◌∙◌, append_assoc, arith}
-use Rattle.std.specs.Prelude.{Option, Some, None, Result, Ok, Err, nat_lt}
+use Rattle.std.proofs.Common.{◌≡◌, ℕ, suc, ◌+◌, ◌≤◌, inl, inr, Bool, true, false, List, [], ◌∷◌, ◌++◌, length, refl, sym, ap, subst, ◌∙◌, append_assoc, arith}
+use Rattle.std.specs.Prelude.{Option, Some, None, Result, Ok, Err, nat_lt, drop, ◌==◌, if◌then◌else◌}
 use Rattle.std.proofs.lemmas.List.{append-nil, length-append}
 use Rattle.std.proofs.lemmas.Option.{same_Some}
 use Rattle.replica.specs.Op.{OpValue}
@@ -11,24 +11,27 @@ use Rattle.versioned_map.specs.declared.command.Command.{Command}
 use Rattle.log_model.specs.Data.{LogData, durable_of}
 use Rattle.log_model.specs.Kept.{IsKept as IsLogKept}
 use Rattle.log_model.specs.Ops.{LogOp, op_of}
-use Rattle.log_model.specs.Steps.{IsNext, next_start}
+use Rattle.log_model.specs.Steps.{IsNext, id_taken}
 use Rattle.log_model.proofs.DurableSteps.{durable_stays_applied, durable_stays_rolling, durable_stays_next}
 use Rattle.log_model.proofs.Pictures.{place_tells}
 use Rattle.master_core.specs.declared.step.Refusal.{Refusal}
 use Rattle.master_core.specs.declared.step.Refusal.TheVariants as refusal
 use Rattle.master_core.specs.declared.step.Step.{Step}
-use Rattle.master_core.specs.declared.step.Step.TheVariants.{Apply, Push, BeginRoll, Compact}
+use Rattle.master_core.specs.declared.step.Step.TheVariants.{Apply, Push, BeginRoll, Compact, BeginClean, Copy, Seal, Free}
 use Rattle.master_core.specs.declared.step.StepAnswer.{StepAnswer}
 use Rattle.master_core.specs.declared.step.StepAnswer.TheVariants.{Applied, Opened, Extended, Closed, Rolling, Compacted}
+use Rattle.master_core.specs.declared.step.StepAnswer.TheVariants.{Begun, Moved, Carried, Dropped, Sealed, Freed}
 use Rattle.master_core.specs.Causes.{dead_segment}
 use Rattle.master_core.specs.Data.{MasterData}
 use Rattle.master_core.specs.Log.{log_of}
-use Rattle.master_core.specs.Steps.{Applies, BeginsRoll, Compacts, record_now}
+use Rattle.master_core.specs.Steps.{Applies, BeginsRoll, Compacts, BeginsPass, Copies, next_now, record_now, freed_data}
 use Rattle.master.specs.Invariant.{IsWellKept}
 use Rattle.master.specs.Keeps.{Keeps}
+use Rattle.master.specs.Passes.{IsSealOp, Seals, IsFreeOp, Frees}
 use Rattle.master.specs.Pushes.{IsNextOp, Pushes}
-use Rattle.master.specs.Steps.{FailsTake, Steps}
+use Rattle.master.specs.Steps.{FailsTake, IsPushOp, Steps}
 use Rattle.master.specs.World.{World}
+use Rattle.master.proofs.Pushed.{same_rest}
 
 -- ---- many steps
 
@@ -108,6 +111,22 @@ is_next d e o (Closed backup segment) is = inr (inr (inr is.0))
 is_next d e o (Applied place reply) is = absurd is
 is_next d e o (Rolling segment) is = absurd is
 is_next d e o (Compacted segment len) is = absurd is
+is_next d e o (Begun segment) is = absurd is
+is_next d e o Moved is = absurd is
+is_next d e o Carried is = absurd is
+is_next d e o Dropped is = absurd is
+is_next d e o (Sealed backup) is = absurd is
+is_next d e o (Freed segment backup) is = absurd is
+
+-- a replica that was freed leaves the log as it is
+log_freed : (d : MasterData) → (log_of (freed_data d) ≡ log_of d) × ((freed_data d).config ≡ d.config)
+log_freed d = go (suc d.freed == d.config.replicas) where
+  gives : Bool → MasterData
+  gives t = if t then record d { waiting = drop 1 d.waiting; freed = 0 } else record d { freed = suc d.freed }
+
+  go : (t : Bool) → (log_of (gives t) ≡ log_of d) × ((gives t).config ≡ d.config)
+  go true = (refl, refl)
+  go false = (refl, refl)
 
 module _ (old new : World) (kept : IsWellKept old.knows old.fleet) where
   log_kept : IsLogKept (log_of old.knows) kept.before
@@ -140,57 +159,93 @@ module _ (old new : World) (kept : IsWellKept old.knows old.fleet) where
         history = (record_now d seat command ∷ [], ap (λ (l : LogData). l.history) a.log);
       }
 
+  -- the fleet is as it was
+  quiet : new.fleet ≡ old.fleet → IsBeside old.knows.config.master old.fleet new.fleet
+  quiet fleet = subst (IsBeside old.knows.config.master old.fleet) (sym fleet) (beside_same old.knows.config.master old.fleet)
+
+  -- the log is as it was
+  same_log : log_of new.knows ≡ log_of old.knows → durable_of (log_of old.knows) ≤ durable_of (log_of new.knows)
+  same_log is = subst (λ (l : LogData). durable_of (log_of old.knows) ≤ durable_of l) (sym is) (omega arith)
+
   rolled : (answer : StepAnswer) → BeginsRoll old.knows answer new.knows → new.fleet ≡ old.fleet → Keeps 1 old new
   rolled answer b fleet =
       let d = old.knows in
-      silent (ap (λ (x : MasterData). x.config) b.rest) (ap (λ (x : MasterData). x.history) b.rest)
-      (subst (IsBeside d.config.master old.fleet) (sym fleet) (beside_same d.config.master old.fleet))
-      (subst (λ (l : LogData). durable_of (log_of old.knows) ≤ durable_of l) (sym b.log) (durable_stays_rolling (log_of d) (next_start (log_of d))))
+      silent (ap (λ (x : MasterData). x.config) b.rest) (ap (λ (x : MasterData). x.history) b.rest) (quiet fleet)
+      (subst (λ (l : LogData). durable_of (log_of old.knows) ≤ durable_of l) (sym b.log) (durable_stays_rolling (log_of d) (next_now d)))
 
   compacted : (id : ℕ) (answer : StepAnswer) → Compacts old.knows id answer new.knows → new.fleet ≡ old.fleet → Keeps 1 old new
   compacted id answer c fleet =
-      let d = old.knows in
-      silent (ap (λ (x : MasterData). x.config) c.rest) (ap (λ (x : MasterData). x.history) c.rest)
-      (subst (IsBeside d.config.master old.fleet) (sym fleet) (beside_same d.config.master old.fleet))
-      (subst (λ (l : LogData). durable_of (log_of old.knows) ≤ durable_of l) (sym c.log) (omega arith))
+      silent (ap (λ (x : MasterData). x.config) c.rest) (ap (λ (x : MasterData). x.history) c.rest) (quiet fleet) (same_log c.log)
+
+  begun : (ids : List ℕ) (answer : StepAnswer) → BeginsPass old.knows ids answer new.knows → new.fleet ≡ old.fleet → Keeps 1 old new
+  begun ids answer b fleet =
+      let same : durable_of (id_taken (log_of old.knows)) ≡ durable_of (log_of old.knows) = refl in
+      silent (ap (λ (x : MasterData). x.config) b.rest) (ap (λ (x : MasterData). x.history) b.rest) (quiet fleet)
+      (subst (λ (l : LogData). durable_of (log_of old.knows) ≤ durable_of l) (sym b.log) (omega arith))
+
+  copied : (answer : StepAnswer) → Copies old.knows answer new.knows → new.fleet ≡ old.fleet → Keeps 1 old new
+  copied answer c fleet =
+      silent (ap (λ (x : MasterData). x.config) c.rest) (ap (λ (x : MasterData). x.history) c.rest) (quiet fleet) (same_log c.log)
 
   pushed : (answer : StepAnswer) → Pushes old answer new → Keeps 1 old new
   pushed answer p =
-      silent (ap (λ (d : MasterData). d.config) p.rest) (ap (λ (d : MasterData). d.history) p.rest)
+      let same = same_rest old.knows p.push in
+      silent (ap (λ (d : MasterData). d.config) p.rest ∙ same.0) (ap (λ (d : MasterData). d.history) p.rest ∙ same.1)
       (taken_beside old.fleet p.op.backup (op_of old.knows.config.master p.op) new.fleet p.takes.1)
       (durable_stays_next (log_of old.knows) (log_of new.knows) kept.before p.op log_kept (is_next (log_of old.knows) (log_of new.knows) p.op answer p.next))
 
-  halts : FailsTake old refusal.Halted new → Keeps 1 old new
-  halts t =
-      let is = t.0 in
-      silent (ap (λ (d : MasterData). d.config) is) (ap (λ (d : MasterData). d.history) is)
-      (fault_beside old.fleet t.1.0.backup (op_of old.knows.config.master t.1.0) new.fleet t.1.4)
-      (subst (λ (d : MasterData). durable_of (log_of old.knows) ≤ durable_of (log_of d)) (sym is) (omega arith))
+  sealed : (answer : StepAnswer) → Seals old answer new → Keeps 1 old new
+  sealed answer s =
+      silent (ap (λ (d : MasterData). d.config) s.rest) (ap (λ (d : MasterData). d.history) s.rest)
+      (taken_beside old.fleet s.op.backup (op_of old.knows.config.master s.op) new.fleet s.takes.1) (same_log (ap log_of s.rest))
 
-  failed : (r : Refusal) → FailsTake old r new → Keeps 1 old new
-  failed refusal.NoMemory t = unchanged t
-  failed refusal.Spent t = unchanged t.1
-  failed refusal.Halted t = halts t
-  failed refusal.TooBig t = absurd t
-  failed refusal.Full t = absurd t
-  failed refusal.VersionsSpent t = absurd t
-  failed refusal.HistoryFull t = absurd t
-  failed refusal.Rolling t = absurd t
-  failed refusal.Nothing t = absurd t
-  failed (refusal.Pass fault) t = absurd t
-  failed refusal.NoTablet t = absurd t
-  failed refusal.SegmentsSpent t = absurd t
+  freed : (answer : StepAnswer) → Frees old answer new → Keeps 1 old new
+  freed answer s =
+      let same = log_freed old.knows in
+      silent (ap (λ (d : MasterData). d.config) s.rest ∙ same.1)
+      (ap (λ (d : MasterData). d.history) s.rest ∙ ap (λ (l : LogData). l.history) same.0)
+      (taken_beside old.fleet s.op.backup (op_of old.knows.config.master s.op) new.fleet s.takes.1) (same_log (ap log_of s.rest ∙ same.0))
+
+  module _ (IsOp : LogOp → Type 0) where
+    halts : FailsTake IsOp old refusal.Halted new → Keeps 1 old new
+    halts t =
+        silent (ap (λ (d : MasterData). d.config) t.0) (ap (λ (d : MasterData). d.history) t.0)
+        (fault_beside old.fleet t.1.0.backup (op_of old.knows.config.master t.1.0) new.fleet t.1.2) (same_log (ap log_of t.0))
+
+    failed : (r : Refusal) → FailsTake IsOp old r new → Keeps 1 old new
+    failed refusal.NoMemory t = unchanged t
+    failed refusal.Spent t = unchanged t.1
+    failed refusal.Halted t = halts t
+    failed refusal.TooBig t = absurd t
+    failed refusal.Full t = absurd t
+    failed refusal.VersionsSpent t = absurd t
+    failed refusal.HistoryFull t = absurd t
+    failed refusal.Rolling t = absurd t
+    failed refusal.Nothing t = absurd t
+    failed (refusal.Pass fault) t = absurd t
+    failed refusal.NoTablet t = absurd t
+    failed refusal.SegmentsSpent t = absurd t
 
   step_keeps : (step : Step) (result : Result StepAnswer Refusal) → Steps old step result new → Keeps 1 old new
   step_keeps (Apply seat command) (Ok answer) t = applied seat command answer t.0 t.1
   step_keeps (Apply seat command) (Err r) t = unchanged t.0
-  step_keeps Push (Ok answer) t = pushed answer t
   step_keeps BeginRoll (Ok answer) t = rolled answer t.0 t.1
   step_keeps BeginRoll (Err r) t = unchanged t.0
   step_keeps (Compact id) (Ok answer) t = compacted id answer t.0 t.1
   step_keeps (Compact id) (Err r) t = unchanged t.0
+  step_keeps (BeginClean ids) (Ok answer) t = begun ids answer t.0 t.1
+  step_keeps (BeginClean ids) (Err r) t = unchanged t.0
+  step_keeps Copy (Ok answer) t = copied answer t.0 t.1
+  step_keeps Copy (Err r) t = unchanged t.0
+  step_keeps Push (Ok answer) t = pushed answer t
   step_keeps Push (Err r) (inl t) = unchanged t.1
-  step_keeps Push (Err r) (inr t) = failed r t.1
+  step_keeps Push (Err r) (inr t) = failed (IsPushOp old) r t.1
+  step_keeps Seal (Ok answer) t = sealed answer t
+  step_keeps Seal (Err r) (inl t) = unchanged t.1
+  step_keeps Seal (Err r) (inr t) = failed (IsSealOp old.knows) r t.1
+  step_keeps Free (Ok answer) t = freed answer t
+  step_keeps Free (Err r) (inl t) = unchanged t.1
+  step_keeps Free (Err r) (inr t) = failed (IsFreeOp old.knows) r t.1
 
 pub steps_keep : (old new : World) (step : Step) (result : Result StepAnswer Refusal) → IsWellKept old.knows old.fleet → Steps old step result new
     → Keeps 1 old new

@@ -1,6 +1,6 @@
 -- What is kept by the places that entries are counted by is what is kept by their offsets.
-use Rattle.std.proofs.Common.{◌≡◌, ℕ, suc, ◌+◌, Bool, true, false, List, [], ◌∷◌, ◌++◌, length, take, refl, sym, ap, subst, ◌∙◌, append_assoc, arith}
-use Rattle.std.specs.Prelude.{Option, Some, None, ◌==◌, ◌||◌, if◌then◌else◌}
+use Rattle.std.proofs.Common.{◌≡◌, ℕ, suc, ◌+◌, true, List, [], ◌∷◌, ◌++◌, length, take, refl, sym, ap, subst, ◌∙◌, append_assoc, arith}
+use Rattle.std.specs.Prelude.{Option, Some, None, ◌==◌, if◌then◌else◌}
 use Rattle.std.specs.List.{AllByRecursion}
 use Rattle.std.specs.Option.{option_map}
 use Rattle.std.proofs.lemmas.Bool.{and_from, and_parts}
@@ -15,7 +15,8 @@ use Rattle.entry.specs.Text.{text_of, entries_in}
 use Rattle.entry.proofs.ListLemmas.{all_split}
 use Rattle.entry.proofs.TextLemmas.{entries_in-text}
 use Rattle.segment.proofs.RowLemmas.{text_of-append}
-use Rattle.clean_model.specs.Compaction.{has, is_place, kept as entry_kept, kept_from as entries_kept}
+use Rattle.log_model.specs.Ids.{has}
+use Rattle.clean_model.specs.Compaction.{is_place, kept as entry_kept, kept_from as entries_kept}
 use Rattle.clean_model.specs.Memory.{IsAt, Index as EntryIndex}
 use Rattle.hash_index.specs.declared.place.Held.{Held}
 use Rattle.hash_index.specs.declared.place.Place.{Place}
@@ -27,8 +28,9 @@ use Rattle.master_core.specs.Data.{MasterData}
 use Rattle.master_core.specs.Invariant.{IsCore}
 use Rattle.master_core.specs.Log.{images_of, find, state_now, position_of, entry_place, memory_of}
 use Rattle.master_core.proofs.Finding.{each_of}
-use Rattle.master.proofs.HeldPlaces.{holds_found, found_holds}
 use Rattle.master_core.proofs.Indexing.{found_lies, key_seen}
+use Rattle.master.proofs.HeldPlaces.{holds_found, found_holds}
+use Rattle.master.proofs.LogSets.{agree}
 
 -- ---- lists
 
@@ -68,18 +70,9 @@ stands_by_entries image at e each l =
     subst (λ (n : ℕ). IsAt image n e) (sym (position_is image at e each l))
     (subst (λ (es : List Entry). IsAt es (length l.before) e) (sym l.split) (is_behind l.before e l.after))
 
--- ---- tests that agree
+-- ---- what is kept
 
-agree : (a b : Bool) → (a ≡ true → b ≡ true) → (b ≡ true → a ≡ true) → a ≡ b
-agree true b to from = sym (to refl)
-agree false true to from = from refl
-agree false false to from = refl
-
-has_same : (ids : List ℕ) (s : ℕ) → has ids s ≡ has_id ids s
-has_same [] s = refl
-has_same (z ∷ ids) s = ap (λ (b : Bool). (z == s) || b) (has_same ids s)
-
-module _ (d : MasterData) (core : IsCore d) (ids : List ℕ) (s : ℕ) where
+module _ (d : MasterData) (core : IsCore d) (s : ℕ) where
   abbrev index : EntryIndex
   index = (memory_of d).index
 
@@ -136,16 +129,18 @@ module _ (d : MasterData) (core : IsCore d) (ids : List ℕ) (s : ℕ) where
     pub object_same : is_place (index o.key) s (length front) ≡ holds d.index held
     object_same = agree (is_place (index o.key) s (length front)) (holds d.index held) to_held from_held
 
-  kept_same : (front : List Entry) (e : Entry) (rest : List Entry) → images_of d s ≡ front ++ e ∷ rest
-      → entry_kept ids index s (length front) e ≡ kept ids d.index (record { segment = s; at = length (text_of front) }) e
+-- by two lists with the same ids
+module _ (d : MasterData) (core : IsCore d) (ids set : List ℕ) (both : (z : ℕ) → has ids z ≡ has_id set z) (s : ℕ) where
+  pub kept_same : (front : List Entry) (e : Entry) (rest : List Entry) → images_of d s ≡ front ++ e ∷ rest
+      → entry_kept ids (memory_of d).index s (length front) e ≡ kept set d.index (record { segment = s; at = length (text_of front) }) e
   kept_same front (entry.Header h) rest split = refl
   kept_same front (entry.Digest l) rest split = refl
   kept_same front (entry.Safe version) rest split = refl
-  kept_same front (entry.Object o) rest split = object_same front o rest split
-  kept_same front (entry.Tombstone t) rest split = has_same ids t.segment
+  kept_same front (entry.Object o) rest split = object_same d core s front o rest split
+  kept_same front (entry.Tombstone t) rest split = both t.segment
 
   kept_rest : (front rest : List Entry) → images_of d s ≡ front ++ rest
-      → entries_kept ids index s (length front) rest ≡ kept_from ids d.index s (length (text_of front)) rest
+      → entries_kept ids (memory_of d).index s (length front) rest ≡ kept_from set d.index s (length (text_of front)) rest
   kept_rest front [] split = refl
   kept_rest front (e ∷ rest) split =
       let longer : images_of d s ≡ (front ++ e ∷ []) ++ rest = split ∙ sym (append_assoc front (e ∷ []) rest) in
@@ -153,11 +148,11 @@ module _ (d : MasterData) (core : IsCore d) (ids : List ℕ) (s : ℕ) where
       let len : length (text_of (front ++ e ∷ [])) ≡ length (text_of front) + length (spelling e) =
       ap (λ (bytes : List ℕ). length bytes) (text_of-append front (e ∷ []))
       ∙ (omega (arith, length-append (text_of front) (text_of (e ∷ [])), length-append (spelling e) [])) in
-      let later : entries_kept ids index s (suc (length front)) rest
-      ≡ kept_from ids d.index s (length (text_of front) + length (spelling e)) rest =
-      ap (λ (n : ℕ). entries_kept ids index s n rest) (sym count) ∙ kept_rest (front ++ e ∷ []) rest longer
-      ∙ ap (λ (n : ℕ). kept_from ids d.index s n rest) len in
+      let later : entries_kept ids (memory_of d).index s (suc (length front)) rest
+      ≡ kept_from set d.index s (length (text_of front) + length (spelling e)) rest =
+      ap (λ (n : ℕ). entries_kept ids (memory_of d).index s n rest) (sym count) ∙ kept_rest (front ++ e ∷ []) rest longer
+      ∙ ap (λ (n : ℕ). kept_from set d.index s n rest) len in
       λ i. if kept_same front e rest split i then e ∷ later i else later i
 
-  pub kept_by_entries : entries_kept ids (memory_of d).index s 0 (images_of d s) ≡ kept_of ids d.index s (images_of d s)
+  pub kept_by_entries : entries_kept ids (memory_of d).index s 0 (images_of d s) ≡ kept_of set d.index s (images_of d s)
   kept_by_entries = kept_rest [] (images_of d s) refl

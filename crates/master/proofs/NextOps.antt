@@ -1,9 +1,10 @@
 -- The op of a push is the one that comes next in the log.
 use Rattle.std.proofs.Common.{◌≡◌, ℕ, zero, suc, [], ◌∷◌, ◌+◌, ◌<◌, ◌≤◌, Bool, true, false, inl, inr, List, length, Some, refl, sym, ap, subst, ◌∙◌, arith}
-use Rattle.std.specs.Prelude.{Option, slice_get, unwrap_or, ◌==◌}
+use Rattle.std.specs.Prelude.{Option, None, slice_get, unwrap_or, ◌==◌, if◌then◌else◌}
 use Rattle.std.specs.List.{AllByRecursion}
 use Rattle.std.specs.Option.{option_map_or}
 use Rattle.std.proofs.lemmas.Option.{same_Some, slice_get_within}
+use Rattle.cleaner.specs.declared.pass.Pass.{Pass}
 use Rattle.entry.specs.Text.{text_of}
 use Rattle.replica.specs.Op.{Open, Extend}
 use Rattle.log_head.specs.declared.head.Roll.{Roll}
@@ -12,16 +13,17 @@ use Rattle.log_head.specs.declared.next.Next.TheVariants as next
 use Rattle.log_head.specs.Head.{end_of, IsLagging}
 use Rattle.log_head.specs.Log.{head_of, start_of, phase_in, phase_of}
 use Rattle.log_head.specs.Next.{IsWholeHead, IsNextPush, replica_of, units_of, segment_of, act_of, bytes_between}
-use Rattle.log_head.specs.Steps.{with_new_replica}
+use Rattle.log_head.specs.Steps.{with_new_replica, in_force}
 use Rattle.log_head.proofs.HeadLog.{end_is, front_is, part_is, count_is}
 use Rattle.log_head.proofs.RollLog.{phase_opened, phase_opening, phase_closing, head_in_force}
 use Rattle.log_model.specs.Data.{Ready, IsHomeAt, entries_of, head_entries}
 use Rattle.log_model.specs.Ops.{LogOp}
 use Rattle.log_model.specs.Steps.{OpensFirst, OpensNew, ClosesOld, IsNext, units_between, one_opened, one_closed, new_head}
 use Rattle.master_core.specs.Data.{MasterData}
+use Rattle.master_core.specs.Images.{with_closed}
 use Rattle.master_core.specs.Invariant.{IsCore}
 use Rattle.master_core.specs.Log.{home, log_of}
-use Rattle.master_core.specs.Steps.{closed_data, taken_data}
+use Rattle.master_core.specs.Steps.{pass_ended, roll_ended, closed_data, taken_data}
 use Rattle.master_core.proofs.Digests.{id_is}
 use Rattle.master_core.proofs.Rolls.{rolls_of, values}
 use Rattle.master.specs.Pushes.{reach, ExtendsNext, IsNextOp, answer_of}
@@ -132,16 +134,26 @@ module _ (d : MasterData) (core : IsCore d) where
             });
       }
 
+  -- the end of a pass leaves the log as it is
+  log_ended : (o : Option Pass) (e : MasterData) → log_of (roll_ended o e) ≡ log_of e
+  log_ended None e = refl
+  log_ended (Some p) e = go p.is_committing where
+    go : (t : Bool) → log_of (if t then pass_ended p e else e) ≡ log_of e
+    go true = refl
+    go false = refl
+
   -- the last Close, or one before it
   closed_log : (r : Roll) → d.head.roll ≡ Some r → r.opened ≡ d.head.replicas → (t : Bool) → (suc r.closed == d.head.replicas) ≡ t
       → log_of (closed_data d r) ≡ one_closed (log_of d) r.closed (start_of r)
   closed_log r roll all true test =
       let ours : (suc r.closed == d.config.replicas) ≡ true = ap (λ (k : ℕ). suc r.closed == k) (sym core.replicas) ∙ test in
-      rw (test, ours) (λ i. record (log_of d) {
+      let e : MasterData = record d { head = in_force d.head r; closed = with_closed d.closed d.head.id (Some d.head.image) } in
+      let ended : log_of e ≡ record (log_of d) { head = new_head d.config.replicas (start_of r); phase = Ready } = (λ i. record (log_of d) {
         head = (head_in_force d.config.master d.head r (rolls_of d core r roll).image (values d core r roll).segment
             ∙ ap (λ (k : ℕ). new_head k (start_of r)) core.replicas) i;
         phase = Ready;
-      })
+      }) in
+      rw (test, ours) (log_ended d.pass e ∙ ended)
   closed_log r roll all false test =
       let ours : (suc r.closed == d.config.replicas) ≡ false = ap (λ (k : ℕ). suc r.closed == k) (sym core.replicas) ∙ test in
       rw (test, ours) (λ i. record (log_of d) { phase = phase_closing d.head.replicas (record r { closed = suc r.closed }) all i })

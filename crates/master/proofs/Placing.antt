@@ -57,3 +57,8 @@ module _ (c : Config) (ok : config_fault c ≡ None) where
           | inl e ↦ e
           | inr other ↦ absurd (homes_apart c s i j (omega arith) (omega arith) other same)
         ]
+
+  -- the backup of a replica is one
+  pub replica_within : (s j b : ℕ) → slice_get (homes_from c s 0 c.replicas) j ≡ Some b → b < c.backups
+  replica_within s j b is =
+      let at = (homes_get c s 0 c.replicas j b is).0 in let lt = home_within s (0 + j) in omega arith

@@ -1,198 +1,229 @@
 -- The op that comes next, taken or not, keeps what holds of a master.
-use Rattle.std.proofs.Common.{◌≡◌, ℕ, ◌<◌, ◌≤◌, inl, inr, false, List, Some, refl, sym, ap, subst, ◌∙◌, arith}
-use Rattle.std.specs.Prelude.{Option, None, unwrap_or}
-use Rattle.std.proofs.Common.{[]}
-use Rattle.std.proofs.lemmas.Option.{same_Some}
+use Rattle.std.proofs.Common.{◌≡◌, ℕ, ◌<◌, inl, inr, suc, ◌+◌, Bool, true, false, List, [], ◌∷◌, ◌++◌, refl, sym, ap, subst, ◌∙◌, arith}
+use Rattle.std.specs.Prelude.{Option, Some, None, ◌==◌, slice_get, slice_set, unwrap_or, if◌then◌else◌}
+use Rattle.std.specs.Option.{option_map_or}
+use Rattle.cleaner.specs.declared.pass.Pass.{Pass as OpenPass}
 use Rattle.replica.specs.Picture.{Picture, FleetState}
 use Rattle.replica.specs.Take.{Refuses, taken as fleet_taken}
 use Rattle.replica.specs.declared.op.TakeFault.{TakeFault}
 use Rattle.replica.specs.declared.op.TakeFault.TheVariants as take_fault
-use Rattle.log_model.specs.Kept.{IsKept as IsLogKept}
-use Rattle.log_model.specs.Laws.{with_taken}
-use Rattle.log_model.specs.Ops.{LogOp, op_of, taken}
-use Rattle.log_model.specs.Steps.{IsNext}
-use Rattle.log_model.proofs.Fleets.{fleet_takes, next_is_never_wrong}
-use Rattle.log_model.proofs.Forms.{next_goes_on}
-use Rattle.clean_model.specs.Intact.{IsIntact}
-use Rattle.clean_model.specs.Steps.{IsFault}
-use Rattle.clean_model.proofs.Taking.{take_keeps}
-use Rattle.master_core.specs.declared.step.StepAnswer.{StepAnswer}
-use Rattle.master_core.specs.declared.step.Step.TheVariants.{Push}
-use Rattle.master_core.specs.Causes.{push_refusal}
-use Rattle.master_core.specs.Data.{MasterData}
-use Rattle.master_core.specs.Invariant.{IsCore}
-use Rattle.master_core.specs.Log.{log_of}
-use Rattle.master_core.specs.Steps.{halted, refusal_of, failed_data, closed_data, taken_data}
-use Rattle.master_core.proofs.Beginning.{halted_core}
-use Rattle.master_core.proofs.Rolls.{taken_images}
-use Rattle.master_core.specs.declared.config.Config.{Config}
 use Rattle.log_head.specs.declared.head.Roll.{Roll}
 use Rattle.log_head.specs.declared.next.Next.{Next}
 use Rattle.log_head.specs.declared.next.Next.TheVariants as next
+use Rattle.log_head.specs.Log.{phase_of}
 use Rattle.log_head.specs.Next.{IsNextPush, replica_of, segment_of}
-use Rattle.log_head.specs.Steps.{with_new_replica}
-use Rattle.clean_model.specs.Memory.{Memory, log_ids}
-use Rattle.entry.specs.Bag.{IsAmong}
-use Rattle.std.specs.Option.{option_map_or}
-use Rattle.master.proofs.Memories.{same_log_set, same_after}
-use Rattle.master.proofs.NextOps.{log_op, next_is}
+use Rattle.log_head.specs.Steps.{in_force, with_new_replica, with_closed_replica, old_image}
+use Rattle.log_model.specs.Data.{Start, new_of}
+use Rattle.log_model.specs.Ops.{LogOp, op_of, taken}
+use Rattle.log_model.specs.Steps.{IsNext}
+use Rattle.clean_model.specs.Intact.{IsIntact}
+use Rattle.clean_model.specs.Memory.{Memory}
+use Rattle.clean_model.specs.Steps.{finished, ended, after_take, IsOp}
+use Rattle.clean_model.proofs.Taking.{take_keeps}
+use Rattle.master_core.specs.declared.step.Step.TheVariants.{Push}
+use Rattle.master_core.specs.Budget.{is_committing}
+use Rattle.master_core.specs.Data.{MasterData}
+use Rattle.master_core.specs.Images.{with_closed}
+use Rattle.master_core.specs.Invariant.{AreApart, IsCore}
+use Rattle.master_core.specs.Log.{log_of, memory_of}
+use Rattle.master_core.specs.Steps.{pass_ended, roll_ended, closed_data, taken_data, refusal_of, failed_data}
+use Rattle.master_core.proofs.Imaging.{same_roll}
+use Rattle.master_core.proofs.Refusals.{push_passed}
+use Rattle.master.specs.Invariant.{IsWellKept}
+use Rattle.master.specs.Pushes.{answer_of}
+use Rattle.master.specs.Steps.{IsPushOp, Declines}
+use Rattle.master.specs.World.{World}
+use Rattle.master.proofs.Ended.{same_model, rolled_model, apart_then, ended_model}
+use Rattle.master.proofs.Handed.{not_wrong, handed_kept, failed_kept, failed_tells}
+use Rattle.master.proofs.LogSets.{new_is, new_now}
+use Rattle.master.proofs.Models.{IsModel, own_intact}
+use Rattle.master.proofs.NextOps.{log_op, next_told, next_is}
 use Rattle.master.proofs.Placing.{home_within}
-use Rattle.master.specs.Invariant.{IsMemoryOf, IsWellKept}
-use Rattle.master.specs.Pushes.{IsNextOp}
-use Rattle.master.specs.Steps.{Declines}
 
--- ---- an op
+-- ---- what a push leaves
 
--- a push changes neither the configuration nor the history, and halts nothing
-pub same_config : (d : MasterData) (push : Next) → (taken_data d push).config ≡ d.config
-same_config d (next.OpenFirst j) = refl
-same_config d (next.Extend j) = refl
-same_config d (next.OpenNew j) = go d.head.roll where
-  go : (o : Option Roll) → (option_map_or (λ (r : Roll). record d { head = with_new_replica d.head r }) o d).config ≡ d.config
-  go None = refl
-  go (Some r) = refl
-same_config d (next.CloseOld j) = go d.head.roll where
-  go : (o : Option Roll) → (option_map_or (closed_data d) o d).config ≡ d.config
-  go None = refl
-  go (Some r) = refl
+-- the end of a roll changes neither the configuration nor the history
+ended_rest : (o : Option OpenPass) (e : MasterData) → ((roll_ended o e).config ≡ e.config) × ((roll_ended o e).history ≡ e.history)
+ended_rest None e = (refl, refl)
+ended_rest (Some p) e = go p.is_committing where
+  gives : Bool → MasterData
+  gives t = if t then pass_ended p e else e
 
-pub same_rest : (d : MasterData) (push : Next)
-    → taken_data d push ≡ record d { head = (taken_data d push).head; closed = (taken_data d push).closed }
-same_rest d (next.OpenFirst j) = refl
-same_rest d (next.Extend j) = refl
+  go : (t : Bool) → ((gives t).config ≡ e.config) × ((gives t).history ≡ e.history)
+  go true = (refl, refl)
+  go false = (refl, refl)
+
+closed_rest : (d : MasterData) (r : Roll) → ((closed_data d r).config ≡ d.config) × ((closed_data d r).history ≡ d.history)
+closed_rest d r = go (suc r.closed == d.head.replicas) where
+  closed_one : MasterData
+  closed_one = record d {
+    head = with_closed_replica d.head r;
+    closed = with_closed d.closed d.head.id (old_image d.head r);
+  }
+
+  gives : Bool → MasterData
+  gives t = if t then roll_ended d.pass closed_one else closed_one
+
+  go : (t : Bool) → ((gives t).config ≡ d.config) × ((gives t).history ≡ d.history)
+  go true = ended_rest d.pass closed_one
+  go false = (refl, refl)
+
+-- nor does a push
+pub same_rest : (d : MasterData) (push : Next) → ((taken_data d push).config ≡ d.config) × ((taken_data d push).history ≡ d.history)
+same_rest d (next.OpenFirst j) = (refl, refl)
+same_rest d (next.Extend j) = (refl, refl)
 same_rest d (next.OpenNew j) = go d.head.roll where
-  then_of : Option Roll → MasterData
-  then_of o = option_map_or (λ (r : Roll). record d { head = with_new_replica d.head r }) o d
+  gives : Option Roll → MasterData
+  gives o = option_map_or (λ (r : Roll). record d { head = with_new_replica d.head r }) o d
 
-  go : (o : Option Roll) → then_of o ≡ record d { head = (then_of o).head; closed = (then_of o).closed }
-  go None = refl
-  go (Some r) = refl
+  go : (o : Option Roll) → ((gives o).config ≡ d.config) × ((gives o).history ≡ d.history)
+  go None = (refl, refl)
+  go (Some r) = (refl, refl)
 same_rest d (next.CloseOld j) = go d.head.roll where
-  then_of : Option Roll → MasterData
-  then_of o = option_map_or (closed_data d) o d
+  gives : Option Roll → MasterData
+  gives o = option_map_or (closed_data d) o d
 
-  go : (o : Option Roll) → then_of o ≡ record d { head = (then_of o).head; closed = (then_of o).closed }
-  go None = refl
-  go (Some r) = refl
+  go : (o : Option Roll) → ((gives o).config ≡ d.config) × ((gives o).history ≡ d.history)
+  go None = (refl, refl)
+  go (Some r) = closed_rest d r
+
+-- ---- what is shown of the data after a push
+
+-- The model's memory after the op is the master's, and nothing waits twice.
+pub record IsTaken (d e : MasterData) : Type 0 where
+  pub model : IsModel e (after_take (log_of d) (log_of e) (memory_of d))
+  pub apart : AreApart e.waiting
+
+-- if the head that a roll is opening is the same, so is memory
+goes_on : (x y : Option Start) (m : Memory) → y ≡ x → ended x y m ≡ m
+goes_on x y m is = ap (λ (z : Option Start). ended x z m) is ∙ same x where
+  same : (z : Option Start) → ended z z m ≡ m
+  same None = refl
+  same (Some n) = refl
+
+module _ (d : MasterData) (f : FleetState) (kept : IsWellKept d f) where
+  abbrev m : Memory
+  m = memory_of d
+
+  -- ---- the head takes more
+
+  counted : (e : MasterData) → IsModel e m → new_of (phase_of e.head) ≡ new_of (phase_of d.head) → e.waiting ≡ d.waiting → IsTaken d e
+  counted e model new waiting = record {
+    model = subst (IsModel e) (sym (goes_on (new_of (phase_of d.head)) (new_of (phase_of e.head)) m new)) model;
+    apart = subst AreApart (sym waiting) kept.apart;
+  }
+
+  head_taken : (ks : List ℕ) → IsCore (record d { head = record d.head { taken = ks } })
+      → IsTaken d (record d { head = record d.head { taken = ks } })
+  head_taken ks core =
+      let e : MasterData = record d { head = record d.head { taken = ks } } in
+      counted e (same_model d e kept.core core (λ s. refl) refl refl refl refl (omega arith)) refl refl
+
+  -- ---- a roll goes on
+
+  module _ (r : Roll) (rolls : d.head.roll ≡ Some r) where
+    roll_taken : (opened closed : ℕ) → IsCore (record d { head = record d.head { roll = Some (record r { opened = opened; closed = closed }) } })
+        → IsTaken d (record d { head = record d.head { roll = Some (record r { opened = opened; closed = closed }) } })
+    roll_taken opened closed core =
+        let q : Roll = record r { opened = opened; closed = closed } in
+        let e : MasterData = record d { head = record d.head { roll = Some (record r { opened = opened; closed = closed }) } } in
+        counted e (same_model d e kept.core core (same_roll d.head d.closed r q rolls refl refl) refl refl refl refl (omega arith))
+        (new_is d.head.replicas q ∙ sym (new_now d r rolls)) refl
+
+    -- ---- and ends
+
+    abbrev rolled : MasterData
+    rolled = record d { head = in_force d.head r; closed = with_closed d.closed d.head.id (Some d.head.image) }
+
+    -- what memory is once it has
+    after_end : (committing : Bool) → is_committing d ≡ committing
+        → ended (new_of (phase_of d.head)) None m ≡ (if committing then finished m else m)
+    after_end committing is =
+        ap (λ (x : Option Start). ended x None m) (new_now d r rolls) ∙ ap (λ (b : Bool). if b then finished m else m) is
+
+    ordinary : is_committing d ≡ false → IsCore rolled → IsTaken d rolled
+    ordinary plain core = record {
+      model = subst (IsModel rolled) (sym (after_end false plain)) (rolled_model d f kept r rolls core);
+      apart = kept.apart;
+    }
+
+    pass_taken : (p : OpenPass) → d.pass ≡ Some p → (t : Bool) → p.is_committing ≡ t
+        → IsCore (if t then pass_ended p rolled else rolled) → IsTaken d (if t then pass_ended p rolled else rolled)
+    pass_taken p opened true is core = record {
+      model = subst (IsModel (pass_ended p rolled))
+          (sym (after_end true (ap (λ (o : Option OpenPass). option_map_or (λ (q : OpenPass). q.is_committing) o false) opened ∙ is)))
+          (ended_model d f kept r rolls p opened is);
+      apart = apart_then d f kept r rolls p opened is;
+    }
+    pass_taken p opened false is core =
+        ordinary (ap (λ (o : Option OpenPass). option_map_or (λ (q : OpenPass). q.is_committing) o false) opened ∙ is) core
+
+    end_taken : (o : Option OpenPass) → d.pass ≡ o → IsCore (roll_ended o rolled) → IsTaken d (roll_ended o rolled)
+    end_taken None none core = ordinary (ap (λ (o : Option OpenPass). option_map_or (λ (q : OpenPass). q.is_committing) o false) none) core
+    end_taken (Some p) opened core = pass_taken p opened p.is_committing refl core
+
+    close_taken : (t : Bool) → (suc r.closed == d.head.replicas) ≡ t → IsCore (closed_data d r) → IsTaken d (closed_data d r)
+    close_taken true test core = rw test (end_taken d.pass refl (rw test at core))
+    close_taken false test core = rw test (roll_taken r.opened (suc r.closed) (rw test at core))
+
+  -- ---- each push
+
+  is_taken : (push : Next) → IsNextPush d.head (Some push) → IsCore (taken_data d push) → IsTaken d (taken_data d push)
+  is_taken (next.OpenFirst j) waits core = head_taken (d.head.taken ++ 0 ∷ []) core
+  is_taken (next.Extend j) waits core = head_taken (slice_set d.head.taken j (unwrap_or (slice_get d.head.taken j) 0 + 1)) core
+  is_taken (next.OpenNew j) waits core =
+      let r = waits.1 in
+      let is = ap (λ (o : Option Roll). option_map_or (λ (q : Roll). record d { head = with_new_replica d.head q }) o d) waits.2 in
+      subst (IsTaken d) (sym is) (roll_taken r waits.2 (suc r.opened) r.closed (subst IsCore is core))
+  is_taken (next.CloseOld j) waits core =
+      let r = waits.1 in
+      let is = ap (λ (o : Option Roll). option_map_or (closed_data d) o d) waits.2 in
+      subst (IsTaken d) (sym is) (close_taken r waits.2 (suc r.closed == d.head.replicas) refl (subst IsCore is core))
+
+-- ---- the op
 
 module _ (d : MasterData) (push : Next) (f : FleetState) (kept : IsWellKept d f) (running : d.is_halted ≡ false)
     (waits : IsNextPush d.head (Some push)) where
-  abbrev e : MasterData
-  e = taken_data d push
-
   abbrev o : LogOp
   o = log_op d push
 
   coming : IsNext (log_of d) (log_op d push) (log_of (taken_data d push))
   coming = next_is d kept.core push waits
 
-  config_is : (taken_data d push).config ≡ d.config
-  config_is = same_config d push
+  pub push_is : IsOp (log_of d) (memory_of d) (log_op d push)
+  push_is = inl (log_of (taken_data d push), coming)
 
-  backup : (log_op d push).backup < d.config.backups
-  backup = home_within d.config kept.core.config (segment_of d.head push) (replica_of push)
+  pub push_within : (log_op d push).backup < d.config.backups
+  push_within = home_within d.config kept.core.config (segment_of d.head push) (replica_of push)
 
-  abbrev here : f.picture ≡ kept.before
-  here = kept.running running
+  pub push_then : (q : Picture) × (taken kept.before d.config.master o ≡ Some q)
+      × IsIntact (log_of (taken_data d push)) (after_take (log_of d) (log_of (taken_data d push)) (memory_of d)) q
+  push_then = take_keeps (log_of d) (log_of (taken_data d push)) (memory_of d) kept.before o kept.intact coming
 
-  then_is : (q : Picture) × (taken kept.before d.config.master o ≡ Some q) × IsIntact (log_of e) kept.memory q
-  then_is =
-      let gone = take_keeps (log_of d) (log_of e) kept.memory kept.before o kept.intact coming in
-      (gone.0, gone.1, subst (λ (m : Memory). IsIntact (log_of e) m gone.0) (same_after (log_of d) (log_of e) kept.memory kept.memory_is.commits) gone.2)
+  pub push_not_wrong : (g : FleetState) (x : TakeFault) → Refuses f o.backup (op_of d.config.master o) x g → x ≡ take_fault.Wrong → ⊥
+  push_not_wrong = not_wrong d f kept running o push_within push_then.0 push_then.1
 
-  -- the log set and its images are as they were
-  ids_are : log_ids (log_of e) kept.memory ≡ log_ids (log_of d) kept.memory
-  ids_are =
-      same_log_set (log_of d) (log_of e) kept.memory kept.memory_is.pass
-      (λ n new. (kept.intact.rolling n new).0 kept.memory_is.commits) (next_goes_on (log_of d) (log_of e) (log_op d push) coming)
+  pub push_failed : (g : FleetState) (x : TakeFault) → Refuses f o.backup (op_of d.config.master o) x g → IsWellKept (failed_data d x) g
+  push_failed = failed_kept d f kept running o push_within push_then.0 push_then.1 push_is
 
-  memory_then : IsMemoryOf e kept.memory
-  memory_then = record {
-    images = λ s i.
-        kept.memory_is.images s (subst (λ (ids : List ℕ). IsAmong s ids) ids_are i)
-        ∙ ap (λ x. unwrap_or x []) (sym (taken_images d kept.core push waits s));
-    pass = kept.memory_is.pass;
-    commits = kept.memory_is.commits;
-  }
+  pub push_declines : (g : FleetState) (x : TakeFault) → Refuses f o.backup (op_of d.config.master o) x g
+      → Declines (record { knows = d; fleet = f }) Push (refusal_of x) (record { knows = failed_data d x; fleet = g })
+  push_declines g x refused =
+      let old : World = record { knows = d; fleet = f } in
+      inr (
+        push_passed d push running waits,
+        failed_tells d f kept running o push_within push_then.0 push_then.1 (IsPushOp old)
+            (answer_of push o.backup o.segment, taken_data d push, next_told d kept.core push waits) g x refused,
+      )
 
-  took : taken f.picture d.config.master o ≡ Some then_is.0
-  took = ap (λ (p : Picture). taken p d.config.master o) here ∙ then_is.1
+  module _ (core : IsCore (taken_data d push)) where
+    abbrev e : MasterData
+    e = taken_data d push
 
-  within : o.backup < f.backups
-  within = let le = kept.backups in let lt = backup in omega arith
+    then_is : IsTaken d e
+    then_is = is_taken d f kept push waits core
 
-  fits : fleet_taken f o.backup (op_of d.config.master o) ≡ Some (with_taken f then_is.0)
-  fits = fleet_takes f o d.config.master then_is.0 within took
-
-  -- a fleet that holds the log never answers Wrong
-  pub never_wrong : (g : FleetState) → Refuses f o.backup (op_of d.config.master o) take_fault.Wrong g → ⊥
-  never_wrong g refused =
-      next_is_never_wrong (log_of d) (log_of e) f g o (subst (IsLogKept (log_of d)) (sym here) kept.intact.log) coming within refused
-
-  -- the fleet is the one that took the op
-  picture_is : (g : FleetState) → fleet_taken f o.backup (op_of d.config.master o) ≡ Some g → (then_is.0 ≡ g.picture) × (g.backups ≡ f.backups)
-  picture_is g is =
-      let same = same_Some (with_taken f then_is.0) g (sym fits ∙ is) in
-      (ap (λ (h : FleetState). h.picture) same, sym (ap (λ (h : FleetState). h.backups) same))
-
-  pub taken_kept : (g : FleetState) → IsCore e → fleet_taken f o.backup (op_of d.config.master o) ≡ Some g → IsWellKept e g
-  taken_kept g core is =
-      let same = picture_is g is in
-      record {
-        core = core;
-        memory = kept.memory;
-        memory_is = memory_then;
-        before = then_is.0;
-        intact = then_is.2;
-        backups = (let le = kept.backups in let count = same.1 in let own = ap (λ (c : Config). c.backups) config_is in omega arith);
-        now = inl (sym same.0);
-        running = λ going. sym same.0;
-      }
-
-  -- ---- a fault
-
-  -- after a fault the backups are as before, or have the op
-  fault_kept : (g : FleetState) → Refuses f o.backup (op_of d.config.master o) take_fault.Fault g → IsWellKept (halted d) g
-  fault_kept g refused = record {
-    core = halted_core d kept.core;
-    memory = kept.memory;
-    memory_is = record { images = kept.memory_is.images; pass = kept.memory_is.pass; commits = kept.memory_is.commits };
-    before = kept.before;
-    intact = kept.intact;
-    backups = go refused;
-    now = after refused;
-    running = λ never. absurd (cc);
-  } where
-    go : Refuses f o.backup (op_of d.config.master o) take_fault.Fault g → d.config.backups ≤ g.backups
-    go (inl same) = let le = kept.backups in let count : g.backups ≡ f.backups = ap (λ (h : FleetState). h.backups) same in omega arith
-    go (inr t) =
-        let le = kept.backups in
-        let count : g.backups ≡ t.0.backups = ap (λ (h : FleetState). h.backups) t.2 in
-        let was = (picture_is t.0 t.1.1).1 in omega arith
-
-    after : Refuses f o.backup (op_of d.config.master o) take_fault.Fault g
-        → IsFault (log_of d) kept.memory kept.before g.picture
-    after (inl same) = inl (ap (λ (h : FleetState). h.picture) same ∙ here)
-    after (inr t) = inr (
-      o,
-      inl (log_of e, coming),
-      then_is.1 ∙ ap (λ (p : Picture). Some p) ((picture_is t.0 t.1.1).0 ∙ sym (ap (λ (h : FleetState). h.picture) t.2)),
-    )
-
-  pub failed_kept : (g : FleetState) (fault : TakeFault) → Refuses f o.backup (op_of d.config.master o) fault g → IsWellKept (failed_data d fault) g
-  failed_kept g take_fault.NoMemory refused = subst (IsWellKept d) (sym refused) kept
-  failed_kept g take_fault.Wrong refused = absurd (never_wrong g refused)
-  failed_kept g take_fault.Fault refused = fault_kept g refused
-  failed_kept g take_fault.Spent refused = subst (IsWellKept d) (sym refused.1) kept
-
-  pub not_wrong : (g : FleetState) (x : TakeFault) → Refuses f o.backup (op_of d.config.master o) x g → x ≡ take_fault.Wrong → ⊥
-  not_wrong g x refused is = never_wrong g (rw is at refused)
-
-  pub failed_declines : (g : FleetState) (fault : TakeFault) (answer : StepAnswer) → IsNextOp (log_of d) o answer (log_of e) → push_refusal d ≡ None
-      → Refuses f o.backup (op_of d.config.master o) fault g
-      → Declines (record { knows = d; fleet = f }) Push (refusal_of fault) (record { knows = failed_data d fault; fleet = g })
-  failed_declines g take_fault.NoMemory answer is passed refused = inr (passed, ap (λ (h : FleetState). record { knows = d; fleet = h }) refused)
-  failed_declines g take_fault.Wrong answer is passed refused = absurd (never_wrong g refused)
-  failed_declines g take_fault.Fault answer is passed refused = inr (passed, (refl, (o, answer, e, is, refused)))
-  failed_declines g take_fault.Spent answer is passed refused =
-      inr (passed, (refused.0, ap (λ (h : FleetState). record { knows = d; fleet = h }) refused.1))
+    pub taken_kept : (g : FleetState) → fleet_taken f o.backup (op_of d.config.master o) ≡ Some g → IsWellKept (taken_data d push) g
+    taken_kept g took =
+        handed_kept d f kept running o push_within push_then.0 push_then.1 e g core (same_rest d push).0 then_is.apart
+        (own_intact e core (after_take (log_of d) (log_of e) (memory_of d)) push_then.0 push_then.2 then_is.model) took

@@ -1,6 +1,7 @@
 pub mod World
 pub mod Keeps
 pub mod Pushes
+pub mod Passes
 pub mod Valid
 pub mod Steps
 pub mod Invariant

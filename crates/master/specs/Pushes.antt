@@ -1,15 +1,19 @@
 -- The op that a push hands to a backup.
-use Rattle.std.specs.Prelude.{◌≡◌, ◌⊎◌, ℕ, ◌+◌, length, false, Some, slice_get, unwrap_or}
+use Rattle.std.specs.Prelude.{◌≡◌, ◌⊎◌, ℕ, ◌+◌, length, true, false, None, Some, slice_get, unwrap_or}
 use Rattle.log_head.specs.declared.next.Next.{Next}
 use Rattle.log_head.specs.declared.next.Next.TheVariants as next
 use Rattle.log_head.specs.Head.{IsLagging}
 use Rattle.log_model.specs.Data.{LogData}
+use Rattle.log_model.specs.Ids.{has}
 use Rattle.log_model.specs.Ops.{LogOp, op_of}
 use Rattle.log_model.specs.Steps.{OpensFirst, Extends, OpensNew, ClosesOld}
 use Rattle.replica.specs.Take.{Takes}
 use Rattle.master_core.specs.declared.step.StepAnswer.{StepAnswer}
-use Rattle.master_core.specs.declared.step.StepAnswer.TheVariants.{Applied, Opened, Extended, Closed, Rolling, Compacted}
+use Rattle.master_core.specs.declared.step.StepAnswer.TheVariants.{Opened, Extended, Closed}
+use Rattle.master_core.specs.Budget.{victims_of}
+use Rattle.master_core.specs.Data.{MasterData}
 use Rattle.master_core.specs.Log.{log_of, image_of}
+use Rattle.master_core.specs.Steps.{taken_data}
 use Rattle.master.specs.World.{World}
 
 -- how many units of the head a replica has, and how many it has after its next Extend
@@ -32,19 +36,23 @@ IsNextOp d o (Opened backup segment) e =
     (OpensFirst d o e ⊎ OpensNew d o e) × (backup ≡ o.backup) × (segment ≡ o.segment)
 IsNextOp d o (Extended backup segment) e = ExtendsNext d o e × (backup ≡ o.backup) × (segment ≡ o.segment)
 IsNextOp d o (Closed backup segment) e = ClosesOld d o e × (backup ≡ o.backup) × (segment ≡ o.segment)
-IsNextOp d o (Applied place reply) e = ⊥
-IsNextOp d o (Rolling segment) e = ⊥
-IsNextOp d o (Compacted segment len) e = ⊥
+IsNextOp d o _ e = ⊥
+
+-- the segment was a victim of the pass that ended, and has no image any more
+abbrev pub HasLeft : MasterData → MasterData → ℕ → Type 0
+HasLeft d e s = (has (victims_of d.pass) s ≡ true) × (e.pass ≡ None) × (image_of e s ≡ None)
 
 -- A push that is accepted: one op, which the fleet took.
 pub record Pushes (old : World) (answer : StepAnswer) (new : World) : Type 0 where
   pub op : LogOp
   pub running : old.knows.is_halted ≡ false
   pub next : IsNextOp (log_of old.knows) op answer (log_of new.knows)
-  -- only the head and the closed segments changed
-  pub rest : new.knows ≡ record old.knows { head = new.knows.head; closed = new.knows.closed }
-  -- memory has the same entries of each segment: a head that is closed keeps its image
-  pub images : (s : ℕ) → image_of new.knows s ≡ image_of old.knows s
+  -- the op is counted; with the last Close of a commit the pass ends
+  pub push : Next
+  pub rest : new.knows ≡ taken_data old.knows push
+  -- memory has the same entries of each segment, but for the victims of a pass that ended: a head that is closed keeps
+  -- its image
+  pub images : (s : ℕ) → HasLeft old.knows new.knows s ⊎ (image_of new.knows s ≡ image_of old.knows s)
   pub takes : Takes old.fleet op.backup (op_of old.knows.config.master op) new.fleet
 
 -- what a push answers, by what it does to which replica

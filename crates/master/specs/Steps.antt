@@ -6,37 +6,47 @@ use Rattle.replica.specs.declared.op.TakeFault.TheVariants as take_fault
 use Rattle.master_core.specs.declared.step.Refusal.{Refusal}
 use Rattle.master_core.specs.declared.step.Refusal.TheVariants as refusal
 use Rattle.master_core.specs.declared.step.Step.{Step}
-use Rattle.master_core.specs.declared.step.Step.TheVariants.{Apply, Push, BeginRoll, Compact}
+use Rattle.master_core.specs.declared.step.Step.TheVariants.{Apply, Push, BeginRoll, Compact, BeginClean, Copy, Seal, Free}
 use Rattle.master_core.specs.declared.step.StepAnswer.{StepAnswer}
-use Rattle.master_core.specs.Causes.{command_refusal, roll_refusal, compact_refusal, push_refusal}
+use Rattle.master_core.specs.Causes.{command_refusal, roll_refusal, compact_refusal, push_refusal, clean_refusal, copy_refusal}
+use Rattle.master_core.specs.Causes.{seal_refusal, free_refusal}
 use Rattle.master_core.specs.Data.{MasterData}
 use Rattle.master_core.specs.Log.{log_of}
-use Rattle.master_core.specs.Steps.{Applies, BeginsRoll, Compacts, halted}
+use Rattle.master_core.specs.Steps.{Applies, BeginsRoll, Compacts, BeginsPass, Copies, halted}
 use Rattle.master.specs.Keeps.{Keeps}
+use Rattle.master.specs.Passes.{IsSealOp, Seals, IsFreeOp, Frees}
 use Rattle.master.specs.Pushes.{IsNextOp, Pushes}
 use Rattle.master.specs.Valid.{IsValid}
 use Rattle.master.specs.World.{World}
 
 -- ---- accepted
 
--- a command is applied, a roll begins, or a segment is compacted, and the fleet stays as it was; a push is one op that
--- the fleet took
+-- a command is applied, a roll or a pass begins, a segment is compacted, or an entry is copied, and the fleet stays as
+-- it was; a push, a seal and a free are one op each that the fleet took
 abbrev pub Accepts : World → Step → StepAnswer → World → Type 0
 Accepts old (Apply seat command) answer new = Applies old.knows seat command answer new.knows × (new.fleet ≡ old.fleet)
 Accepts old Push answer new = Pushes old answer new
 Accepts old BeginRoll answer new = BeginsRoll old.knows answer new.knows × (new.fleet ≡ old.fleet)
 Accepts old (Compact id) answer new = Compacts old.knows id answer new.knows × (new.fleet ≡ old.fleet)
+Accepts old (BeginClean ids) answer new = BeginsPass old.knows ids answer new.knows × (new.fleet ≡ old.fleet)
+Accepts old Copy answer new = Copies old.knows answer new.knows × (new.fleet ≡ old.fleet)
+Accepts old Seal answer new = Seals old answer new
+Accepts old Free answer new = Frees old answer new
 
 -- ---- refused
 
--- the take of a push failed; after a fault its op may have been taken, and the master stays halted
-abbrev pub FailsTake : World → Refusal → World → Type 0
-FailsTake old refusal.NoMemory new = new ≡ old
-FailsTake old refusal.Spent new = (old.fleet.takes ≡ old.fleet.end) × (new ≡ old)
-FailsTake old refusal.Halted new = (new.knows ≡ halted old.knows)
-    × ((op : LogOp) × (answer : StepAnswer) × (e : MasterData) × IsNextOp (log_of old.knows) op answer (log_of e)
+-- the take of an op like this failed; after a fault its op may have been taken, and the master stays halted
+abbrev pub FailsTake : (LogOp → Type 0) → World → Refusal → World → Type 0
+FailsTake IsOp old refusal.NoMemory new = new ≡ old
+FailsTake IsOp old refusal.Spent new = (old.fleet.takes ≡ old.fleet.end) × (new ≡ old)
+FailsTake IsOp old refusal.Halted new = (new.knows ≡ halted old.knows)
+    × ((op : LogOp) × IsOp op
     × Refuses old.fleet op.backup (op_of old.knows.config.master op) take_fault.Fault new.fleet)
-FailsTake old _ new = ⊥
+FailsTake IsOp old _ new = ⊥
+
+-- the op is the next one of a push
+abbrev pub IsPushOp : World → LogOp → Type 0
+IsPushOp old op = (answer : StepAnswer) × (e : MasterData) × IsNextOp (log_of old.knows) op answer (log_of e)
 
 -- A refusal is the one of the first test that fails. If no test fails, it comes from memory or from the fleet. It
 -- changes nothing, except after a fault: then the master stays halted.
@@ -48,8 +58,19 @@ Declines old BeginRoll r new = (new ≡ old)
     × ((roll_refusal old.knows ≡ Some r) ⊎ ((roll_refusal old.knows ≡ None) × (r ≡ refusal.NoMemory)))
 Declines old (Compact id) r new = (new ≡ old)
     × ((compact_refusal old.knows id ≡ Some r) ⊎ ((compact_refusal old.knows id ≡ None) × (r ≡ refusal.NoMemory)))
+Declines old (BeginClean ids) r new = (new ≡ old)
+    × ((clean_refusal old.knows ids ≡ Some r) ⊎ ((clean_refusal old.knows ids ≡ None) × (r ≡ refusal.NoMemory)))
+Declines old Copy r new = (new ≡ old)
+    × ((copy_refusal old.knows ≡ Some r) ⊎ ((copy_refusal old.knows ≡ None) × (r ≡ refusal.NoMemory)))
 Declines old Push r new =
-    ((push_refusal old.knows ≡ Some r) × (new ≡ old)) ⊎ ((push_refusal old.knows ≡ None) × FailsTake old r new)
+    ((push_refusal old.knows ≡ Some r) × (new ≡ old))
+    ⊎ ((push_refusal old.knows ≡ None) × FailsTake (IsPushOp old) old r new)
+Declines old Seal r new =
+    ((seal_refusal old.knows ≡ Some r) × (new ≡ old))
+    ⊎ ((seal_refusal old.knows ≡ None) × FailsTake (IsSealOp old.knows) old r new)
+Declines old Free r new =
+    ((free_refusal old.knows ≡ Some r) × (new ≡ old))
+    ⊎ ((free_refusal old.knows ≡ None) × FailsTake (IsFreeOp old.knows) old r new)
 
 abbrev pub Steps : World → Step → Result StepAnswer Refusal → World → Type 0
 Steps old step (Ok answer) new = Accepts old step answer new

@@ -1,5 +1,5 @@
 -- What is true of every master and its fleet, after each step.
-use Rattle.std.specs.Prelude.{◌≡◌, ◌≤◌, ◌↔◌, ℕ, List, length, None, IsSome}
+use Rattle.std.specs.Prelude.{◌≡◌, ◌≤◌, ◌↔◌, ℕ, List, length, true, None, IsSome}
 use Rattle.entry.specs.Bag.{IsAmong}
 use Rattle.replica.specs.Picture.{Picture, FleetState}
 use Rattle.versioned_map.specs.History.{IsLegal}
@@ -7,7 +7,9 @@ use Rattle.log_model.specs.Data.{Head, LogData, durable_of}
 use Rattle.log_model.specs.Durable.{IsDurable, IsReplicated}
 use Rattle.log_model.specs.Sound.{IsSound}
 use Rattle.clean_model.specs.Covered.{IsCovered}
-use Rattle.master_core.specs.Budget.{newest_digest, used_seglets}
+use Rattle.clean_model.specs.Memory.{log_ids}
+use Rattle.master_core.specs.Budget.{used_seglets}
+use Rattle.master_core.specs.Causes.{is_pushed}
 use Rattle.master_core.specs.Config.{config_fault}
 use Rattle.master_core.specs.Data.{MasterData}
 use Rattle.master_core.specs.Log.{opening_of, log_of, state_now, image_of, memory_of, IsIndexed}
@@ -30,8 +32,8 @@ pub record IsValid (d : MasterData) (f : FleetState) : Type 0 where
   pub index : IsIndexed d
   -- the version that the next new key gets is the map's
   pub safe : d.safe ≡ (state_now d).safe
-  -- memory has an image of each segment of the log, that of a head that is being opened too, and of no other
-  pub imaged : (s : ℕ) → IsSome (image_of d s) ↔ IsAmong s (newest_digest d.head)
+  -- memory has an image of each segment of the log set, and of no other
+  pub imaged : (s : ℕ) → IsSome (image_of d s) ↔ IsAmong s (log_ids (log_of d) (memory_of d))
   -- no more seglets of memory are counted than there are
   pub budget : used_seglets d ≤ d.config.seglets
   -- whatever backups are left, they hold a prefix that has each durable command, or a loss is named
@@ -39,3 +41,5 @@ pub record IsValid (d : MasterData) (f : FleetState) : Type 0 where
   -- memory and the replicas of the log hold the map
   pub covered : IsCovered (log_of d) (memory_of d) f.picture
   pub durable : CountsDurable (log_of d) f.picture
+  -- if nothing waits to be pushed, each record is durable
+  pub pushed : is_pushed d.head ≡ true → durable_of (log_of d) ≡ length d.history

@@ -1,7 +1,7 @@
 //! One master: a log-structured store in memory whose head is replicated on a fleet of backups.
 //!
-//! The layer above calls `Master::step`: one command, the begin of a roll, the compaction of a segment, or one op that
-//! is handed to one backup.
+//! The layer above calls `Master::step`: one command, the begin of a roll or of a pass, the compaction of a segment,
+//! the copy of one entry, or one op that is handed to one backup.
 //! `specs/Steps.antt` says what a step does and when it is refused, and `specs/Keeps.antt` what it keeps.
 //! `specs/Valid.antt` says what is true after each step: whatever backups are left, they hold a prefix of the history
 //! with each durable command in it, or the loss is named. A refused step changes nothing, except after a fault of a
@@ -9,6 +9,7 @@
 //! `master_core`'s, and the fleet is `replica`'s.
 #![tactic(auto)]
 
+mod cleaning;
 mod master;
 
 pub use master::Master;

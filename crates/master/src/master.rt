@@ -30,8 +30,8 @@ use versioned_map::{Command, Record, Reply};
 #[derive(Drop)]
 pub struct Master<F: Fleet> {
     alloc: Global,
-    core: Core,
-    fleet: F,
+    pub(crate) core: Core,
+    pub(crate) fleet: F,
 }
 
 impl<F: Fleet> Model for Master<F> {
@@ -159,6 +159,10 @@ impl<F: Fleet> Master<F> {
             Step::Push => self.push(),
             Step::BeginRoll => self.begin_roll(),
             Step::Compact(id) => self.compact(id),
+            Step::BeginClean(victims) => self.begin_clean(victims),
+            Step::Copy => self.copy(),
+            Step::Seal => self.seal(),
+            Step::Free => self.free(),
         };
         self.show_valid();
         outcome
@@ -297,7 +301,7 @@ fn copies(alloc: Global, steps: &[Step]) -> Result<Vec<Step>, NoMemory>
 {
     let mut own = Vec::with_capacity(alloc, steps.len())?;
     for step in steps {
-        own.push_reserved(step.copy()?);
+        own.push_reserved(step.copy(alloc)?);
     }
     Ok(own)
 }

@@ -1,14 +1,22 @@
 -- A command that no test refuses is added to a core.
-use Rattle.std.proofs.Common.{◌≡◌, ◌⊎◌, ℕ, ◌+◌, ◌≤◌, inl, inr, true, false, List, [], ◌∷◌, ◌++◌, length, refl, sym, ap, subst, ◌∙◌, arith}
-use Rattle.std.specs.Prelude.{Option, Some, None, IfSome, ◌<◌, sum_by}
-use Rattle.std.specs.Option.{option_map_or}
+use Rattle.std.proofs.Common.{◌≡◌, ◌⊎◌, ℕ, ◌+◌, ◌≤◌, inl, inr, Bool, true, false, ◌==◌, List, [], ◌∷◌, ◌++◌, length, refl, sym, ap, subst, ◌∙◌, arith}
+use Rattle.std.specs.Prelude.{Option, Some, None, IfSome, IsSome, ◌<◌, sum_by, if◌then◌else◌}
+use Rattle.std.specs.Option.{option_map, option_map_or}
+use Rattle.std.proofs.lemmas.Bool.{eqb-true}
 use Rattle.versioned_map.specs.Represents.{unit_of}
 use Rattle.std.proofs.lemmas.List.{append-nil, length-append, map-append}
 use Rattle.entry.specs.declared.entry.Object.{Object}
+use Rattle.entry.specs.declared.key.Key.{Key}
 use Rattle.entry.specs.declared.entry.Entry.{Entry}
 use Rattle.entry.specs.declared.entry.Entry.TheVariants as entry
+use Rattle.entry.specs.Bag.{IsAmong}
 use Rattle.entry.specs.Text.{text_of, IsSegment}
+use Rattle.entry.proofs.BagLemmas.{among_either}
 use Rattle.hash_index.specs.declared.place.Held.{Held}
+use Rattle.hash_index.specs.declared.place.Place.{Place}
+use Rattle.cleaner.specs.declared.pass.Pass.{Pass as OpenPass}
+use Rattle.cleaner.specs.Laws.{KeepsNoMore}
+use Rattle.cleaner.specs.Passes.{images_in, rest_of, kept_left, ids_in as log_ids}
 use Rattle.segment.proofs.RowLemmas.{text_of-append}
 use Rattle.versioned_map.specs.declared.command.Command.{Command}
 use Rattle.versioned_map.specs.declared.command.Record.{Record}
@@ -18,30 +26,38 @@ use Rattle.versioned_map.specs.History.{commands_of, IsLegal}
 use Rattle.versioned_map.specs.Versioned.{State, with_contents, replies, after, after_command}
 use Rattle.versioned_map.proofs.Units.{states_pushed}
 use Rattle.log_head.specs.declared.head.Roll.{Roll}
-use Rattle.log_head.specs.Head.{HeadValue, IsHeadValue, is_open}
+use Rattle.log_head.specs.Head.{HeadValue, IsHeadValue, is_open, digest_of}
 use Rattle.log_head.specs.Log.{head_of, phase_in, phase_of, IsImageOf}
 use Rattle.log_head.proofs.HeadLog.{head_is, image_with_unit}
+use Rattle.log_head.proofs.RollLog.{digest_is}
 use Rattle.log_model.specs.Data.{Head, Ready, ids_of}
+use Rattle.log_model.specs.Ids.{all_inserted, without}
 use Rattle.log_model.specs.Log.{AreBelow}
 use Rattle.log_model.specs.Steps.{with_unit, applied, Fits, MayApply}
 use Rattle.master_core.specs.declared.change.Change.{Change}
 use Rattle.master_core.specs.declared.step.StepAnswer.TheVariants.{Applied}
 use Rattle.images.specs.Images.{count_of}
 use Rattle.master_core.specs.declared.config.Config.{Config}
-use Rattle.master_core.specs.Budget.{whole_seglets, seglets_of, head_seglets}
+use Rattle.master_core.specs.Budget.{whole_seglets, seglets_of, head_seglets, used_seglets, newest_digest}
+use Rattle.master_core.specs.Budget.{victims_of, survivors_of, is_committing}
 use Rattle.master_core.specs.Causes.{command_refusal, dead_segment, unit_now}
 use Rattle.master_core.specs.Change.{unit_of_change, is_empty, safe_of_change, appended}
 use Rattle.master_core.specs.Data.{MasterData}
 use Rattle.master_core.specs.Images.{images_among}
 use Rattle.compactor.specs.Places.{keys_in}
 use Rattle.master_core.specs.Index.{LiesFound, IsMoved}
-use Rattle.master_core.specs.Invariant.{IsIndex, IsRollOf, IsCore, IsJudged}
-use Rattle.master_core.specs.Log.{log_config, opening_of, log_of, state_now, held_now, images_of, find}
+use Rattle.master_core.specs.Invariant.{IsIndex, IsRollOf, IsOpenPass, NameBelow, IsCore, IsJudged}
+use Rattle.master_core.specs.Log.{log_config, opening_of, log_of, state_now, held_now, images_of, find, log_set_ids}
 use Rattle.master_core.specs.Steps.{reply_now, record_now, Applies}
 use Rattle.master_core.proofs.Finding.{each_among, index_of}
-use Rattle.master_core.proofs.Imaging.{head_images, appended_grow}
+use Rattle.master_core.proofs.Imaging.{same_id, head_images, appended_grow, appended_own, appended_other}
 use Rattle.master_core.proofs.Indexing.{Grow, Indexes}
-use Rattle.master_core.proofs.Indexed.{given, command_at, goes_on}
+use Rattle.master_core.proofs.Indexed.{given, command_at, goes_on, KeepsOthers, keeps_others}
+use Rattle.master_core.proofs.Holding.{kept_again}
+use Rattle.master_core.proofs.Naming.{dead_below, unit_names}
+use Rattle.master_core.proofs.Passing.{GoesOn, goes_on as goes_on_pass, victim_below}
+use Rattle.cleaner.proofs.Ends.{rest_segment}
+use Rattle.cleaner.proofs.Keeping.{kept_no_more}
 use Rattle.master_core.proofs.Refusals.{IsAdmitted, is_admitted, passed_early, unit_fits, unit_open, open_parts}
 
 -- ---- the head with a unit, where there is one
@@ -134,6 +150,9 @@ module _ (d : MasterData) (core : IsCore d) (command : Command) (change : Change
       index = new;
       safe = safe_of_change d.safe change;
       history = d.history ++ record_now d seat command ∷ [];
+      pass = d.pass;
+      waiting = d.waiting;
+      freed = d.freed;
       is_halted = d.is_halted;
     }
 
@@ -201,6 +220,21 @@ module _ (d : MasterData) (core : IsCore d) (command : Command) (change : Change
         ∙ sym (ap length (text_of-append (images_of d d.head.id) front) ∙ length-append (text_of (images_of d d.head.id)) (text_of front)))
         own moved
 
+    others_on : KeepsOthers (images_of d) (images_of added) grow (each_among added.head d.closed head core.segments)
+        (record { segment = d.head.id; at = at }) dead d.index new (state_now d).contents (state_now d).safe (index_of d core)
+    others_on =
+        keeps_others (images_of d) (images_of added) grow (each_among added.head d.closed head core.segments)
+        (record { segment = d.head.id; at = at }) dead d.index new (state_now d).contents (state_now d).safe (index_of d core)
+        command change judged.change_of
+        (λ front o is. is_placed dead front o is
+        ∙ ap (λ (image : List Entry). length (text_of image) + length (text_of front)) (sym (head_images d.head d.closed))
+        ∙ sym (ap length (text_of-append (images_of d d.head.id) front) ∙ length-append (text_of (images_of d d.head.id)) (text_of front)))
+        own moved
+
+    not_there : (q : Place) → (q.segment == d.head.id) ≡ false → (q ≡ record { segment = d.head.id; at = at }) → ⊥
+    not_there q away same =
+        let here : (q.segment == d.head.id) ≡ true = ap (λ (r : Place). r.segment == d.head.id) same ∙ same_id d.head.id in cc
+
     index_then : IsIndex added
     index_then =
         let next = state_then ∙ command_at (state_now d) command in record {
@@ -210,7 +244,104 @@ module _ (d : MasterData) (core : IsCore d) (command : Command) (change : Change
               ∙ ap (λ (s : State). s.safe) (sym next);
         }
 
+    -- what the index finds, it found before or it is in the head
+    found_then : (k : Key) (q : Place) → find added k ≡ Some q → (find d k ≡ Some q) ⊎ (q.segment ≡ d.head.id)
+    found_then k q finds = go (q.segment == d.head.id) refl where
+      go : (t : Bool) → (q.segment == d.head.id) ≡ t → (find d k ≡ Some q) ⊎ (q.segment ≡ d.head.id)
+      go true here = inr (eqb-true q.segment d.head.id here)
+      go false away = inl (others_on.found_on k q (λ same. not_there q away same) finds)
+
+    -- ---- what tombstones name
+
+    named_then : NameBelow (images_of added) added.next
+    named_then s t m = go (d.head.id == s) refl where
+      by_unit : IsAmong (entry.Tombstone t) (images_of d s ++ unit) → t.segment < d.next
+      by_unit m =
+          elim (among_either (entry.Tombstone t) (images_of d s) unit m) [
+            | inl old ↦ core.named s t old
+            | inr own ↦ subst (λ (n : ℕ). n < d.next) (sym (unit_names dead command change t own ∙ judged.lies)) (dead_below d core (command_key command))
+          ]
+
+      go : (b : Bool) → (d.head.id == s) ≡ b → t.segment < d.next
+      go true here =
+          let same = same_appended d.head (length d.history) unit in
+          by_unit (subst (λ (es : List Entry). IsAmong (entry.Tombstone t) es)
+          (appended_own d.head added.head d.closed unit s same.0 (image_appended d.head (length d.history) unit) here) m)
+      go false away =
+          let same = same_appended d.head (length d.history) unit in
+          core.named s t (subst (λ (es : List Entry). IsAmong (entry.Tombstone t) es)
+          (appended_other d.head added.head d.closed s same.0 same.2 away) m)
+
+    -- ---- an open pass
+
+    ids_then : log_set_ids added ≡ log_set_ids d
+    ids_then =
+        let same = same_appended d.head (length d.history) unit in
+        λ i. log_ids d.closed (same.0 i) (option_map (λ (r : Roll). r.id) (same.2 i))
+
+    digest_then : digest_of added.head.image ≡ digest_of d.head.image
+    digest_then =
+        digest_is d.config.master added.head (head_of added.head) (head_appended d.config.master d.head (length d.history) unit core.image head).1
+        ∙ ap (λ (l : Head). ids_of l.start) head_then
+        ∙ sym (digest_is d.config.master d.head (head_of d.head) core.image)
+
+    newest_then : newest_digest added.head ≡ newest_digest d.head
+    newest_then =
+        let same = same_appended d.head (length d.history) unit in
+        λ i. option_map_or (λ (r : Roll). digest_of r.image) (same.2 i) (digest_then i)
+
+    used_then : used_seglets added ≡ used_seglets d
+    used_then =
+        ap (λ (n : ℕ). n + sum_by (count_of d.config.segment d.config.seglet) d.closed)
+        (counts_then d.config d.head (length d.history) unit
+        (λ some. unit_open d command passed (ap is_empty (sym unit_is) ∙ some)))
+
+    module _ (p : OpenPass) (is : IsOpenPass d p) where
+      abbrev rest : List Place
+      rest = rest_of (images_in d.closed) p
+
+      -- the new object is in no victim
+      not_victim : (q : Place) → IsAmong q.segment p.victims → (q ≡ record { segment = d.head.id; at = at }) → ⊥
+      not_victim q victim same =
+          let below = victim_below d core p is q.segment victim in
+          let own : q.segment ≡ d.head.id = ap (λ (r : Place). r.segment) same in
+          omega arith
+
+      keeps_no_more : KeepsNoMore (log_set_ids d) (log_set_ids d) d.index new (images_in d.closed) rest
+      keeps_no_more q e m stands keeps =
+          kept_again (log_set_ids d) d.index new q e
+          (λ h here is. others_on.held_on h
+          (λ same. not_victim q (rest_segment (images_in d.closed) p q m) (sym here ∙ same)) is) keeps
+
+      passes : GoesOn d added p
+      passes =
+          let same = same_appended d.head (length d.history) unit in record {
+            config = refl;
+            start = ap (λ (l : Head). l.start) head_then;
+            roll = subst (λ (o : Option Roll). IfSome o (λ (r : Roll). (r.id == p.survivor) ≡ false)) (sym same.2) is.survivor.not_new;
+            next = omega arith;
+            pass = is.pass;
+            survivor = refl;
+            rest = refl;
+            left = subst (λ (ids : List ℕ). kept_left ids new (images_in d.closed) rest ≤ kept_left (log_set_ids d) d.index (images_in d.closed) rest)
+                (sym ids_then) (kept_no_more (log_set_ids d) (log_set_ids d) d.index new (images_in d.closed) rest keeps_no_more);
+            live = λ k q finds victim. others_on.found_on k q (λ same. not_victim q victim same) finds;
+            free = λ early. (let used = used_then in omega arith);
+            listed = λ early. (let ids = ap (λ (l : List ℕ). length l) newest_then in omega arith);
+            rolls = λ commits some. subst (λ (o : Option Roll). IsSome o) (sym same.2) some;
+          }
+
+    pass_then : IfSome d.pass (IsOpenPass added)
+    pass_then = go d.pass core.pass where
+      go : (o : Option OpenPass) → IfSome o (IsOpenPass d) → IfSome o (IsOpenPass added)
+      go None is = tt
+      go (Some p) is = goes_on_pass d added p (passes p is) is
+
     -- ---- the core
+
+    -- what a roll lists, by the ids of the log
+    abbrev lists_of : List ℕ → List ℕ
+    lists_of ids = if is_committing d then all_inserted (survivors_of d.pass) (without (victims_of d.pass) ids) else ids
 
     roll_then : IfSome added.head.roll (IsRollOf added)
     roll_then =
@@ -220,7 +351,7 @@ module _ (d : MasterData) (core : IsCore d) (command : Command) (change : Change
         go None is = tt
         go (Some r) is = record {
           image = is.image;
-          lists = is.lists ∙ sym (ap (λ (l : Head). ids_of l.start) head_then);
+          lists = is.lists ∙ sym (ap (λ (l : Head). lists_of (ids_of l.start)) head_then);
           within = is.within;
           newer = subst (λ (id : ℕ). id < r.id) (sym (same_appended d.head (length d.history) unit).0) is.newer;
           used = is.used;
@@ -234,12 +365,15 @@ module _ (d : MasterData) (core : IsCore d) (command : Command) (change : Change
       head = head;
       image = (head_appended d.config.master d.head (length d.history) unit core.image head).1;
       within = within_then d.head (length d.history) d.config.segment unit core.within (fits passed);
-      closed = core.closed ∙ sym (ap (λ (l : Head). l.start.others) head_then);
+      closed = core.closed ∙ sym (ap (λ (l : Head). all_inserted (survivors_of d.pass) l.start.others) head_then);
       segments = core.segments;
       below = subst (λ (l : Head). AreBelow l.start) (sym head_then) core.below;
       used = subst (λ (id : ℕ). id < d.next) (sym (same_appended d.head (length d.history) unit).0) core.used;
       next = core.next;
       roll = roll_then;
+      pass = pass_then;
+      named = named_then;
+      freed = core.freed;
       budget = subst (λ (n : ℕ). n + sum_by (count_of d.config.segment d.config.seglet) d.closed ≤ d.config.seglets)
           (sym (counts_then d.config d.head (length d.history) unit
           (λ some. unit_open d command passed (ap is_empty (sym unit_is) ∙ some)))) core.budget;
@@ -254,5 +388,6 @@ module _ (d : MasterData) (core : IsCore d) (command : Command) (change : Change
       config = refl;
       running = admitted.running;
       log = log_then;
+      found = found_then;
       rest = ap (λ (u : List Entry). record added { head = appended d.head (length d.history) u }) unit_is;
     }

@@ -1,21 +1,39 @@
 -- A new core, and a core of which replicas took something or failed.
-use Rattle.std.proofs.Common.{◌≡◌, ℕ, List, [], ◌∷◌, refl, sym, ap, subst, arith}
+use Rattle.std.proofs.Common.{◌≡◌, inl, inr, ℕ, ◌<◌, Bool, true, false, ◌==◌, List, [], ◌∷◌, refl, sym, ap, subst, arith}
 use Rattle.std.specs.Prelude.{Option, Some, None, IfSome}
+use Rattle.cleaner.specs.declared.pass.Pass.{Pass as OpenPass}
+use Rattle.entry.specs.declared.entry.Entry.TheVariants as entry
+use Rattle.entry.specs.Bag.{IsAmong}
 use Rattle.log_head.specs.declared.head.Roll.{Roll}
 use Rattle.log_head.specs.Head.{IsHeadValue}
 use Rattle.log_head.specs.Log.{head_of, IsImageOf}
 use Rattle.log_head.specs.Steps.{fresh_head}
 use Rattle.log_head.proofs.HeadLog.{head_is, image_fresh, image_with_counts}
-use Rattle.log_model.specs.Data.{Head}
+use Rattle.log_model.specs.Data.{Head, start_entries}
 use Rattle.log_model.specs.Log.{AreBelow}
 use Rattle.log_model.specs.Steps.{first_start}
 use Rattle.master_core.specs.declared.config.Config.{Config}
 use Rattle.master_core.specs.Config.{config_fault}
 use Rattle.master_core.specs.Data.{MasterData, fresh_data}
-use Rattle.master_core.specs.Invariant.{IsRollOf, IsCore}
+use Rattle.master_core.specs.Invariant.{IsRollOf, IsOpenPass, NameBelow, IsCore}
+use Rattle.master_core.specs.Log.{images_of}
 use Rattle.master_core.specs.Steps.{halted}
-use Rattle.master_core.proofs.Refusals.{sizes_of}
+use Rattle.master_core.proofs.Refusals.{has_homes, sizes_of}
+use Rattle.master_core.proofs.Passing.{GoesOn, goes_on}
 use Rattle.segment.proofs.UnitLemmas.{length-head}
+
+-- the opening of the first head has no tombstone
+named_first : (c : Config) → NameBelow (images_of (fresh_data c)) 2
+named_first c s t m = go (1 == s) refl where
+  never : IsAmong (entry.Tombstone t) (start_entries c.master first_start) → ⊥
+  never (inl is) = cc
+  never (inr (inl is)) = cc
+  never (inr (inr (inl is))) = cc
+  never (inr (inr (inr m))) = m
+
+  go : (b : Bool) → (1 == s) ≡ b → t.segment < 2
+  go true here = absurd (never (rw here at m))
+  go false away = absurd (rw away at m)
 
 pub fresh_core : (c : Config) → config_fault c ≡ None → IsHeadValue (fresh_head c.master c.replicas first_start) → IsCore (fresh_data c)
 fresh_core c ok head =
@@ -37,10 +55,46 @@ fresh_core c ok head =
       used = omega arith;
       next = omega arith;
       roll = tt;
+      pass = tt;
+      named = named_first c;
+      freed = (has_homes c ok).some;
       budget = omega arith;
       legal = refl;
       index = record { kept = record { told = tt; apart = tt }; lies = λ k. tt; safe = refl };
     }
+
+counted_goes : (d : MasterData) (ks : List ℕ) (p : OpenPass) → IsOpenPass d p
+    → GoesOn d (record d { head = record d.head { taken = ks } }) p
+counted_goes d ks p is = record {
+  config = refl;
+  start = refl;
+  roll = is.survivor.not_new;
+  next = omega arith;
+  pass = is.pass;
+  survivor = refl;
+  rest = refl;
+  left = omega arith;
+  live = λ k q finds victim. finds;
+  free = λ early. omega arith;
+  listed = λ early. omega arith;
+  rolls = λ commits some. some;
+}
+
+halted_goes : (d : MasterData) (p : OpenPass) → IsOpenPass d p → GoesOn d (halted d) p
+halted_goes d p is = record {
+  config = refl;
+  start = refl;
+  roll = is.survivor.not_new;
+  next = omega arith;
+  pass = is.pass;
+  survivor = refl;
+  rest = refl;
+  left = omega arith;
+  live = λ k q finds victim. finds;
+  free = λ early. omega arith;
+  listed = λ early. omega arith;
+  rolls = λ commits some. some;
+}
 
 -- only what replicas have changed
 pub counted_core : (d : MasterData) (ks : List ℕ) → IsCore d → IsHeadValue (record d.head { taken = ks }) → IsCore (record d { head = record d.head { taken = ks } })
@@ -57,6 +111,9 @@ counted_core d ks core head = record {
   used = core.used;
   next = core.next;
   roll = go d.head.roll core.roll;
+  pass = passes d.pass core.pass;
+  named = core.named;
+  freed = core.freed;
   budget = core.budget;
   legal = core.legal;
   index = record { kept = core.index.kept; lies = core.index.lies; safe = core.index.safe };
@@ -64,6 +121,10 @@ counted_core d ks core head = record {
   go : (o : Option Roll) → IfSome o (IsRollOf d) → IfSome o (IsRollOf (record d { head = record d.head { taken = ks } }))
   go None is = tt
   go (Some r) is = record { image = is.image; lists = is.lists; within = is.within; newer = is.newer; used = is.used }
+
+  passes : (o : Option OpenPass) → IfSome o (IsOpenPass d) → IfSome o (IsOpenPass (record d { head = record d.head { taken = ks } }))
+  passes None is = tt
+  passes (Some p) is = goes_on d (record d { head = record d.head { taken = ks } }) p (counted_goes d ks p is) is
 
 pub halted_core : (d : MasterData) → IsCore d → IsCore (halted d)
 halted_core d core = record {
@@ -79,6 +140,9 @@ halted_core d core = record {
   used = core.used;
   next = core.next;
   roll = go d.head.roll core.roll;
+  pass = passes d.pass core.pass;
+  named = core.named;
+  freed = core.freed;
   budget = core.budget;
   legal = core.legal;
   index = record { kept = core.index.kept; lies = core.index.lies; safe = core.index.safe };
@@ -86,3 +150,7 @@ halted_core d core = record {
   go : (o : Option Roll) → IfSome o (IsRollOf d) → IfSome o (IsRollOf (halted d))
   go None is = tt
   go (Some r) is = record { image = is.image; lists = is.lists; within = is.within; newer = is.newer; used = is.used }
+
+  passes : (o : Option OpenPass) → IfSome o (IsOpenPass d) → IfSome o (IsOpenPass (halted d))
+  passes None is = tt
+  passes (Some p) is = goes_on d (halted d) p (halted_goes d p is) is

@@ -17,14 +17,14 @@ use Rattle.compactor.specs.Kept.{kept_of, moved_all}
 use Rattle.compactor.specs.Laws.{CompactionFollows}
 use Rattle.compactor.proofs.KeptEntries.{kept_length}
 use Rattle.master_core.specs.declared.step.StepAnswer.TheVariants.{Compacted}
-use Rattle.master_core.specs.Budget.{newest_digest}
 use Rattle.master_core.specs.Causes.{compact_refusal}
 use Rattle.master_core.specs.Data.{MasterData}
 use Rattle.master_core.specs.Invariant.{IsCore, AreImagesOf}
-use Rattle.master_core.specs.Log.{images_of}
+use Rattle.master_core.specs.Log.{images_of, log_set_ids}
 use Rattle.master_core.specs.Steps.{kept_now, compacted_data, Compacts}
-use Rattle.master_core.proofs.CompactedCore.{admitted, old_there, compacted_core}
+use Rattle.master_core.proofs.CompactedCore.{admitted, old_there, used_less, compacted_core}
 use Rattle.master_core.proofs.CompactedIndex.{compacted_index}
+use Rattle.master_core.proofs.CompactedPass.{compacted_pass}
 use Rattle.master_core.proofs.Replacing.{never_full, still_within}
 
 -- what a refusal says
@@ -46,7 +46,7 @@ module _ (d : MasterData) (core : IsCore d) (id : ℕ) (passed : compact_refusal
 
   -- the closed segments, and what was found out
   module _ (closed : ImagesValue) (own : closed.images ≡ d.closed) (valid : IsImages closed) (are : AreImagesOf d.config closed)
-      (ids : List ℕ) (es segment : List Entry) (index : List Held) (listed : ids ≡ newest_digest d.head)
+      (ids : List ℕ) (es segment : List Entry) (index : List Held) (listed : ids ≡ log_set_ids d)
       (same : es ≡ images_of d id) (kept : segment ≡ kept_of ids d.index id es) where
     no_longer : length (text_of segment) ≤ length (text_of (images_of d id))
     no_longer =
@@ -71,7 +71,7 @@ module _ (d : MasterData) (core : IsCore d) (id : ℕ) (passed : compact_refusal
 
     module _ (moved : index ≡ moved_all ids d.index id es) (then : ImagesValue)
         (then_is : then ≡ record closed { images = changed closed.images id (replaced_by segment) }) where
-      index_is : moved_all (newest_digest d.head) d.index id (images_of d id) ≡ index
+      index_is : moved_all (log_set_ids d) d.index id (images_of d id) ≡ index
       index_is = (λ i. moved_all (sym listed i) d.index id (sym same i)) ∙ sym moved
 
       closed_is : changed d.closed id (replaced_by (kept_now d id)) ≡ then.images
@@ -95,7 +95,9 @@ module _ (d : MasterData) (core : IsCore d) (id : ℕ) (passed : compact_refusal
       pub compacted_valid : CompactionFollows → IsCore (record d { closed = then.images; index = index })
       compacted_valid follows =
           let is = admitted d id passed in
-          subst IsCore data_is (compacted_core d core id is (subst AreRising own valid.rising) within (compacted_index follows d core id is))
+          let rising = subst AreRising own valid.rising in
+          subst IsCore data_is (compacted_core d core id is rising within (compacted_index follows d core id is)
+          (compacted_pass follows d core id is (used_less d core id is rising within)))
 
       pub room_then : length closed.images < closed.room → length then.images < then.room
       room_then enough =

@@ -1,7 +1,9 @@
 -- What the index leads to once a segment is compacted.
-use Rattle.std.proofs.Common.{◌≡◌, ℕ, List, [], ◌∷◌, refl, sym, subst}
+use Rattle.std.proofs.Common.{◌≡◌, ℕ, Bool, true, false, ◌==◌, List, [], ◌∷◌, refl, sym, ap, subst, ◌∙◌, if◌then◌else◌}
 use Rattle.std.specs.Prelude.{Option, Some, None}
 use Rattle.std.specs.List.{AllByRecursion}
+use Rattle.std.proofs.lemmas.Bool.{eqb-true}
+use Rattle.std.proofs.lemmas.Option.{same_Some}
 use Rattle.std.specs.Option.{option_map}
 use Rattle.entry.specs.declared.key.Key.{Key}
 use Rattle.entry.specs.declared.entry.Entry.{Entry}
@@ -11,14 +13,13 @@ use Rattle.hash_index.specs.declared.place.Held.{Held}
 use Rattle.hash_index.specs.declared.place.Place.{Place}
 use Rattle.hash_index.specs.Map.{found, IsTold, AreKept}
 use Rattle.hash_index.proofs.Each.{each_found}
-use Rattle.compactor.specs.Kept.{moved_place, moved_all}
+use Rattle.compactor.specs.Kept.{moved_at, moved_place, moved_all}
 use Rattle.compactor.specs.Laws.{compacted_images, LeadsOn, CompactionFollows}
 use Rattle.compactor.specs.Places.{keys_in, LieIn}
-use Rattle.master_core.specs.Budget.{newest_digest}
 use Rattle.master_core.specs.Data.{MasterData}
 use Rattle.master_core.specs.Index.{LiesFound}
 use Rattle.master_core.specs.Invariant.{IsCore, IsIndex}
-use Rattle.master_core.specs.Log.{images_of, find, state_now}
+use Rattle.master_core.specs.Log.{images_of, find, state_now, log_set_ids}
 use Rattle.master_core.specs.Steps.{compacted_data}
 use Rattle.master_core.proofs.CompactedCore.{IsAdmitted, old_segment, images_then}
 use Rattle.master_core.proofs.Finding.{index_of}
@@ -49,7 +50,7 @@ moved_lies images later goes old new followed k (Some p) (Some x) is lies =
 
 module _ (follows : CompactionFollows) (d : MasterData) (core : IsCore d) (id : ℕ) (is : IsAdmitted d id) where
   abbrev ids : List ℕ
-  ids = newest_digest d.head
+  ids = log_set_ids d
 
   abbrev e : MasterData
   e = compacted_data d id
@@ -79,3 +80,31 @@ module _ (follows : CompactionFollows) (d : MasterData) (core : IsCore d) (id : 
         same_images (lies_then k);
     safe = core.index.safe;
   }
+
+  -- a key that is found elsewhere was found there before
+  pub found_elsewhere : (k : Key) (q : Place) → find e k ≡ Some q → (q.segment ≡ id → ⊥) → find d k ≡ Some q
+  found_elsewhere k q finds other = go (find d k) refl where
+    follows_to : find e k ≡ option_map (moved_place ids d.index id (images_of d id)) (find d k)
+    follows_to =
+        subst (λ (images : ℕ → List Entry). found (keys_in images) k e.index ≡ option_map (moved_place ids d.index id (images_of d id)) (find d k))
+        same_images (followed.finds k)
+
+    here : (r : Place) → find d k ≡ Some r → moved_place ids d.index id (images_of d id) r ≡ q → find d k ≡ Some q
+    here r is moved = test (r.segment == id) refl where
+      test : (t : Bool) → (r.segment == id) ≡ t → find d k ≡ Some q
+      test true own =
+          let at : moved_place ids d.index id (images_of d id) r ≡ record r { at = moved_at ids d.index id (images_of d id) r.at } =
+          ap (λ (b : Bool). if b then record r { at = moved_at ids d.index id (images_of d id) r.at } else r) own in
+          absurd (other (ap (λ (p : Place). p.segment) (sym moved ∙ at) ∙ eqb-true r.segment id own))
+      test false away =
+          let at : moved_place ids d.index id (images_of d id) r ≡ r =
+          ap (λ (b : Bool). if b then record r { at = moved_at ids d.index id (images_of d id) r.at } else r) away in
+          is ∙ ap Some (sym at ∙ moved)
+
+    go : (o : Option Place) → find d k ≡ o → find d k ≡ Some q
+    go None is =
+        let none = sym finds ∙ follows_to ∙ ap (option_map (moved_place ids d.index id (images_of d id))) is in
+        absurd (cc)
+    go (Some r) is =
+        here r is (same_Some (moved_place ids d.index id (images_of d id) r) q
+        (sym (follows_to ∙ ap (option_map (moved_place ids d.index id (images_of d id))) is) ∙ finds))

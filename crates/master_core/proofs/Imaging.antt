@@ -2,6 +2,7 @@
 use Rattle.std.proofs.Common.{◌≡◌, ℕ, ◌<◌, ◌≤◌, Bool, true, false, List, [], ◌∷◌, ◌++◌, map, refl, sym, ap, ◌∙◌, arith}
 use Rattle.std.specs.Prelude.{Option, Some, None, IfSome, unwrap_or, ◌==◌, if◌then◌else◌}
 use Rattle.std.specs.List.{AllByRecursion}
+use Rattle.std.specs.Option.{option_map}
 use Rattle.std.proofs.lemmas.Bool.{eqb-true}
 use Rattle.std.proofs.lemmas.Bool.Decides.{nat_tests}
 use Rattle.std.proofs.lemmas.List.{append-nil}
@@ -12,7 +13,8 @@ use Rattle.log_head.specs.declared.head.Roll.{Roll}
 use Rattle.log_head.specs.Head.{HeadValue}
 use Rattle.log_head.specs.Steps.{in_force}
 use Rattle.images.specs.declared.image.Image.{Image}
-use Rattle.images.specs.Sorted.{segment_of}
+use Rattle.images.specs.Sorted.{image_of, segment_of, added}
+use Rattle.images.proofs.Adding.{segment_found}
 use Rattle.master_core.specs.Images.{closed_image, new_image_or, image_among, images_among, with_closed}
 use Rattle.master_core.proofs.Indexing.{Grow}
 
@@ -42,26 +44,11 @@ none_above (c ∷ cs) n s all le =
 
 -- one more is found if no other has its id
 pub closed_more : (cs : List Image) (id s : ℕ) (image : List Entry) → segment_of cs id ≡ None
-    → segment_of (cs ++ closed_image id image ∷ []) s ≡ (if id == s then Some image else segment_of cs s)
-closed_more [] id s image none = go (id == s) refl where
-  go : (t : Bool) → (id == s) ≡ t → segment_of (closed_image id image ∷ []) s ≡ (if id == s then Some image else None)
-  go true is = rw is refl
-  go false is = rw is refl
-closed_more (c ∷ cs) id s image none = first (c.id == id) refl (closed_more cs id s image)
-  where
-    later : segment_of (cs ++ closed_image id image ∷ []) s ≡ (if id == s then Some image else segment_of cs s)
-        → (t : Bool) → (c.id == id) ≡ false → (c.id == s) ≡ t
-        → segment_of (c ∷ (cs ++ closed_image id image ∷ [])) s ≡ (if id == s then Some image else segment_of (c ∷ cs) s)
-    later below true other is =
-        let away : (id == s) ≡ false = other_id id s (λ e. (let same = eqb-true c.id s is in let t : (c.id == id) ≡ true = grind (arith, nat_tests) in let never : true ≡ false = sym t ∙ other in cc)) in
-        rw (is, away) refl
-    later below false other is = rw is below
-
-    first : (t : Bool) → (c.id == id) ≡ t → (segment_of cs id ≡ None
-        → segment_of (cs ++ closed_image id image ∷ []) s ≡ (if id == s then Some image else segment_of cs s))
-        → segment_of (c ∷ (cs ++ closed_image id image ∷ [])) s ≡ (if id == s then Some image else segment_of (c ∷ cs) s)
-    first true is below = (let never : Some c.segment ≡ None = rw is at none in absurd (cc))
-    first false is below = (let rest : segment_of cs id ≡ None = rw is at none in later (below rest) (c.id == s) is refl)
+    → segment_of (added (closed_image id image) cs) s ≡ (if id == s then Some image else segment_of cs s)
+closed_more cs id s image none = segment_found (closed_image id image) cs s (no_image (image_of cs id) none) where
+  no_image : (o : Option Image) → option_map (λ (c : Image). c.segment) o ≡ None → o ≡ None
+  no_image None is = refl
+  no_image (Some c) is = absurd (cc)
 
 -- ---- images of segments
 
@@ -167,14 +154,14 @@ pub closed_same : (h : HeadValue) (cs : List Image) (r : Roll) → h.roll ≡ So
     → (s : ℕ) → image_among (in_force h r) (with_closed cs h.id (Some h.image)) s ≡ image_among h cs s
 closed_same h cs r is other none s = by_head (h.id == s) refl
   where
-    more : segment_of (cs ++ closed_image h.id h.image ∷ []) s ≡ (if h.id == s then Some h.image else segment_of cs s)
+    more : segment_of (added (closed_image h.id h.image) cs) s ≡ (if h.id == s then Some h.image else segment_of cs s)
     more = closed_more cs h.id s h.image none
 
     by_head : (t : Bool) → (h.id == s) ≡ t → image_among (in_force h r) (with_closed cs h.id (Some h.image)) s ≡ image_among h cs s
     by_head true here =
         let away : (r.id == s) ≡ false = other_id r.id s (λ e. other (eqb-true h.id s here ∙ sym e)) in
-        let found : segment_of (cs ++ closed_image h.id h.image ∷ []) s ≡ Some h.image = rw here at more in
+        let found : segment_of (added (closed_image h.id h.image) cs) s ≡ Some h.image = rw here at more in
         rw (away, here) found
     by_head false away =
-        let found : segment_of (cs ++ closed_image h.id h.image ∷ []) s ≡ segment_of cs s = rw away at more in
+        let found : segment_of (added (closed_image h.id h.image) cs) s ≡ segment_of cs s = rw away at more in
         rw (away, is, found) refl

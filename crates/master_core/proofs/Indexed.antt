@@ -2,6 +2,7 @@
 use Rattle.std.proofs.Common.{◌≡◌, ℕ, ◌+◌, inl, inr, Bool, true, false, cond, List, [], ◌∷◌, ◌++◌, length, refl, sym, ap, subst, ◌∙◌, append_assoc}
 use Rattle.std.specs.Prelude.{Option, Some, None, if◌then◌else◌}
 use Rattle.std.specs.List.{AllByRecursion}
+use Rattle.std.proofs.lemmas.Option.{same_Some}
 use Rattle.entry.specs.declared.key.Key.{Key}
 use Rattle.entry.specs.declared.entry.Object.{Object}
 use Rattle.entry.specs.declared.entry.Entry.{Entry}
@@ -11,7 +12,8 @@ use Rattle.entry.specs.Text.{text_of}
 use Rattle.entry.specs.Meaning.{Versioned, Contents, version_of, object_at}
 use Rattle.hash_index.specs.declared.place.Held.{Held}
 use Rattle.hash_index.specs.declared.place.Place.{Place}
-use Rattle.hash_index.specs.Map.{AreKept, IsSet}
+use Rattle.hash_index.specs.Map.{found, AreKept, IsSet}
+use Rattle.hash_index.specs.Relocation.{holds}
 use Rattle.versioned_map.specs.declared.command.Command.{Command}
 use Rattle.versioned_map.specs.declared.command.Command.TheVariants.{Get, Put, Delete}
 use Rattle.versioned_map.specs.declared.command.If.{If}
@@ -25,7 +27,8 @@ use Rattle.master_core.specs.Change.{unit_of_change, IsChangeOf}
 use Rattle.compactor.specs.Places.{IsAtPlace, keys_in}
 use Rattle.master_core.specs.Index.{IsMoved}
 use Rattle.master_core.proofs.Changes.{unmet, undeleted, clashes}
-use Rattle.master_core.proofs.Indexing.{Grow, Indexes, key_seen, kept_grown, index_grown, index_set}
+use Rattle.master_core.proofs.Indexing.{Grow, Indexes, key_seen, kept_grown, found_grown, index_grown, index_set}
+use Rattle.master_core.proofs.Holding.{set_finds, set_holds}
 
 -- ---- the state after a command, by what it leaves its key
 
@@ -175,3 +178,51 @@ module _ (images grown : ℕ → List Entry) (grow : Grow images grown) (each : 
   goes_on (Delete k) (change.Create version) of is_put ends moved = absurd (clashes (of.unit 0) (of.nothing 0))
   goes_on (Delete k) (change.Replace dead version) of is_put ends moved = absurd (clashes (of.unit 0) (of.nothing 0))
   goes_on (Delete k) (change.Delete dead) of is_put ends moved = removed_index k moved
+
+  -- ---- other places
+
+  -- What is held and found elsewhere was held and found before.
+  pub record KeepsOthers : Type 0 where
+    pub held_on : (h : Held) → (h.place ≡ p → ⊥) → holds new h ≡ true → holds hs h ≡ true
+    pub found_on : (q : Key) (r : Place) → (r ≡ p → ⊥) → found (keys_in grown) q new ≡ Some r → found (keys_in images) q hs ≡ Some r
+
+  found_before : (q : Key) → found (keys_in grown) q hs ≡ found (keys_in images) q hs
+  found_before q = found_grown images grown grow each hs contents index q
+
+  as_before : new ≡ hs → KeepsOthers
+  as_before same = record {
+    held_on = λ h other is. subst (λ (l : List Held). holds l h ≡ true) same is;
+    found_on = λ q r other is. sym (found_before q) ∙ subst (λ (l : List Held). found (keys_in grown) q l ≡ Some r) same is;
+  }
+
+  -- the index is set to nothing or to the place
+  set_to : (k : Key) (x : Option Place) → ((r : Place) → x ≡ Some r → r ≡ p) → IsSet (keys_in grown) hs k x new → KeepsOthers
+  set_to k x here set = record {
+    held_on = λ h other is. set_holds (keys_in grown) hs new k x kept set h is (λ own. other (here h.place own));
+    found_on = λ q r other is. sym (found_before q) ∙ set_finds (keys_in grown) hs new k x kept set q r is (λ own. other (here r own));
+  }
+
+  put_at_place : (k : Key) (x : Versioned) → IsAtPlace grown p (object_at k x)
+      → (AreKept (keys_in grown) hs → keys_in grown p ≡ Some k → IsSet (keys_in grown) hs k (Some p) new) → KeepsOthers
+  put_at_place k x stands set = set_to k (Some p) (λ r is. sym (same_Some p r is)) (set kept (key_seen grown each p k x stands))
+
+  pub keeps_others : (command : Command) (c : Change) → IsChangeOf safe (contents (command_key command)) command c
+      → IsPut (images p.segment) segment command c p.at → Ends (unit_of_change segment command c)
+      → IsMoved (keys_in grown) hs c (command_key command) p new → KeepsOthers
+  keeps_others (Get k) change.Nothing of is_put ends moved = as_before moved
+  keeps_others (Get k) (change.Create version) of is_put ends moved = absurd (clashes refl (of.nothing 0))
+  keeps_others (Get k) (change.Replace dead version) of is_put ends moved = absurd (clashes refl (of.nothing 0))
+  keeps_others (Get k) (change.Delete dead) of is_put ends moved = absurd (clashes refl (of.nothing 0))
+  keeps_others (Put k value when) change.Nothing of is_put ends moved = as_before moved
+  keeps_others (Put k value when) (change.Create version) of is_put ends moved =
+      let o : Object = record { key = k; version = version; value = value } in
+      put_at_place k (record { version = version; value = value }) (put_stands [] o (is_put [] o refl) ends) moved
+  keeps_others (Put k value when) (change.Replace dead version) of is_put ends moved =
+      let o : Object = record { key = k; version = version; value = value } in
+      let front = tombstone_entry k dead segment ∷ [] in
+      put_at_place k (record { version = version; value = value }) (put_stands front o (is_put front o refl) ends) moved
+  keeps_others (Put k value when) (change.Delete dead) of is_put ends moved = absurd (clashes (of.unit 0) (of.nothing 0))
+  keeps_others (Delete k) change.Nothing of is_put ends moved = as_before moved
+  keeps_others (Delete k) (change.Create version) of is_put ends moved = absurd (clashes (of.unit 0) (of.nothing 0))
+  keeps_others (Delete k) (change.Replace dead version) of is_put ends moved = absurd (clashes (of.unit 0) (of.nothing 0))
+  keeps_others (Delete k) (change.Delete dead) of is_put ends moved = set_to k None (λ r is. absurd (cc)) (moved kept)

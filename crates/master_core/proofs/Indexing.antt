@@ -113,7 +113,7 @@ module _ (images grown : ℕ → List Entry) (grow : Grow images grown) (each : 
   pub kept_grown : AreKept (keys_in grown) hs
   kept_grown = kept_again (keys_in images) (keys_in grown) hs index.kept again
 
-  found_grown : (q : Key) → found (keys_in grown) q hs ≡ found (keys_in images) q hs
+  pub found_grown : (q : Key) → found (keys_in grown) q hs ≡ found (keys_in images) q hs
   found_grown q = found_again (keys_in images) (keys_in grown) hs again q
 
   lies_still : (q : Key) → LiesFound grown q (found (keys_in grown) q hs) (contents q)

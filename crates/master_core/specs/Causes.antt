@@ -1,8 +1,11 @@
 -- Why a step is refused.
 use Rattle.std.specs.Prelude.{ℕ, ◌+◌, ◌^◌, ◌==◌, ◌&&◌, length, Bool, nat_le, nat_lt, not, Option, Some, None, List}
-use Rattle.std.specs.Prelude.{is_none, false, ◌||◌, if◌then◌else◌}
+use Rattle.std.specs.Prelude.{is_none, is_some, false, [], ◌∷◌, ◌||◌, if◌then◌else◌}
 use Rattle.std.specs.Option.{option_map_or}
-use Rattle.cleaner.specs.declared.fault.PassFault.TheVariants.{IsHead, NotInLog}
+use Rattle.cleaner.specs.declared.fault.PassFault.{PassFault}
+use Rattle.cleaner.specs.declared.fault.PassFault.TheVariants.{IsHead, NotInLog, PassOpen, NoVictims, TooMany, TooMuch, Twice}
+use Rattle.cleaner.specs.declared.pass.Pass.{Pass as OpenPass}
+use Rattle.cleaner.specs.Passes.{images_in, places_of, kept_left, is_at_end}
 use Rattle.compactor.specs.Kept.{has_id}
 use Rattle.entry.specs.declared.entry.Entry.{Entry}
 use Rattle.entry.specs.Tablet.{have_key}
@@ -17,11 +20,11 @@ use Rattle.log_head.specs.Head.{HeadValue, is_open, digest_of}
 use Rattle.master_core.specs.declared.step.Refusal.{Refusal}
 use Rattle.master_core.specs.declared.step.Refusal.TheVariants.{Halted, TooBig, NoTablet, HistoryFull, VersionsSpent, Full, Rolling, Nothing}
 use Rattle.master_core.specs.declared.step.Refusal.TheVariants.{SegmentsSpent, Pass}
-use Rattle.master_core.specs.Budget.{segments_for, may_roll}
+use Rattle.master_core.specs.Budget.{segments_for, may_roll, may_clean, victims_of}
 use Rattle.master_core.specs.Change.{is_too_big, is_empty}
 use Rattle.master_core.specs.Data.{MasterData}
 use Rattle.master_core.specs.Index.{segment_at}
-use Rattle.master_core.specs.Log.{state_now, find}
+use Rattle.master_core.specs.Log.{state_now, find, log_set_ids}
 
 -- ---- a command
 
@@ -89,6 +92,69 @@ compact_refusal d id =
     if d.is_halted then Some Halted
     else if is_head d.head id then Some (Pass (IsHead id))
     else if not (has_id (digest_of d.head.image) id) then Some (Pass (NotInLog id))
+    else if has_id (victims_of d.pass) id then Some (Pass PassOpen)
+    else None
+
+-- ---- a pass
+
+-- why the first of some segments that may not be a victim may not: it was there before, is a head, or isn't in the
+-- digest in force
+abbrev pub victim_fault : MasterData → List ℕ → List ℕ → Option PassFault
+victim_fault d before [] = None
+victim_fault d before (id ∷ ids) =
+    if has_id before id then Some (Twice id)
+    else if is_head d.head id then Some (IsHead id)
+    else if not (has_id (digest_of d.head.image) id) then Some (NotInLog id)
+    else victim_fault d (id ∷ before) ids
+
+-- why the segments may not be the victims of a pass, their bytes apart
+abbrev pub victims_fault : MasterData → List ℕ → Option PassFault
+victims_fault d ids =
+    if is_some d.pass then Some PassOpen
+    else if length ids == 0 then Some NoVictims
+    else if nat_lt 8 (length ids) then Some TooMany
+    else victim_fault d [] ids
+
+-- what the victims keep and a header fit one segment
+abbrev pub are_few_bytes : MasterData → List ℕ → Bool
+are_few_bytes d ids =
+    let images = images_in d.closed in
+    nat_le (18 + kept_left (log_set_ids d) d.index images (places_of images ids)) d.config.segment
+
+-- the test that refuses a pass whose victims may be that, apart from memory
+abbrev pub space_refusal : MasterData → List ℕ → Option Refusal
+space_refusal d ids =
+    if not (may_clean d (length ids)) then Some Full
+    else if not (are_few_bytes d ids) then Some (Pass TooMuch)
+    else if nat_lt (2 ^ 62) d.next then Some SegmentsSpent
+    else None
+
+-- the test that refuses a pass, apart from memory
+abbrev pub clean_refusal : MasterData → List ℕ → Option Refusal
+clean_refusal d ids =
+    if d.is_halted then Some Halted
+    else option_map_or (λ (fault : PassFault). Some (Pass fault)) (victims_fault d ids) (space_refusal d ids)
+
+-- the test that refuses a copy, memory apart: no pass is open, or it is at its end
+abbrev pub copy_refusal : MasterData → Option Refusal
+copy_refusal d =
+    if d.is_halted then Some Halted
+    else if option_map_or (λ (p : OpenPass). not (is_at_end p)) d.pass false then None
+    else Some Nothing
+
+-- the test that refuses a seal, what the fleet answers apart: no pass is open, it isn't at its end, or all replicas of
+-- its survivor are sealed
+abbrev pub seal_refusal : MasterData → Option Refusal
+seal_refusal d =
+    if d.is_halted then Some Halted
+    else if option_map_or (λ (p : OpenPass). is_at_end p && nat_lt p.sealed d.config.replicas) d.pass false then None
+    else Some Nothing
+
+-- the test that refuses a free, what the fleet answers apart: nothing waits
+abbrev pub free_refusal : MasterData → Option Refusal
+free_refusal d =
+    if d.is_halted then Some Halted
+    else if length d.waiting == 0 then Some Nothing
     else None
 
 -- ---- a push

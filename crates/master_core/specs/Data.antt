@@ -1,5 +1,6 @@
 -- What a master knows, its fleet apart.
-use Rattle.std.specs.Prelude.{ℕ, List, [], Bool, false}
+use Rattle.std.specs.Prelude.{ℕ, List, [], Bool, false, Option, None}
+use Rattle.cleaner.specs.declared.pass.Pass.{Pass}
 use Rattle.hash_index.specs.declared.place.Held.{Held}
 use Rattle.images.specs.declared.image.Image.{Image}
 use Rattle.versioned_map.specs.declared.command.Record.{Record}
@@ -11,7 +12,7 @@ use Rattle.master_core.specs.declared.config.Config.{Config}
 pub record MasterData : Type 0 where
   pub config : Config
   pub head : HeadValue
-  -- the closed segments of the log
+  -- the closed segments of the log, and the survivor of the open pass
   pub closed : List Image
   -- the first id that no segment had yet
   pub next : ℕ
@@ -20,6 +21,12 @@ pub record MasterData : Type 0 where
   -- the version that the next new key gets
   pub safe : ℕ
   pub history : List Record
+  -- the open pass
+  pub pass : Option Pass
+  -- victims of earlier passes, in the order in which their replicas are freed
+  pub waiting : List ℕ
+  -- how many replicas of the first of these were freed
+  pub freed : ℕ
   -- a backup failed: no step is accepted any more
   pub is_halted : Bool
 
@@ -33,5 +40,8 @@ fresh_data config = record {
   index = [];
   safe = 1;
   history = [];
+  pass = None;
+  waiting = [];
+  freed = 0;
   is_halted = false;
 }

@@ -9,4 +9,7 @@ pub mod Steps
 pub mod Index
 pub mod Invariant
 pub mod Shown
+pub mod Waits
+pub mod Choosing
 pub mod Names
+pub mod Ends

@@ -1,6 +1,9 @@
 -- The log of a master, its images, and its index, in words that clauses cite.
 use Rattle.std.specs.Prelude.{◌≡◌, ℕ, zero, suc, ◌+◌, ◌*◌, ◌%◌, List, [], ◌∷◌, length, take, false, Option, Some, None}
-use Rattle.std.specs.Option.{option_map}
+use Rattle.std.specs.Prelude.{map, ◌==◌, slice_get, if◌then◌else◌}
+use Rattle.std.specs.Option.{option_map, option_map_or}
+use Rattle.cleaner.specs.declared.pass.Pass.{Pass}
+use Rattle.cleaner.specs.Passes.{images_in, rest_of, ids_in}
 use Rattle.entry.specs.declared.key.Key.{Key}
 use Rattle.entry.specs.declared.entry.Entry.{Entry}
 use Rattle.entry.specs.Meaning.{Versioned, object_at}
@@ -11,8 +14,10 @@ use Rattle.versioned_map.specs.Command.{command_key}
 use Rattle.versioned_map.specs.Represents.{empty_state}
 use Rattle.versioned_map.specs.Versioned.{State}
 use Rattle.log_model.specs.Data.{LogConfig, LogData, state_of}
-use Rattle.clean_model.specs.Memory.{Memory, Place as EntryPlace, no_pass}
+use Rattle.clean_model.specs.Memory.{Memory, Place as EntryPlace}
+use Rattle.log_head.specs.declared.head.Roll.{Roll}
 use Rattle.log_head.specs.Log.{head_of, phase_of}
+use Rattle.master_core.specs.Budget.{victims_of, survivors_of, is_committing}
 use Rattle.master_core.specs.declared.config.Config.{Config}
 use Rattle.hash_index.specs.declared.place.Place.{Place}
 use Rattle.hash_index.specs.Map.{found}
@@ -90,6 +95,13 @@ Finds images k (Some p) (Some x) = standing_at p.at (text_of (images p.segment))
 abbrev pub IsIndexed : MasterData → Type 0
 IsIndexed d = (k : Key) → Finds (images_of d) k (find d k) ((state_now d).contents k)
 
+-- ---- the log set
+
+-- the ids of the log set: the closed segments with the survivor of the open pass, the head, and the head that a roll is
+-- opening
+abbrev pub log_set_ids : MasterData → List ℕ
+log_set_ids d = ids_in d.closed d.head.id (option_map (λ (r : Roll). r.id) d.head.roll)
+
 -- ---- memory
 
 -- how many entries of an image come before an offset
@@ -100,14 +112,23 @@ position_of image at = length (entries_in (take at (text_of image)))
 abbrev pub entry_place : MasterData → Place → EntryPlace
 entry_place d p = record { segment = p.segment; position = position_of (images_of d p.segment) p.at }
 
--- memory as compaction and cleaning see it: no pass is open, and nothing waits to be freed
+-- the places that the open pass has before it
+abbrev pub rest_now : MasterData → List Place
+rest_now d = option_map_or (rest_of (images_in d.closed)) d.pass []
+
+-- how many replicas of a segment that waits were freed
+abbrev pub freed_of : MasterData → ℕ → ℕ
+freed_of d s = if option_map_or (λ (first : ℕ). first == s) (slice_get d.waiting 0) false then d.freed else 0
+
+-- memory as compaction and cleaning see it
 abbrev pub memory_of : MasterData → Memory
 memory_of d = record {
   images = images_of d;
   index = λ k. option_map (entry_place d) (find d k);
-  pass = no_pass;
-  rest = [];
-  sealed = λ s. 0;
-  commits = false;
-  waiting = [];
+  pass = record { victims = victims_of d.pass; survivors = survivors_of d.pass };
+  rest = map (entry_place d) (rest_now d);
+  sealed = λ s. option_map_or (λ (p : Pass). p.sealed) d.pass 0;
+  commits = is_committing d;
+  waiting = d.waiting;
+  freed = freed_of d;
 }

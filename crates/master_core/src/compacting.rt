@@ -3,7 +3,9 @@
 ghost use Rattle.std.specs.Prelude.{◌⊎◌, ◌≡◌, None, Some, IfOk, IfErr, OnOk, OnErr};
 ghost use Rattle.std.specs.Option.{option_map};
 ghost use Rattle.std.specs.Result.{result_err};
+ghost use Rattle.compactor.specs.Kept.{has_id};
 ghost use Rattle.log_head.specs.declared.head.Roll.{Roll};
+ghost use Rattle.master_core.specs.Budget.{victims_of, survivors_of};
 ghost use Rattle.master_core.specs.Causes.{is_head, compact_refusal};
 ghost use Rattle.master_core.specs.Invariant.{IsCore};
 ghost use Rattle.master_core.specs.Steps.{Compacts};
@@ -15,7 +17,7 @@ use compactor::{LogSet, compact};
 use log_head::Head;
 
 /// The number of the head that a roll is opening.
-fn opening_id(head: &Head) -> Option<u64>
+pub(crate) fn opening_id(head: &Head) -> Option<u64>
     ensures { result ≡ option_map (λ (r : Roll). r.id) head.now.roll }
 {
     match head.roll() {
@@ -26,7 +28,7 @@ fn opening_id(head: &Head) -> Option<u64>
 
 impl Core {
     /// Whether this is the number of the head, or of the head that a roll is opening.
-    fn is_head(&self, id: u64) -> bool
+    pub(crate) fn is_head(&self, id: u64) -> bool
         ensures { result ≡ is_head self.now.head id }
     {
         if self.head.id() == id {
@@ -35,6 +37,26 @@ impl Core {
         match self.head.roll() {
             None => false,
             Some(roll) => roll.id == id,
+        }
+    }
+
+    /// Whether this is the number of the open pass's survivor.
+    pub(crate) fn is_survivor(&self, id: u64) -> bool
+        ensures { result ≡ has_id (survivors_of self.now.pass) id }
+    {
+        match &self.pass {
+            None => false,
+            Some(pass) => pass.survivor == id,
+        }
+    }
+
+    /// Whether this is the number of a victim of the open pass.
+    fn is_victim(&self, id: u64) -> bool
+        ensures { result ≡ has_id (victims_of self.now.pass) id }
+    {
+        match &self.pass {
+            None => false,
+            Some(pass) => pass.victims.as_slice().contains(&id),
         }
     }
 
@@ -48,8 +70,14 @@ impl Core {
         if self.is_head(id) {
             return Err(Refusal::Pass(PassFault::IsHead(id)));
         }
+        if self.is_survivor(id) {
+            return Err(Refusal::Pass(PassFault::NotInLog(id)));
+        }
         if self.closed.get(id).is_none() {
             return Err(Refusal::Pass(PassFault::NotInLog(id)));
+        }
+        if self.is_victim(id) {
+            return Err(Refusal::Pass(PassFault::PassOpen));
         }
         Ok(())
     }

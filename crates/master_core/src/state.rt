@@ -25,6 +25,7 @@ use crate::index::find;
 use crate::rolling::segments_for;
 use crate::step::{Look, Refusal, Shown, StepAnswer};
 use crate::unit::{enact, unit_len};
+use cleaner::Pass;
 use entry::{NoMemory, ObjectRef, Row, SafeVersion};
 use hash_index::{Index, Place};
 use images::Images;
@@ -35,7 +36,8 @@ use std::alloc::Global;
 use std::marker::Model;
 use versioned_map::{Command, Record, Reply};
 
-/// What a master knows: its configuration, its images, where the live objects lie, the safe version, and its history.
+/// What a master knows: its configuration, its images, where the live objects lie, the safe version, its history, and
+/// how far it has cleaned.
 #[derive(Drop)]
 pub struct Core {
     pub(crate) alloc: Global,
@@ -49,11 +51,17 @@ pub struct Core {
     pub(crate) index: Index,
     pub(crate) safe: SafeVersion,
     pub(crate) history: Vec<Record>,
+    /// The open pass of cleaning.
+    pub(crate) pass: Option<Pass>,
+    /// Victims of earlier passes, in the order in which their replicas are freed.
+    pub(crate) waiting: Vec<u64>,
+    /// How many replicas of the first of these were freed.
+    pub(crate) freed: usize,
     pub(crate) is_halted: bool,
 }
 
 impl Model for Core {
-    ghost use Rattle.std.specs.Prelude.{◌<◌, IsSome, length};
+    ghost use Rattle.std.specs.Prelude.{◌≡◌, ◌+◌, ◌<◌, ◌≤◌, IsSome, IfSome, true, length, vec_capacity};
     ghost use Rattle.master_core.specs.Data.{MasterData};
     ghost use Rattle.master_core.specs.Invariant.{IsCore, AreImagesOf};
 
@@ -67,10 +75,14 @@ impl Model for Core {
       index = m.index.held;
       safe = m.safe;
       history = m.history.items;
+      pass = m.pass;
+      waiting = m.waiting.items;
+      freed = m.freed;
       is_halted = m.is_halted;
     } };
 
-    // while a roll is under way there is room for one more closed segment
+    // while a roll is under way there is room for one more closed segment, and while a pass commits `waiting` has room
+    // for its victims
     ghost invariant = { λ m. (IsSome m.head.roll → length m.closed.images < m.closed.room)
         × AreImagesOf m.config m.closed × IsCore (record {
           config = m.config;
@@ -80,8 +92,13 @@ impl Model for Core {
           index = m.index.held;
           safe = m.safe;
           history = m.history.items;
+          pass = m.pass;
+          waiting = m.waiting.items;
+          freed = m.freed;
           is_halted = m.is_halted;
-        }) };
+        })
+        × IfSome m.pass (λ p. p.is_committing ≡ true
+        → length m.waiting.items + length p.victims ≤ vec_capacity m.waiting) };
 }
 
 impl Core {
@@ -114,6 +131,9 @@ impl Core {
             index: Index::new(alloc),
             safe: SafeVersion::first(),
             history: Vec::new(alloc),
+            pass: None,
+            waiting: Vec::new(alloc),
+            freed: 0,
             is_halted: false,
         };
         core.show_valid();

@@ -7,7 +7,7 @@ ghost use Rattle.master_core.specs.Names.{refusal_text};
 use cleaner::PassFault;
 use entry::Row;
 use replica::Bytes;
-use std::alloc::{AllocError, AllocFailed};
+use std::alloc::{AllocError, AllocFailed, Global};
 use std::error::Error;
 use std::fmt;
 use versioned_map::{Command, Reply};
@@ -23,11 +23,19 @@ pub enum Step {
     BeginRoll,
     /// The image of a closed segment becomes its kept entries. It takes nothing from the fleet.
     Compact(u64),
+    /// A pass begins, with these segments as its victims. It takes nothing from the fleet.
+    BeginClean(Row<u64>),
+    /// The next entry of the open pass is moved, carried or dropped. It takes nothing from the fleet.
+    Copy,
+    /// One replica of the pass's survivor is sealed.
+    Seal,
+    /// One replica of a segment that a commit took out of the log is freed.
+    Free,
 }
 
 impl Step {
     /// The same step, in memory of its own.
-    pub fn copy(&self) -> Result<Step, AllocError>
+    pub fn copy(&self, alloc: Global) -> Result<Step, AllocError>
         ensures { IfOk result (λ copy. copy ≡ self.now) }
     {
         match self {
@@ -35,8 +43,19 @@ impl Step {
             Step::Push => Ok(Step::Push),
             Step::BeginRoll => Ok(Step::BeginRoll),
             Step::Compact(id) => Ok(Step::Compact(*id)),
+            Step::BeginClean(victims) => Ok(Step::BeginClean(copy_of(alloc, victims)?)),
+            Step::Copy => Ok(Step::Copy),
+            Step::Seal => Ok(Step::Seal),
+            Step::Free => Ok(Step::Free),
         }
     }
+}
+
+/// The same numbers, in memory of their own.
+fn copy_of(alloc: Global, row: &Row<u64>) -> Result<Row<u64>, AllocError>
+    ensures { IfOk result (λ copy. copy ≡ row.now) }
+{
+    Ok(Row::new(Vec::from_slice(alloc, row.as_slice())?))
 }
 
 /// What an accepted step did.
@@ -54,14 +73,26 @@ pub enum StepAnswer {
     Rolling(u64),
     /// The segment, and how many bytes its image has now.
     Compacted(u64, u64),
+    /// The survivor of the pass.
+    Begun(u64),
+    /// A live object is in the survivor now, and the index names it there.
+    Moved,
+    /// A tombstone that is kept is in the survivor now.
+    Carried,
+    /// An entry that isn't kept was passed over.
+    Dropped,
+    /// The backup.
+    Sealed(u64),
+    /// The segment and the backup.
+    Freed(u64, u64),
 }
 
-/// Why a step was refused. The numbers are fixed; those that are missing belong to steps that don't exist yet.
+/// Why a step was refused. The numbers are fixed.
 #[derive(Clone, Copy, Debug, PartialEq, Eq)]
 pub enum Refusal {
     /// 1: the key and the value of a put are too big for a quarter of a segment.
     TooBig,
-    /// 2: the unit doesn't fit the head and no roll may begin, or a roll by itself may not begin.
+    /// 2: the unit doesn't fit the head and no roll may begin, or a roll by itself or a pass may not begin.
     Full,
     /// 3: no version is left for the put.
     VersionsSpent,
@@ -75,7 +106,7 @@ pub enum Refusal {
     Rolling,
     /// 8: nothing waits.
     Nothing,
-    /// 9: this segment can't be compacted.
+    /// 9: this segment can't be compacted, or no pass begins with these victims.
     Pass(PassFault),
     /// 10: the fleet takes no more ops.
     Spent,

@@ -1,20 +1,18 @@
 use Rattle.std.proofs.Common.{◌≡◌, sym, subst}
 use Rattle.std.specs.Prelude.{Result, Ok, Err, IfOk, OnOk, OnErr}
 use Rattle.replica.specs.Picture.{FleetState}
-use Rattle.log_model.specs.Steps.{MayRoll}
 use Rattle.master_core.specs.declared.step.Refusal.{Refusal}
 use Rattle.master_core.specs.declared.step.StepAnswer.{StepAnswer}
 use Rattle.master_core.specs.Data.{MasterData}
 use Rattle.master_core.specs.Invariant.{IsCore}
-use Rattle.master_core.specs.Log.{log_of}
-use Rattle.master_core.specs.Steps.{BeginsRoll}
+use Rattle.master_core.specs.Steps.{BeginsRoll, MayRollNow}
 use Rattle.master.specs.Invariant.{IsWellKept}
 use Rattle.master.proofs.Rolled.{rolled_kept}
 use Rattle.master.proofs.master.Master.begin_roll.Goals as goal
 
 -- whether it began or was refused
 kept_then : (d e : MasterData) (f : FleetState) (result : Result StepAnswer Refusal) → IsWellKept d f
-    → IfOk result (λ answer. BeginsRoll d answer e) → OnOk result (MayRoll (log_of d)) → OnOk result (IsCore e) → OnErr result (e ≡ d) → IsWellKept e f
+    → IfOk result (λ answer. BeginsRoll d answer e) → OnOk result (MayRollNow d) → OnOk result (IsCore e) → OnErr result (e ≡ d) → IsWellKept e f
 kept_then d e f (Ok answer) kept is may core same = rolled_kept d e f answer kept is may core
 kept_then d e f (Err r) kept is may core same = subst (λ (m : MasterData). IsWellKept m f) (sym same) kept
 

@@ -1,4 +1,4 @@
-use Rattle.std.proofs.Common.{◌≡◌, ℕ, false, sym, ap, subst, ◌∙◌}
+use Rattle.std.proofs.Common.{◌≡◌, ℕ, false, refl, sym, ap, subst, ◌∙◌}
 use Rattle.std.specs.Prelude.{Some}
 use Rattle.replica.specs.Op.{OpValue, shown_op}
 use Rattle.replica.specs.Picture.{FleetState}
@@ -11,13 +11,12 @@ use Rattle.master_core.specs.Data.{MasterData}
 use Rattle.master_core.specs.Invariant.{IsCore}
 use Rattle.master_core.specs.Log.{home}
 use Rattle.master_core.specs.Steps.{taken_data}
-use Rattle.master_core.proofs.Refusals.{push_passed}
-use Rattle.master_core.proofs.Rolls.{taken_images}
+use Rattle.master_core.proofs.Taken.{taken_images}
 use Rattle.master.specs.Invariant.{IsWellKept}
 use Rattle.master.specs.Pushes.{Pushes, answer_of}
 use Rattle.master.specs.World.{MasterValue}
 use Rattle.master.proofs.NextOps.{log_op, next_told}
-use Rattle.master.proofs.Pushed.{same_rest, taken_kept, failed_kept, failed_declines, not_wrong}
+use Rattle.master.proofs.Pushed.{push_not_wrong, push_failed, push_declines, taken_kept}
 use Rattle.master.proofs.master.Master.hand.Given as given
 use Rattle.master.proofs.master.Master.hand.Goals as goal
 use Rattle.master.proofs.master.Master.hand.Goals.{After-take}
@@ -71,7 +70,8 @@ module _ (g : given.Over) (c : goal.After-take g) where
         op = log_op d push;
         running = running;
         next = next_told d kept.core push waits;
-        rest = same_rest d push;
+        push = push;
+        rest = refl;
         images = taken_images d kept.core push waits;
         takes = takes took;
       })
@@ -80,20 +80,20 @@ pub invariant_of-self : goal.invariant_of-self
 invariant_of-self g c =
     let t = (goal.at.invariant_of-self g c).After-take in
     subst (λ (m : MasterData). IsWellKept m (after g t)) (sym c.took.ensures.taken)
-    (taken_kept (d g t) (push g t) (f g t) (kept g t) (running g t) (waits g t) (after g t)
-    (subst IsCore c.took.ensures.taken c.took.ensures.valid) (takes g t c.in-Ok.ensures).1)
+    (taken_kept (d g t) (push g t) (f g t) (kept g t) (running g t) (waits g t)
+    (subst IsCore c.took.ensures.taken c.took.ensures.valid) (after g t) (takes g t c.in-Ok.ensures).1)
 
 pub fail-requires : goal.fail-requires
 fail-requires g c =
     let t = (goal.at.fail-requires g c).After-take in
-    not_wrong (d g t) (push g t) (f g t) (kept g t) (running g t) (waits g t) (after g t)
+    push_not_wrong (d g t) (push g t) (f g t) (kept g t) (running g t) (waits g t) (after g t)
     c.in-Err.fault (refuses g t c.in-Err.fault c.in-Err.ensures)
 
 pub invariant_of-self-in-Err : goal.invariant_of-self-in-Err
 invariant_of-self-in-Err g c =
     let t = (goal.at.invariant_of-self-in-Err g c).After-take in
     subst (λ (m : MasterData). IsWellKept m (after g t)) (sym c.fail.ensures.failed)
-    (failed_kept (d g t) (push g t) (f g t) (kept g t) (running g t) (waits g t) (after g t)
+    (push_failed (d g t) (push g t) (f g t) (kept g t) (running g t) (waits g t) (after g t)
     c.in-Err.fault (refuses g t c.in-Err.fault c.in-Err.ensures))
 
 pub returns-in-Ok-clause-accepted : goal.returns-in-Ok-clause-accepted
@@ -105,7 +105,5 @@ pub returns-in-Err-clause-refused : goal.returns-in-Err-clause-refused
 returns-in-Err-clause-refused g c =
     let t = (goal.at.returns-in-Err-clause-refused g c).After-take in
     rw (← c.self.view_is, c.fail.ensures.answer, c.fail.ensures.failed)
-    (failed_declines (d g t) (push g t) (f g t) (kept g t) (running g t) (waits g t) (after g t)
-    c.in-Err.fault (answer_of (push g t) (log_op (d g t) (push g t)).backup (log_op (d g t) (push g t)).segment)
-    (next_told (d g t) (kept g t).core (push g t) (waits g t))
-    (push_passed (d g t) (push g t) (running g t) (waits g t)) (refuses g t c.in-Err.fault c.in-Err.ensures))
+    (push_declines (d g t) (push g t) (f g t) (kept g t) (running g t) (waits g t) (after g t)
+    c.in-Err.fault (refuses g t c.in-Err.fault c.in-Err.ensures))

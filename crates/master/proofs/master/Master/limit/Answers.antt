@@ -9,12 +9,11 @@ invariant_of-self g c =
     let kept = c.self.invariant in
     let then : IsWellKept c.self.inside.core (limited (g.F.Fleet.state c.self.inside.fleet) c.args.n) = record {
       core = kept.core;
-      memory = kept.memory;
-      memory_is = kept.memory_is;
       before = kept.before;
       intact = kept.intact;
       backups = kept.backups;
       now = kept.now;
       running = kept.running;
+      apart = kept.apart;
     } in
     subst (λ (f : FleetState). IsWellKept c.self.inside.core f) (sym c.limit.ensures) then

@@ -2,12 +2,12 @@ use Rattle.std.proofs.Common.{IfOk, IfErr, Ok, Err}
 use Rattle.std.specs.Prelude.{Result}
 use Rattle.master_core.specs.declared.step.Refusal.{Refusal}
 use Rattle.master_core.specs.declared.step.Step.{Step}
-use Rattle.master_core.specs.declared.step.Step.TheVariants.{Apply, Push, BeginRoll, Compact}
+use Rattle.master_core.specs.declared.step.Step.TheVariants.{Apply, Push, BeginRoll, Compact, BeginClean, Copy, Seal, Free}
 use Rattle.master_core.specs.declared.step.StepAnswer.{StepAnswer}
 use Rattle.master.specs.Steps.{Accepts, Declines, Steps}
 use Rattle.master.specs.World.{World, world}
 use Rattle.master.proofs.Keeping.{steps_keep}
-use Rattle.master.proofs.master.Master.step.Goals.{in-Apply, in-Push, in-BeginRoll, in-Compact}
+use Rattle.master.proofs.master.Master.step.Goals.{in-Apply, in-Push, in-BeginRoll, in-Compact, in-BeginClean, in-Copy, in-Seal, in-Free}
 use Rattle.master.proofs.master.Master.step.Goals as goal
 
 by_result : (old : World) (step : Step) (r : Result StepAnswer Refusal) (new : World) → IfOk r (λ a. Accepts old step a new)
@@ -29,6 +29,18 @@ returns-clause-gives g c = elim c.match-step.branch [
   | in-Compact w ↦ rw (w.in-Compact.is, w.self-is, w.outcome-is) (by_result (world g.F.Fleet.state c.args.self.now)
       (Compact w.in-Compact.id) w.compact-outcome.result (world g.F.Fleet.state w.compact-outcome.new.self)
       w.compact-outcome.ensures.accepted w.compact-outcome.ensures.refused)
+  | in-BeginClean w ↦ rw (w.in-BeginClean.is, w.self-is, w.outcome-is) (by_result (world g.F.Fleet.state c.args.self.now)
+      (BeginClean w.in-BeginClean.victims) w.begin_clean-outcome.result (world g.F.Fleet.state w.begin_clean-outcome.new.self)
+      w.begin_clean-outcome.ensures.accepted w.begin_clean-outcome.ensures.refused)
+  | in-Copy w ↦ rw (w.in-Copy.is, w.self-is, w.outcome-is) (by_result (world g.F.Fleet.state c.args.self.now) Copy
+      w.copy-outcome.result (world g.F.Fleet.state w.copy-outcome.new.self) w.copy-outcome.ensures.accepted
+      w.copy-outcome.ensures.refused)
+  | in-Seal w ↦ rw (w.in-Seal.is, w.self-is, w.outcome-is) (by_result (world g.F.Fleet.state c.args.self.now) Seal
+      w.seal-outcome.result (world g.F.Fleet.state w.seal-outcome.new.self) w.seal-outcome.ensures.accepted
+      w.seal-outcome.ensures.refused)
+  | in-Free w ↦ rw (w.in-Free.is, w.self-is, w.outcome-is) (by_result (world g.F.Fleet.state c.args.self.now) Free
+      w.free-outcome.result (world g.F.Fleet.state w.free-outcome.new.self) w.free-outcome.ensures.accepted
+      w.free-outcome.ensures.refused)
 ]
 
 pub returns-clause-keeps : goal.returns-clause-keeps

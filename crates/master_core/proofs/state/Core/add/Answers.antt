@@ -83,6 +83,9 @@ module _ (c : goal.After-push_reserved) where
     index = c.enact.new.index.held;
     safe = c.safe_after-self-inside.result;
     history = c.push_reserved.new.self.items;
+    pass = d.pass;
+    waiting = d.waiting;
+    freed = d.freed;
     is_halted = d.is_halted;
   }
 
@@ -98,6 +101,9 @@ module _ (c : goal.After-push_reserved) where
     index = c.enact.new.index.held;
     safe = sym c.safe_after-self-inside.ensures i;
     history = sym (items ∙ ap with_reply reply) i;
+    pass = d.pass;
+    waiting = d.waiting;
+    freed = d.freed;
     is_halted = d.is_halted;
   }
 
@@ -123,7 +129,7 @@ module _ (c : goal.After-push_reserved) where
 pub invariant_of-self-2 : goal.invariant_of-self-2
 invariant_of-self-2 c =
     let t = (goal.at.invariant_of-self-2 c).After-push_reserved in
-    (λ some. c.self.invariant.0 (subst IsSome (roll_then t) some), c.self.invariant.1, core t)
+    (λ some. c.self.invariant.0 (subst IsSome (roll_then t) some), c.self.invariant.1, core t, c.self.invariant.3)
 
 pub returns-clause-added : goal.returns-clause-added
 returns-clause-added c =

@@ -10,14 +10,12 @@ use Rattle.compactor.specs.Moved.{Follows}
 use Rattle.compactor.proofs.FollowLaw.{follows}
 use Rattle.log_head.specs.declared.head.Roll.{Roll}
 use Rattle.master_core.specs.contracts.state.Core.{the_view}
-use Rattle.master_core.specs.Budget.{newest_digest}
 use Rattle.master_core.specs.Causes.{compact_refusal}
 use Rattle.master_core.specs.Data.{MasterData}
 use Rattle.master_core.specs.Invariant.{IsCore}
-use Rattle.master_core.specs.Log.{images_of, state_now}
+use Rattle.master_core.specs.Log.{images_of, state_now, log_set_ids}
 use Rattle.master_core.proofs.CompactedData.{never_none, image_is, fits, never_refused, compacts, compacted_valid, room_then, sizes_then}
 use Rattle.master_core.proofs.CompactedIndex.{held_lie}
-use Rattle.master_core.proofs.Digests.{newest_ids}
 use Rattle.master_core.proofs.Finding.{index_of}
 use Rattle.master_core.proofs.Imaging.{ids_in}
 use Rattle.master_core.proofs.state.Core.compact.Goals as goal
@@ -26,9 +24,9 @@ law : CompactionFollows
 law = λ ids held images segment valid lie all. follows ids held images segment valid lie all
 
 -- the log set, by what was asked of the head
-ids_are : (d : MasterData) → IsCore d → (head : ℕ) (new : Option ℕ) → head ≡ d.head.id → new ≡ option_map (λ (r : Roll). r.id) d.head.roll
-    → ids_in d.closed ++ head ∷ option_to_list new ≡ newest_digest d.head
-ids_are d core head new own opening = (λ i. ids_in d.closed ++ own i ∷ option_to_list (opening i)) ∙ sym (newest_ids d core)
+ids_are : (d : MasterData) (head : ℕ) (new : Option ℕ) → head ≡ d.head.id → new ≡ option_map (λ (r : Roll). r.id) d.head.roll
+    → ids_in d.closed ++ head ∷ option_to_list new ≡ log_set_ids d
+ids_are d head new own opening = λ i. ids_in d.closed ++ own i ∷ option_to_list (opening i)
 
 -- the index has followed
 index_then : (d : MasterData) → IsCore d → (ids : List ℕ) (id : ℕ) (es : List Entry) (new : List Held) → es ≡ images_of d id
@@ -54,7 +52,7 @@ replace-requires-clause-within c =
     let image = image_is d core c.args.id none c.get.result c.in-Some.image c.get.ensures c.in-Some.is in
     fits d core c.args.id none c.self.inside.closed refl c.show_valid.ensures c.self.invariant.1
     (ids_in d.closed ++ c.id.result ∷ option_to_list c.opening_id.result) c.in-Some.image.now c.in_ok-segment.segment c.compact.new.index.held
-    (ids_are d core c.id.result c.opening_id.result c.id.ensures.id c.opening_id.ensures) image c.in_ok-segment.ensures.compacted
+    (ids_are d c.id.result c.opening_id.result c.id.ensures.id c.opening_id.ensures) image c.in_ok-segment.ensures.compacted
 
 pub unreachable-requires-in_default-replace : goal.unreachable-requires-in_default-replace
 unreachable-requires-in_default-replace c =
@@ -65,7 +63,7 @@ unreachable-requires-in_default-replace c =
     let image = image_is d core c.args.id none c.get.result c.in-Some.image c.get.ensures c.in-Some.is in
     never_refused d core c.args.id none c.self.inside.closed refl c.show_valid.ensures c.self.invariant.1
     (ids_in d.closed ++ c.id.result ∷ option_to_list c.opening_id.result) c.in-Some.image.now c.in_ok-segment.segment c.compact.new.index.held
-    (ids_are d core c.id.result c.opening_id.result c.id.ensures.id c.opening_id.ensures) image c.in_ok-segment.ensures.compacted
+    (ids_are d c.id.result c.opening_id.result c.id.ensures.id c.opening_id.ensures) image c.in_ok-segment.ensures.compacted
     c.replace.result c.in_default-replace.field-0 c.in_default-replace.is c.replace.ensures.no_room
 
 pub invariant_of-self-2 : goal.invariant_of-self-2
@@ -76,7 +74,7 @@ invariant_of-self-2 c =
     (sym c.admit_compaction.ensures ∙ ap result_err c.in_ok-admit_compaction.was) in
     let image = image_is d core c.args.id none c.get.result c.in-Some.image c.get.ensures c.in-Some.is in
     let ids = ids_in d.closed ++ c.id.result ∷ option_to_list c.opening_id.result in
-    let listed = ids_are d core c.id.result c.opening_id.result c.id.ensures.id c.opening_id.ensures in
+    let listed = ids_are d c.id.result c.opening_id.result c.id.ensures.id c.opening_id.ensures in
     let moved = index_then d core ids c.args.id c.in-Some.image.now c.compact.new.index.held image c.in_ok-segment.ensures.followed in (
       λ some. room_then d core c.args.id none c.self.inside.closed refl c.show_valid.ensures c.self.invariant.1 ids c.in-Some.image.now
           c.in_ok-segment.segment c.compact.new.index.held listed image c.in_ok-segment.ensures.compacted moved c.replace.new.self
@@ -86,6 +84,7 @@ invariant_of-self-2 c =
       compacted_valid d core c.args.id none c.self.inside.closed refl c.show_valid.ensures c.self.invariant.1 ids c.in-Some.image.now
           c.in_ok-segment.segment c.compact.new.index.held listed image c.in_ok-segment.ensures.compacted moved c.replace.new.self c.in-Ok.ensures.ok
           law,
+      c.self.invariant.3,
     )
 
 pub returns-clause-valid : goal.returns-clause-valid
@@ -96,7 +95,7 @@ returns-clause-valid c =
     (sym c.admit_compaction.ensures ∙ ap result_err c.in_ok-admit_compaction.was) in
     let image = image_is d core c.args.id none c.get.result c.in-Some.image c.get.ensures c.in-Some.is in
     let ids = ids_in d.closed ++ c.id.result ∷ option_to_list c.opening_id.result in
-    let listed = ids_are d core c.id.result c.opening_id.result c.id.ensures.id c.opening_id.ensures in
+    let listed = ids_are d c.id.result c.opening_id.result c.id.ensures.id c.opening_id.ensures in
     let moved = index_then d core ids c.args.id c.in-Some.image.now c.compact.new.index.held image c.in_ok-segment.ensures.followed in
     compacted_valid d core c.args.id none c.self.inside.closed refl c.show_valid.ensures c.self.invariant.1 ids c.in-Some.image.now
     c.in_ok-segment.segment c.compact.new.index.held listed image c.in_ok-segment.ensures.compacted moved c.replace.new.self c.in-Ok.ensures.ok law
@@ -109,7 +108,7 @@ returns-clause-compacted c =
     (sym c.admit_compaction.ensures ∙ ap result_err c.in_ok-admit_compaction.was) in
     let image = image_is d core c.args.id none c.get.result c.in-Some.image c.get.ensures c.in-Some.is in
     let ids = ids_in d.closed ++ c.id.result ∷ option_to_list c.opening_id.result in
-    let listed = ids_are d core c.id.result c.opening_id.result c.id.ensures.id c.opening_id.ensures in
+    let listed = ids_are d c.id.result c.opening_id.result c.id.ensures.id c.opening_id.ensures in
     let moved = index_then d core ids c.args.id c.in-Some.image.now c.compact.new.index.held image c.in_ok-segment.ensures.followed in
     rw (← c.self.view_is)
     (compacts d core c.args.id none c.self.inside.closed refl c.show_valid.ensures c.self.invariant.1 ids c.in-Some.image.now

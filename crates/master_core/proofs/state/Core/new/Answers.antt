@@ -17,6 +17,7 @@ invariant_of-core c =
     let safe : c.first-2.result ≡ 1 = search rules in
     let index : c.new.result.held ≡ [] = search rules in
     let history : c.new-2.result.items ≡ [] = search rules in
+    let waiting : c.new-3.result.items ≡ [] = search rules in
     let head : c.in_ok-head.head ≡ fresh_head c.args.config.master c.args.config.replicas first_start = search rules in
     let made = c.new-closed.ensures in
     let sizes : AreImagesOf c.args.config c.new-closed.result = record {
@@ -25,8 +26,9 @@ invariant_of-core c =
       seglets = ap (λ (v : ImagesValue). v.seglets) made;
     } in
     let closed : c.new-closed.result.images ≡ [] = ap (λ (v : ImagesValue). v.images) made in
-    rw (head, closed, safe, index, history) (
+    rw (head, closed, safe, index, history, waiting) (
       (λ never. absurd (cc)),
       record { segment = sizes.segment; seglet = sizes.seglet; seglets = sizes.seglets },
       fresh_core c.args.config c.requires (subst (λ (h : HeadValue). IsHeadValue h) head c.in_ok-head.ensures.valid),
+      tt,
     )

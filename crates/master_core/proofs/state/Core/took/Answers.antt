@@ -1,22 +1,27 @@
-use Rattle.std.proofs.Common.{◌≡◌, ℕ, suc, ◌-◌, ◌≤◌, Bool, true, false, ◌++◌, ◌∷◌, [], List, refl, sym, ap, subst, ◌∙◌}
-use Rattle.std.specs.Prelude.{Option, Some, None, IfSome, IsSome, ◌==◌}
-use Rattle.std.proofs.lemmas.Option.{slice_get_within, same_Some}
-use Rattle.images.specs.Sorted.{AreBelow}
+use Rattle.std.proofs.Common.{◌≡◌, ℕ, ◌+◌, ◌-◌, ◌≤◌, true, List, length, refl, sym, ap, subst, ◌∙◌, vec_capacity}
+use Rattle.std.specs.Prelude.{Option, Some, None, IfSome, IsSome}
+use Rattle.std.proofs.lemmas.Option.{slice_get_within}
+use Rattle.cleaner.specs.declared.pass.Pass.{Pass}
+use Rattle.images.specs.Sorted.{image_of, added}
 use Rattle.entry.specs.declared.entry.Entry.{Entry}
 use Rattle.log_head.specs.declared.head.Roll.{Roll}
 use Rattle.log_head.specs.declared.next.Next.{Next}
 use Rattle.log_head.specs.declared.next.Next.TheVariants as next
 use Rattle.log_head.specs.Head.{HeadValue, IsHeadValue}
 use Rattle.log_head.specs.Next.{IsNextPush}
-use Rattle.log_head.specs.Steps.{with_new_replica, with_closed_replica, old_image}
+use Rattle.log_head.specs.Steps.{with_new_replica}
 use Rattle.master_core.specs.contracts.state.Core.{the_view}
 use Rattle.images.specs.declared.image.Image.{Image}
 use Rattle.master_core.specs.Data.{MasterData}
 use Rattle.images.specs.Images.{ImagesValue}
-use Rattle.master_core.specs.Images.{closed_image, with_closed}
+use Rattle.master_core.specs.Ends.{closed_left, waiting_left}
+use Rattle.master_core.specs.Images.{closed_image}
 use Rattle.master_core.specs.Invariant.{IsCore, AreImagesOf}
 use Rattle.master_core.specs.Budget.{seglets_of}
-use Rattle.master_core.proofs.Rolls.{closed_under, taken_core, opened_core, closed_core}
+use Rattle.master_core.specs.Steps.{taken_data}
+use Rattle.master_core.proofs.LogIds.{absent, no_head}
+use Rattle.master_core.proofs.Taken.{taken_core, opened_core}
+use Rattle.master_core.proofs.Closing.{left_early, core_ended, ended_taken, ended_valid, early_taken, early_valid, none_then, old_is, some_then}
 use Rattle.master_core.proofs.Budgets.{closed_seglets, closing_fits, free_again}
 use Rattle.master_core.proofs.state.Core.took.Goals as goal
 
@@ -41,7 +46,7 @@ module _ (c : goal.After-open) where
 
 pub invariant_of-self : goal.invariant_of-self
 invariant_of-self c =
-    (λ some. c.self.invariant.0 (subst IsSome (room c) some), c.self.invariant.1, opened c)
+    (λ some. c.self.invariant.0 (subst IsSome (room c) some), c.self.invariant.1, opened c, c.self.invariant.3)
 
 pub returns-in-OpenFirst-clause-valid : goal.returns-in-OpenFirst-clause-valid
 returns-in-OpenFirst-clause-valid c = opened c
@@ -74,7 +79,7 @@ module _ (c : goal.After-extend) where
 
 pub invariant_of-self-in-Extend : goal.invariant_of-self-in-Extend
 invariant_of-self-in-Extend c =
-    (λ some. c.self.invariant.0 (subst IsSome (room' c) some), c.self.invariant.1, extended c)
+    (λ some. c.self.invariant.0 (subst IsSome (room' c) some), c.self.invariant.1, extended c, c.self.invariant.3)
 
 pub returns-in-Extend-clause-valid : goal.returns-in-Extend-clause-valid
 returns-in-Extend-clause-valid c = extended c
@@ -103,88 +108,77 @@ module _ (c : goal.After-open_new) where
 
 pub invariant_of-self-in-OpenNew : goal.invariant_of-self-in-OpenNew
 invariant_of-self-in-OpenNew c =
-    (λ some. c.self.invariant.0 (some_roll c), c.self.invariant.1, core_opened c)
+    (λ some. c.self.invariant.0 (some_roll c), c.self.invariant.1, core_opened c, c.self.invariant.3)
 
 pub returns-in-OpenNew-clause-valid : goal.returns-in-OpenNew-clause-valid
 returns-in-OpenNew-clause-valid c = core_opened c
 
 -- ---- a replica of the old head
 
--- the core once the old head's replica is closed, from what `close_old` gave
-module _ (k : MasterData) (core : IsCore k) (push : Next) (j : ℕ) (was : push ≡ next.CloseOld j) (is : IsNextPush k.head (Some push)) (h : HeadValue)
-    (image : Option (List Entry)) (counts : IfSome k.head.roll (λ r. h ≡ with_closed_replica k.head r))
-    (gives : IfSome k.head.roll (λ r. image ≡ old_image k.head r)) (valid : IsHeadValue h) where
-  ends : IsNextPush k.head (Some (next.CloseOld j))
-  ends = subst (λ (n : Next). IsNextPush k.head (Some n)) was is
+module _ (c : goal.After-end_pass) where
+  abbrev k : MasterData
+  k = the_view c.self.inside
 
-  head_closed : h ≡ with_closed_replica k.head ends.1
-  head_closed = subst (λ (o : Option Roll). IfSome o (λ r. h ≡ with_closed_replica k.head r)) ends.2 counts
+  waits-k : IsNextPush k.head (Some c.args.next)
+  waits-k = subst (λ (x : MasterData). IsNextPush x.head (Some c.args.next)) (sym c.self.view_is) c.requires
 
-  image_out : image ≡ old_image k.head ends.1
-  image_out = subst (λ (o : Option Roll). IfSome o (λ r. image ≡ old_image k.head r)) ends.2 gives
-
-  core_closed : (closed : List Image) → closed ≡ with_closed k.closed k.head.id image → IsCore (record k { head = h; closed = closed })
-  core_closed closed same =
-      subst (λ (x : HeadValue × List Image). IsCore (record k { head = x.0; closed = x.1 }))
-      (λ i. (sym head_closed i, (ap (with_closed k.closed k.head.id) (sym image_out) ∙ sym same) i))
-      (closed_core k core ends.1 ends.2 (subst IsHeadValue head_closed valid))
-
-  some_then : IsSome k.head.roll
-  some_then = subst IsSome (sym ends.2) refl
-
-  -- once the old image is out no roll is under way
-  none_then : (x : List Entry) → image ≡ Some x → h.roll ≡ None
-  none_then x out = go (suc ends.1.closed == k.head.replicas) refl where
-    go : (t : Bool) → (suc ends.1.closed == k.head.replicas) ≡ t → h.roll ≡ None
-    go true test = ap (λ (g : HeadValue). g.roll) head_closed ∙ rw test refl
-    go false test =
-        let never : Some x ≡ None = sym out ∙ image_out ∙ rw test refl in
-        absurd (cc)
-
-  -- the old image that is out is the head's
-  old_is : (x : List Entry) → image ≡ Some x → x ≡ k.head.image
-  old_is x out = go (suc ends.1.closed == k.head.replicas) refl where
-    go : (t : Bool) → (suc ends.1.closed == k.head.replicas) ≡ t → x ≡ k.head.image
-    go true test = same_Some x k.head.image (sym out ∙ image_out ∙ rw test refl)
-    go false test =
-        let never : Some x ≡ None = sym out ∙ image_out ∙ rw test refl in
-        absurd (cc)
-
-module _ (c : goal.After-add_reserved) where
-  abbrev k' : MasterData
-  k' = the_view c.self.inside
-
-  waits' : IsNextPush k'.head (Some c.args.next)
-  waits' = subst (λ (x : MasterData). IsNextPush x.head (Some c.args.next)) (sym c.self.view_is) c.requires
-
-  items : c.add_reserved.new.self.images ≡ with_closed k'.closed k'.head.id c.close_old.result
-  items =
+  cs : c.add_reserved.new.self.images ≡ added (closed_image k.head.id c.in-Some.image) k.closed
+  cs =
       ap (λ (v : ImagesValue). v.images) c.add_reserved.ensures
-      ∙ ap (λ (id : ℕ). k'.closed ++ closed_image id c.in-Some.image ∷ []) c.id-id.ensures.id
-      ∙ ap (with_closed k'.closed k'.head.id) (sym c.in-Some.is)
+      ∙ ap (λ (id : ℕ). added (closed_image id c.in-Some.image) k.closed) c.id-id.ensures.id
 
-  core_then : IsCore (record k' { head = c.close_old.new.self; closed = c.add_reserved.new.self.images })
+  abbrev left : MasterData
+  left = record k { head = c.close_old.new.self; closed = c.end_pass.new.closed.images; pass = c.end_pass.new.pass; waiting = c.end_pass.new.waiting.items }
+
+  ended_left : core_ended k c.self.invariant.2 c.args.next c.in-CloseOld.field-0 c.in-CloseOld.is waits-k c.close_old.new.self c.close_old.result
+      c.close_old.ensures.closed c.close_old.ensures.old c.close_old.ensures.valid c.in-Some.image c.in-Some.is ≡ left
+  ended_left = λ i. record k {
+    head = c.close_old.new.self;
+    closed = sym (ap (λ (v : ImagesValue). v.images) c.end_pass.ensures.closed ∙ ap (closed_left k.pass) cs) i;
+    pass = sym c.end_pass.ensures.pass i;
+    waiting = sym (c.end_pass.ensures.waiting ∙ ap (λ (images : List Image). waiting_left k.pass images k.waiting) cs) i;
+  }
+
+  core_then : IsCore left
   core_then =
-      core_closed k' c.self.invariant.2 c.args.next c.in-CloseOld.field-0 c.in-CloseOld.is waits' c.close_old.new.self c.close_old.result
-      c.close_old.ensures.closed c.close_old.ensures.old c.close_old.ensures.valid c.add_reserved.new.self.images items
+      subst IsCore ended_left (ended_valid k c.self.invariant.2 c.args.next c.in-CloseOld.field-0 c.in-CloseOld.is waits-k c.close_old.new.self
+      c.close_old.result c.close_old.ensures.closed c.close_old.ensures.old c.close_old.ensures.valid c.in-Some.image c.in-Some.is)
+
+  taken_then : left ≡ taken_data k c.args.next
+  taken_then =
+      sym (ended_taken k c.self.invariant.2 c.args.next c.in-CloseOld.field-0 c.in-CloseOld.is waits-k c.close_old.new.self
+      c.close_old.result c.close_old.ensures.closed c.close_old.ensures.old c.close_old.ensures.valid c.in-Some.image c.in-Some.is ∙ ended_left)
 
   no_roll : IsSome c.close_old.new.self.roll → ⊥
   no_roll some =
-      let none = none_then k' c.self.invariant.2 c.args.next c.in-CloseOld.field-0 c.in-CloseOld.is waits' c.close_old.new.self c.close_old.result
+      let none = none_then k c.self.invariant.2 c.args.next c.in-CloseOld.field-0 c.in-CloseOld.is waits-k c.close_old.new.self c.close_old.result
       c.close_old.ensures.closed c.close_old.ensures.old c.close_old.ensures.valid c.in-Some.image c.in-Some.is in
       let never : IsSome {T = Roll} None = subst IsSome none some in cc
 
-  sizes_then : AreImagesOf k'.config c.add_reserved.new.self
-  sizes_then = subst (AreImagesOf k'.config) (sym c.add_reserved.ensures) (let own = c.self.invariant.1 in
+  sizes_then : AreImagesOf k.config c.end_pass.new.closed
+  sizes_then =
+      subst (AreImagesOf k.config) (sym c.end_pass.ensures.closed)
+      (let own = subst (AreImagesOf k.config) (sym c.add_reserved.ensures) (let first = c.self.invariant.1 in
+      record { segment = first.segment; seglet = first.seglet; seglets = first.seglets }) in
       record { segment = own.segment; seglet = own.seglet; seglets = own.seglets })
 
+  room_left : IfSome c.end_pass.new.pass (λ p. p.is_committing ≡ true
+      → length c.end_pass.new.waiting.items + length p.victims ≤ vec_capacity c.end_pass.new.waiting)
+  room_left =
+      subst (λ (o : Option Pass). IfSome o (λ p. p.is_committing ≡ true
+      → length c.end_pass.new.waiting.items + length p.victims ≤ vec_capacity c.end_pass.new.waiting)) (sym c.end_pass.ensures.pass)
+      (left_early k.pass (λ p. length c.end_pass.new.waiting.items + length p.victims ≤ vec_capacity c.end_pass.new.waiting))
+
 pub invariant_of-self-in-Some : goal.invariant_of-self-in-Some
-invariant_of-self-in-Some c = (λ some. absurd (no_roll c some), sizes_then c, core_then c)
+invariant_of-self-in-Some c = (λ some. absurd (no_roll c some), sizes_then c, core_then c, room_left c)
+
+pub returns-in-Some-clause-taken : goal.returns-in-Some-clause-taken
+returns-in-Some-clause-taken c = rw (← c.self.view_is) (taken_then c)
 
 pub returns-in-Some-clause-valid : goal.returns-in-Some-clause-valid
 returns-in-Some-clause-valid c = core_then c
 
--- the old image goes to the closed ones: its number is above theirs, and its seglets are free
+-- the old image goes to the closed ones: none of them has its number, and its seglets are free
 module _ (c : goal.After-add_reserved-arg-1) where
   abbrev w : MasterData
   w = the_view c.self.inside
@@ -202,9 +196,10 @@ module _ (c : goal.After-add_reserved-arg-1) where
       some_then w c.self.invariant.2 c.args.next c.in-CloseOld.field-0 c.in-CloseOld.is waits-w c.close_old.new.self c.close_old.result
       c.close_old.ensures.closed c.close_old.ensures.old c.close_old.ensures.valid
 
-pub add_reserved-requires-clause-newest : goal.add_reserved-requires-clause-newest
-add_reserved-requires-clause-newest c =
-    subst (λ (id : ℕ). AreBelow id c.self.inside.closed.images) (sym c.id-id.ensures.id) (closed_under (w c) c.self.invariant.2)
+pub add_reserved-requires-clause-other : goal.add_reserved-requires-clause-other
+add_reserved-requires-clause-other c =
+    subst (λ (id : ℕ). image_of c.self.inside.closed.images id ≡ None) (sym c.id-id.ensures.id)
+    (absent (w c).closed (w c).head.id (no_head (w c) c.self.invariant.2))
 
 pub add_reserved-requires-clause-within : goal.add_reserved-requires-clause-within
 add_reserved-requires-clause-within c =
@@ -226,11 +221,15 @@ module _ (c : goal.In_default) where
   waits'' : IsNextPush k''.head (Some c.args.next)
   waits'' = subst (λ (x : MasterData). IsNextPush x.head (Some c.args.next)) (sym c.self.view_is) c.requires
 
-  core_still : IsCore (record k'' { head = c.close_old.new.self; closed = k''.closed })
+  core_still : IsCore (record k'' { head = c.close_old.new.self })
   core_still =
-      core_closed k'' c.self.invariant.2 c.args.next c.in-CloseOld.field-0 c.in-CloseOld.is waits'' c.close_old.new.self c.close_old.result
-      c.close_old.ensures.closed c.close_old.ensures.old c.close_old.ensures.valid k''.closed
-      (ap (with_closed k''.closed k''.head.id) (sym c.in_default.is))
+      early_valid k'' c.self.invariant.2 c.args.next c.in-CloseOld.field-0 c.in-CloseOld.is waits'' c.close_old.new.self c.close_old.result
+      c.close_old.ensures.closed c.close_old.ensures.old c.close_old.ensures.valid c.in_default.is
+
+  taken_still : record k'' { head = c.close_old.new.self } ≡ taken_data k'' c.args.next
+  taken_still =
+      sym (early_taken k'' c.self.invariant.2 c.args.next c.in-CloseOld.field-0 c.in-CloseOld.is waits'' c.close_old.new.self c.close_old.result
+      c.close_old.ensures.closed c.close_old.ensures.old c.close_old.ensures.valid c.in_default.is)
 
   room_still : IsSome k''.head.roll
   room_still =
@@ -238,7 +237,10 @@ module _ (c : goal.In_default) where
       c.close_old.ensures.closed c.close_old.ensures.old c.close_old.ensures.valid
 
 pub invariant_of-self-in_default : goal.invariant_of-self-in_default
-invariant_of-self-in_default c = (λ some. c.self.invariant.0 (room_still c), c.self.invariant.1, core_still c)
+invariant_of-self-in_default c = (λ some. c.self.invariant.0 (room_still c), c.self.invariant.1, core_still c, c.self.invariant.3)
+
+pub returns-in_default-clause-taken : goal.returns-in_default-clause-taken
+returns-in_default-clause-taken c = rw (← c.self.view_is) (taken_still c)
 
 pub returns-in_default-clause-valid : goal.returns-in_default-clause-valid
 returns-in_default-clause-valid c = core_still c

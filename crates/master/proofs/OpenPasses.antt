@@ -1,0 +1,114 @@
+-- What a core with an open pass has of the pass's segments.
+use Rattle.std.proofs.Common.{◌≡◌, ℕ, ◌<◌, Bool, true, false, List, [], ◌∷◌, drop, length, refl, sym, ap, subst, ◌∙◌, arith}
+use Rattle.std.specs.Prelude.{Option, Some, None, IfSome, unwrap_or, ◌==◌, if◌then◌else◌}
+use Rattle.std.specs.List.{AllByRecursion}
+use Rattle.std.specs.Option.{option_map_or}
+use Rattle.std.proofs.lemmas.Bool.{eqb-true}
+use Rattle.cleaner.specs.declared.pass.Pass.{Pass}
+use Rattle.cleaner.specs.Passes.{images_in, places_on, rest_of, is_at_end}
+use Rattle.cleaner.proofs.Images.{is_victim}
+use Rattle.entry.specs.declared.entry.Entry.{Entry}
+use Rattle.entry.specs.Bag.{IsAmong}
+use Rattle.entry.specs.Text.{IsSegment}
+use Rattle.entry.proofs.ListLemmas.{all_among}
+use Rattle.images.specs.declared.image.Image.{Image}
+use Rattle.images.specs.Sorted.{IsWhole, segment_of}
+use Rattle.log_head.specs.declared.head.Roll.{Roll}
+use Rattle.log_head.specs.Head.{HeadValue}
+use Rattle.log_head.specs.Log.{head_of}
+use Rattle.log_model.specs.Data.{ids_of}
+use Rattle.log_model.specs.Ids.{has}
+use Rattle.clean_model.proofs.KeptEntries.{has_is, is_has}
+use Rattle.entry.proofs.BagLemmas.{among_last}
+use Rattle.master_core.specs.Data.{MasterData}
+use Rattle.master_core.specs.Images.{new_image_or, images_among}
+use Rattle.master_core.specs.Invariant.{IsRollOf, IsOpenPass, IsCore}
+use Rattle.master_core.specs.Log.{images_of, rest_now}
+use Rattle.master_core.proofs.Imaging.{other_id}
+
+-- ---- closed segments
+
+-- a segment that is neither the head nor one that a roll is opening has the image that it has as a closed one
+pub closed_among : (h : HeadValue) (cs : List Image) (s : ℕ) → (h.id ≡ s → ⊥) → IfSome h.roll (λ (r : Roll). (r.id == s) ≡ false)
+    → images_among h cs s ≡ images_in cs s
+closed_among h cs s other new =
+    let away = other_id h.id s other in
+    rw away (by_roll h.roll new)
+  where
+    by_roll : (o : Option Roll) → IfSome o (λ (r : Roll). (r.id == s) ≡ false)
+        → unwrap_or (new_image_or o s (segment_of cs s)) [] ≡ images_in cs s
+    by_roll None new = refl
+    by_roll (Some r) new = rw new refl
+
+-- it has the same image if it is found the same
+pub same_among : (h : HeadValue) (cs more : List Image) (s : ℕ) → segment_of more s ≡ segment_of cs s
+    → images_among h more s ≡ images_among h cs s
+same_among h cs more s same =
+    ap (λ (o : Option (List Entry)). unwrap_or (if h.id == s then Some h.image else new_image_or h.roll s o) []) same
+
+-- a closed segment that is there is a segment
+segment_in : (cs : List Image) (s : ℕ) → AllByRecursion (λ (c : Image). IsSegment c.segment) cs → IsWhole cs s → IsSegment (images_in cs s)
+segment_in [] s all some = absurd some
+segment_in (c ∷ cs) s all some = go (c.id == s) refl some (segment_in cs s all.1) where
+  go : (t : Bool) → (c.id == s) ≡ t → IsWhole (c ∷ cs) s → (IsWhole cs s → IsSegment (images_in cs s)) → IsSegment (images_in (c ∷ cs) s)
+  go true here some later = rw here all.0
+  go false away some later = let rest : IsWhole cs s = rw away at some in rw away (later rest)
+
+module _ (d : MasterData) (core : IsCore d) where
+  -- an older segment of the digest in force is below the heads
+  pub older_image : (s : ℕ) → IsAmong s (head_of d.head).start.others → images_of d s ≡ images_in d.closed s
+  older_image s older = closed_among d.head d.closed s (λ same. (let lt = below in omega arith)) (new d.head.roll core.roll)
+    where
+      below : s < d.head.id
+      below =
+          let lt = all_among (λ (id : ℕ). id < (head_of d.head).start.id) (head_of d.head).start.others s core.below older in
+          let same = core.image.id in omega arith
+
+      new : (o : Option Roll) → IfSome o (IsRollOf d) → IfSome o (λ (r : Roll). (r.id == s) ≡ false)
+      new None is = tt
+      new (Some r) is = other_id r.id s (λ same. (let lt = below in let newer = is.newer in omega arith))
+
+  -- ---- the pass's
+
+  module _ (p : Pass) (opened : d.pass ≡ Some p) where
+    pub open_now : IsOpenPass d p
+    open_now = subst (λ (o : Option Pass). IfSome o (IsOpenPass d)) opened core.pass
+
+    pub rest_is : rest_now d ≡ rest_of (images_in d.closed) p
+    rest_is = ap (λ (o : Option Pass). option_map_or (rest_of (images_in d.closed)) o []) opened
+
+    pub victim_older : (s : ℕ) → IsAmong s p.victims → IsAmong s (head_of d.head).start.others
+    victim_older s victim =
+        is_has (head_of d.head).start.others s
+        (all_among (λ (z : ℕ). has (head_of d.head).start.others z ≡ true) p.victims s open_now.victims.older victim)
+
+    pub victim_image : (s : ℕ) → IsAmong s p.victims → images_of d s ≡ images_in d.closed s
+    victim_image s victim = older_image s (victim_older s victim)
+
+    pub below_survivor : (s : ℕ) → IsAmong s p.victims → s < p.survivor
+    below_survivor s victim = (is_victim d.closed p.survivor p.victims s open_now.pass.victims victim).1
+
+    pub not_head : d.head.id ≡ p.survivor → ⊥
+    not_head same =
+        let ids = ids_of (head_of d.head).start in
+        let among : IsAmong p.survivor ids =
+        subst (λ (z : ℕ). IsAmong z ids) (core.image.id ∙ same) (among_last (head_of d.head).start.others (head_of d.head).start.id) in
+        let never : true ≡ false = sym (has_is ids p.survivor among) ∙ open_now.survivor.outside in
+        cc
+
+    pub survivor_image : images_of d p.survivor ≡ images_in d.closed p.survivor
+    survivor_image = closed_among d.head d.closed p.survivor not_head open_now.survivor.not_new
+
+    pub survivor_segment : IsSegment (images_of d p.survivor)
+    survivor_segment =
+        subst IsSegment (sym survivor_image) (segment_in d.closed p.survivor core.segments open_now.pass.whole)
+
+    pub none_left : is_at_end p ≡ true → rest_of (images_in d.closed) p ≡ []
+    none_left end =
+        let at : p.cursor.victim ≡ length p.victims = eqb-true p.cursor.victim (length p.victims) end in
+        ap (λ (n : ℕ). places_on (images_in d.closed) (drop n p.victims) p.cursor.at) at
+        ∙ ap (λ (ids : List ℕ). places_on (images_in d.closed) ids p.cursor.at) (all p.victims)
+      where
+        all : (xs : List ℕ) → drop (length xs) xs ≡ []
+        all [] = refl
+        all (x ∷ xs) = all xs

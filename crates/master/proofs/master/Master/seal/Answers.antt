@@ -1,0 +1,109 @@
+use Rattle.std.proofs.Common.{◌≡◌, ℕ, ◌<◌, false, sym, ap, subst, ◌∙◌}
+use Rattle.std.specs.Prelude.{Option, Some, None, IfSome, is_none, if◌then◌else◌}
+use Rattle.cleaner.specs.declared.pass.Pass.{Pass}
+use Rattle.clean_model.specs.Steps.{seal_op}
+use Rattle.log_model.specs.Ops.{LogOp, op_of}
+use Rattle.replica.specs.Op.{OpValue, shown_op}
+use Rattle.replica.specs.Picture.{FleetState}
+use Rattle.replica.specs.Take.{Takes, Refuses}
+use Rattle.replica.specs.declared.op.TakeFault.{TakeFault}
+use Rattle.master_core.specs.declared.step.Refusal.TheVariants.{Nothing}
+use Rattle.master_core.specs.declared.step.StepAnswer.TheVariants.{Sealed}
+use Rattle.master_core.specs.Causes.{seal_refusal}
+use Rattle.master_core.specs.Data.{MasterData}
+use Rattle.master_core.specs.Invariant.{IsCore}
+use Rattle.master_core.specs.Log.{memory_of, home}
+use Rattle.master_core.specs.Steps.{sealed_data}
+use Rattle.master.specs.Invariant.{IsWellKept}
+use Rattle.master.specs.Passes.{IsSealOp, Seals}
+use Rattle.master.proofs.Sealed.{IsToSeal, to_seal, is_seal_op, sealed_kept, seal_accepted, seal_not_wrong, seal_failed, seal_declined}
+use Rattle.master.proofs.master.Master.seal.Given as given
+use Rattle.master.proofs.master.Master.seal.Goals as goal
+use Rattle.master.proofs.master.Master.seal.Goals.{After-take}
+
+-- the op that the fleet was handed is the next seal
+module _ (g : given.Over) (c : goal.After-take g) where
+  abbrev d : MasterData
+  d = c.self.inside.core
+
+  abbrev f : FleetState
+  f = g.F.Fleet.state c.self.inside.fleet
+
+  abbrev after : FleetState
+  after = g.F.Fleet.state c.take.new.self
+
+  kept : IsWellKept d f
+  kept = c.self.invariant
+
+  running : d.is_halted ≡ false
+  running = sym c.is_halted.ensures ∙ c.if-is_halted.false
+
+  passed : seal_refusal d ≡ None
+  passed =
+      c.to_seal.ensures.refused running
+      ∙ ap (λ (x : Option ℕ). if is_none x then Some Nothing else None) c.in-Some.is
+
+  next : IsToSeal d c.in-Some.replica
+  next = to_seal d c.in-Some.replica (sym c.to_seal.ensures.next ∙ c.in-Some.is)
+
+  abbrev o : LogOp
+  o = seal_op (memory_of d) next.pass.survivor (home d.config next.pass.survivor c.in-Some.replica)
+
+  few : c.in-Some.replica < d.config.replicas
+  few = subst (λ (x : Option ℕ). IfSome x (λ (j : ℕ). j < d.config.replicas)) c.in-Some.is c.to_seal.ensures.few
+
+  is : IsSealOp d o
+  is = is_seal_op d kept.core c.in-Some.replica few next
+
+  op : shown_op c.seal_op-op.result ≡ op_of d.config.master o
+  op =
+      (subst (λ (x : Option Pass). IfSome x (λ (p : Pass). (b : ℕ)
+      → shown_op c.seal_op-op.result ≡ op_of d.config.master (seal_op (memory_of d) p.survivor b))) next.opened c.seal_op-op.ensures) o.backup
+
+  backup : c.home-backup.result ≡ o.backup
+  backup = c.home-backup.ensures ∙ ap (λ (x : OpValue). home d.config x.segment c.in-Some.replica) op
+
+  takes : Takes f c.home-backup.result (shown_op c.seal_op-op.result) after → Takes f o.backup (op_of d.config.master o) after
+  takes = subst (λ (x : ℕ × OpValue). Takes f x.0 x.1 after) (λ i. (backup i, op i))
+
+  refuses : (x : TakeFault) → Refuses f c.home-backup.result (shown_op c.seal_op-op.result) x after
+      → Refuses f o.backup (op_of d.config.master o) x after
+  refuses x = subst (λ (y : ℕ × OpValue). Refuses f y.0 y.1 x after) (λ i. (backup i, op i))
+
+  accepted : Takes f c.home-backup.result (shown_op c.seal_op-op.result) after
+      → Seals (record { knows = d; fleet = f }) (Sealed c.home-backup.result) (record { knows = sealed_data d; fleet = after })
+  accepted took =
+      subst (λ (b : ℕ). Seals (record { knows = d; fleet = f }) (Sealed b) (record { knows = sealed_data d; fleet = after })) (sym backup)
+      (seal_accepted d f kept passed o is after (takes took))
+
+pub invariant_of-self : goal.invariant_of-self
+invariant_of-self g c =
+    let t = (goal.at.invariant_of-self g c).After-take in
+    subst (λ (m : MasterData). IsWellKept m (after g t)) (sym c.sealed.ensures.sealed)
+    (sealed_kept (d g t) (f g t) (kept g t) (passed g t) (o g t) (is g t) (after g t)
+    (subst IsCore c.sealed.ensures.sealed c.sealed.ensures.valid) (takes g t c.in-Ok.ensures).1)
+
+pub fail-requires : goal.fail-requires
+fail-requires g c =
+    let t = (goal.at.fail-requires g c).After-take in
+    seal_not_wrong (d g t) (f g t) (kept g t) (passed g t) (o g t) (is g t) (after g t) c.in-Err.fault
+    (refuses g t c.in-Err.fault c.in-Err.ensures)
+
+pub invariant_of-self-in-Err : goal.invariant_of-self-in-Err
+invariant_of-self-in-Err g c =
+    let t = (goal.at.invariant_of-self-in-Err g c).After-take in
+    subst (λ (m : MasterData). IsWellKept m (after g t)) (sym c.fail.ensures.failed)
+    (seal_failed (d g t) (f g t) (kept g t) (passed g t) (o g t) (is g t) (after g t) c.in-Err.fault
+    (refuses g t c.in-Err.fault c.in-Err.ensures))
+
+pub returns-in-Ok-clause-accepted : goal.returns-in-Ok-clause-accepted
+returns-in-Ok-clause-accepted g c =
+    let t = (goal.at.returns-in-Ok-clause-accepted g c).After-take in
+    rw (← c.self.view_is, c.sealed.ensures.sealed) (accepted g t c.in-Ok.ensures)
+
+pub returns-in-Err-clause-refused : goal.returns-in-Err-clause-refused
+returns-in-Err-clause-refused g c =
+    let t = (goal.at.returns-in-Err-clause-refused g c).After-take in
+    rw (← c.self.view_is, c.fail.ensures.answer, c.fail.ensures.failed)
+    (seal_declined (d g t) (f g t) (kept g t) (passed g t) (o g t) (is g t) (after g t) c.in-Err.fault
+    (refuses g t c.in-Err.fault c.in-Err.ensures))

@@ -1,0 +1,24 @@
+use Rattle.std.proofs.Common.{Bool, sym, ap, ◌∙◌}
+use Rattle.std.specs.Prelude.{not}
+use Rattle.master_core.specs.contracts.state.Core.{the_view}
+use Rattle.master_core.specs.Causes.{is_head}
+use Rattle.master_core.specs.Data.{MasterData}
+use Rattle.master_core.proofs.FreeVictims.{out_of_log, one_free}
+use Rattle.master_core.proofs.PassIds.{got_listed}
+use Rattle.master_core.proofs.state.Core.check_victim.Goals as goal
+
+pub returns-then-is_none : goal.returns-then-is_none
+returns-then-is_none c =
+    let d = the_view c.self.inside in
+    let older = ap (λ (m : MasterData). is_head m.head c.args.id) c.self.view_is ∙ sym c.is_head.ensures ∙ c.if-is_head.false in
+    let none = ap (λ (m : MasterData). m.pass) c.self.view_is ∙ c.requires in
+    rw (← c.self.view_is) (sym (out_of_log d c.args.before.now c.args.id (sym c.contains.ensures.value ∙ c.if-contains.false) older
+    (got_listed d c.self.invariant.2 none c.args.id older c.get.result _ c.get.ensures (c.is_none.ensures ∙ ap (λ (b : Bool). not b) c.if-is_none.true))))
+
+pub returns : goal.returns
+returns c =
+    let d = the_view c.self.inside in
+    let older = ap (λ (m : MasterData). is_head m.head c.args.id) c.self.view_is ∙ sym c.is_head.ensures ∙ c.if-is_head.false in
+    let none = ap (λ (m : MasterData). m.pass) c.self.view_is ∙ c.requires in
+    rw (← c.self.view_is) (sym (one_free d c.args.before.now c.args.id (sym c.contains.ensures.value ∙ c.if-contains.false) older
+    (got_listed d c.self.invariant.2 none c.args.id older c.get.result _ c.get.ensures (c.is_none.ensures ∙ ap (λ (b : Bool). not b) c.if-is_none.false))))

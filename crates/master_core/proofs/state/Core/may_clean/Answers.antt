@@ -1,0 +1,27 @@
+use Rattle.std.proofs.Common.{◌≡◌, ℕ, ◌+◌, ◌-◌, ◌*◌, true, length, sym, ap, ◌∙◌, arith}
+use Rattle.std.specs.Prelude.{nat_le, ◌&&◌}
+use Rattle.std.proofs.lemmas.Bool.{le-leb}
+use Rattle.master_core.specs.contracts.state.Core.{the_view}
+use Rattle.master_core.specs.Budget.{whole_seglets, free_seglets, newest_digest, most_segments}
+use Rattle.master_core.specs.Data.{MasterData}
+use Rattle.master_core.proofs.PassIds.{head_count, heads_of, newest_count}
+use Rattle.master_core.proofs.state.Core.may_clean.Goals as goal
+use Rattle.master_core.proofs.state.Core.may_clean.Goals.{then-is_some, else-is_some}
+
+pub returns-then-self-free : goal.returns-then-self-free
+returns-then-self-free c =
+    let d = the_view c.self.inside in
+    let none = ap (λ (m : MasterData). m.pass) c.self.view_is ∙ c.requires in
+    let heads : c.if-is_some.heads ≡ head_count d.head.roll = elim c.if-is_some.branch [
+      | then-is_some w ↦ w.heads-is ∙ sym (heads_of d.head.roll c.roll.result true c.roll.ensures (sym c.is_some.ensures ∙ w.if-is_some.true))
+      | else-is_some w ↦ w.heads-is ∙ sym (heads_of d.head.roll c.roll.result _ c.roll.ensures (sym c.is_some.ensures ∙ w.if-is_some.false))
+    ] in
+    let count : length (newest_digest d.head) ≡ c.len.result + c.if-is_some.heads =
+    newest_count d c.self.invariant.2 none ∙ (λ i. sym c.len.ensures i + sym heads i) in
+    let listed : c.saturating_sub.result ≡ length (newest_digest d.head) - c.args.victims =
+    c.saturating_sub.ensures ∙ ap (λ (n : ℕ). n - c.args.victims) (sym count) in
+    let free : free_seglets d ≡ c.free.result = ap free_seglets c.self.view_is ∙ sym c.free.ensures in
+    let room : nat_le (2 * whole_seglets d.config) (free_seglets d) ≡ true =
+    le-leb (2 * whole_seglets d.config) (free_seglets d) (omega (arith, free, c.if-self-free.true)) in
+    rw (← c.self.view_is) (
+    (λ i. sym room i && nat_le (listed i + 2) (most_segments d.config)))
