@@ -5,7 +5,7 @@ use Rattle.std.proofs.lemmas.List.{take_rest}
 use Rattle.std.proofs.lemmas.List.Sums.{fails_before_first}
 use Rattle.std.proofs.lemmas.List.Splits.{slice_split_first, slice_split_none}
 use Rattle.std.proofs.lemmas.Bool.{ltb-true, ltb-false}
-use Rattle.lines.specs.Words.{is_space}
+use Rattle.lines.specs.Cutting.{is_space}
 
 -- where the first space is found
 abbrev found : List ℕ → Option ℕ

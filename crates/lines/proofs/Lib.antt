@@ -1,6 +1,8 @@
 pub mod Cutting
+pub mod Digits
 pub mod Names
-pub mod Numbers
+pub mod NumberLines
+pub mod NumberWords
 pub mod OneLine
 pub mod Spelling
 pub mod Taking

@@ -1,17 +1,21 @@
 -- Words are those of one line at most, which their first word decides.
-use Rattle.std.proofs.Common.{◌≡◌, ◌∙◌, ◌==◌, ◌+◌, ◌^◌, ◌<◌, ◌∷◌, [], None, ap, sym, ℕ, List, Bool, get_or, drop, cond, codes, arith}
+use Rattle.std.proofs.Common.{◌≡◌, ◌∙◌, ◌==◌, ◌+◌, ◌^◌, ◌<◌, ◌∷◌, [], None, ap, sym, ℕ, List, Bool, get_or, drop, map, cond, codes, arith}
 use Rattle.std.specs.Str.Parse.{digits_value}
 use Rattle.std.specs.Fmt.{decimal}
-use Rattle.std.proofs.lemmas.Fmt.{decimal_is_IsNumeral}
 use Rattle.lines.specs.Grammar.{LineValue, words_of}
 use Rattle.lines.specs.Grammar.{Idle, Put, New, Cas, Get, Del, Compact, Roll, BeginRoll, Push, Log, Room, Hex, Stop, Crash, Lose, Recover, Holdings}
+use Rattle.lines.specs.Grammar.{Clean, Begin, Copy, Seal, Free}
 use Rattle.lines.specs.Words.{AreWordsOf, ReadsWords}
+use Rattle.lines.proofs.NumberWords.{value, values}
 
 abbrev word_at : ℕ → List (List ℕ) → List ℕ
 word_at i ws = get_or ws i []
 
 abbrev number_at : ℕ → List (List ℕ) → ℕ
 number_at i ws = digits_value 10 (word_at i ws)
+
+abbrev numbers_behind : List (List ℕ) → List ℕ
+numbers_behind ws = map (digits_value 10) (drop 1 ws)
 
 -- the sum of a word's bytes, which is another for each name
 abbrev sum_of : List ℕ → ℕ
@@ -40,10 +44,12 @@ line_of ws =
     (cond (are_named (codes "crash") ws) Crash
     (cond (are_named (codes "lose") ws) (Lose (number_at 1 ws))
     (cond (are_named (codes "recover") ws) Recover
-    (cond (are_named (codes "holdings") ws) Holdings Idle))))))))))))))))
-
-value : (n : ℕ) → n < 2 ^ 64 → digits_value 10 (decimal n) ≡ n
-value n small = (decimal_is_IsNumeral n small).1
+    (cond (are_named (codes "holdings") ws) Holdings
+    (cond (are_named (codes "clean") ws) (Clean (numbers_behind ws))
+    (cond (are_named (codes "begin") ws) (Begin (numbers_behind ws))
+    (cond (are_named (codes "copy") ws) Copy
+    (cond (are_named (codes "seal") ws) Seal
+    (cond (are_named (codes "free") ws) Free Idle)))))))))))))))))))))
 
 pub line_is : (words : List (List ℕ)) (line : LineValue) → AreWordsOf words line → line_of words ≡ line
 line_is words Idle are = absurd are
@@ -66,6 +72,11 @@ line_is words Crash are = ap line_of are.spelled
 line_is words (Lose n) are = ap line_of are.spelled ∙ ap Lose (value n are.limits)
 line_is words Recover are = ap line_of are.spelled
 line_is words Holdings are = ap line_of are.spelled
+line_is words (Clean ns) are = ap line_of are.spelled ∙ ap Clean (values ns are.limits.1)
+line_is words (Begin ns) are = ap line_of are.spelled ∙ ap Begin (values ns are.limits.1)
+line_is words Copy are = ap line_of are.spelled
+line_is words Seal are = ap line_of are.spelled
+line_is words Free are = ap line_of are.spelled
 
 -- no version is behind the key of `cas`
 pub no_version : (rest behind : List (List ℕ)) (t : ℕ) (k : List ℕ) → rest ≡ decimal t ∷ k ∷ behind

@@ -8,7 +8,8 @@ use Rattle.std.proofs.lemmas.List.Elements.{All-push, All-nil, All-cons}
 use Rattle.std.proofs.lemmas.List.Splits.{slice_split_at, slice_split_none, join_with_byte-slice_split}
 use Rattle.std.proofs.lemmas.Fmt.{decimal_by_steps}
 use Rattle.lines.specs.Grammar.{IsIdle, IsKeyWord, IsWord, LineValue, Says, Idle, Del, Lose, shown_line}
-use Rattle.lines.specs.Words.{AreNumber, AreWordsOf, ReadsWords, is_space}
+use Rattle.lines.specs.Cutting.{is_space}
+use Rattle.lines.specs.Words.{AreNumber, AreWordsOf, ReadsWords}
 use Rattle.lines.specs.declared.line.Line.{Line}
 
 -- ---- words

@@ -1,13 +1,14 @@
 -- What each line of a script is written as.
-use Rattle.std.specs.Prelude.{◌≡◌, ◌⊎◌, ◌<◌, ◌≤◌, ◌^◌, ℕ, List, [], ◌∷◌, length, codes}
+use Rattle.std.specs.Prelude.{◌≡◌, ◌⊎◌, ◌<◌, ◌≤◌, ◌^◌, ℕ, List, [], ◌∷◌, length, map, codes}
 use Rattle.std.specs.List.{All, join_with_byte}
 use Rattle.std.specs.Fmt.{decimal}
+use Rattle.lines.specs.Numbers.{numbers_of}
 use Rattle.lines.specs.declared.line.Line.{Line}
 use Rattle.lines.specs.declared.line.Line.TheVariants as line
 
 -- ---- lines
 
--- a line, with keys and values as lists of bytes
+-- a line, with keys and values as lists of bytes, and several segments as a list of numbers
 pub data LineValue : Type 0 where
   Idle : LineValue
   Put : (table : ℕ) (key value : List ℕ) → LineValue
@@ -27,6 +28,11 @@ pub data LineValue : Type 0 where
   Lose : (backup : ℕ) → LineValue
   Recover : LineValue
   Holdings : LineValue
+  Clean : (segments : List ℕ) → LineValue
+  Begin : (segments : List ℕ) → LineValue
+  Copy : LineValue
+  Seal : LineValue
+  Free : LineValue
 
 -- the value of a line of the program
 abbrev pub shown_line : Line → LineValue
@@ -48,6 +54,11 @@ shown_line line.Crash = Crash
 shown_line (line.Lose backup) = Lose backup
 shown_line line.Recover = Recover
 shown_line line.Holdings = Holdings
+shown_line (line.Clean segments) = Clean (numbers_of segments)
+shown_line (line.Begin segments) = Begin (numbers_of segments)
+shown_line line.Copy = Copy
+shown_line line.Seal = Seal
+shown_line line.Free = Free
 
 -- ---- words
 
@@ -83,8 +94,13 @@ words_of Crash = codes "crash" ∷ []
 words_of (Lose backup) = codes "lose" ∷ decimal backup ∷ []
 words_of Recover = codes "recover" ∷ []
 words_of Holdings = codes "holdings" ∷ []
+words_of (Clean segments) = codes "clean" ∷ map decimal segments
+words_of (Begin segments) = codes "begin" ∷ map decimal segments
+words_of Copy = codes "copy" ∷ []
+words_of Seal = codes "seal" ∷ []
+words_of Free = codes "free" ∷ []
 
--- the numbers of the line have 64 bits, and its key is a key
+-- the numbers of the line have 64 bits, its key is a key, and a list of segments has one or more
 abbrev pub IsLine : LineValue → Type 0
 IsLine Idle = Unit {0}
 IsLine (Put table key value) = (table < 2 ^ 64) × IsKeyWord key
@@ -104,6 +120,11 @@ IsLine Crash = Unit {0}
 IsLine (Lose backup) = backup < 2 ^ 64
 IsLine Recover = Unit {0}
 IsLine Holdings = Unit {0}
+IsLine (Clean segments) = (0 < length segments) × All (λ n. n < 2 ^ 64) segments
+IsLine (Begin segments) = (0 < length segments) × All (λ n. n < 2 ^ 64) segments
+IsLine Copy = Unit {0}
+IsLine Seal = Unit {0}
+IsLine Free = Unit {0}
 
 -- the text is empty or begins with `#`
 abbrev pub IsIdle : List ℕ → Type 0

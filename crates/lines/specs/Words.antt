@@ -1,14 +1,10 @@
--- How the parser takes a text apart: it cuts the text at each space, and reads the words.
-use Rattle.std.specs.Prelude.{◌≡◌, ◌≢◌, ◌==◌, ◌<◌, ◌≤◌, ◌^◌, ℕ, Bool, List, [], ◌∷◌, length, take, slice_index, codes}
+-- What the parser reads of the words of a text.
+use Rattle.std.specs.Prelude.{◌≡◌, ◌≢◌, ◌<◌, ◌≤◌, ◌^◌, ℕ, List, [], ◌∷◌, length, map, take, slice_index, codes}
 use Rattle.std.specs.Prelude.{Option, Some, None}
-use Rattle.std.specs.Borrow.{Bor}
-use Rattle.std.specs.List.{All, slice_split}
+use Rattle.std.specs.List.{All}
 use Rattle.std.specs.Fmt.{decimal}
 use Rattle.lines.specs.Grammar.{IsLine, IsWord, LineValue, Idle, shown_line, words_of}
 use Rattle.lines.specs.declared.line.Line.{Line}
-
-abbrev pub is_space : ℕ → Bool
-is_space b = b == 32
 
 -- the byte is one that a word may have
 abbrev pub IsVisible : ℕ → Type 0
@@ -20,15 +16,16 @@ pub record IsVisibleFront (bytes : List ℕ) (len : ℕ) : Type 0 where
   pub visible : All IsVisible (take len bytes)
   pub ends : len < length bytes → IsVisible (slice_index bytes len) → ⊥
 
--- the words of what is left of a text, if anything is
-abbrev pub words_left : Option (Bor (List ℕ)) → List (List ℕ)
-words_left None = []
-words_left (Some rest) = slice_split is_space rest.now
-
 -- the words are a number
 pub record AreNumber (words : List (List ℕ)) (n : ℕ) : Type 0 where
   pub spelled : words ≡ decimal n ∷ []
   pub small : n < 2 ^ 64
+
+-- the words are these numbers, one or more
+pub record AreNumbers (words : List (List ℕ)) (ns : List ℕ) : Type 0 where
+  pub spelled : words ≡ map decimal ns
+  pub some : 0 < length ns
+  pub small : All (λ n. n < 2 ^ 64) ns
 
 -- the word is no name behind which a line has more words
 pub record IsNoLongName (word : List ℕ) : Type 0 where
@@ -41,6 +38,8 @@ pub record IsNoLongName (word : List ℕ) : Type 0 where
   pub compact : word ≢ codes "compact"
   pub stop : word ≢ codes "stop"
   pub lose : word ≢ codes "lose"
+  pub clean : word ≢ codes "clean"
+  pub begin : word ≢ codes "begin"
 
 -- the words spell the line
 pub record Spell (words : List (List ℕ)) (line : LineValue) : Type 0 where

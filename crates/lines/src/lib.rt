@@ -7,11 +7,13 @@
 
 mod laws;
 mod line;
+mod numbers;
 mod parse;
 mod reading;
 mod words;
 
 pub use laws::one_line;
 pub use line::Line;
+pub use numbers::Numbers;
 pub use parse::parse_line;
 pub use reading::{ReadFault, Taken, next_line};

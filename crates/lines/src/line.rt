@@ -1,6 +1,8 @@
 //! The lines of a script.
 
-/// A line of a script. Keys and values are borrowed from the text that was parsed.
+use crate::numbers::Numbers;
+
+/// A line of a script. Keys, values and rows of numbers are borrowed from the text that was parsed.
 #[derive(Clone, Copy, Debug)]
 pub enum Line<'a> {
     /// Nothing to do: an empty line, or one that begins with `#`.
@@ -66,4 +68,18 @@ pub enum Line<'a> {
     Recover,
     /// Show each replica that backups hold.
     Holdings,
+    /// Clean these segments to the end: one or more.
+    Clean {
+        segments: Numbers<'a>,
+    },
+    /// Begin to clean these segments: one or more.
+    Begin {
+        segments: Numbers<'a>,
+    },
+    /// Look at the next entry of the segments that are being cleaned.
+    Copy,
+    /// Hand the survivor to one backup.
+    Seal,
+    /// Free one replica of a segment that was cleaned.
+    Free,
 }

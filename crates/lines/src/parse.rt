@@ -42,6 +42,8 @@ fn parse_words(mut words: Words<'_>) -> Option<Line<'_>>
         name if is(name, "compact") => compact(words),
         name if is(name, "stop") => stop(words),
         name if is(name, "lose") => lose(words),
+        name if is(name, "clean") => clean(words),
+        name if is(name, "begin") => begin(words),
         name => only_name(name, words),
     }
 }
@@ -147,6 +149,26 @@ fn lose(words: Words<'_>) -> Option<Line<'_>>
     Some(Line::Lose { backup })
 }
 
+/// The words behind `clean` as the numbers of segments.
+fn clean(words: Words<'_>) -> Option<Line<'_>>
+    ensures { ReadsWords (codes "clean" ∷ words.entry) result }
+{
+    match words.numbers() {
+        Some(segments) => Some(Line::Clean { segments }),
+        None => None,
+    }
+}
+
+/// The words behind `begin` as the numbers of segments.
+fn begin(words: Words<'_>) -> Option<Line<'_>>
+    ensures { ReadsWords (codes "begin" ∷ words.entry) result }
+{
+    match words.numbers() {
+        Some(segments) => Some(Line::Begin { segments }),
+        None => None,
+    }
+}
+
 /// The words as one number.
 fn only_number(mut words: Words<'_>) -> Option<u64>
     ensures sound { IfSome result (λ n. AreNumber words.entry n) }
@@ -172,6 +194,9 @@ fn only_name<'a>(name: &[u8], words: Words<'a>) -> Option<Line<'a>>
         name if is(name, "crash") => Some(Line::Crash),
         name if is(name, "recover") => Some(Line::Recover),
         name if is(name, "holdings") => Some(Line::Holdings),
+        name if is(name, "copy") => Some(Line::Copy),
+        name if is(name, "seal") => Some(Line::Seal),
+        name if is(name, "free") => Some(Line::Free),
         _ => None,
     }
 }

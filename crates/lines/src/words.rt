@@ -1,12 +1,15 @@
 //! The words of a text, read one after another.
 
-ghost use Rattle.std.specs.Prelude.{◌≡◌, ◌≢◌, ◌∷◌, ◌^◌, ◌<◌, ◌≤◌, ◌↔◌, ℕ, List, [], IfSome, IsNone, IsSome, IsTrue, MatchOption};
+ghost use Rattle.std.specs.Prelude.{◌≡◌, ◌≢◌, ◌∷◌, ◌^◌, ◌<◌, ◌≤◌, ◌↔◌, ℕ, List, [], IfSome, IsNone, IsSome, IsTrue, MatchOption, length};
 ghost use Rattle.std.specs.List.{All, slice_split};
 ghost use Rattle.std.specs.Fmt.{decimal};
 ghost use Rattle.std.specs.Str.Parse.{AllDigits, digits_value};
+ghost use Rattle.lines.specs.Cutting.{IsNumberWord, is_space, words_left};
 ghost use Rattle.lines.specs.Grammar.{IsKeyWord, IsWord};
-ghost use Rattle.lines.specs.Words.{IsVisible, IsVisibleFront, is_space, words_left};
+ghost use Rattle.lines.specs.Numbers.{numbers_of};
+ghost use Rattle.lines.specs.Words.{AreNumbers, IsVisible, IsVisibleFront};
 
+use crate::numbers::Numbers;
 use std::marker::Model;
 
 /// The most bytes of a key.
@@ -79,6 +82,18 @@ impl<'a> Words<'a> {
         is_word(rest).then_some(rest)
     }
 
+    /// The words that are left as numbers, one or more.
+    pub(crate) fn numbers(self) -> Option<Numbers<'a>>
+        ensures sound { IfSome result (λ numbers. AreNumbers self.entry (numbers_of numbers)) }
+        ensures complete { IsNone result → (ns : List ℕ) → ¬ AreNumbers self.entry ns }
+    {
+        if is_row(self.rest) {
+            Some(Numbers { rest: self.rest })
+        } else {
+            None
+        }
+    }
+
     /// `Some` if no word is left.
     pub(crate) fn end(mut self) -> Option<()>
         ensures { IsSome result ↔ (self.entry ≡ []) }
@@ -91,7 +106,7 @@ impl<'a> Words<'a> {
 }
 
 /// The bytes before the first space, and those behind it if there is one.
-fn split_word(text: &[u8]) -> (&[u8], Option<&[u8]>)
+pub(crate) fn split_word(text: &[u8]) -> (&[u8], Option<&[u8]>)
     ensures { slice_split is_space text.entry.now ≡ result.0.now ∷ words_left result.1 }
 {
     match text.iter().position(|byte| *byte == b' ') {
@@ -143,8 +158,38 @@ fn is_visible(byte: u8) -> bool
     (0x21..=0x7e).contains(&byte)
 }
 
+/// Whether a word is left or more, and each is a number.
+fn is_row(rest: Option<&[u8]>) -> bool
+    ensures { IsTrue result ↔ (0 < length (words_left rest.entry)) × All IsNumberWord (words_left rest.entry) }
+{
+    match rest {
+        Some(text) => are_numbers(text),
+        None => false,
+    }
+}
+
+/// Whether each word of the text is a number.
+fn are_numbers(text: &[u8]) -> bool
+    ensures { IsTrue result ↔ All IsNumberWord (slice_split is_space text.entry.now) }
+{
+    let mut words = Words::of(text);
+    while let Some(word) = words.next_word() {
+        if !is_number(word) {
+            return false;
+        }
+    }
+    true
+}
+
+/// Whether the word is a number.
+fn is_number(word: &[u8]) -> bool
+    ensures { IsTrue result ↔ IsNumberWord word.now }
+{
+    parse_number(word).is_some()
+}
+
 /// The number that is written as this word, in decimal digits without leading zeros.
-fn parse_number(word: &[u8]) -> Option<u64>
+pub(crate) fn parse_number(word: &[u8]) -> Option<u64>
     ensures sound { IfSome result (λ n. word.now ≡ decimal n) }
     ensures complete { IsNone result → (n : ℕ) → n < 2 ^ 64 → word.now ≢ decimal n }
 {

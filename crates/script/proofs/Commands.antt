@@ -1,5 +1,7 @@
 -- A command's line, told of a master's life.
-use Rattle.std.proofs.Common.{◌≡◌, suc, [], refl, inl, inr, arith}
+use Rattle.std.proofs.Common.{◌≡◌, ℕ, suc, [], length, take, refl, sym, ap, inl, inr, ◌∙◌, arith}
+use Rattle.std.proofs.lemmas.List.{append-nil}
+use Rattle.std.proofs.Math.Seq.{take-length}
 use Rattle.std.specs.Prelude.{Some, None}
 use Rattle.lines.specs.Grammar.{LineValue}
 use Rattle.replica.specs.Picture.{FleetState}
@@ -12,9 +14,33 @@ use Rattle.master_core.specs.Data.{MasterData}
 use Rattle.master.specs.Valid.{IsValid}
 use Rattle.script.specs.declared.answer.Answer.TheVariants as answer
 use Rattle.script.specs.declared.node.Node.{Node}
-use Rattle.script.specs.Served.{IsServed, IsUnserved, IsSpent, IsOf, IsNodeAt, left_now, record_of}
+use Rattle.script.specs.Lives.{HasLived, life_to}
+use Rattle.script.specs.Served.{LivesOn, IsServed, IsUnserved, IsSpent, IsOf, IsNodeAt, left_now, life_of, record_of}
 use Rattle.script.specs.Told.{Position, command_of}
 use Rattle.script.proofs.Standing.{Answered, still_stands, stands_longer, record_there, lived, lived_longer}
+
+-- ---- a record that was added, and what followed
+
+added_before : (d mid e : MasterData) (command : Command) (reply : Reply) → LivesOn d mid (record_of command reply) → LivesOn mid e []
+    → LivesOn d e (record_of command reply)
+added_before d mid e command reply added on =
+    let up = added.durable in
+    let more = on.durable in
+    record {
+      config = on.config ∙ added.config;
+      durable = omega arith;
+      history = on.history ∙ append-nil mid.history ∙ added.history;
+    }
+
+-- a master that has lived all that a later one has
+lived_so_far : (mid e : MasterData) (config : Config) (f : FleetState) → IsValid mid f → LivesOn mid e [] → (count : ℕ) → e.config ≡ config
+    → count ≡ length e.history → HasLived config (life_to (life_of e) count) mid f
+lived_so_far mid e config f valid on count configured whole = record {
+  configured = sym on.config ∙ configured;
+  opening = refl;
+  history = sym (ap (λ (n : ℕ). take n e.history) whole ∙ take-length e.history ∙ on.history ∙ append-nil mid.history);
+  valid = valid;
+}
 
 -- ---- a command's line
 
@@ -34,9 +60,9 @@ module _ (d e : MasterData) (old new : Node) (config : Config) (at : Position) (
       )
 
   -- what was made of a command that wasn't answered
-  pub refused_told : (r : Refusal) → (r ≡ refusal.Spent → ⊥) → (f : FleetState) → IsValid d f → IsOf new None e → IsUnserved d e command r
-      → Answered d new config at line (answer.Refused r)
-  refused_told r unspent f valid of (inl (g, why)) = (
+  pub refused_told : (r : Refusal) → (r ≡ refusal.Spent → ⊥) → (f h : FleetState) → IsValid d f → IsOf new None e → IsValid e h
+      → IsUnserved d command r (record { knows = e; fleet = h }) → Answered d new config at line (answer.Refused r)
+  refused_told r unspent f h valid of now (inl (g, why)) = (
     e,
     record { made = at.made; acknowledged = at.acknowledged; left = None },
     still_stands d e old new config at None of s g,
@@ -55,19 +81,38 @@ module _ (d e : MasterData) (old new : Node) (config : Config) (at : Position) (
       ),
     ),
   )
-  refused_told r unspent f valid of (inr ((reply, g), pushed)) =
+  refused_told r unspent f h valid of now (inr left) =
+      let reply = left.reply in
+      let g = added_before d left.mid.knows e command reply left.applied left.goes_on in
       let up = g.durable in
-      let kept = s.acknowledged in (
+      let kept = s.acknowledged in
+      let stands = stands_longer d e old new config at None of s command reply at.acknowledged g (omega arith) in (
         e,
         record { made = suc at.made; acknowledged = at.acknowledged; left = None },
-        stands_longer d e old new config at None of s command reply at.acknowledged g (omega arith),
+        stands,
         (record_of command reply, g.history),
-        inl (none, inl (unspent, inr ((reply, (command, asks, record_there d e old new config at None of s command reply g), refl), pushed))),
+        inl (
+          none,
+          inl (
+            unspent,
+            inr (
+              (reply, (command, asks, record_there d e old new config at None of s command reply g), refl),
+              (
+                left.mid,
+                record { knows = e; fleet = h },
+                lived_so_far left.mid.knows e config left.mid.fleet left.valid left.goes_on (suc at.made) stands.configured stands.made,
+                lived_longer d e old new config at None of s h now (suc at.made) stands.configured stands.made,
+                left.pushed,
+              ),
+              left.waits,
+            ),
+          ),
+        ),
       )
 
   -- it was dropped, with a fleet that took no more ops
-  pub stopped_told : (r : Refusal) (f : FleetState) → IsValid e f → IsSpent f → IsOf new (Some (left_now f)) e → IsUnserved d e command r
-      → Answered d new config at line answer.Stopped
+  pub stopped_told : (r : Refusal) (f : FleetState) → IsValid e f → IsSpent f → IsOf new (Some (left_now f)) e
+      → IsUnserved d command r (record { knows = e; fleet = f }) → Answered d new config at line answer.Stopped
   stopped_told r f valid spent of (inl (g, why)) =
       let stands = still_stands d e old new config at (Some (left_now f)) of s g in (
         e,
@@ -81,7 +126,9 @@ module _ (d e : MasterData) (old new : Node) (config : Config) (at : Position) (
           inl (command, asks, refl),
         ),
       )
-  stopped_told r f valid spent of (inr ((reply, g), pushed)) =
+  stopped_told r f valid spent of (inr left) =
+      let reply = left.reply in
+      let g = added_before d left.mid.knows e command reply left.applied left.goes_on in
       let up = g.durable in
       let kept = s.acknowledged in
       let stands = stands_longer d e old new config at (Some (left_now f)) of s command reply at.acknowledged g (omega arith) in (

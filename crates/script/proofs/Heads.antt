@@ -8,7 +8,7 @@ use Rattle.log_head.specs.Head.{is_open}
 use Rattle.log_head.specs.Log.{phase_in, start_in, start_of}
 use Rattle.log_model.specs.Data.{LogData, Ready, Opened as OpeningNew, Closed as ClosingOld, Start, new_of}
 use Rattle.log_model.specs.Ops.{LogOp, op_of}
-use Rattle.log_model.specs.Steps.{OpensNew, ClosesOld, next_start, new_head, with_counts}
+use Rattle.log_model.specs.Steps.{OpensNew, ClosesOld, new_head, with_counts}
 use Rattle.replica.specs.Op.{OpValue}
 use Rattle.replica.specs.Picture.{Replica, FleetState}
 use Rattle.replica.specs.Take.{effect, taken, with_effect}
@@ -18,7 +18,9 @@ use Rattle.master_core.specs.declared.step.Step.TheVariants.{Push}
 use Rattle.master_core.specs.declared.step.StepAnswer.{StepAnswer}
 use Rattle.master_core.specs.declared.step.StepAnswer.TheVariants as answer
 use Rattle.master_core.specs.Data.{MasterData}
+use Rattle.master_core.specs.Budget.{is_ready}
 use Rattle.master_core.specs.Log.{log_of}
+use Rattle.master_core.specs.Steps.{next_now}
 use Rattle.master.specs.Pushes.{IsNextOp}
 use Rattle.master.specs.Steps.{Accepts, Steps}
 use Rattle.master.specs.World.{World}
@@ -27,7 +29,7 @@ use Rattle.script.proofs.MasterSteps.{open_push}
 
 -- ---- each push is counted
 
-taken_counts : (old : FleetState) (b : ℕ) (op : OpValue) (new : FleetState) → taken old b op ≡ Some new
+pub taken_counts : (old : FleetState) (b : ℕ) (op : OpValue) (new : FleetState) → taken old b op ≡ Some new
     → (new.takes ≡ old.takes + 1) × (new.end ≡ old.end)
 taken_counts old b op new is = go (nat_lt b old.backups) (effect op.act (old.picture b op.master op.segment)) is
   where
@@ -97,9 +99,7 @@ leads_on id d e o (answer.Opened b s) (inl first, backup, segment) leads = count
 leads_on id d e o (answer.Opened b s) (inr new, backup, segment) leads = opens_new id d e o new leads
 leads_on id d e o (answer.Extended b s) (next, backup, segment) leads = counted id d e _ next.extends.gives leads
 leads_on id d e o (answer.Closed b s) (close, backup, segment) leads = closes_old id d e o close leads
-leads_on id d e o (answer.Compacted segment len) h leads = absurd h
-leads_on id d e o (answer.Applied place reply) h leads = absurd h
-leads_on id d e o (answer.Rolling s) h leads = absurd h
+leads_on id d e o a h leads = absurd h
 
 pushes_lead : (id count : ℕ) (old new : World) → ArePushed count old new → LeadsTo id (log_of old.knows) → LeadsTo id (log_of new.knows)
 pushes_lead id zero old new same leads = subst (λ (w : World). LeadsTo id (log_of w.knows)) (sym same) leads
@@ -131,10 +131,18 @@ ends_at id old new (count, last, pushed, inl (test, same)) leads =
     at_head id new.knows opened (subst (λ (w : World). LeadsTo id (log_of w.knows)) (sym same) (pushes_lead id count old last pushed leads))
 ends_at id old new (count, last, pushed, inr (test, fails)) leads = absurd fails
 
+-- a roll, or the commit of a pass, begins with the next id
+next_id : (d : MasterData) → (next_now d).id ≡ d.next
+next_id d = go (is_ready d) _ _ refl refl
+  where
+    go : (ready : Bool) (commit next : Start) → commit.id ≡ d.next → next.id ≡ d.next → (if ready then commit else next).id ≡ d.next
+    go true commit next one other = one
+    go false commit next one other = other
+
 -- a roll that begins leads to the next id
 next_head : (old mid : World) → GoesRolling old mid → is_open old.knows.head ≡ true → LeadsTo old.knows.next (log_of mid.knows)
 next_head old mid (inl (a, begins)) opened =
-    inr (next_start (log_of old.knows), ap (λ (l : LogData). new_of l.phase) begins.0.log, refl)
+    inr (next_now old.knows, ap (λ (l : LogData). new_of l.phase) begins.0.log, next_id old.knows)
 next_head old mid (inr (same, inl test)) opened = absurd (tested old.knows.is_halted (is_open old.knows.head) _ _ opened test)
   where
     tested : (halted opened spent may : Bool) → opened ≡ true → (if halted then Some refusal.Halted else if not opened then Some refusal.Rolling

@@ -1,5 +1,6 @@
 pub mod Printed
 pub mod MasterSteps
+pub mod PassSteps
 pub mod Heads
 pub mod Standing
 pub mod Commands
@@ -9,3 +10,5 @@ pub mod LongerLives
 pub mod Turning
 pub mod Fronts
 pub mod Steps
+pub mod ByHand
+pub mod Parts

@@ -16,8 +16,8 @@ use Rattle.master_core.specs.declared.step.Step.{Step}
 use Rattle.master_core.specs.declared.step.StepAnswer.{StepAnswer}
 use Rattle.master_core.specs.declared.step.Step.TheVariants as step
 use Rattle.master_core.specs.declared.step.StepAnswer.TheVariants as step_answer
-use Rattle.script.specs.Told.{Told, Position, IsRecordAt, IsIn, IsCause, IsImageAt, Tells, AreTelling}
-use Rattle.script.specs.Told.{IsStepAt, IsRollAt, IsStepRefusal, IsDigestAt, IsRoomAt, AreHeldAt}
+use Rattle.script.specs.Told.{Told, Position, IsRecordAt, IsIn, IsCause, IsImageAt, IsPushedAt, Tells, AreTelling}
+use Rattle.script.specs.Told.{IsStepAt, IsRollAt, IsCleanAt, IsStepRefusal, IsDigestAt, IsRoomAt, AreHeldAt}
 
 -- ---- a longer history tells the same
 
@@ -41,7 +41,7 @@ module _ (config : Config) (life : Life) where
   rises at line (answer.Reply reply) next t = let made = ap (λ (p : Position). p.made) t.1.1 in omega arith
   rises at line (answer.Refused r) next t = elim t [
     | inl (none, inl (unspent, inl (out, why))) ↦ let made = ap (λ (p : Position). p.made) out.2 in omega arith
-    | inl (none, inl (unspent, inr (added, pushed))) ↦ let made = ap (λ (p : Position). p.made) added.2 in omega arith
+    | inl (none, inl (unspent, inr (added, pushed, waits))) ↦ let made = ap (λ (p : Position). p.made) added.2 in omega arith
     | inl (none, inr refused) ↦ let made = ap (λ (p : Position). p.made) refused.3 in omega arith
     | inr u ↦ as_before at next u.2
   ]
@@ -51,6 +51,13 @@ module _ (config : Config) (life : Life) where
   rises at line (answer.Extended backup segment) next t = as_before at next t.3
   rises at line (answer.Opened backup segment) next t = as_before at next t.3
   rises at line (answer.Closed backup segment) next t = as_before at next t.3
+  rises at line (answer.Begun survivor) next t = as_before at next t.2
+  rises at line answer.Moved next t = as_before at next t.3
+  rises at line answer.Carried next t = as_before at next t.3
+  rises at line answer.Dropped next t = as_before at next t.3
+  rises at line (answer.Sealed backup) next t = as_before at next t.3
+  rises at line (answer.Freed segment backup) next t = as_before at next t.3
+  rises at line (answer.Cleaned survivor head) next t = as_before at next t.2
   rises at line (answer.Log ids) next t = as_before at next t.3
   rises at line (answer.Room used free) next t = as_before at next t.3
   rises at line (answer.Holdings hs) next t = as_before at next t.2
@@ -108,7 +115,13 @@ module _ (config : Config) (opening : State) (history more : List Record) where
     | inl (none, inl (unspent, inl (out, inl memory))) ↦ inl (none, inl (unspent, inl (out, inl memory)))
     | inl (none, inl (unspent, inl (out, inr (c, is, cause)))) ↦
         inl (none, inl (unspent, inl (out, inr (c, is, subst (λ (l : Life). IsCause config l c r) (same_front at.made within) cause))))
-    | inl (none, inl (unspent, inr (added, pushed))) ↦ inl (none, inl (unspent, inr (in_longer at line None next added, pushed)))
+    | inl (none, inl (unspent, inr (added, pushed, waits))) ↦ inl (
+      none,
+      inl (
+        unspent,
+        inr (in_longer at line None next added, subst (λ (l : Life). IsPushedAt config l r) (same_front next.made after) pushed, waits),
+      ),
+    )
     | inl (none, inr refused) ↦ inl (
       none,
       inr (
@@ -131,6 +144,26 @@ module _ (config : Config) (opening : State) (history more : List Record) where
       step_longer at _ step.Push (Ok (step_answer.Opened backup segment)) next within t
   tells_longer at line (answer.Closed backup segment) next within after t =
       step_longer at _ step.Push (Ok (step_answer.Closed backup segment)) next within t
+  tells_longer at line (answer.Begun survivor) next within after t = (
+    t.0,
+    (
+      t.1.0,
+      t.1.1,
+      subst (λ (l : Life). IsStepAt config l (step.BeginClean t.1.0) (Ok (step_answer.Begun survivor))) (same_front at.made within) t.1.2,
+    ),
+    t.2,
+  )
+  tells_longer at line answer.Moved next within after t = step_longer at _ step.Copy (Ok step_answer.Moved) next within t
+  tells_longer at line answer.Carried next within after t = step_longer at _ step.Copy (Ok step_answer.Carried) next within t
+  tells_longer at line answer.Dropped next within after t = step_longer at _ step.Copy (Ok step_answer.Dropped) next within t
+  tells_longer at line (answer.Sealed backup) next within after t = step_longer at _ step.Seal (Ok (step_answer.Sealed backup)) next within t
+  tells_longer at line (answer.Freed segment backup) next within after t =
+      step_longer at _ step.Free (Ok (step_answer.Freed segment backup)) next within t
+  tells_longer at line (answer.Cleaned survivor head) next within after t = (
+    t.0,
+    (t.1.0, t.1.1, subst (λ (l : Life). IsCleanAt config l t.1.0 (Ok (survivor, head))) (same_front at.made within) t.1.2),
+    t.2,
+  )
   tells_longer at line (answer.Log ids) next within after t =
       (t.0, t.1, subst (λ (l : Life). IsDigestAt config l ids) (same_front at.made within) t.2, t.3)
   tells_longer at line (answer.Room used free) next within after t =

@@ -1,12 +1,20 @@
 -- What a step adds to a master.
-use Rattle.std.proofs.Common.{◌≡◌, ℕ, Bool, true, false, [], ◌++◌, length, refl, sym, ap, subst, inl, inr, ◌∙◌, arith}
+use Rattle.std.proofs.Common.{◌≡◌, ◌<◌, ◌≤◌, ℕ, suc, Bool, true, false, [], ◌++◌, length, refl, sym, ap, subst, inl, inr, ◌∙◌, arith}
 use Rattle.std.proofs.lemmas.List.{append-nil}
-use Rattle.std.specs.Prelude.{Option, Some, None, Result, Ok, Err, is_none, ◌&&◌, if◌then◌else◌, unwrap_or}
-use Rattle.cleaner.specs.declared.fault.PassFault.TheVariants.{IsHead, NotInLog}
+use Rattle.std.specs.Option.{option_map_or}
+use Rattle.std.specs.Prelude.{Option, Some, None, Result, Ok, Err, is_none, ◌==◌, ◌&&◌, if◌then◌else◌, unwrap_or}
+use Rattle.cleaner.specs.declared.fault.PassFault.TheVariants.{IsHead, NotInLog, PassOpen}
+use Rattle.cleaner.specs.declared.pass.Pass.{Pass}
+use Rattle.replica.specs.Picture.{FleetState}
 use Rattle.versioned_map.specs.declared.command.Command.{Command}
 use Rattle.versioned_map.specs.declared.command.Reply.{Reply}
+use Rattle.log_head.specs.declared.head.Roll.{Roll}
+use Rattle.log_head.specs.declared.next.Next.{Next}
+use Rattle.log_head.specs.declared.next.Next.TheVariants as next
 use Rattle.log_head.specs.Head.{is_open}
-use Rattle.log_model.specs.Data.{LogData}
+use Rattle.log_head.specs.Steps.{old_image, with_closed_replica, with_new_replica}
+use Rattle.log_model.specs.Data.{LogData, durable_of}
+use Rattle.log_model.specs.Ops.{LogOp}
 use Rattle.master_core.specs.declared.step.Refusal.{Refusal}
 use Rattle.master_core.specs.declared.step.Refusal.TheVariants as refusal
 use Rattle.master_core.specs.declared.step.Step.TheVariants.{Apply, Push, BeginRoll, Compact}
@@ -14,8 +22,12 @@ use Rattle.master_core.specs.declared.step.StepAnswer.{StepAnswer}
 use Rattle.master_core.specs.declared.step.StepAnswer.TheVariants.{Applied}
 use Rattle.master_core.specs.Causes.{is_pushed, command_refusal, early_refusal, late_refusal}
 use Rattle.master_core.specs.Data.{MasterData}
+use Rattle.master_core.specs.Log.{log_of}
+use Rattle.master_core.specs.Images.{with_closed}
+use Rattle.master_core.specs.Steps.{closed_data, pass_ended, roll_ended, taken_data}
 use Rattle.master.specs.Keeps.{Keeps}
-use Rattle.master.specs.Steps.{Steps, Declines, FailsTake}
+use Rattle.master.specs.Steps.{Steps, Declines, FailsTake, IsPushOp}
+use Rattle.master.specs.Valid.{IsValid}
 use Rattle.master.specs.World.{World}
 use Rattle.script.specs.Served.{LivesOn, IsSpent, record_of}
 use Rattle.script.specs.Told.{is_of_push}
@@ -37,16 +49,53 @@ goes_further old mid new before more =
 
 -- ---- a push
 
-refused_history : (old new : World) (r : Refusal) → FailsTake old r new → new.knows.history ≡ old.knows.history
-refused_history old new refusal.NoMemory h = ap (λ (w : World). w.knows.history) h
-refused_history old new refusal.Spent h = ap (λ (w : World). w.knows.history) h.1
-refused_history old new refusal.Halted h = ap (λ (d : MasterData). d.history) h.0
-refused_history old new r h = absurd h
+pub refused_history : (IsOp : LogOp → Type 0) (old new : World) (r : Refusal) → FailsTake IsOp old r new → new.knows.history ≡ old.knows.history
+refused_history IsOp old new refusal.NoMemory h = ap (λ (w : World). w.knows.history) h
+refused_history IsOp old new refusal.Spent h = ap (λ (w : World). w.knows.history) h.1
+refused_history IsOp old new refusal.Halted h = ap (λ (d : MasterData). d.history) h.0
+refused_history IsOp old new r h = absurd h
+
+-- the take of an op fails as spent at a fleet that is
+pub spent_take : (IsOp : LogOp → Type 0) (old new : World) → FailsTake IsOp old refusal.Spent new → IsSpent new.fleet
+spent_take IsOp old new h = subst (λ (w : World). IsSpent w.fleet) (sym h.1) h.0
+
+-- what a push leaves of the history
+ended_history : (pass : Option Pass) (d : MasterData) → (roll_ended pass d).history ≡ d.history
+ended_history None d = refl
+ended_history (Some p) d = go p.is_committing
+  where
+    go : (commits : Bool) → (if commits then pass_ended p d else d).history ≡ d.history
+    go true = refl
+    go false = refl
+
+closed_history : (d : MasterData) (r : Roll) → (closed_data d r).history ≡ d.history
+closed_history d r = go (record d {
+  head = with_closed_replica d.head r;
+  closed = with_closed d.closed d.head.id (old_image d.head r);
+}) refl (suc r.closed == d.head.replicas)
+  where
+    go : (e : MasterData) → e.history ≡ d.history → (last : Bool) → (if last then roll_ended d.pass e else e).history ≡ d.history
+    go e same true = ended_history d.pass e ∙ same
+    go e same false = same
+
+taken_history : (d : MasterData) (push : Next) → (taken_data d push).history ≡ d.history
+taken_history d (next.OpenFirst j) = refl
+taken_history d (next.Extend j) = refl
+taken_history d (next.OpenNew j) = go d.head.roll
+  where
+    go : (o : Option Roll) → (option_map_or (λ (r : Roll). record d { head = with_new_replica d.head r }) o d).history ≡ d.history
+    go None = refl
+    go (Some r) = refl
+taken_history d (next.CloseOld j) = go d.head.roll
+  where
+    go : (o : Option Roll) → (option_map_or (closed_data d) o d).history ≡ d.history
+    go None = refl
+    go (Some r) = closed_history d r
 
 pushed_history : (old new : World) (r : Result StepAnswer Refusal) → Steps old Push r new → new.knows.history ≡ old.knows.history
-pushed_history old new (Ok a) h = ap (λ (d : MasterData). d.history) h.rest
+pushed_history old new (Ok a) h = ap (λ (d : MasterData). d.history) h.rest ∙ taken_history old.knows h.push
 pushed_history old new (Err r) (inl h) = ap (λ (w : World). w.knows.history) h.1
-pushed_history old new (Err r) (inr h) = refused_history old new r h.1
+pushed_history old new (Err r) (inr h) = refused_history (IsPushOp old) old new r h.1
 
 pub push_goes_on : (from : MasterData) (old new : World) (r : Result StepAnswer Refusal) → LivesOn from old.knows [] → Steps old Push r new
     → Keeps 1 old new → LivesOn from new.knows []
@@ -59,18 +108,27 @@ push_goes_on from old new r before push kept =
       history = pushed_history old new r push ∙ before.history;
     }
 
--- why it was refused
-pub refused_push : (old new : World) (r : Refusal) → Declines old Push r new → is_of_push r ≡ true
-refused_push old new r (inl h) = tested old.knows.is_halted (is_pushed old.knows.head) h.0
+-- why it was refused, if something waited
+pub refused_push : (old new : World) (r : Refusal) → Declines old Push r new → (is_pushed old.knows.head ≡ true → ⊥) → is_of_push r ≡ true
+refused_push old new r (inl h) waits = tested old.knows.is_halted (is_pushed old.knows.head) waits h.0
   where
-    tested : (halted pushed : Bool) → (if halted then Some refusal.Halted else if pushed then Some refusal.Nothing else None) ≡ Some r → is_of_push r ≡ true
-    tested true pushed e = ap (λ (x : Option Refusal). is_of_push (unwrap_or x r)) (sym e)
-    tested false true e = ap (λ (x : Option Refusal). is_of_push (unwrap_or x r)) (sym e)
-    tested false false e = absurd (cc)
-refused_push old new refusal.NoMemory (inr h) = refl
-refused_push old new refusal.Spent (inr h) = refl
-refused_push old new refusal.Halted (inr h) = refl
-refused_push old new r (inr h) = absurd h.1
+    tested : (halted pushed : Bool) → (pushed ≡ true → ⊥)
+        → (if halted then Some refusal.Halted else if pushed then Some refusal.Nothing else None) ≡ Some r → is_of_push r ≡ true
+    tested true pushed waits e = ap (λ (x : Option Refusal). is_of_push (unwrap_or x r)) (sym e)
+    tested false true waits e = absurd (waits refl)
+    tested false false waits e = absurd (cc)
+refused_push old new refusal.NoMemory (inr h) waits = refl
+refused_push old new refusal.Spent (inr h) waits = refl
+refused_push old new refusal.Halted (inr h) waits = refl
+refused_push old new r (inr h) waits = absurd h.1
+
+-- something waits as long as a record isn't durable
+pub record_waits : (old now : MasterData) (f : FleetState) (place : ℕ) → IsValid now f → LivesOn old now [] → place < length old.history
+    → durable_of (log_of now) ≤ place → is_pushed now.head ≡ true → ⊥
+record_waits old now f place valid on within short pushed =
+    let all = valid.pushed pushed in
+    let same = ap length (on.history ∙ append-nil old.history) in
+    absurd (omega arith)
 
 -- nothing waits only where the head is open
 pub open_push : (old new : World) (r : Refusal) → Declines old Push r new → r ≡ refusal.Nothing → is_open new.knows.head ≡ true
@@ -97,7 +155,7 @@ spent_push old new r h is = go (subst (λ (x : Refusal). Declines old Push x new
 
     go : Declines old Push refusal.Spent new → IsSpent new.fleet
     go (inl h) = absurd (tested old.knows.is_halted (is_pushed old.knows.head) h.0)
-    go (inr h) = subst (λ (w : World). IsSpent w.fleet) (sym h.1.1) h.1.0
+    go (inr h) = spent_take (IsPushOp old) old new h.1
 
 -- ---- a roll that begins
 
@@ -147,15 +205,16 @@ compact_goes_on old new id r compact kept = record {
 pub spent_compact : (old new : World) (id : ℕ) (r : Refusal) → Declines old (Compact id) r new → r ≡ refusal.Spent → ⊥
 spent_compact old new id r h is = go (subst (λ (x : Refusal). Declines old (Compact id) x new) is h)
   where
-    tested : (halted head listed : Bool) → (if halted then Some refusal.Halted else if head then Some (refusal.Pass (IsHead id))
-        else if listed then Some (refusal.Pass (NotInLog id)) else None) ≡ Some refusal.Spent → ⊥
-    tested true head listed e = cc
-    tested false true listed e = cc
-    tested false false true e = cc
-    tested false false false e = cc
+    tested : (halted head listed victim : Bool) → (if halted then Some refusal.Halted else if head then Some (refusal.Pass (IsHead id))
+        else if listed then Some (refusal.Pass (NotInLog id)) else if victim then Some (refusal.Pass PassOpen) else None) ≡ Some refusal.Spent → ⊥
+    tested true head listed victim e = cc
+    tested false true listed victim e = cc
+    tested false false true victim e = cc
+    tested false false false true e = cc
+    tested false false false false e = cc
 
     go : Declines old (Compact id) refusal.Spent new → ⊥
-    go (same, inl test) = tested _ _ _ test
+    go (same, inl test) = tested _ _ _ _ test
     go (same, inr memory) = let none = memory.1 in cc
 
 -- ---- a command

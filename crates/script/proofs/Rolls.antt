@@ -26,22 +26,23 @@ use Rattle.script.proofs.Commands.{stopped_told, refused_told}
 pub unserved_told : (d e : MasterData) (old mid new : Node) (config : Config) (at : Position) (s : IsNodeAt old config d at) (none : at.left ≡ None)
     (line : LineValue) (command : Command) → command_of line ≡ Some command → (r : Refusal) (a : Answer) (f g : FleetState)
     → IsValid d f → IsOf mid None e → fleet_of mid ≡ Some g → IsValid e g → (r ≡ refusal.Spent → IsSpent g)
-    → IsUnserved d e command r → Refuses mid r new a → Answered d new config at line a
+    → IsUnserved d command r (record { knows = e; fleet = g }) → Refuses mid r new a → Answered d new config at line a
 unserved_told d e old mid new config at s none line command asks r a f g valid of fleet now spent left (inl (is, unspent, same)) =
     subst (λ (x : Answer). Answered d new config at line x) (sym is)
-    (refused_told d e old new config at s none line command asks r unspent f valid (subst (λ (n : Node). IsOf n None e) (sym same) of) left)
+    (refused_told d e old new config at s none line command asks r unspent f g valid (subst (λ (n : Node). IsOf n None e) (sym same) of) now left)
 unserved_told d e old mid new config at s none line command asks r a f g valid of fleet now spent left (inr (is, why, dropped, lifted)) =
     subst (λ (x : Answer). Answered d new config at line x) (sym is)
     (stopped_told d e old new config at s none line command asks r g now (spent why) (dropped e g of fleet) left)
 
 -- a command that a roll has to come before
 pub waits_told : (d e : MasterData) (old new : Node) (config : Config) (at : Position) → IsNodeAt old config d at → at.left ≡ None
-    → (command : Command) (r : Refusal) (f : FleetState) → IsValid d f → IsOf new None e → r ≡ refusal.Rolling → IsUnserved d e command r
+    → (command : Command) (r : Refusal) (f g : FleetState) → IsValid d f → IsOf new None e → r ≡ refusal.Rolling
+    → IsUnserved d command r (record { knows = e; fleet = g })
     → (e : MasterData) × StaysAt new config d at e × (at.left ≡ None) × IsTest config (life_to (life_of e) at.made) command refusal.Rolling
-waits_told d e old new config at s none command r f valid of is (inr (added, pushed)) =
-    let rolling : is_of_push refusal.Rolling ≡ _ = ap is_of_push (sym is) ∙ pushed in absurd (cc)
-waits_told d e old new config at s none command r f valid of is (inl (g, inl memory)) = let both = sym is ∙ memory in absurd (cc)
-waits_told d e old new config at s none command r f valid of is (inl (g, inr test)) =
+waits_told d e old new config at s none command r f h valid of is (inr left) =
+    let rolling : is_of_push refusal.Rolling ≡ _ = ap is_of_push (sym is) ∙ left.waits in absurd (cc)
+waits_told d e old new config at s none command r f h valid of is (inl (g, inl memory)) = let both = sym is ∙ memory in absurd (cc)
+waits_told d e old new config at s none command r f h valid of is (inl (g, inr test)) =
     let same : record { made = at.made; acknowledged = at.acknowledged; left = None } ≡ at =
     λ i. record { made = at.made; acknowledged = at.acknowledged; left = sym none i } in (
       e,

@@ -4,6 +4,7 @@ use Rattle.std.proofs.lemmas.List.{append-nil, length-append}
 use Rattle.std.proofs.Math.Seq.{take-length}
 use lib.Seq.{take-append_seam}
 use Rattle.std.specs.Prelude.{Option, Some, None, slice_get}
+use Rattle.backup.specs.declared.fleet.MemoryFleet.{MemoryFleet}
 use Rattle.lines.specs.Grammar.{LineValue, Put, New, Cas, Get, Del}
 use Rattle.replica.specs.Picture.{FleetState}
 use Rattle.versioned_map.specs.declared.command.Command.{Command}
@@ -14,6 +15,7 @@ use Rattle.master_core.specs.declared.config.Config.{Config}
 use Rattle.master_core.specs.Data.{MasterData}
 use Rattle.master_core.specs.Log.{log_of}
 use Rattle.master.specs.Valid.{IsValid}
+use Rattle.master.specs.World.{MasterValue}
 use Rattle.script.specs.declared.answer.Answer.{Answer}
 use Rattle.script.specs.declared.answer.Answer.TheVariants as answer
 use Rattle.script.specs.declared.node.Node.{Node}
@@ -88,6 +90,11 @@ pub is_up_none : (node : Node) (d : MasterData) (left : Option Left) → is_up n
 is_up_none (Up m) d left up of = of.0
 is_up_none (Down fleet) d left up of = absurd (cc)
 is_up_none Changing d left up of = absurd of
+
+pub not_up : (node : Node) → ((m : MasterValue MemoryFleet) → node ≡ Up m → ⊥) → is_up node ≡ false
+not_up (Up m) other = absurd (other m refl)
+not_up (Down fleet) other = refl
+not_up Changing other = refl
 
 pub is_down_some : (node : Node) (d : MasterData) (left : Option Left) → is_up node ≡ false → IsOf node left d → (l : Left) × (left ≡ Some l)
 is_down_some (Up m) d left down of = absurd (cc)

@@ -3,7 +3,7 @@ use Rattle.std.proofs.Common.{◌≡◌, ℕ, true, List, [], refl, sym, ap, sub
 use Rattle.std.proofs.lemmas.List.{append-nil}
 use Rattle.std.specs.Prelude.{Option, Some, None, IsSome}
 use Rattle.std.specs.Option.{option_map}
-use Rattle.lines.specs.Grammar.{LineValue, Roll, BeginRoll, Compact, Push, Holdings}
+use Rattle.lines.specs.Grammar.{LineValue, Roll, BeginRoll, Compact, Push, Clean, Begin, Copy, Seal, Free, Holdings}
 use Rattle.std.specs.Prelude.{Result, Ok, Err, IfOk}
 use Rattle.std.specs.declared.alloc.AllocError.{AllocError}
 use Rattle.replica.specs.declared.holding.Holding.{Holding}
@@ -22,10 +22,11 @@ use Rattle.script.specs.declared.answer.Answer.{Answer}
 use Rattle.script.specs.declared.answer.Answer.TheVariants as answer
 use Rattle.script.specs.declared.node.Node.{Node}
 use Rattle.script.specs.Lives.{Life, life_to, HasLived, Left, IsLeftBySpent}
+use Rattle.script.specs.Cleans.{Cleans}
 use Rattle.script.specs.Rolls.{Rolls}
 use Rattle.script.specs.Served.{LivesOn, IsSpent, IsOf, IsNodeAt, Refuses, fleet_of, life_of, held_answer}
 use Rattle.script.specs.Served.{IsLeftIn, LiftsLimit, MakesLine, refusal_answer, world_of}
-use Rattle.script.specs.Told.{Position, command_of, pushes, is_for_master, IsStepAt, IsRollAt, IsStepRefusal, AreHeldAt, TellsNoStep, Tells}
+use Rattle.script.specs.Told.{Position, command_of, pushes, is_for_master, IsStepAt, IsRollAt, IsCleanAt, IsStepRefusal, AreHeldAt, TellsNoStep, Tells}
 use Rattle.script.proofs.Rolls.{no_step_told}
 use Rattle.script.proofs.Standing.{Answered, still_stands, lived, lived_longer}
 
@@ -56,6 +57,17 @@ module _ (d e : MasterData) (old new : Node) (config : Config) (at : Position) (
   pub head_told : (id : ℕ) → Rolls (record { knows = d; fleet = f }) (Ok id) (record { knows = e; fleet = g })
       → Answered d new config at Roll (answer.Head id)
   head_told id rolls = (e, at, stays, ([], on.history), (none, refl, roll_at (Ok id) rolls, refl))
+
+  pub clean_at : (victims : List ℕ) (r : Result (ℕ × ℕ) Refusal)
+      → Cleans (record { knows = d; fleet = f }) victims r (record { knows = e; fleet = g })
+      → IsCleanAt config (life_to (life_of e) at.made) victims r
+  clean_at victims r cleans = (record { knows = d; fleet = f }, record { knows = e; fleet = g }, before, after, cleans)
+
+  pub cleaned_told : (victims : List ℕ) (survivor head : ℕ)
+      → Cleans (record { knows = d; fleet = f }) victims (Ok (survivor, head)) (record { knows = e; fleet = g })
+      → Answered d new config at (Clean victims) (answer.Cleaned survivor head)
+  cleaned_told victims survivor head cleans =
+      (e, at, stays, ([], on.history), (none, (victims, refl, clean_at victims (Ok (survivor, head)) cleans), refl))
 
 -- ---- a step that is refused
 
@@ -111,6 +123,11 @@ command_makes old Roll new a lifts some = absurd (cc)
 command_makes old BeginRoll new a lifts some = absurd (cc)
 command_makes old (Compact segment) new a lifts some = absurd (cc)
 command_makes old Push new a lifts some = absurd (cc)
+command_makes old (Clean victims) new a lifts some = absurd (cc)
+command_makes old (Begin victims) new a lifts some = absurd (cc)
+command_makes old Copy new a lifts some = absurd (cc)
+command_makes old Seal new a lifts some = absurd (cc)
+command_makes old Free new a lifts some = absurd (cc)
 command_makes old line new a lifts some = λ again. lifts
 
 -- ---- what backups hold

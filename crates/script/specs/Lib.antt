@@ -2,6 +2,7 @@ pub mod Configuration
 pub mod Texts
 pub mod Lives
 pub mod Rolls
+pub mod Cleans
 pub mod Told
 pub mod Served
 pub mod Runs

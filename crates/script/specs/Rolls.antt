@@ -4,20 +4,28 @@ use Rattle.log_head.specs.declared.head.Roll.{Roll}
 use Rattle.log_head.specs.Head.{is_open}
 use Rattle.master_core.specs.declared.step.Refusal.{Refusal}
 use Rattle.master_core.specs.declared.step.Refusal.TheVariants.{Rolling, Nothing}
+use Rattle.master_core.specs.declared.step.Step.{Step}
 use Rattle.master_core.specs.declared.step.Step.TheVariants.{Push, BeginRoll}
 use Rattle.master_core.specs.declared.step.StepAnswer.{StepAnswer}
 use Rattle.master.specs.Steps.{Accepts, Declines}
 use Rattle.master.specs.World.{World}
 
--- so many pushes were taken, one after another
-abbrev pub ArePushed : ℕ → World → World → Type 0
-ArePushed zero old new = new ≡ old
-ArePushed (suc count) old new =
-    (mid : World) × ArePushed count old mid × (answer : StepAnswer) × Accepts mid Push answer new
+-- so many steps of one kind were accepted, one after another
+abbrev pub AreStepped : Step → ℕ → World → World → Type 0
+AreStepped step zero old new = new ≡ old
+AreStepped step (suc count) old new =
+    (mid : World) × AreStepped step count old mid × (answer : StepAnswer) × Accepts mid step answer new
 
--- pushes were taken until one was refused
+-- steps of one kind were made until one was refused
+abbrev pub StepsUntil : Step → World → Refusal → World → Type 0
+StepsUntil step old r new = (count : ℕ) × (mid : World) × AreStepped step count old mid × Declines mid step r new
+
+-- the same of pushes
+abbrev pub ArePushed : ℕ → World → World → Type 0
+ArePushed count old new = AreStepped Push count old new
+
 abbrev pub PushesUntil : World → Refusal → World → Type 0
-PushesUntil old r new = (count : ℕ) × (mid : World) × ArePushed count old mid × Declines mid Push r new
+PushesUntil old r new = StepsUntil Push old r new
 
 -- a roll begins; or none may begin, since the head isn't open yet
 abbrev pub GoesRolling : World → World → Type 0

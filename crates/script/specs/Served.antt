@@ -1,7 +1,7 @@
 -- What a session stands for, and what its lines do to it.
 use Rattle.std.specs.Prelude.{◌≡◌, ◌⊎◌, ℕ, ◌<◌, ◌≤◌, List, [], ◌∷◌, ◌++◌, Bool, true, false, Option, Some, None, length}
 use Rattle.backup.specs.State.{fleet_state}
-use Rattle.lines.specs.Grammar.{LineValue, Roll, BeginRoll, Compact, Push}
+use Rattle.lines.specs.Grammar.{LineValue, Roll, BeginRoll, Compact, Push, Clean, Begin, Copy, Seal, Free}
 use Rattle.std.specs.Prelude.{Result, Ok, Err, IsSome}
 use Rattle.std.specs.Option.{option_map}
 use Rattle.std.specs.declared.alloc.AllocError.{AllocError}
@@ -28,12 +28,14 @@ use Rattle.master.specs.Valid.{IsValid}
 use Rattle.master.specs.World.{World, world}
 use Rattle.script.specs.declared.answer.Answer.{Answer}
 use Rattle.script.specs.declared.answer.Answer.TheVariants.{Refused, Stopped, Holdings, Reply as Replied, Head, Opening, Compacted, Extended, Opened, Closed}
+use Rattle.script.specs.declared.answer.Answer.TheVariants.{Begun, Moved, Carried, Dropped, Sealed, Freed, Cleaned}
 use Rattle.script.specs.declared.answer.Answer.TheVariants as answers
 use Rattle.script.specs.declared.node.Node.{Node}
 use Rattle.script.specs.declared.node.Node.TheVariants.{Up, Down, Changing}
 use Rattle.script.specs.declared.session.Session.{Session}
 use Rattle.script.specs.Lives.{Life, life_to, Left, is_left}
-use Rattle.script.specs.Rolls.{Rolls}
+use Rattle.script.specs.Cleans.{Cleans}
+use Rattle.script.specs.Rolls.{PushesUntil, Rolls}
 use Rattle.script.specs.Told.{Position, at_start, command_of, is_of_push, IsTest, TellsNoStep, Tells}
 
 -- the master goes on: its configuration is the same, as much is durable or more, and it has these records more
@@ -54,12 +56,22 @@ abbrev pub IsServed : MasterData → MasterData → Command → Reply → Type 0
 IsServed old new command reply =
     LivesOn old new (record_of command reply) × (length old.history < durable_of (log_of new))
 
+-- The command's record was added, and pushes were taken until one was refused, though something waited.
+pub record IsUnpushed (old : MasterData) (command : Command) (r : Refusal) (new : World) : Type 0 where
+  pub reply : Reply
+  pub mid : World
+  pub applied : LivesOn old mid.knows (record_of command reply)
+  pub valid : IsValid mid.knows mid.fleet
+  pub goes_on : LivesOn mid.knows new.knows []
+  pub pushed : PushesUntil mid r new
+  pub waits : is_of_push r ≡ true
+
 -- The command was not answered. Either a test or want of memory refused it, and no record was added. Or its record was
 -- added, and a push was refused.
-abbrev pub IsUnserved : MasterData → MasterData → Command → Refusal → Type 0
-IsUnserved old new command r =
-    (LivesOn old new [] × ((r ≡ NoMemory) ⊎ (command_refusal old command ≡ Some r)))
-    ⊎ (((reply : Reply) × LivesOn old new (record_of command reply)) × (is_of_push r ≡ true))
+abbrev pub IsUnserved : MasterData → Command → Refusal → World → Type 0
+IsUnserved old command r new =
+    (LivesOn old new.knows [] × ((r ≡ NoMemory) ⊎ (command_refusal old command ≡ Some r)))
+    ⊎ IsUnpushed old command r new
 
 -- Of a master that is gone the fleet holds what its crash left, without the backups that were lost since.
 pub record IsLeftOf (d : MasterData) (l : Left) (f : FleetState) : Type 0 where
@@ -147,12 +159,23 @@ step_told (Ok (step_answer.Compacted segment len)) = Compacted segment len
 step_told (Ok (step_answer.Extended backup segment)) = Extended backup segment
 step_told (Ok (step_answer.Opened backup segment)) = Opened backup segment
 step_told (Ok (step_answer.Closed backup segment)) = Closed backup segment
+step_told (Ok (step_answer.Begun survivor)) = Begun survivor
+step_told (Ok step_answer.Moved) = Moved
+step_told (Ok step_answer.Carried) = Carried
+step_told (Ok step_answer.Dropped) = Dropped
+step_told (Ok (step_answer.Sealed backup)) = Sealed backup
+step_told (Ok (step_answer.Freed segment backup)) = Freed segment backup
 step_told (Err r) = refusal_answer r
 
 -- what is answered to a roll
 abbrev pub roll_told : Result ℕ Refusal → Answer
 roll_told (Ok id) = Head id
 roll_told (Err r) = refusal_answer r
+
+-- what is answered to a whole cleaning
+abbrev pub clean_told : Result (ℕ × ℕ) Refusal → Answer
+clean_told (Ok (survivor, head)) = Cleaned survivor head
+clean_told (Err r) = refusal_answer r
 
 -- A node that is up makes just this step, and answers what comes of it. Any other does nothing.
 abbrev pub MakesStep : Node → Step → Node → Answer → Type 0
@@ -166,6 +189,12 @@ MakesRoll (Up m) new answer = (result : Result ℕ Refusal) × (w : World)
     × Rolls (world fleet_state m) result w × (answer ≡ roll_told result) × IsLeftIn w answer new
 MakesRoll old new answer = (new ≡ old) × (answer ≡ answers.Down)
 
+-- A node that is up makes just this cleaning, and answers what comes of it. Any other does nothing.
+abbrev pub MakesClean : Node → List ℕ → Node → Answer → Type 0
+MakesClean (Up m) victims new answer = (result : Result (ℕ × ℕ) Refusal) × (w : World)
+    × Cleans (world fleet_state m) victims result w × (answer ≡ clean_told result) × IsLeftIn w answer new
+MakesClean old victims new answer = (new ≡ old) × (answer ≡ answers.Down)
+
 -- ---- lines
 
 -- Whatever the node stood for, the new one goes on with its life, and the answer is one that the line tells of that
@@ -175,12 +204,18 @@ AnswersLine old config line new answer = (d : MasterData) (at : Position) → Is
     (e : MasterData) × (next : Position) × IsNodeAt new config e next
     × ((more : List Record) × (e.history ≡ d.history ++ more)) × Tells config (life_of e) at line answer next
 
--- What a line makes of the node: just its step, or its roll. After a command's line a stopped node has no limit.
+-- What a line makes of the node: just its step, its roll or its cleaning. After a command's line a stopped node has no
+-- limit.
 abbrev pub MakesLine : Node → LineValue → Node → Answer → Type 0
 MakesLine old Roll new answer = MakesRoll old new answer
 MakesLine old BeginRoll new answer = MakesStep old step.BeginRoll new answer
 MakesLine old (Compact segment) new answer = MakesStep old (step.Compact segment) new answer
 MakesLine old Push new answer = MakesStep old step.Push new answer
+MakesLine old (Clean victims) new answer = MakesClean old victims new answer
+MakesLine old (Begin victims) new answer = MakesStep old (step.BeginClean victims) new answer
+MakesLine old Copy new answer = MakesStep old step.Copy new answer
+MakesLine old Seal new answer = MakesStep old step.Seal new answer
+MakesLine old Free new answer = MakesStep old step.Free new answer
 MakesLine old line new answer = IsSome (command_of line) → LiftsLimit new answer
 
 -- the same for a session, which keeps its master's number and its count of backups

@@ -7,7 +7,7 @@ use Rattle.entry.specs.Meaning.{IsMeaning, among, contents_of}
 use Rattle.entry.specs.Order.{key_cmp}
 use Rattle.entry.specs.Text.{text_of}
 use Rattle.lines.specs.Grammar.{LineValue, Idle, Put, New, Cas, Get, Del, Compact, Roll, BeginRoll, Push, Log, Room, Hex, Stop, Crash}
-use Rattle.lines.specs.Grammar.{Lose, Recover, Holdings}
+use Rattle.lines.specs.Grammar.{Lose, Recover, Holdings, Clean, Begin, Copy, Seal, Free}
 use Rattle.replica.specs.Choice.{Choice, IsShownChoice, bag_of}
 use Rattle.entry.specs.Bag.{IsAmong}
 use Rattle.replica.specs.declared.holding.Holding.{Holding}
@@ -39,7 +39,8 @@ use Rattle.recovery.specs.Recovered.{IsLossOrMemory, IsWant}
 use Rattle.script.specs.declared.answer.Answer.{Answer}
 use Rattle.script.specs.declared.answer.Answer.TheVariants as answer
 use Rattle.script.specs.Lives.{Life, life_to, HasLived, Left, is_left, IsLeftBy, IsLeftBySpent, IsHomeBy}
-use Rattle.script.specs.Rolls.{Rolls}
+use Rattle.script.specs.Cleans.{Cleans}
+use Rattle.script.specs.Rolls.{PushesUntil, Rolls}
 
 -- a line that was run: its text without the line feed, what it says, and what it answered
 pub record Told : Type 0 where
@@ -104,21 +105,34 @@ abbrev pub IsRollAt : Config → Life → Result ℕ Refusal → Type 0
 IsRollAt config life result = (old : World) × (new : World) × HasLived config life old.knows old.fleet
     × HasLived config life new.knows new.fleet × Rolls old result new
 
--- a master that has lived this life refuses what the line asks for, a step or a roll
+-- the same of a whole cleaning of these segments
+abbrev pub IsCleanAt : Config → Life → List ℕ → Result (ℕ × ℕ) Refusal → Type 0
+IsCleanAt config life victims result = (old : World) × (new : World) × HasLived config life old.knows old.fleet
+    × HasLived config life new.knows new.fleet × Cleans old victims result new
+
+-- a master that has lived this life refuses what the line asks for: a step, a roll or a cleaning
 abbrev pub IsStepRefusal : Config → Life → LineValue → Refusal → Type 0
 IsStepRefusal config life BeginRoll r = IsStepAt config life step.BeginRoll (Err r)
 IsStepRefusal config life (Compact segment) r = IsStepAt config life (step.Compact segment) (Err r)
 IsStepRefusal config life Push r = IsStepAt config life step.Push (Err r)
+IsStepRefusal config life (Begin victims) r = IsStepAt config life (step.BeginClean victims) (Err r)
+IsStepRefusal config life Copy r = IsStepAt config life step.Copy (Err r)
+IsStepRefusal config life Seal r = IsStepAt config life step.Seal (Err r)
+IsStepRefusal config life Free r = IsStepAt config life step.Free (Err r)
 IsStepRefusal config life Roll r = IsRollAt config life (Err r)
+IsStepRefusal config life (Clean victims) r = IsCleanAt config life victims (Err r)
 IsStepRefusal config life line r = ⊥
 
 -- the line hands ops to backups, and makes no record
 abbrev pub pushes : LineValue → Bool
 pushes Roll = true
 pushes Push = true
+pushes Seal = true
+pushes Free = true
+pushes (Clean victims) = true
 pushes line = false
 
--- What an answer tells of a step or a roll that wasn't made, and the position after it. No record was made.
+-- What an answer tells of a step, a roll or a cleaning that wasn't made, and the position after it. No record was made.
 abbrev pub TellsNoStep : Config → Life → Position → LineValue → Answer → Position → Type 0
 TellsNoStep config life at line (answer.Refused r) next = (at.left ≡ None)
     × IsStepRefusal config (life_to life at.made) line r × (r ≡ refusal.Spent → ⊥)
@@ -140,11 +154,10 @@ IsStepOut at line l next = (pushes line ≡ true)
 abbrev pub IsTest : Config → Life → Command → Refusal → Type 0
 IsTest config life c r = (d : MasterData) × (f : FleetState) × HasLived config life d f × (command_refusal d c ≡ Some r)
 
--- the refusals that a push may give
+-- the refusals that a push may give while something waits to be pushed
 abbrev pub is_of_push : Refusal → Bool
 is_of_push refusal.Halted = true
 is_of_push refusal.Spent = true
-is_of_push refusal.Nothing = true
 is_of_push refusal.NoMemory = true
 is_of_push _ = false
 
@@ -153,13 +166,19 @@ abbrev pub IsCause : Config → Life → Command → Refusal → Type 0
 IsCause config life c r =
     IsTest config life c r ⊎ (IsTest config life c refusal.Rolling × IsRollAt config life (Err r))
 
+-- a master that has lived this life is pushed until a push is refused, and has lived this life after that too
+abbrev pub IsPushedAt : Config → Life → Refusal → Type 0
+IsPushedAt config life r = (old : World) × (new : World) × HasLived config life old.knows old.fleet
+    × HasLived config life new.knows new.fleet × PushesUntil old r new
+
 -- A command is refused, by a fleet that isn't spent. Either it made no record: memory ran out, a test refused it, or
--- the roll that it waits for was refused. Or it made one, and then a push was refused.
+-- the roll that it waits for was refused. Or it made one, and the master was then pushed until a push was refused,
+-- though something waited.
 abbrev pub IsRefused : Config → Life → Position → LineValue → Refusal → Position → Type 0
 IsRefused config life at line r next = (r ≡ refusal.Spent → ⊥)
     × ((IsOut at line None next × ((r ≡ refusal.NoMemory)
     ⊎ ((c : Command) × (command_of line ≡ Some c) × IsCause config (life_to life at.made) c r)))
-    ⊎ (IsIn life at line None next × (is_of_push r ≡ true)))
+    ⊎ (IsIn life at line None next × IsPushedAt config (life_to life next.made) r × (is_of_push r ≡ true)))
 
 -- ---- what is shown
 
@@ -233,6 +252,11 @@ is_for_master Roll = true
 is_for_master BeginRoll = true
 is_for_master (Compact segment) = true
 is_for_master Push = true
+is_for_master (Clean victims) = true
+is_for_master (Begin victims) = true
+is_for_master Copy = true
+is_for_master Seal = true
+is_for_master Free = true
 is_for_master Log = true
 is_for_master Room = true
 is_for_master (Hex segment) = true
@@ -266,6 +290,24 @@ Tells config life at line (answer.Opened backup segment) next = (at.left ≡ Non
     × IsStepAt config (life_to life at.made) step.Push (Ok (step_answer.Opened backup segment)) × (next ≡ at)
 Tells config life at line (answer.Closed backup segment) next = (at.left ≡ None) × (line ≡ Push)
     × IsStepAt config (life_to life at.made) step.Push (Ok (step_answer.Closed backup segment)) × (next ≡ at)
+Tells config life at line (answer.Begun survivor) next = (at.left ≡ None)
+    × ((victims : List ℕ) × (line ≡ Begin victims)
+    × IsStepAt config (life_to life at.made) (step.BeginClean victims) (Ok (step_answer.Begun survivor)))
+    × (next ≡ at)
+Tells config life at line answer.Moved next = (at.left ≡ None) × (line ≡ Copy)
+    × IsStepAt config (life_to life at.made) step.Copy (Ok step_answer.Moved) × (next ≡ at)
+Tells config life at line answer.Carried next = (at.left ≡ None) × (line ≡ Copy)
+    × IsStepAt config (life_to life at.made) step.Copy (Ok step_answer.Carried) × (next ≡ at)
+Tells config life at line answer.Dropped next = (at.left ≡ None) × (line ≡ Copy)
+    × IsStepAt config (life_to life at.made) step.Copy (Ok step_answer.Dropped) × (next ≡ at)
+Tells config life at line (answer.Sealed backup) next = (at.left ≡ None) × (line ≡ Seal)
+    × IsStepAt config (life_to life at.made) step.Seal (Ok (step_answer.Sealed backup)) × (next ≡ at)
+Tells config life at line (answer.Freed segment backup) next = (at.left ≡ None) × (line ≡ Free)
+    × IsStepAt config (life_to life at.made) step.Free (Ok (step_answer.Freed segment backup)) × (next ≡ at)
+Tells config life at line (answer.Cleaned survivor head) next = (at.left ≡ None)
+    × ((victims : List ℕ) × (line ≡ Clean victims)
+    × IsCleanAt config (life_to life at.made) victims (Ok (survivor, head)))
+    × (next ≡ at)
 Tells config life at line (answer.Log ids) next = (at.left ≡ None) × (line ≡ Log)
     × IsDigestAt config (life_to life at.made) ids × (next ≡ at)
 Tells config life at line (answer.Room used free) next = (at.left ≡ None) × (line ≡ Room)

@@ -46,6 +46,20 @@ pub enum Answer {
     Opened(u64, u64),
     /// The backup and the segment of a push that closed a replica.
     Closed(u64, u64),
+    /// The survivor of the pass that began.
+    Begun(u64),
+    /// An object that is live was copied to the survivor.
+    Moved,
+    /// A tombstone that is kept was copied to the survivor.
+    Carried,
+    /// An entry that isn't kept was passed over.
+    Dropped,
+    /// The backup of a replica of the survivor that was sealed.
+    Sealed(u64),
+    /// The segment and the backup of a replica that was freed.
+    Freed(u64, u64),
+    /// The survivor of the cleaning that was made, and the head that it ended with.
+    Cleaned(u64, u64),
     /// The ids of the digest in force.
     Log(Row<u64>),
     /// How many seglets of memory are counted, and how many are free.
@@ -83,6 +97,13 @@ pub fn write_answer<W: Write>(writer: &mut W, answer: &Answer) -> io::Result<()>
         Answer::Extended(backup, segment) => write_op(writer, b"extend ", *backup, *segment),
         Answer::Opened(backup, segment) => write_op(writer, b"open ", *backup, *segment),
         Answer::Closed(backup, segment) => write_op(writer, b"close ", *backup, *segment),
+        Answer::Begun(survivor) => write_number(writer, b"begun ", *survivor, b'\n'),
+        Answer::Moved => writer.write_all(b"moved\n"),
+        Answer::Carried => writer.write_all(b"carried\n"),
+        Answer::Dropped => writer.write_all(b"dropped\n"),
+        Answer::Sealed(backup) => write_number(writer, b"sealed ", *backup, b'\n'),
+        Answer::Freed(segment, backup) => write_op(writer, b"freed ", *segment, *backup),
+        Answer::Cleaned(survivor, head) => write_op(writer, b"cleaned ", *survivor, *head),
         Answer::Log(ids) => write_log(writer, ids.as_slice()),
         Answer::Room(used, free) => write_room(writer, *used, *free),
         Answer::Holdings(inventory) => write_holdings(writer, inventory.as_slice()),

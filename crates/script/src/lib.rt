@@ -2,12 +2,14 @@
 #![tactic(auto)]
 
 mod answer;
+mod cleaning;
 mod fault;
 mod node;
 mod program;
 mod running;
 mod session;
 mod setup;
+mod whole_pass;
 
 pub use answer::{Answer, write_answer};
 pub use backup::{MemoryBackup, MemoryFleet};

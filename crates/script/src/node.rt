@@ -1,6 +1,6 @@
 //! A fleet, and the master over it if there is one.
 
-ghost use Rattle.std.specs.Prelude.{◌≡◌, ◌<◌, [], true, false, None, Some, IfOk, IfErr, IfSome};
+ghost use Rattle.std.specs.Prelude.{◌≡◌, ◌<◌, [], length, true, false, None, Some, IfOk, IfErr, IfSome};
 ghost use Rattle.std.specs.Option.{option_map};
 ghost use Rattle.backup.specs.State.{lost};
 ghost use Rattle.master_core.specs.declared.config.Config.{Config};
@@ -54,7 +54,7 @@ pub fn push_all<F: Fleet>(master: &mut Master<F>) -> Result<(), Refusal>
 }
 
 /// Begins a roll if none is under way, and pushes until nothing waits.
-fn roll_all<F: Fleet>(master: &mut Master<F>) -> Result<(), Refusal>
+pub(crate) fn roll_all<F: Fleet>(master: &mut Master<F>) -> Result<(), Refusal>
     ensures goes_on { LivesOn master.old.knows master.new.knows [] }
     ensures rolled { IfOk result (λ _.
         IsRolled (world F.state master.old) master.new.knows.head.id (world F.state master.new)) }
@@ -70,15 +70,18 @@ fn roll_all<F: Fleet>(master: &mut Master<F>) -> Result<(), Refusal>
     }
 }
 
-/// Pushes until the record at this place is durable, or a push is refused.
+/// Pushes until the record at this place is durable, or a push is refused. Something waits until then, so no push is
+/// refused as Nothing.
 #[inline(always)]
 fn push_until<F: Fleet>(master: &mut Master<F>, place: u64) -> Result<(), Refusal>
+    requires { place < length master.old.knows.history }
     ensures goes_on { LivesOn master.old.knows master.new.knows [] }
     ensures durable { IfOk result (λ _. place < durable_of (log_of master.new.knows)) }
-    ensures refused { IfErr result (λ r. is_of_push r ≡ true) }
+    ensures refused { IfErr result (λ r. PushesUntil (world F.state master.old) r (world F.state master.new)) }
+    ensures waits { IfErr result (λ r. is_of_push r ≡ true) }
     ensures spent { IfErr result (λ r. r ≡ Refusal.Spent → IsSpent (F.state master.new.fleet)) }
 {
-    for _ in 0..u64::MAX {
+    loop {
         if place < master.durable() {
             return Ok(());
         }
@@ -86,14 +89,13 @@ fn push_until<F: Fleet>(master: &mut Master<F>, place: u64) -> Result<(), Refusa
             return Err(refusal);
         }
     }
-    Err(Refusal::Nothing)
 }
 
 /// Applies a command of seat 0, and pushes until its record is durable.
 #[inline(always)]
 fn serve<F: Fleet>(master: &mut Master<F>, command: Command) -> Result<Reply, Refusal>
     ensures served { IfOk result (λ reply. IsServed master.old.knows master.new.knows command reply) }
-    ensures unserved { IfErr result (IsUnserved master.old.knows master.new.knows command) }
+    ensures unserved { IfErr result (λ r. IsUnserved master.old.knows command r (world F.state master.new)) }
     ensures spent { IfErr result (λ r. r ≡ Refusal.Spent → IsSpent (F.state master.new.fleet)) }
 {
     match master.step(Step::Apply(0, command)) {
@@ -157,7 +159,7 @@ impl Node {
     }
 
     /// Answers a refusal. If the fleet takes no more ops, this drops the master and lifts the limit.
-    fn refuse(&mut self, refusal: Refusal) -> Answer
+    pub(crate) fn refuse(&mut self, refusal: Refusal) -> Answer
         requires { is_up self.old ≡ true }
         ensures { Refuses self.old refusal self.new result }
     {

@@ -1,7 +1,8 @@
 //! What a script drives: a fleet, and the master over it if there is one.
 
 ghost use Rattle.std.specs.Prelude.{◌≡◌, ◌≤◌, length, None, Some, IfOk, IfErr, IsSome};
-ghost use Rattle.lines.specs.Grammar.{IsKeyWord, IsLine, shown_line};
+ghost use Rattle.lines.specs.Grammar.{Begin, Clean, IsKeyWord, IsLine, shown_line};
+ghost use Rattle.lines.specs.Numbers.{numbers_of};
 ghost use Rattle.master_core.specs.Config.{config_fault};
 ghost use Rattle.master_core.specs.declared.config.Config.{Config};
 ghost use Rattle.script.specs.Configuration.{config_of};
@@ -16,8 +17,8 @@ use crate::node::{Node, push_all};
 use crate::setup::configuration;
 use backup::MemoryFleet;
 use command_line::Options;
-use entry::{Key, KeyFault, MAX_VALUE_LEN, NoMemory, Value};
-use lines::Line;
+use entry::{Key, KeyFault, MAX_VALUE_LEN, NoMemory, Row, Value};
+use lines::{Line, Numbers};
 use master::{Command, If, Master, Refusal};
 use std::alloc::Global;
 
@@ -101,10 +102,35 @@ impl Session {
             Line::BeginRoll => Ok(self.node.begin_roll()),
             Line::Compact { segment } => Ok(self.node.compact(segment)),
             Line::Push => Ok(self.node.push()),
+            Line::Clean { segments } => self.run_clean(segments),
+            Line::Begin { segments } => self.run_begin(segments),
+            Line::Copy => Ok(self.node.copy()),
+            Line::Seal => Ok(self.node.seal()),
+            Line::Free => Ok(self.node.free()),
             Line::Log => Ok(self.node.log()),
             Line::Room => Ok(self.node.room()),
             Line::Holdings => Ok(self.node.holdings(self.alloc)),
         }
+    }
+
+    /// Runs the line that begins to clean these segments.
+    fn run_begin(&mut self, segments: Numbers<'_>) -> Result<Answer, LineFault>
+        ensures ran { IfOk result (λ answer.
+            SessionAnswers self.old (Begin (numbers_of segments.entry)) self.new answer) }
+        ensures refused { IfErr result (λ fault. fault ≡ LineFault.NoMemory) }
+    {
+        let victims = row_of(self.alloc, segments)?;
+        Ok(self.node.begin(victims))
+    }
+
+    /// Runs the line that cleans these segments.
+    fn run_clean(&mut self, segments: Numbers<'_>) -> Result<Answer, LineFault>
+        ensures ran { IfOk result (λ answer.
+            SessionAnswers self.old (Clean (numbers_of segments.entry)) self.new answer) }
+        ensures refused { IfErr result (λ fault. fault ≡ LineFault.NoMemory) }
+    {
+        let victims = row_of(self.alloc, segments)?;
+        Ok(self.node.clean(victims))
     }
 
     /// Runs the line of a command.
@@ -141,6 +167,13 @@ impl Session {
             None => Ok(Answer::Refused(Refusal::Rolling)),
         }
     }
+}
+
+/// The numbers of a line, in memory of their own.
+fn row_of(alloc: Global, numbers: Numbers<'_>) -> Result<Row<u64>, NoMemory>
+    ensures { IfOk result (λ row. row ≡ numbers_of numbers.entry) }
+{
+    Ok(Row::new(numbers.collect(alloc)?))
 }
 
 /// The command of a line.

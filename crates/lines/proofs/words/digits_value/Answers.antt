@@ -1,5 +1,5 @@
 use Rattle.std.proofs.Common.{arith, rules}
-use Rattle.lines.proofs.Numbers.{too_large}
+use Rattle.lines.proofs.Digits.{too_large}
 use Rattle.lines.proofs.words.digits_value.Goals as goal
 
 pub returns-in_err-checked_mul-clause-complete : goal.returns-in_err-checked_mul-clause-complete

@@ -1,5 +1,5 @@
 use Rattle.std.proofs.Common.{◌<◌, ◌^◌}
-use Rattle.lines.proofs.Numbers.{AreReadTo}
+use Rattle.lines.proofs.Digits.{AreReadTo}
 use Rattle.lines.proofs.words.digits_value.Given as goal
 
 abbrev pub invariant-loop-byte : goal.invariant-loop-byte

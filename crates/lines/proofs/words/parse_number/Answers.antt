@@ -1,6 +1,6 @@
 use Rattle.std.proofs.Common.{◌≡◌, ap, length, arith, rules}
 use Rattle.std.proofs.lemmas.Fmt.{decimal_nonempty}
-use Rattle.lines.proofs.Numbers.{only_zero, too_large_to_write, written, zero_alone}
+use Rattle.lines.proofs.Digits.{only_zero, too_large_to_write, written, zero_alone}
 use Rattle.lines.proofs.words.parse_number.Goals as goal
 
 pub returns-then-is_empty-clause-complete : goal.returns-then-is_empty-clause-complete

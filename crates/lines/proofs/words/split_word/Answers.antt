@@ -1,7 +1,7 @@
 use Rattle.std.proofs.Common.{sym, ◌∙◌, rules, tests}
 use Rattle.std.proofs.lemmas.Iterator.{YieldsList-from_slice}
 use Rattle.std.proofs.lemmas.Iterator.Search.{position_from_yields_List}
-use Rattle.lines.specs.Words.{is_space}
+use Rattle.lines.specs.Cutting.{is_space}
 use Rattle.lines.proofs.Cutting.{cut_at, not_cut}
 use Rattle.lines.proofs.words.split_word.Goals as goal
 

@@ -42,3 +42,12 @@ returns-in-Room-clause-ran c = rw c.in-Room.is (record { number = refl; backups 
 
 pub returns-in-Holdings-clause-ran : goal.returns-in-Holdings-clause-ran
 returns-in-Holdings-clause-ran c = rw c.in-Holdings.is (record { number = refl; backups = refl; answers = λ config number. c.holdings.ensures config; makes = λ some. absurd (cc) })
+
+pub returns-in-Copy-clause-ran : goal.returns-in-Copy-clause-ran
+returns-in-Copy-clause-ran c = rw c.in-Copy.is (record { number = refl; backups = refl; answers = λ config number. c.copy.ensures.told config; makes = c.copy.ensures.stepped })
+
+pub returns-in-Seal-clause-ran : goal.returns-in-Seal-clause-ran
+returns-in-Seal-clause-ran c = rw c.in-Seal.is (record { number = refl; backups = refl; answers = λ config number. c.seal.ensures.told config; makes = c.seal.ensures.stepped })
+
+pub returns-in-Free-clause-ran : goal.returns-in-Free-clause-ran
+returns-in-Free-clause-ran c = rw c.in-Free.is (record { number = refl; backups = refl; answers = λ config number. c.free.ensures.told config; makes = c.free.ensures.stepped })

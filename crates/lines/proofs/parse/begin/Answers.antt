@@ -1,0 +1,5 @@
+use Rattle.lines.proofs.NumberLines as lines
+use Rattle.lines.proofs.parse.begin.Goals as goal
+
+pub returns-in-Some : goal.returns-in-Some
+returns-in-Some c = lines.begin c.args.words _ c.in-Some.ensures.sound
