@@ -15,22 +15,22 @@ use std::alloc::Global;
 use std::test::Fail;
 
 /// Table 1, version 2, key `a`, value `y`.
-const NEWER: &str = "04 0000000000000001 0000000000000002 0001 00000001 61 79";
+pub const NEWER: &str = "04 0000000000000001 0000000000000002 0001 00000001 61 79";
 
 /// Table 1, version 3, key `d`, value `z`.
-const OTHER: &str = "04 0000000000000001 0000000000000003 0001 00000001 64 7a";
+pub const OTHER: &str = "04 0000000000000001 0000000000000003 0001 00000001 64 7a";
 
 /// A tombstone that names segment 1, which is closed.
-const OF_CLOSED: &str = "05 0000000000000001 0000000000000001 0000000000000001 0001 62";
+pub const OF_CLOSED: &str = "05 0000000000000001 0000000000000001 0000000000000001 0001 62";
 
 /// One that names segment 4, the head that is being opened.
-const OF_NEW: &str = "05 0000000000000001 0000000000000001 0000000000000004 0001 65";
+pub const OF_NEW: &str = "05 0000000000000001 0000000000000001 0000000000000004 0001 65";
 
 /// One that names segment 7, which left the log.
 const OF_LEFT: &str = "05 0000000000000001 0000000000000002 0000000000000007 0001 63";
 
 /// What the segment has, and what it keeps.
-const BEFORE: &[&str] = &[FIRST, OBJECT, OF_CLOSED, OF_LEFT, NEWER, OF_NEW, OTHER];
+pub const BEFORE: &[&str] = &[FIRST, OBJECT, OF_CLOSED, OF_LEFT, NEWER, OF_NEW, OTHER];
 
 const AFTER: &[&str] = &[FIRST, OF_CLOSED, NEWER, OF_NEW, OTHER];
 
@@ -65,7 +65,7 @@ fn object_at(segment: &Segment, at: usize) -> Option<ObjectRef<'_>>
 }
 
 /// Sets the place of the object at an offset of segment 1.
-fn set(index: &mut Index, segment: &Segment, at: usize) -> bool {
+pub fn set(index: &mut Index, segment: &Segment, at: usize) -> bool {
     let image = Image { segment };
     let place = Place { segment: 1, at };
     if index.reserve(1).is_err() {

@@ -1,5 +1,5 @@
-//! The tests of all crates: vectors of entries and of segments, images in memory, the index, compaction, the lines of
-//! scripts, ops on backups, plans and rebuilt logs from replicas that are made by hand, runs of masters, drills,
+//! The tests of all crates: vectors of entries and of segments, images in memory, the index, compaction, a pass, the
+//! lines of scripts, ops on backups, plans and rebuilt logs from replicas that are made by hand, runs of masters, drills,
 //! comparisons with the plain programs, and whole scripts.
 #![tactic(auto)]
 
@@ -7,6 +7,8 @@
 mod asks;
 #[cfg(test)]
 mod backups;
+#[cfg(test)]
+mod cleaned_scripts;
 #[cfg(test)]
 mod compacted_scripts;
 #[cfg(test)]
@@ -23,6 +25,8 @@ mod indexes;
 mod lines_of_scripts;
 #[cfg(test)]
 mod options;
+#[cfg(test)]
+mod passes;
 #[cfg(test)]
 mod plans;
 #[cfg(test)]

@@ -1,6 +1,7 @@
 //! Lines are read and parsed.
 
 use lines::*;
+use std::alloc::Global;
 use std::io::{self, BufRead, BufReader, ErrorKind, Read};
 use std::test::Fail;
 
@@ -31,6 +32,16 @@ const GOOD: &[(&str, &str)] = &[
     ("lose 64", "Some(Lose { backup: 64 })"),
     ("compact 2", "Some(Compact { segment: 2 })"),
     ("recover", "Some(Recover)"),
+    ("clean 1", "Some(Clean { segments: [1] })"),
+    ("clean 3 0 2", "Some(Clean { segments: [3, 0, 2] })"),
+    (
+        "begin 18446744073709551615",
+        "Some(Begin { segments: [18446744073709551615] })",
+    ),
+    ("begin 2 2 10", "Some(Begin { segments: [2, 2, 10] })"),
+    ("copy", "Some(Copy)"),
+    ("seal", "Some(Seal)"),
+    ("free", "Some(Free)"),
 ];
 
 /// Bad lines.
@@ -65,6 +76,21 @@ const BAD: &[&[u8]] = &[
     b"compact",
     b"compact 1 2",
     b"crash 1",
+    b"clean",
+    b"clean ",
+    b"clean x",
+    b"clean 1  2",
+    b"clean 1 2 ",
+    b"clean 1 18446744073709551616",
+    b"begin",
+    b"begin  1",
+    b"begin 01",
+    b"begin 1 x",
+    b"begin 1 -2",
+    b"copy 1",
+    b"seal 1",
+    b"free 1",
+    b"frees",
     b"recover reverse",
     b" # no comment",
     b"get 1 \xff",
@@ -77,6 +103,25 @@ fn good_lines_are_parsed(rt: HostRuntime) -> Result<(), Fail> {
         let said = format!(in rt.alloc(); "{:?}", parse_line(text.as_bytes()))?;
         assert_eq!(rt; said.as_str(), *want, "{text}");
     }
+    Ok(())
+}
+
+/// The segments of a line that has several.
+fn segments(alloc: Global, text: &str) -> Result<Vec<u64>, Fail> {
+    match parse_line(text.as_bytes()) {
+        Some(Line::Begin { segments }) | Some(Line::Clean { segments }) => Ok(segments.collect(
+            alloc,
+        )?),
+        _ => Ok(Vec::new(alloc)),
+    }
+}
+
+const SEGMENTS: &[u64] = &[30, 4, u64::MAX, 4];
+
+#[test]
+fn segments_come_in_order(rt: HostRuntime) -> Result<(), Fail> {
+    let ids = segments(rt.alloc(), "begin 30 4 18446744073709551615 4")?;
+    assert_eq!(rt; ids.as_slice(), SEGMENTS);
     Ok(())
 }
 

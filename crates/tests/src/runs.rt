@@ -34,6 +34,12 @@ fn kind(answer: &Result<StepAnswer, Refusal>) -> Kind {
         Ok(StepAnswer::Closed(backup, segment)) => ("closed", *backup, *segment),
         Ok(StepAnswer::Rolling(segment)) => ("rolling", *segment, 0),
         Ok(StepAnswer::Compacted(segment, len)) => ("compacted", *segment, *len),
+        Ok(StepAnswer::Begun(segment)) => ("begun", *segment, 0),
+        Ok(StepAnswer::Moved) => ("moved", 0, 0),
+        Ok(StepAnswer::Carried) => ("carried", 0, 0),
+        Ok(StepAnswer::Dropped) => ("dropped", 0, 0),
+        Ok(StepAnswer::Sealed(backup)) => ("sealed", *backup, 0),
+        Ok(StepAnswer::Freed(segment, backup)) => ("freed", *backup, *segment),
         Err(Refusal::Nothing) => ("nothing", 0, 0),
         Err(_) => ("refused", 0, 0),
     }

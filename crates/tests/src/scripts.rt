@@ -131,7 +131,7 @@ const BAD_LINES: &[(&str, &str, u64)] = &[
     ("put 1 a  x\n", "", 1),
     ("put 1 a x\r\n", "", 1),
     ("put 1 \0 x\n", "", 1),
-    ("get 1 a\nclean 1\n", "none\n", 2),
+    ("get 1 a\nwill\n", "none\n", 2),
     ("crash\nlose 3\n", "crashed\n", 2),
     ("crash\n\nrecover reverse\n", "crashed\n", 3),
 ];

@@ -1,8 +1,10 @@
-//! Images in memory: each call once, and a run of heads whose sum is counted anew after each step.
+//! Images in memory: each call once, an image added between two others, and a run of heads whose sum is counted anew
+//! after each step.
 
-ghost use Rattle.std.specs.Prelude.{◌≡◌, ◌+◌, ◌≤◌, ℕ, length, OnOk, IfOk};
-ghost use Rattle.entry.specs.Text.{text_of};
+ghost use Rattle.std.specs.Prelude.{◌≡◌, ◌+◌, ◌<◌, ◌≤◌, ℕ, true, length, OnOk, IfOk, IsSomeAnd};
+ghost use Rattle.entry.specs.Text.{text_of, is_data};
 ghost use Rattle.images.specs.Sorted.{AreBelow, IsWhole};
+ghost use Rattle.images.specs.Steps.{entry_at};
 
 use crate::vectors::{OBJECT, bytes_of};
 use entry::{EntryRef, Ids, SafeVersion};
@@ -60,7 +62,7 @@ fn begin(
     ensures segment { OnOk result (images.new.segment ≡ 512) }
 {
     let head = new_head(alloc, id)?;
-    images.reserve()?;
+    images.reserve(1)?;
     match images.add(id, head, true) {
         Ok(()) => Ok(fill(images, id, object, times)),
         Err(_) => Ok(0),
@@ -139,4 +141,84 @@ fn each_call_counts(rt: HostRuntime) -> Result<(), Fail> {
     let object = bytes_of(rt.alloc(), &[OBJECT])?;
     let mut images = Images::new(rt.alloc(), 512, 64, 40);
     calls(rt.alloc(), &mut images, object.as_slice())
+}
+
+/// Adds a whole image, if there is none of its number and there is room. The answer is whether it was added.
+fn add(images: &mut Images, id: u64, head: Segment) -> bool
+    requires within { length (text_of head) ≤ 512 }
+    requires segment { images.old.segment ≡ 512 }
+    ensures whole { result ≡ true → IsWhole images.new.images id }
+    ensures segment { images.new.segment ≡ 512 }
+{
+    if images.get(id).is_some() {
+        return false;
+    }
+    match images.add(id, head, true) {
+        Ok(()) => true,
+        Err(_) => false,
+    }
+}
+
+/// Whether an object is at an offset of an image.
+fn has_object(images: &Images, id: u64, at: usize) -> bool
+    ensures { result ≡ true → IsSomeAnd (entry_at images.now.images id at) (λ e. is_data e ≡ true) }
+{
+    let Some(segment) = images.get(id) else {
+        return false;
+    };
+    match segment.entry_at(at) {
+        Some(EntryRef::Object(_)) => true,
+        _ => false,
+    }
+}
+
+/// Copies the object at an offset of one image to a later one. The answer is its offset there.
+fn copy(images: &mut Images, from: u64, at: usize, to: u64) -> Option<usize>
+    requires order { from < to }
+    requires whole { IsWhole images.old.images to }
+    ensures segment { images.new.segment ≡ images.old.segment }
+{
+    if !has_object(images, from, at) {
+        return None;
+    }
+    match images.copy_entry(from, at, to) {
+        Ok(at) => Some(at),
+        Err(_) => None,
+    }
+}
+
+/// Whether these are the images, in order.
+fn are(images: &Images, first: u64, second: u64, third: u64) -> bool {
+    match images.as_slice() {
+        [a, b, c] => a.id == first && b.id == second && c.id == third,
+        _ => false,
+    }
+}
+
+/// The second of two objects in image 1 goes to image 3, and image 2 comes between them.
+fn copies(alloc: Global, images: &mut Images, object: &[u8]) -> Result<(), Fail>
+    requires below { AreBelow 1 images.old.images }
+    requires segment { images.old.segment ≡ 512 }
+{
+    begin(alloc, images, 1, object, 2)?;
+    if !add(images, 3, new_head(alloc, 3)?) {
+        Err("no room")?;
+    }
+    if copy(images, 1, 65, 3) != Some(40) || !has_object(images, 3, 40) {
+        Err("no copy")?;
+    }
+    if !add(images, 2, new_head(alloc, 2)?) || !are(images, 1, 2, 3) {
+        Err("another order")?;
+    }
+    if add(images, 2, new_head(alloc, 2)?) || counts(images) != (24, 16, 24) {
+        Err("an image twice")?;
+    }
+    Ok(())
+}
+
+#[test]
+fn an_image_comes_at_its_place(rt: HostRuntime) -> Result<(), Fail> {
+    let object = bytes_of(rt.alloc(), &[OBJECT])?;
+    let mut images = Images::new(rt.alloc(), 512, 64, 40);
+    copies(rt.alloc(), &mut images, object.as_slice())
 }
