@@ -73,6 +73,11 @@ LINES = {
     "get": (number_word, key_word),
     "del": (number_word, key_word),
     "compact": (number_word,),
+    "clean": (number_word, ...),
+    "begin": (number_word, ...),
+    "copy": (),
+    "seal": (),
+    "free": (),
     "roll": (),
     "beginroll": (),
     "push": (),
@@ -101,10 +106,14 @@ def parse(line, backups):
         return ("idle",)
     name, *words = line.split(b" ")
     name = name.decode("latin-1")
-    if name not in LINES or len(words) != len(LINES[name]):
+    readers = LINES.get(name)
+    if readers and readers[-1] is ...:
+        # One word or more of the kind.
+        readers = readers[:1] * max(1, len(words))
+    if readers is None or len(words) != len(readers):
         return None
     try:
-        parts = [read(given) for read, given in zip(LINES[name], words)]
+        parts = [read(given) for read, given in zip(readers, words)]
     except ValueError:
         return None
     if name == "lose" and parts[0] >= backups:
@@ -289,6 +298,11 @@ class Fleet:
         left = self.left if self.left == NO_LIMIT else self.left - 1
         return Fleet(tuple(sorted([*others, holding], key=Holding.name)), left)
 
+    def freed(self, holding):
+        """The fleet after an op that frees this holding."""
+        left = self.left if self.left == NO_LIMIT else self.left - 1
+        return Fleet(tuple(it for it in self.holdings if it.name() != holding.name()), left)
+
 
 # The master (sections 7 to 9).
 
@@ -331,12 +345,32 @@ class Live:
 
 
 @dataclass(frozen=True)
+class Pass:
+    """An open pass of the cleaner."""
+
+    victims: tuple
+    survivor: Segment
+    # What is still to be treated: a victim's id and an entry of its, each.
+    rest: tuple
+    # How many replicas of the survivor are sealed.
+    sealed: int = 0
+    # The roll that is under way is the pass's commit.
+    is_committing: bool = False
+
+
+@dataclass(frozen=True)
 class Master:
     # By id. The last is the head or, while a roll is under way, the head that is being opened.
     segments: tuple = (new_head((1,), 1),)
     is_rolling: bool = True
     records: int = 0
     safe: int = 1
+    # The first id that no segment had yet.
+    next: int = 2
+    cleaning: Pass = None
+    # Victims of earlier passes, in the order in which they are freed, and how many replicas of the first were freed.
+    waiting: tuple = ()
+    freed: int = 0
     # What is live, by table and key. It follows from the segments.
     live: dict = field(default_factory=dict, compare=False)
 
@@ -380,30 +414,108 @@ class Master:
             return "Full"
         return "Rolling" if self.is_rolling or not fits else None
 
+    def is_ready(self, options):
+        """Whether a pass is ready for its commit."""
+        return self.cleaning and not self.cleaning.rest and self.cleaning.sealed == options.replicas
+
     def may_roll(self, options, whole_ones):
         """Whether a roll may begin that leaves so many whole segments free."""
+        if self.is_ready(options):
+            return True
         ids, most = len(self.segments), options.segment // 32
+        leaving, taken = (len(self.cleaning.victims), 1) if self.cleaning else (1, 0)
         free = options.seglets - self.used(options)
-        needed = whole_ones * (options.segment // options.seglet) + seglets(self.segments[-1], options)
-        return ids + 1 <= most and ids + 1 <= most - 2 + 1 and needed <= free
+        needed = (whole_ones - taken) * (options.segment // options.seglet) + seglets(self.segments[-1], options)
+        return ids + 1 <= most and ids + 1 <= most - 2 + leaving and needed <= free
+
+    def is_kept(self, segment, entry):
+        """Whether the cleaners keep an entry of this segment."""
+        if isinstance(entry, Object):
+            live = self.live.get((entry.table, entry.key))
+            return live is not None and (live.segment, live.version) == (segment, entry.version)
+        if isinstance(entry, Tombstone):
+            survivor = {self.cleaning.survivor.id} if self.cleaning else set()
+            return entry.segment in survivor.union(it.id for it in self.segments)
+        return True
 
     def compacted(self, segment):
         """The master after the compaction of a closed segment: its image has the kept entries alone."""
-        ids = {it.id for it in self.segments}
-
-        def is_kept(entry):
-            if isinstance(entry, Object):
-                live = self.live.get((entry.table, entry.key))
-                return live is not None and (live.segment, live.version) == (segment.id, entry.version)
-            return not isinstance(entry, Tombstone) or entry.segment in ids
-
-        text = b"".join(entry.spelled() for entry in read_segment(segment.text) if is_kept(entry))
+        entries = (entry for entry in read_segment(segment.text) if self.is_kept(segment.id, entry))
+        text = b"".join(entry.spelled() for entry in entries)
         segments = tuple(replace(it, text=text) if it is segment else it for it in self.segments)
         return replace(self, segments=segments)
 
     def used(self, options):
-        """How many seglets are counted: the last segment whole, and each other one by its length."""
-        return options.segment // options.seglet + sum(seglets(it, options) for it in self.segments[:-1])
+        """How many seglets are counted: the last segment and a survivor whole, and each other one by its length."""
+        whole = options.segment // options.seglet
+        return whole * (2 if self.cleaning else 1) + sum(seglets(it, options) for it in self.segments[:-1])
+
+    # Passes.
+
+    def heads(self):
+        """The ids of the head in force and of the head that is being opened."""
+        return {self.log()[-1].id, self.segments[-1].id}
+
+    def victims_refusal(self, ids):
+        """Why these segments may not be the victims of a pass, or None."""
+        if self.cleaning:
+            return "PassOpen"
+        if len(ids) > 8:
+            return "TooMany"
+        for place, id_ in enumerate(ids):
+            if id_ in ids[:place]:
+                return f"Twice {id_}"
+            if id_ in self.heads():
+                return f"IsHead {id_}"
+            if id_ not in {it.id for it in self.log()}:
+                return f"NotInLog {id_}"
+        return None
+
+    def rest_of(self, ids):
+        """The objects and tombstones of these segments, each with its segment."""
+        by_id = {it.id: it for it in self.segments}
+        return tuple((id_, entry) for id_ in ids for entry in read_segment(by_id[id_].text)
+                     if isinstance(entry, (Object, Tombstone)))
+
+    def pass_refusal(self, ids, options):
+        """The refusal of a pass with these victims, apart from NoMemory, or None."""
+        refusal = self.victims_refusal(ids)
+        if refusal:
+            return refusal
+        free = options.seglets - self.used(options)
+        if free < 2 * (options.segment // options.seglet) or len(self.segments) - len(ids) + 2 > options.segment // 32:
+            return "Full"
+        kept = sum(len(entry.spelled()) for id_, entry in self.rest_of(ids) if self.is_kept(id_, entry))
+        return "TooMuch" if kept + 18 > options.segment else None
+
+    def cleaned(self, ids):
+        """The master after the begin of a pass."""
+        survivor = Segment(self.next, Header(MASTER, self.next, 1).spelled())
+        return replace(self, next=self.next + 1, cleaning=Pass(ids, survivor, self.rest_of(ids)))
+
+    def copied(self):
+        """What became of the next entry of the pass, and the master after that."""
+        (id_, entry), *rest = self.cleaning.rest
+        survivor, live, what = self.cleaning.survivor, self.live, "dropped"
+        if self.is_kept(id_, entry):
+            survivor = replace(survivor, text=survivor.text + entry.spelled())
+            what = "carried"
+            if isinstance(entry, Object):
+                name = (entry.table, entry.key)
+                live = {**live, name: replace(live[name], segment=survivor.id)}
+                what = "moved"
+        cleaning = replace(self.cleaning, survivor=survivor, rest=tuple(rest))
+        return what, replace(self, cleaning=cleaning, live=live)
+
+    def rolled(self):
+        """The master once a roll has ended. With a commit the victims leave, and the survivor comes."""
+        if not (self.cleaning and self.cleaning.is_committing):
+            return replace(self, is_rolling=False)
+        victims = self.cleaning.victims
+        segments = [it for it in self.segments if it.id not in victims] + [self.cleaning.survivor]
+        return replace(
+            self, is_rolling=False, cleaning=None, segments=tuple(sorted(segments, key=lambda it: it.id)),
+            waiting=(*self.waiting, *sorted(victims)))
 
     def applied(self, command):
         """The reply to a command that isn't refused, and the master after it."""
@@ -424,11 +536,14 @@ class Master:
         segments = (*self.segments[:-1], head)
         return reply, replace(self, segments=segments, records=self.records + 1, safe=safe, live=live)
 
-    def rolling(self):
+    def rolling(self, is_ready):
         """The master after the begin of a roll."""
-        ids = tuple(it.id for it in self.segments)
-        head = new_head((*ids, ids[-1] + 1), self.safe)
-        return replace(self, segments=(*self.segments, head), is_rolling=True)
+        ids, cleaning = [it.id for it in self.segments], self.cleaning
+        if cleaning and is_ready:
+            ids = sorted({*ids, cleaning.survivor.id}.difference(cleaning.victims))
+            cleaning = replace(cleaning, is_committing=True)
+        head = new_head((*ids, self.next), self.safe)
+        return replace(self, segments=(*self.segments, head), next=self.next + 1, is_rolling=True, cleaning=cleaning)
 
 
 # Recovery (section 10).
@@ -546,12 +661,13 @@ class Store:
         yield f"{reply}\n", 0, store
 
     def line_compact(self, segment):
-        heads = {self.master.log()[-1].id, self.master.segments[-1].id}
         image = next((it for it in self.master.log() if it.id == segment), None)
-        if segment in heads:
+        if segment in self.master.heads():
             yield f"refused IsHead {segment}\n", 0, self
         elif not image:
             yield f"refused NotInLog {segment}\n", 0, self
+        elif self.master.cleaning and segment in self.master.cleaning.victims:
+            yield "refused PassOpen\n", 0, self
         else:
             yield REFUSED, 1, self
             master = self.master.compacted(image)
@@ -576,7 +692,101 @@ class Store:
         if store:
             yield f"{self.pushed()[0]}\n", 0, store
 
+    def line_begin(self, *ids):
+        store = yield from self.pass_begun(ids)
+        if store:
+            yield f"begun {store.master.cleaning.survivor.id}\n", 0, store
+
+    def line_copy(self):
+        if not (self.master.cleaning and self.master.cleaning.rest):
+            yield "refused Nothing\n", 0, self
+            return
+        store = yield from self.one_copy()
+        yield f"{self.master.copied()[0]}\n", 0, store
+
+    def line_seal(self):
+        home = self.next_seal()
+        if home is None:
+            yield "refused Nothing\n", 0, self
+            return
+        store = yield from self.one_seal()
+        if store:
+            yield f"sealed {home}\n", 0, store
+
+    def line_free(self):
+        home = self.next_free()
+        if home is None:
+            yield "refused Nothing\n", 0, self
+            return
+        store = yield from self.one_free()
+        if store:
+            yield f"freed {self.master.waiting[0]} {home}\n", 0, store
+
+    def line_clean(self, *ids):
+        store = yield from self.pass_begun(ids)
+        if not store:
+            return
+        survivor = store.master.cleaning.survivor.id
+        while store.master.cleaning.rest:
+            store = yield from store.one_copy()
+        while store and store.next_seal() is not None:
+            store = yield from store.one_seal()
+        while store and store.master.is_rolling:
+            store = yield from store.one_push()
+        store = store and (yield from store.rolled())
+        while store and store.next_free() is not None:
+            store = yield from store.one_free()
+        if store:
+            yield f"cleaned {survivor} {store.master.segments[-1].id}\n", 0, store
+
     # The parts of a line. Each yields the answers that end the line, and returns the store if the line goes on.
+
+    def pass_begun(self, ids):
+        refusal = self.master.pass_refusal(ids, self.options)
+        if refusal:
+            yield f"refused {refusal}\n", 0, self
+            return None
+        yield REFUSED, 1, self
+        return replace(self, master=self.master.cleaned(ids))
+
+    def one_copy(self):
+        yield REFUSED, 1, self
+        return replace(self, master=self.master.copied()[1])
+
+    def next_seal(self):
+        """The backup on which the next replica of a survivor is sealed, or None."""
+        cleaning = self.master.cleaning
+        if not cleaning or cleaning.rest or cleaning.sealed == self.options.replicas:
+            return None
+        return self.homes(cleaning.survivor.id)[cleaning.sealed]
+
+    def one_seal(self):
+        if self.fleet.left == 0:
+            yield self.stopped()
+            return None
+        yield REFUSED, 1, self
+        cleaning = self.master.cleaning
+        holding = Holding(self.next_seal(), MASTER, cleaning.survivor.id, cleaning.survivor.text, False)
+        master = replace(self.master, cleaning=replace(cleaning, sealed=cleaning.sealed + 1))
+        return replace(self, fleet=self.fleet.took(holding), master=master)
+
+    def next_free(self):
+        """The backup on which the next replica of what waits is freed, or None."""
+        return self.homes(self.master.waiting[0])[self.master.freed] if self.master.waiting else None
+
+    def one_free(self):
+        if self.fleet.left == 0:
+            yield self.stopped()
+            return None
+        first, *others = self.master.waiting
+        fleet, freed = self.fleet.freed(self.fleet.replica(self.next_free(), first)), self.master.freed + 1
+        if freed == self.options.replicas:
+            return replace(self, fleet=fleet, master=replace(self.master, waiting=tuple(others), freed=0))
+        return replace(self, fleet=fleet, master=replace(self.master, freed=freed))
+
+    def stopped(self):
+        """What a line prints if the fleet takes no more ops, and the store then."""
+        return "stopped\n", 0, replace(self, master=None, fleet=replace(self.fleet, left=NO_LIMIT))
 
     def begun(self):
         if self.master.is_rolling:
@@ -585,7 +795,7 @@ class Store:
             yield "refused Full\n", 0, self
         else:
             yield REFUSED, 1, self
-            return replace(self, master=self.master.rolling())
+            return replace(self, master=self.master.rolling(self.master.is_ready(self.options)))
         return None
 
     def rolled(self):
@@ -597,7 +807,7 @@ class Store:
 
     def one_push(self):
         if self.fleet.left == 0:
-            yield "stopped\n", 0, replace(self, master=None, fleet=replace(self.fleet, left=NO_LIMIT))
+            yield self.stopped()
             return None
         yield REFUSED, 1, self
         return self.pushed()[1]
@@ -635,7 +845,7 @@ class Store:
             is_opened = all(store.fleet.replica(backup, new.id) for backup in self.homes(new.id))
             is_closed = old is new or not any(store.fleet.replica(backup, old.id).is_open for backup in self.homes(old.id))
             if is_opened and is_closed:
-                store = replace(store, master=replace(self.master, is_rolling=False))
+                store = replace(store, master=self.master.rolled())
         return f"{act} {holding.backup} {holding.segment}", store
 
     def durable(self):
@@ -655,7 +865,8 @@ class Store:
         yield f"used {used} free {self.options.seglets - used}\n", 0, self
 
     def line_hex(self, segment):
-        image = next((it for it in self.master.segments if it.id == segment), None)
+        survivor = [self.master.cleaning.survivor] if self.master.cleaning else []
+        image = next((it for it in (*self.master.segments, *survivor) if it.id == segment), None)
         if not image:
             yield f"refused NotInLog {segment}\n", 0, self
             return
