@@ -1,15 +1,34 @@
 //! A pass of a master: it begins, copies entry by entry, and its survivor is sealed. What it leaves is freed.
 
-ghost use Rattle.std.specs.Prelude.{IfOk, IfErr};
+ghost use Rattle.std.specs.Prelude.{◌≡◌, None, IfOk, IfErr, OnErr};
+ghost use Rattle.master_core.specs.Choosing.{chosen, next_step, NeedsChoice};
 ghost use Rattle.master.specs.Steps.{Accepts, Declines};
 ghost use Rattle.master.specs.World.{world};
 
 use crate::master::Master;
-use entry::Row;
+use entry::{NoMemory, Row};
 use master_core::{Refusal, Step, StepAnswer};
 use replica::{Act, Fleet, Op};
 
 impl<F: Fleet> Master<F> {
+    /// The segments that keep the fewest bytes, as many as fit one survivor, and at most 8; of as many bytes the lowest
+    /// number first. They are of the digest in force, and no heads. Nothing changes.
+    pub fn choose(&self) -> Result<Vec<u64>, NoMemory>
+        ensures { IfOk result (λ ids. ids.items ≡ chosen self.now.knows) }
+    {
+        self.core.choose()
+    }
+
+    /// The step that a cleaner makes next: an open pass goes on, then a roll, then what waits is freed, and then the next
+    /// pass begins, if it may and has victims. `None` if nothing is to be done. It is never a command. Nothing changes,
+    /// and only a choice of victims takes memory.
+    pub fn next_step(&self) -> Result<Option<Step>, NoMemory>
+        ensures next { IfOk result (λ step. step ≡ next_step self.now.knows) }
+        ensures refused { OnErr result ((self.now.knows.pass ≡ None) × NeedsChoice self.now.knows) }
+    {
+        self.core.next_step()
+    }
+
     /// Begins a pass over these victims.
     pub(crate) fn begin_clean(&mut self, victims: Row<u64>) -> Result<StepAnswer, Refusal>
         ensures accepted { IfOk result (λ a.

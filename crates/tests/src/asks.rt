@@ -4,10 +4,11 @@ use entry::{Key, Value};
 use master::{Command, If, Step};
 use std::alloc::Global;
 
-/// A push, or a command on a key of table 1.
+/// A push, the begin of a roll, or a command on a key of table 1.
 #[derive(Clone, Copy)]
 pub enum Ask {
     Push,
+    Roll,
     Get(&'static str),
     Put(&'static str, u8, If),
     Delete(&'static str),
@@ -25,6 +26,7 @@ fn put(alloc: Global, text: &str, byte: u8, when: If) -> Option<Command> {
 pub fn step_of(alloc: Global, ask: &Ask) -> Option<Step> {
     let command = match ask {
         Ask::Push => return Some(Step::Push),
+        Ask::Roll => return Some(Step::BeginRoll),
         Ask::Get(key) => Command::Get(key_of(alloc, key)?),
         Ask::Put(key, byte, when) => put(alloc, key, *byte, *when)?,
         Ask::Delete(key) => Command::Delete(key_of(alloc, key)?),

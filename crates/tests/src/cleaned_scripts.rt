@@ -1,6 +1,8 @@
 //! Whole scripts with passes of the cleaner.
 
 use crate::scripts::{RAMLOG, ran};
+use std::alloc::AllocError;
+use std::fmt::Write;
 use std::test::Fail;
 
 /// A script, and what the run writes.
@@ -85,5 +87,38 @@ fn passes_empty_segments(rt: HostRuntime) -> Result<(), Fail> {
         let want = format!(in rt.alloc(); "{output}0")?;
         assert_eq!(rt; ran.as_str(), want.as_str(), "{script}");
     }
+    Ok(())
+}
+
+/// A value of 76 letters, the longest that a put of a key of one byte may have here.
+const LONG: &str = "xxxxxxxxxxxxxxxxxxxxxxxxxxxxxxxxxxxxxxxxxxxxxxxxxxxxxxxxxxxxxxxxxxxxxxxxxxxx";
+
+/// Sixteen puts of the long value, one pass, and one more put.
+fn write_full(script: &mut String) -> Result<(), AllocError> {
+    for _ in 0..16 {
+        write!(script, "put 1 a {LONG}\n")?;
+    }
+    write!(script, "room\nget 1 a\nclean 1\nroom\nput 1 a {LONG}\n")
+}
+
+/// The last of the sixteen finds the log full. A pass makes room for the next.
+fn write_cleaned(output: &mut String) -> Result<(), AllocError> {
+    for version in 1..16 {
+        write!(output, "ok {version}\n")?;
+    }
+    write!(
+        output,
+        "refused Full\nused 36 free 28\n15 {LONG}\ncleaned 6 7\nused 39 free 25\nok 16\n0"
+    )
+}
+
+#[test]
+fn a_pass_makes_room(rt: HostRuntime) -> Result<(), Fail> {
+    let mut script = String::new(rt.alloc());
+    write_full(&mut script)?;
+    let mut want = String::new(rt.alloc());
+    write_cleaned(&mut want)?;
+    let ran = ran(rt.alloc(), RAMLOG, &mut script.as_bytes())?;
+    assert_eq!(rt; ran.as_str(), want.as_str());
     Ok(())
 }

@@ -1,6 +1,6 @@
 //! The tests of all crates: vectors of entries and of segments, images in memory, the index, compaction, a pass, the
-//! lines of scripts, ops on backups, plans and rebuilt logs from replicas that are made by hand, runs of masters, drills,
-//! comparisons with the plain programs, and whole scripts.
+//! lines of scripts, ops on backups, plans and rebuilt logs from replicas that are made by hand, runs of masters, turns
+//! of a cleaner, drills, comparisons with the plain programs, and whole scripts.
 #![tactic(auto)]
 
 #[cfg(test)]
@@ -43,5 +43,7 @@ mod scripts;
 mod seglets;
 #[cfg(test)]
 mod segments;
+#[cfg(test)]
+mod turns;
 #[cfg(test)]
 mod vectors;

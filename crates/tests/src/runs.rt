@@ -24,9 +24,9 @@ pub fn new_master(alloc: Global) -> Result<Master<MemoryFleet>, Fail> {
 }
 
 /// What a step did, and its two numbers: backup and segment, segment and length, or place in the history and 0.
-type Kind = (&'static str, u64, u64);
+pub type Kind = (&'static str, u64, u64);
 
-fn kind(answer: &Result<StepAnswer, Refusal>) -> Kind {
+pub fn kind(answer: &Result<StepAnswer, Refusal>) -> Kind {
     match answer {
         Ok(StepAnswer::Opened(backup, segment)) => ("opened", *backup, *segment),
         Ok(StepAnswer::Applied(place, _)) => ("applied", *place, 0),
