@@ -8,6 +8,7 @@ ghost use Rattle.entry.specs.Key.{IsKeyBytes, place_of};
 ghost use Rattle.entry.specs.Order.{key_cmp, key_cmp_total, key_eq_ties};
 
 use crate::fault::{KeyFault, NoMemory};
+use crate::view::KeyRef;
 use std::alloc::Global;
 use std::cmp::Ordering;
 use std::marker::Model;
@@ -91,6 +92,15 @@ pub fn place(key: &Key) -> u64
     ensures { result ≡ place_of key.now.bytes }
 {
     place_at(key.bytes.as_slice())
+}
+
+impl<'a> KeyRef<'a> {
+    /// The place of the key in its table.
+    pub fn place(&self) -> u64
+        ensures { result ≡ place_of self.now.bytes.now }
+    {
+        place_at(self.bytes)
+    }
 }
 
 impl PartialEq for KeyBytes {

@@ -21,6 +21,6 @@ pub use laws::{one_reading, one_spelling, one_tablet};
 pub use limits::{Ids, MAX_VALUE_LEN, SafeVersion, Value, Version};
 pub use reading::read_entry;
 pub use row::Row;
-pub use tablet::{Size, Tablet, Tablets};
+pub use tablet::{Size, Tablet, Tablets, are_tablets};
 pub use view::{DigestRef, EntryRef, KeyRef, ObjectRef, TombstoneRef};
 pub use writing::write_entry;

@@ -63,13 +63,19 @@ impl Row<Tablet> {
     pub fn are_valid(&self) -> bool
         ensures { result ≡ are_tablets self.now }
     {
-        let tablets = self.as_slice();
-        !tablets.is_empty() && are_in_order(tablets)
+        are_tablets(self.as_slice())
     }
 }
 
 ghost use Rattle.std.specs.Prelude.{◌<◌, length};
-ghost use Rattle.entry.specs.Tablet.{are_in_order as in_order};
+ghost use Rattle.entry.specs.Tablet.{are_in_order as in_order, are_tablets as are_valid};
+
+/// Whether there are some, each begins no later than it ends, and they are sorted and disjoint.
+pub fn are_tablets(tablets: &[Tablet]) -> bool
+    ensures { result ≡ are_valid tablets.now }
+{
+    !tablets.is_empty() && are_in_order(tablets)
+}
 
 fn are_in_order(tablets: &[Tablet]) -> bool
     requires { 0 < length tablets.now }
