@@ -2,4 +2,7 @@ mod Places
 mod Pictures
 mod Held
 mod Rising
+mod Others
+mod Taking
 pub mod Empty
+pub mod Divisions

@@ -1,4 +1,8 @@
 pub mod Acts
 pub mod Inventory
+pub mod Retire
 pub mod Shelf
 pub mod State
+pub mod Groups
+pub mod Texts
+pub mod Division

@@ -4,7 +4,7 @@ ghost use Rattle.std.specs.Prelude.{◌≤◌};
 
 use crate::memory::MemoryBackup;
 use entry::NoMemory;
-use replica::{Bench, Fleet, Holding, Inventory, Op, TakeFault};
+use replica::{Act, Bench, Fleet, Holding, Inventory, Op, Spot, TakeFault};
 use std::alloc::Global;
 
 /// Backups in memory, numbered from 0.
@@ -21,6 +21,7 @@ pub struct MemoryFleet {
 impl MemoryFleet {
     ghost use Rattle.std.specs.Prelude.{◌≡◌, ◌≤◌, IfOk};
     ghost use Rattle.replica.specs.Picture.{AreHeld};
+    ghost use Rattle.replica.specs.Retire.{AreOthers};
     ghost use Rattle.backup.specs.Inventory.{IsRising};
     ghost use Rattle.backup.specs.State.{fleet_state, new_fleet, lost};
 
@@ -69,6 +70,17 @@ impl MemoryFleet {
             memory.show(alloc, backup as u64, &mut list)?;
         }
         Ok(Inventory::new(list))
+    }
+
+    /// Where the replicas of other masters than `keep` are, by backup, then by master, then by segment.
+    fn others(&self, keep: u64) -> Result<Vec<Spot>, NoMemory>
+        ensures { IfOk result (λ spots. AreOthers spots.items (fleet_state self.now).picture keep) }
+    {
+        let mut list = Vec::new(self.alloc);
+        for (backup, memory) in self.backups.iter().enumerate() {
+            memory.list_others(keep, backup as u64, &mut list)?;
+        }
+        Ok(list)
     }
 }
 
@@ -134,5 +146,23 @@ impl Fleet for MemoryFleet {
 impl Bench for MemoryFleet {
     fn limit(&mut self, n: u64) {
         self.end = self.takes.saturating_add(n);
+    }
+
+    fn retire(&mut self, keep: u64) -> Result<(), TakeFault> {
+        let Ok(spots) = self.others(keep) else {
+            return Err(TakeFault::NoMemory);
+        };
+        for spot in spots {
+            let op = Op {
+                master: spot.master,
+                segment: spot.segment,
+                act: Act::Free,
+            };
+            match self.take(spot.backup, &op) {
+                Ok(()) => {}
+                Err(fault) => return Err(fault),
+            }
+        }
+        Ok(())
     }
 }

@@ -4,9 +4,15 @@
 //! the picture of what its backups hold.
 #![tactic(auto)]
 
+mod dividing;
+mod fault;
 mod fleet;
+mod group;
 mod memory;
 mod stored;
 
+pub use dividing::divide;
+pub use fault::DivideFault;
 pub use fleet::MemoryFleet;
+pub use group::Group;
 pub use memory::MemoryBackup;

@@ -3,11 +3,12 @@
 ghost use Rattle.std.specs.Prelude.{◌≡◌, ℕ, ◌++◌, OnOk, None};
 ghost use Rattle.replica.specs.Op.{shown_act, Extend, Close, Free};
 ghost use Rattle.backup.specs.Acts.{adding};
+ghost use Rattle.backup.specs.Retire.{spots_of_others};
 ghost use Rattle.backup.specs.Shelf.{replica_at, holdings_of, ActsAt, KeepsOthers, IsInOrder};
 
 use crate::stored::Stored;
 use entry::NoMemory;
-use replica::{Act, Holding, Op, TakeFault};
+use replica::{Act, Holding, Op, Spot, TakeFault};
 use std::alloc::Global;
 use std::collections::BTreeMap;
 
@@ -109,6 +110,25 @@ impl MemoryBackup {
     {
         for (place, stored) in &self.replicas {
             list.push(stored.show(alloc, backup, place.0, place.1)?)?;
+        }
+        Ok(())
+    }
+
+    /// Appends to a list where the replicas of other masters than `keep` are, by master, then by segment, as those of
+    /// the backup of this number. After NoMemory some have been appended.
+    pub fn list_others(&self, keep: u64, backup: u64, list: &mut Vec<Spot>) -> Result<(), NoMemory>
+        ensures listed { OnOk result
+            (list.new.items ≡ list.old.items ++ spots_of_others keep (holdings_of backup self.now)) }
+        ensures ordered { IsInOrder self.now }
+    {
+        for (place, _) in &self.replicas {
+            if place.0 != keep {
+                list.push(Spot {
+                    backup,
+                    master: place.0,
+                    segment: place.1,
+                })?;
+            }
         }
         Ok(())
     }

@@ -1,5 +1,6 @@
 pub mod Op
 pub mod Picture
 pub mod Take
+pub mod Retire
 pub mod Choice
 pub mod Survival

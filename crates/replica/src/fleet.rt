@@ -3,6 +3,7 @@
 ghost use Rattle.std.specs.Prelude.{◌≡◌, ◌≤◌, ℕ, [], IfOk};
 ghost use Rattle.replica.specs.Op.{shown_op};
 ghost use Rattle.replica.specs.Picture.{FleetState, AreHeldBy, IsOnce};
+ghost use Rattle.replica.specs.Retire.{Retires};
 ghost use Rattle.replica.specs.Take.{TakeGives, limited};
 
 use crate::holding::Holding;
@@ -41,9 +42,17 @@ pub trait Fleet {
         ensures { result ≡ (state self.now).faults };
 }
 
-/// A fleet whose takes can be limited, to stop a master after any of them.
+/// A fleet whose takes can be limited, to stop a master after any of them, and that can free what other masters left.
 pub trait Bench: Fleet {
     /// Lets the fleet take `n` further ops; then it is spent. The greatest number lifts the limit.
     fn limit(&mut self, n: u64)
         ensures { Self.state self.new ≡ limited (Self.state self.old) n };
+
+    /// Frees the replicas of all masters but `keep`: by backup, then by master, then by segment, one Free a take. It
+    /// ends at the first fault, and what was freed before stays freed. NoMemory may also come before the first take. No
+    /// replica of `keep` changes.
+    fn retire(&mut self, keep: u64) -> Result<(), TakeFault>
+        ensures retires { Retires (Self.state self.old) keep result (Self.state self.new) }
+        ensures same { (b s : ℕ) →
+            (Self.state self.new).picture b keep s ≡ (Self.state self.old).picture b keep s };
 }

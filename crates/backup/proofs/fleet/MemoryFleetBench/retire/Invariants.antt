@@ -1,0 +1,6 @@
+use Rattle.replica.specs.Retire.{FreesEach}
+use Rattle.backup.specs.State.{fleet_state}
+use Rattle.backup.proofs.fleet.MemoryFleetBench.retire.Given as goal
+
+abbrev pub invariant-loop-spot : goal.invariant-loop-spot
+invariant-loop-spot l = FreesEach (fleet_state l.initial.self) l.yielded (fleet_state l.self)
