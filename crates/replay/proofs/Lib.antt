@@ -3,3 +3,4 @@ pub mod ScanLemmas
 pub mod MeaningLemmas
 pub mod GatheringLemmas
 pub mod SiftLemmas
+pub mod ReplayLemmas

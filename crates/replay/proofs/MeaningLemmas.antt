@@ -242,6 +242,18 @@ bound_of-bag (es ∷ segments) = bound_of-front es (segments_bag segments) (boun
 
 -- ---- what a sort leaves
 
+pub AreClaims-from_kept : {X : Type 0} (view : X → Claimed) (es : List Entry) (after : List X)
+    → IsPermutation (claims_of es) (map view after) → IsSortedBy (before_by view) after →
+    AreClaims es (map view after)
+AreClaims-from_kept view es after moved sorted =
+    record {
+      up = Rises-from_sorted view after sorted;
+      only =
+          λ c m. among_permutation c (map view after) (claims_of es)
+          (IsPermutation-sym (claims_of es) (map view after) moved) m;
+      all = λ c m. among_permutation c (claims_of es) (map view after) moved m;
+    }
+
 pub AreClaims-from_sort : {X : Type 0} (view : X → Claimed) (es : List Entry) (before after : List X)
     → map view before ≡ claims_of es →
     IsPermutation before after → IsSortedBy (before_by view) after →
@@ -263,3 +275,7 @@ pub refused-for : (segments : List (List Entry)) (cs : List Claimed) (f : Replay
     IsRefusedFor (has_clash cs) f → IsRefusal segments f
 refused-for segments cs fault.NoMemory are h = tt
 refused-for segments cs fault.Clash are h = clash-unclean (segments_bag segments) cs are h
+refused-for segments cs (fault.Double segment) are h = absurd h
+refused-for segments cs fault.Stranger are h = absurd h
+refused-for segments cs (fault.MissingGroup segment) are h = absurd h
+refused-for segments cs (fault.Stray key) are h = absurd h

@@ -2,7 +2,7 @@
 use Rattle.std.specs.Prelude.{◌≡◌, ℕ, ◌+◌, max, List, [], ◌∷◌, Option, Some, None, Bool, true}
 use Rattle.std.specs.Prelude.{false, not, ◌==◌, ◌&&◌, ◌||◌, nat_eq, if◌then◌else◌, ⊤}
 use Rattle.std.specs.List.{filter_map}
-use Rattle.std.specs.Ordering.{nat_cmp, bool_cmp, ordering_then}
+use Rattle.std.specs.Ordering.{nat_cmp, bool_cmp, ordering_then, is_lt}
 use Rattle.std.specs.declared.cmp.Ordering.{Ordering}
 use Rattle.std.specs.Cmp.Lexicographic.{pointwise, slice_cmp}
 use Rattle.entry.specs.declared.key.Key.{Key}
@@ -56,6 +56,10 @@ claim_cmp a b =
     (ordering_then (nat_cmp a.version b.version)
     (ordering_then (bool_cmp a.dead b.dead) (slice_cmp nat_cmp a.value b.value)))
 
+-- the one comes before the other
+abbrev pub is_before : Claim → Claim → Bool
+is_before a b = is_lt (claim_cmp (claimed a) (claimed b))
+
 -- objects of one key and version with different values
 abbrev pub is_clash : Claimed → Claimed → Bool
 is_clash a b =
@@ -90,3 +94,4 @@ objects_in (c ∷ cs) = if c.dead then objects_in cs else object_of c ∷ object
 abbrev pub IsRefusedFor : Bool → ReplayFault → Type 0
 IsRefusedFor clash fault.NoMemory = ⊤
 IsRefusedFor clash fault.Clash = clash ≡ true
+IsRefusedFor clash _ = ⊥

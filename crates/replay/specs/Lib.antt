@@ -2,3 +2,4 @@ pub mod Claims
 pub mod Bags
 pub mod Rebuilt
 pub mod Texts
+pub mod Replaying

@@ -23,3 +23,4 @@ pub record IsRebuilt (segments : List (List Entry)) (recorded : ℕ) (r : Rebuil
 abbrev pub IsRefusal : List (List Entry) → ReplayFault → Type 0
 IsRefusal segments fault.NoMemory = ⊤
 IsRefusal segments fault.Clash = ¬ IsClean (among (segments_bag segments))
+IsRefusal segments _ = ⊥

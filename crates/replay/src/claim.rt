@@ -45,6 +45,18 @@ impl<'a> Claim<'a> {
         }
     }
 
+    /// The same claim.
+    pub fn copy(&self) -> Claim<'a>
+        ensures { claimed result ≡ claimed self.now }
+    {
+        Claim {
+            key: self.key,
+            version: self.version,
+            dead: self.dead,
+            value: self.value,
+        }
+    }
+
     /// Whether the two are objects of one key and version with different values.
     pub fn clashes(&self, other: &Claim<'_>) -> bool
         ensures { result ≡ is_clash (claimed self.now) (claimed other.now) }

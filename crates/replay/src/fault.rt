@@ -4,18 +4,26 @@ ghost use Rattle.std.specs.Prelude.{◌≡◌, Some};
 ghost use Rattle.replay.specs.declared.fault.ReplayFault.TheVariants as replay_fault;
 ghost use Rattle.replay.specs.Texts.{replay_fault_text};
 
+use entry::Key;
 use std::alloc::{AllocError, AllocFailed};
 use std::error::Error;
 use std::fmt;
 
-/// Why a replay is refused. The numbers are fixed; those that are missing belong to replays in parts, which don't exist
-/// yet: 1 Double(segment), 2 Stranger, 3 MissingGroup(segment), 6 Stray(key).
-#[derive(Clone, Copy, Debug, PartialEq, Eq)]
+/// Why a replay is refused. The numbers are fixed.
+#[derive(Debug, Drop)]
 pub enum ReplayFault {
+    /// 1: a group of this segment was taken before.
+    Double(u64),
+    /// 2: the group is of no segment that is replayed, or of another partition.
+    Stranger,
+    /// 3: no group of this segment was taken.
+    MissingGroup(u64),
     /// 4: memory ran out.
     NoMemory,
     /// 5: two objects of one key and version have different values.
     Clash,
+    /// 6: the key is in no partition.
+    Stray(Key),
 }
 
 impl Error for ReplayFault {}
@@ -24,10 +32,14 @@ impl fmt::Display for ReplayFault {
     ghost output = { λ fault. Some (replay_fault_text fault) };
 
     fn fmt<W: fmt::Write>(&self, f: &mut fmt::Formatter<W>) -> fmt::Result {
-        f.write_str(match self {
-            ReplayFault::NoMemory => "NoMemory",
-            ReplayFault::Clash => "Clash",
-        })
+        match self {
+            ReplayFault::Double(segment) => write!(f, "Double {segment}"),
+            ReplayFault::Stranger => write!(f, "Stranger"),
+            ReplayFault::MissingGroup(segment) => write!(f, "MissingGroup {segment}"),
+            ReplayFault::NoMemory => write!(f, "NoMemory"),
+            ReplayFault::Clash => write!(f, "Clash"),
+            ReplayFault::Stray(_) => write!(f, "Stray"),
+        }
     }
 }
 

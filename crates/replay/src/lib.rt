@@ -6,8 +6,11 @@
 mod claim;
 mod fault;
 mod gathering;
+mod joining;
 mod rebuilt;
+mod replay;
 mod winners;
 
 pub use fault::ReplayFault;
 pub use rebuilt::{Objects, Rebuilt, rebuild_plain};
+pub use replay::{Replay, Replayed};

@@ -25,7 +25,7 @@ pub fn safe_above(safe: SafeVersion, claims: &[Claim<'_>]) -> SafeVersion
 }
 
 /// Whether the first of these later claims, if there is one, is of another key.
-fn is_last(claim: &Claim<'_>, later: &[Claim<'_>]) -> Result<bool, ReplayFault>
+pub fn is_last(claim: &Claim<'_>, later: &[Claim<'_>]) -> Result<bool, ReplayFault>
     ensures last { IfOk result (λ last. last ≡ is_last (claimed claim.now) (map claimed later.now)) }
     ensures clean { OnOk result (next_clashes (claimed claim.now) (map claimed later.now) ≡ false) }
     ensures clash { IfErr result (λ fault.
