@@ -1,9 +1,7 @@
 -- A command that is applied leaves all intact, while a pass is open too.
-use Rattle.std.proofs.Common.{refl, ◌≡◌, ℕ, ◌⊎◌, inl, inr, List, ◌++◌, sym, ap, subst, ◌∙◌, arith}
-use Rattle.std.proofs.lemmas.Bool.{cases_eq}
+use Rattle.std.proofs.Common.{refl, ◌≡◌, ℕ, ◌⊎◌, List, sym, subst, arith}
 use Rattle.entry.specs.declared.entry.Entry.{Entry}
 use Rattle.entry.specs.Bag.{IsAmong}
-use Rattle.entry.proofs.BagLemmas.{among_left, among_right, among_either}
 use Rattle.replica.specs.Picture.{Picture}
 use Rattle.versioned_map.specs.declared.command.Record.{Record}
 use Rattle.versioned_map.specs.Versioned.{State, after_command}
@@ -13,13 +11,13 @@ use Rattle.log_model.specs.Log.{Texts}
 use Rattle.log_model.specs.Steps.{unit_now, applied, MayApply}
 use Rattle.log_model.proofs.Applying.{state_applied, applied_is_kept}
 use Rattle.log_model.proofs.Lists.{below_at}
-use Rattle.log_model.proofs.Texts.{text_there, text_other}
 use Rattle.clean_model.specs.Intact.{IsIntact}
 use Rattle.clean_model.specs.Laws.{ApplyKeeps}
 use Rattle.clean_model.specs.Memory.{Memory, LogSet, log_ids, log_set_of}
 use Rattle.clean_model.specs.Steps.{recorded, IsNamed}
 use Rattle.clean_model.specs.Tracked.{IsTracked, IsAround}
-use Rattle.clean_model.proofs.AppendedUnits.{IsStage, command_then, images_there, images_last, images_out}
+use Rattle.clean_model.proofs.AppendedTexts.{text_still, appended_from, appended_texted}
+use Rattle.clean_model.proofs.AppendedUnits.{IsStage, command_then, images_there}
 use Rattle.clean_model.proofs.LogSetChanges.{told_in, texts_changed}
 use Rattle.clean_model.proofs.LogSetIds.{in_digest, head_in}
 use Rattle.clean_model.proofs.SealedSurvivors.{still_sealed}
@@ -54,36 +52,12 @@ module _ (d : LogData) (m : Memory) (p : Picture) (segment : ℕ) (r : Record) (
 
   -- ---- texts
 
-  text_now : log.texts id ≡ old_texts id ++ unit
-  text_now = text_there old_texts id (old_texts id ++ unit)
-
-  text_other_now : (z : ℕ) → (z ≡ id → ⊥) → log.texts z ≡ old_texts z
-  text_other_now z other = text_other old_texts id (old_texts id ++ unit) z other
-
   from : (z : ℕ) (f : Entry) → IsAmong f (log.texts z) → IsAmong f (n.images z) ⊎ IsAmong f (old_texts z)
-  from z f l = elim (cases_eq z id) [
-    | inl same ↦
-        elim (among_either f (old_texts id) unit
-        (subst (λ (es : List Entry). IsAmong f es) (ap log.texts same ∙ text_now) l)) [
-          | inl a ↦ inr (subst (λ (y : ℕ). IsAmong f (old_texts y)) (sym same) a)
-          | inr u ↦ inl (subst (λ (y : ℕ). IsAmong f (n.images y)) (sym same) (images_last m.images id unit f u))
-        ]
-    | inr other ↦ inr (subst (λ (es : List Entry). IsAmong f es) (text_other_now z other) l)
-  ]
+  from = appended_from d m old_texts unit
 
   texted : (z : ℕ) (f : Entry) → IsAmong z (log_ids d m) → (IsAmong z m.pass.survivors → ⊥) → IsAmong f (n.images z)
       → IsAmong f (log.texts z)
-  texted z f c not l = elim (images_out m.images id z unit f l) [
-    | inl a ↦ (
-        let old = i.around.texted z f c not a in
-        elim (cases_eq z id) as (λ _. IsAmong f (log.texts z)) [
-          | inl same ↦ subst (λ (es : List Entry). IsAmong f es) (sym (ap log.texts same ∙ text_now))
-              (among_left f (old_texts id) unit (subst (λ (y : ℕ). IsAmong f (old_texts y)) same old))
-          | inr other ↦ subst (λ (es : List Entry). IsAmong f es) (sym (text_other_now z other)) old
-        ])
-    | inr w ↦ subst (λ (es : List Entry). IsAmong f es) (sym (ap log.texts w.0 ∙ text_now))
-        (among_right f (old_texts id) unit w.1)
-  ]
+  texted = appended_texted d m old_texts unit i.around.texted
 
   -- ---- images and index
 
@@ -131,7 +105,7 @@ module _ (d : LogData) (m : Memory) (p : Picture) (segment : ℕ) (r : Record) (
   image_same s survivor = images_there m.images id s unit (not_head s survivor)
 
   text_same : (s : ℕ) → IsAmong s m.pass.survivors → log.texts s ≡ old_texts s
-  text_same s survivor = text_other_now s (not_head s survivor)
+  text_same s survivor = text_still d m old_texts unit s (not_head s survivor)
 
 pub apply_keeps : ApplyKeeps
 apply_keeps d m p segment r i may named = record {

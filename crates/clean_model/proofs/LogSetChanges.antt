@@ -50,7 +50,7 @@ module _ (log new : LogSet) (more : IsMore log new) where
   entry_then : (s : ℕ) (e : Entry) → IsAmong s log.ids → IsAmong e (log.image s) → IsAmong e (new.image s)
   entry_then s e c m = subst (λ (es : List Entry). IsAmong e es) (sym (more.image s c)) m
 
-  was_in : (s : ℕ) (e : Entry) (k : Key) → IsOfKey k e → SegmentHas new s e → SegmentHas log s e
+  pub was_in : (s : ℕ) (e : Entry) (k : Key) → IsOfKey k e → SegmentHas new s e → SegmentHas log s e
   was_in s e k at m = elim (more.blank s m.counts) [
     | inl c ↦ record {
       counts = c;

@@ -1,31 +1,29 @@
 -- A roll that begins, ordinary or a pass's commit, leaves all intact.
-use Rattle.std.proofs.Common.{◌≡◌, ℕ, ◌<◌, ◌⊎◌, inl, inr, Bool, true, false, List, [], refl, sym, ap, subst, ◌∙◌, arith}
+use Rattle.std.proofs.Common.{◌≡◌, ℕ, ◌<◌, ◌⊎◌, inl, inr, Bool, true, false, List, refl, sym, ap, subst, ◌∙◌, arith}
 use Rattle.std.specs.Prelude.{Option, IsSome}
 use Rattle.std.proofs.lemmas.Option.{same_Some, slice_get_within}
-use Rattle.entry.specs.declared.key.Key.{Key}
 use Rattle.entry.specs.declared.entry.Entry.{Entry}
 use Rattle.entry.specs.Bag.{IsAmong}
-use Rattle.entry.specs.Meaning.{IsOfKey}
 use Rattle.entry.proofs.BagLemmas.{among_push}
 use Rattle.replica.specs.Picture.{Replica, Picture}
 use Rattle.versioned_map.specs.Represents.{Represents}
-use Rattle.log_model.specs.Data.{Start, Phase, LogData, IsHome, start_entries, new_of, state_of}
+use Rattle.log_model.specs.Data.{Start, LogData, IsHome, start_entries, state_of}
 use Rattle.log_model.specs.Kept.{IsKept}
 use Rattle.log_model.specs.Log.{base_of, AreBelow}
 use Rattle.log_model.specs.Steps.{next_start, rolling, IsRoll}
 use Rattle.log_model.proofs.Lists.{all_below}
 use Rattle.log_model.proofs.Rolling.{rolling_is_kept, ordinary_is_roll}
-use Rattle.log_model.proofs.Segments.{no_keys}
 use Rattle.log_model.proofs.Texts.{text_other}
 use Rattle.clean_model.specs.Intact.{IsRollOf, IsIntact}
 use Rattle.clean_model.specs.Laws.{RollKeeps, CommitKeeps}
-use Rattle.clean_model.specs.Memory.{Memory, LogSet, new_ids, log_ids, log_set_of}
+use Rattle.clean_model.specs.Memory.{Memory, LogSet, log_ids, log_set_of}
 use Rattle.clean_model.specs.Steps.{rolled, MayCommit}
+use Rattle.clean_model.proofs.BegunRolls.{begun_more, begun_around}
+use Rattle.clean_model.proofs.BegunRolls.{older as older_ids, either_id as either_ids}
 use Rattle.clean_model.proofs.CommitBase.{commit_stands}
 use Rattle.clean_model.proofs.Lists.{among_at, image_there}
 use Rattle.clean_model.proofs.LogSetChanges.{IsMore, more_tracked, more_passing}
-use Rattle.clean_model.proofs.LogSetIds.{ids_out, in_digest, in_survivors}
-use Rattle.clean_model.proofs.NewSegments.{new_more, new_around}
+use Rattle.clean_model.proofs.LogSetIds.{in_digest, in_survivors}
 use Rattle.clean_model.proofs.SealedSurvivors.{still_sealed}
 
 module _ (d : LogData) (m : Memory) (p : Picture) (i : IsIntact d m p) (n : Start) (commits : Bool)
@@ -51,31 +49,13 @@ module _ (d : LogData) (m : Memory) (p : Picture) (i : IsIntact d m p) (n : Star
   new = log_set_of e memory then_log.texts
 
   older : (s : ℕ) → IsAmong s (log_ids d m) → s ≡ n.id → ⊥
-  older s c same = let lt = i.around.below s c in let next = roll.next in omega arith
-
-  no_new : new_ids (new_of d.phase) ≡ []
-  no_new = ap (λ (ph : Phase). new_ids (new_of ph)) roll.ready
+  older = older_ids d m n commits i.around.below roll.ready roll.next
 
   either_id : (s : ℕ) → IsAmong s (log_ids e memory) → IsAmong s (log_ids d m) ⊎ (s ≡ n.id)
-  either_id s c = elim (ids_out e memory s c) [
-    | inl l ↦ inl (in_digest d m s l)
-    | inr (inl (inl same)) ↦ inr (sym same)
-    | inr (inl (inr never)) ↦ absurd never
-    | inr (inr l) ↦ inl (in_survivors d m s l)
-  ]
-
-  still_id : (s : ℕ) → IsAmong s (log_ids d m) → IsAmong s (log_ids e memory)
-  still_id s c = elim (ids_out d m s c) [
-    | inl l ↦ in_digest e memory s l
-    | inr (inl l) ↦ absurd (subst (λ (ids : List ℕ). IsAmong s ids) no_new l)
-    | inr (inr l) ↦ in_survivors e memory s l
-  ]
-
-  no_key : (f : Entry) (k : Key) → IsAmong f opening → IsOfKey k f → ⊥
-  no_key f k l at = no_keys d.config.master n f k l at
+  either_id = either_ids d m n commits i.around.below roll.ready roll.next
 
   more : IsMore log new
-  more = new_more log (log_ids e memory) n.id opening older still_id either_id no_key
+  more = begun_more d m n commits i.around.below roll.ready roll.next i.log.texts
 
   -- ---- survivors
 
@@ -100,8 +80,8 @@ module _ (d : LogData) (m : Memory) (p : Picture) (i : IsIntact d m p) (n : Star
               let lt = i.around.named_below q.segment t counts (among_at _ _ _ at) in
               let next = roll.next in absurd (omega arith))
         ]);
-    around = new_around log (log_ids e memory) n.id opening older still_id either_id no_key m.pass
-        i.passing.survivors_count (state_of d).contents (state_of d).safe d.next roll.next i.around;
+    around = begun_around d m n commits i.around.below roll.ready roll.next i.log.texts m.pass
+        i.passing.survivors_count (state_of d).contents (state_of d).safe i.around;
     chosen = record {
       victims = i.chosen.victims;
       some = i.chosen.some;

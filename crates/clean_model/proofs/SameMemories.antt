@@ -1,23 +1,19 @@
 -- All is intact of another memory that has the same images and pass, and whose index leads to the same objects.
-use Rattle.std.proofs.Common.{◌≡◌, ℕ, ◌⊎◌, inl, inr, List, refl, sym, ap, subst, ◌∙◌, arith}
+use Rattle.std.proofs.Common.{◌≡◌, ℕ, inl, inr, List, sym, subst, ◌∙◌, arith}
 use Rattle.std.specs.Prelude.{Some}
-use Rattle.std.proofs.lemmas.Option.{same_Some}
-use Rattle.entry.specs.declared.key.Key.{Key}
-use Rattle.entry.specs.declared.entry.Object.{Object as ObjectValue}
 use Rattle.entry.specs.declared.entry.Entry.{Entry}
-use Rattle.entry.specs.declared.entry.Entry.TheVariants.{Object, Tombstone}
+use Rattle.entry.specs.declared.entry.Entry.TheVariants.{Tombstone}
 use Rattle.entry.specs.Bag.{IsAmong}
-use Rattle.entry.specs.Meaning.{Versioned, Contents, object_at}
 use Rattle.replica.specs.Picture.{Picture}
 use Rattle.log_model.specs.Data.{Start, LogData, new_of, state_of}
-use Rattle.clean_model.specs.Covered.{map_of}
 use Rattle.clean_model.specs.Intact.{AreSealed, IsRollOf, AreGone, IsIntact}
 use Rattle.clean_model.specs.Laws.{SameIsIntact}
-use Rattle.clean_model.specs.Memory.{Place, Memory, LogSet, Pass, IsAt, log_set_of, SegmentHas}
+use Rattle.clean_model.specs.Memory.{Memory, LogSet, Pass, IsAt, log_set_of}
 use Rattle.clean_model.specs.Same.{IsSameMemory}
-use Rattle.clean_model.specs.Tracked.{IsCopied, IsFound, IsTracked, IsPassing, IsAround}
-use Rattle.clean_model.proofs.LogSetChanges.{IsMore, more_tracked, more_passing, more_around}
+use Rattle.clean_model.specs.Tracked.{IsPassing}
+use Rattle.clean_model.proofs.LogSetChanges.{IsMore, more_passing}
 use Rattle.clean_model.proofs.LogSetIds.{in_survivors}
+use Rattle.clean_model.proofs.SameIndexes.{same_more, same_tracked, same_around}
 
 module _ (d : LogData) (m n : Memory) (p : Picture) (i : IsIntact d m p) (same : IsSameMemory d m n) where
   abbrev log : LogSet
@@ -30,58 +26,8 @@ module _ (d : LogData) (m n : Memory) (p : Picture) (i : IsIntact d m p) (same :
   abbrev new : LogSet
   new = log_set_of d other i.log.texts
 
-  abbrev contents : Contents
-  contents = map_of d
-
   more : IsMore log new
-  more = record {
-    counted = λ s c. c;
-    image = same.images;
-    text = λ s c. refl;
-    blank = λ s c. inl c;
-  }
-
-  -- ---- the index
-
-  tracked_before : IsTracked new m.pass m.index contents
-  tracked_before = more_tracked log new more m.pass i.passing.survivors_count m.index contents i.tracked
-
-  found : (k : Key) (x : Versioned) → contents k ≡ Some x → IsFound new.ids new.image n.index k x
-  found k x h =
-      let f = same.found k x h in
-      let was = i.tracked.found k x h in
-      let one : was.place ≡ f.place = same_Some was.place f.place (sym was.indexed ∙ f.indexed) in
-      let segment : was.place.segment ≡ f.other.segment = ap (λ (q : Place). q.segment) one ∙ sym f.segment in
-      let counts = subst (λ (s : ℕ). IsAmong s log.ids) segment was.counts in
-      record {
-        place = f.other;
-        indexed = f.other_indexed;
-        counts = counts;
-        stands = subst (λ (es : List Entry). IsAt es f.other.position (object_at k x))
-            (sym (same.images f.other.segment counts)) f.stands;
-      }
-
-  lies : (k : Key) (x : Versioned) (q : Place) → contents k ≡ Some x → n.index k ≡ Some q → (s : ℕ) (o : ObjectValue)
-      → SegmentHas new s (Object o) → Object o ≡ object_at k x
-      → (q.segment ≡ s) ⊎ IsCopied new.image m.pass s q.segment o
-  lies k x q h named s o has is =
-      let f = same.found k x h in
-      let one : q ≡ f.other = same_Some q f.other (sym named ∙ f.other_indexed) in
-      let segment : q.segment ≡ f.place.segment = ap (λ (z : Place). z.segment) one ∙ f.segment in
-      elim (tracked_before.lies k x f.place h f.indexed s o has is) [
-        | inl at ↦ inl (segment ∙ at)
-        | inr c ↦ inr (subst (λ (z : ℕ). IsCopied new.image m.pass s z o) (sym segment) c)
-      ]
-
-  tracked : IsTracked new m.pass n.index contents
-  tracked = record {
-    clean = tracked_before.clean;
-    highest = tracked_before.highest;
-    found = found;
-    unindexed = same.unindexed;
-    lies = lies;
-    buried = tracked_before.buried;
-  }
+  more = same_more d m n i.log.texts same i.passing.survivors_count
 
   -- ---- the pass
 
@@ -103,10 +49,6 @@ module _ (d : LogData) (m n : Memory) (p : Picture) (i : IsIntact d m p) (same :
       | inr c ↦ inr c
     ];
   }
-
-  around : IsAround new m.pass contents (state_of d).safe d.next
-  around = more_around log new more m.pass i.passing.survivors_count contents (state_of d).safe d.next d.next i.around
-      (omega arith) (λ s c. inl c) (λ s e c. inl c)
 
   image_is : (s : ℕ) → IsAmong s m.pass.survivors → n.images s ≡ m.images s
   image_is s survivor = same.images s (in_survivors d m s survivor)
@@ -153,9 +95,9 @@ module _ (d : LogData) (m n : Memory) (p : Picture) (i : IsIntact d m p) (same :
   intact : IsIntact d other p
   intact = record {
     log = i.log;
-    tracked = tracked;
+    tracked = same_tracked d m n i.log.texts same i.passing.survivors_count i.tracked;
     passing = passing;
-    around = around;
+    around = same_around d m n i.log.texts same i.passing.survivors_count (state_of d).safe i.around;
     chosen = i.chosen;
     sealing = sealing;
     rolling = rolling;

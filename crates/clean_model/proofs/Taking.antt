@@ -4,7 +4,7 @@ use Rattle.std.proofs.Common.{◌∙◌, arith}
 use Rattle.std.specs.Prelude.{Option, Some, None}
 use Rattle.std.proofs.lemmas.Bool.{cond_both}
 use Rattle.entry.specs.Bag.{IsAmong}
-use Rattle.entry.proofs.BagLemmas.{among_left, among_last, among_either, among_push}
+use Rattle.entry.proofs.BagLemmas.{among_left, among_either}
 use Rattle.replica.specs.Picture.{Picture}
 use Rattle.log_model.specs.Data.{Start, Head, Phase, Ready, LogData, ids_of, new_of, state_of}
 use Rattle.log_model.specs.Kept.{IsLogHeld, IsPast, IsKept}
@@ -22,10 +22,12 @@ use Rattle.clean_model.specs.Steps.{finished, ended, after_take}
 use Rattle.clean_model.specs.Tracked.{IsTracked, IsPassing, IsAround}
 use Rattle.clean_model.proofs.CommitBase.{passing_done, ready_text}
 use Rattle.clean_model.proofs.LogSetChanges.{IsMore, more_tracked, more_passing, more_around}
-use Rattle.clean_model.proofs.LogSetIds.{ids_out, in_digest, in_survivors, new_in}
+use Rattle.clean_model.proofs.LogSetIds.{ids_out, in_digest, in_survivors}
 use Rattle.clean_model.proofs.NoPass.{none_passing, none_chosen}
 use Rattle.clean_model.proofs.SealedSurvivors.{still_sealed, none_sealed}
 use Rattle.clean_model.proofs.CommittedPass.{committed}
+use Rattle.clean_model.proofs.EndedRolls.{new_there, new_is, in_last, new_last, last_more}
+use Rattle.clean_model.proofs.EndedRolls.{from_last as ordinary_from}
 use Rattle.clean_model.proofs.Premises.{IsLess}
 use Rattle.clean_model.proofs.Waiting.{IsNoHead, survivor_no_head, waiting_held, finished_held}
 
@@ -98,56 +100,20 @@ module _ (d : LogData) (m : Memory) (p q : Picture) (i : IsIntact d m p)
     abbrev last : LogData
     last = record d { head = new_head d.config.replicas n; phase = Ready }
 
-    new_there : IsAmong n.id (log_ids d m)
-    new_there = new_in d m n is_new
-
-    new_is : (s : ℕ) → IsAmong s (new_ids (new_of d.phase)) → n.id ≡ s
-    new_is s c = elim (subst (λ (x : Option Start). IsAmong s (new_ids x)) is_new c) [
-      | inl is ↦ is
-      | inr never ↦ absurd never
-    ]
-
-    -- an id of the new digest is another's or the new head's
-    in_last : (s : ℕ) → IsAmong s (ids_of n) → IsAmong s n.others ⊎ (n.id ≡ s)
-    in_last s c = among_push s n.others n.id c
-
-    new_last : (s : ℕ) → n.id ≡ s → IsAmong s (ids_of n)
-    new_last s is = subst (λ (x : ℕ). IsAmong x (ids_of n)) is (among_last n.others n.id)
-
     -- ---- an ordinary one
 
     module _ (plain : m.commits ≡ false) where
       others_are : n.others ≡ ids_of d.head.start
       others_are = (i.rolling n is_new).0 plain
 
-      to_last : (s : ℕ) → IsAmong s (log_ids d m) → IsAmong s (log_ids last m)
-      to_last s c = elim (ids_out d m s c) [
-        | inl l ↦ in_digest last m s
-            (among_left s n.others (n.id ∷ []) (subst (λ (ids : List ℕ). IsAmong s ids) (sym others_are) l))
-        | inr (inl l) ↦ in_digest last m s (new_last s (new_is s l))
-        | inr (inr l) ↦ in_survivors last m s l
-      ]
-
       from_last : (s : ℕ) → IsAmong s (log_ids last m) → IsAmong s (log_ids d m)
-      from_last s c = elim (ids_out last m s c) [
-        | inl l ↦ elim (in_last s l) [
-          | inl x ↦ in_digest d m s (subst (λ (ids : List ℕ). IsAmong s ids) others_are x)
-          | inr is ↦ subst (λ (z : ℕ). IsAmong z (log_ids d m)) is new_there
-        ]
-        | inr (inl never) ↦ absurd never
-        | inr (inr l) ↦ in_survivors d m s l
-      ]
+      from_last = ordinary_from d m n is_new others_are
 
       abbrev new : LogSet
       new = log_set_of last m i.log.texts
 
       more : IsMore log new
-      more = record {
-        counted = to_last;
-        image = λ s c. refl;
-        text = λ s c. refl;
-        blank = λ s c. inl (from_last s c);
-      }
+      more = last_more d m n is_new others_are i.log.texts
 
       ends_plain : Logs last → IsIntact last m q
       ends_plain logs = record {
@@ -161,7 +127,7 @@ module _ (d : LogData) (m : Memory) (p q : Picture) (i : IsIntact d m p)
           victims = λ s c. subst (λ (ids : List ℕ). IsAmong s ids) (sym others_are)
               (among_left s d.head.start.others (d.head.start.id ∷ []) (i.chosen.victims s c));
           some = i.chosen.some;
-          outside = λ s survivor c. elim (in_last s c) as (λ _. ⊥) [
+          outside = λ s survivor c. elim (in_last d m n is_new s c) as (λ _. ⊥) [
             | inl x ↦ i.chosen.outside s survivor (subst (λ (ids : List ℕ). IsAmong s ids) others_are x)
             | inr is ↦ i.chosen.not_new s n survivor is_new is
           ];
@@ -190,7 +156,7 @@ module _ (d : LogData) (m : Memory) (p q : Picture) (i : IsIntact d m p)
 
       of_left : (s : ℕ) → IsAmong s left → IsAmong s n.others ⊎ (n.id ≡ s)
       of_left s c = elim (ids_out last (finished m) s c) [
-        | inl l ↦ in_last s l
+        | inl l ↦ in_last d m n is_new s l
         | inr (inl never) ↦ absurd never
         | inr (inr never) ↦ absurd never
       ]
@@ -199,7 +165,7 @@ module _ (d : LogData) (m : Memory) (p q : Picture) (i : IsIntact d m p)
       less = record {
         stays = λ s c not. in_digest last (finished m) s (elim (ids_out d m s c) as (λ _. IsAmong s (ids_of n)) [
           | inl l ↦ among_left s n.others (n.id ∷ []) (commit.stays s l not)
-          | inr (inl l) ↦ new_last s (new_is s l)
+          | inr (inl l) ↦ new_last d m n is_new s (new_is d m n is_new s l)
           | inr (inr l) ↦ among_left s n.others (n.id ∷ []) (commit.survivors s l)
         ]);
         from = λ s c. elim (of_left s c) as (λ _. IsAmong s (log_ids d m)) [
@@ -207,7 +173,7 @@ module _ (d : LogData) (m : Memory) (p q : Picture) (i : IsIntact d m p)
             | inl l ↦ in_digest d m s l.0
             | inr l ↦ in_survivors d m s l
           ]
-          | inr is ↦ subst (λ (z : ℕ). IsAmong z (log_ids d m)) is new_there
+          | inr is ↦ subst (λ (z : ℕ). IsAmong z (log_ids d m)) is (new_there d m n is_new)
         ];
         gone = λ s c victim. elim (of_left s c) as (λ _. ⊥) [
           | inl x ↦ elim (commit.from s x) as (λ _. ⊥) [
@@ -255,7 +221,7 @@ module _ (d : LogData) (m : Memory) (p q : Picture) (i : IsIntact d m p)
 
 -- ---- any op
 
-ended_same : (x : Option Start) (m : Memory) → ended x x m ≡ m
+pub ended_same : (x : Option Start) (m : Memory) → ended x x m ≡ m
 ended_same None m = refl
 ended_same (Some n) m = refl
 

@@ -16,7 +16,7 @@ use Rattle.clean_model.specs.Memory.{Place, Memory}
 use Rattle.clean_model.specs.Same.{IsSameMemory}
 use Rattle.clean_model.specs.Steps.{first_memory, compacted, MayCompact, pass_begun, MayBeginClean, copy_done, MayCopy}
 use Rattle.clean_model.specs.Steps.{recorded, IsNamed, rolled, commit_start, MayCommit, after_take, seal_op}
-use Rattle.clean_model.specs.Steps.{sealed_more, MaySeal, free_op, freed_more, MayFree, IsFault}
+use Rattle.clean_model.specs.Steps.{sealed_more, MaySeal, free_op, freed_more, MayFree, IsFault, with_own}
 
 -- ---- what is intact
 
@@ -103,6 +103,18 @@ FreeKeeps = (d : LogData) (m : Memory) (p : Picture) (s b : ℕ) → IsIntact d 
 -- What is intact is so of another memory with the same images and pass, whose index leads to the same objects.
 abbrev pub SameIsIntact : Type 0
 SameIsIntact = (d : LogData) (m n : Memory) (p : Picture) → IsIntact d m p → IsSameMemory d m n → IsIntact d n p
+
+-- ---- replicas of other masters
+
+-- What is intact is so of each picture with the same replicas of the master.
+abbrev pub OwnIsIntact : Type 0
+OwnIsIntact = (d : LogData) (m : Memory) (p q : Picture) → IsIntact d m p
+    → ((b s : ℕ) → q b d.config.master s ≡ p b d.config.master s) → IsIntact d m q
+
+-- What a fault left stays so whatever happens to other masters' replicas.
+abbrev pub OwnIsFault : Type 0
+OwnIsFault = (d : LogData) (m : Memory) (p q r : Picture) → IsFault d m p q
+    → ((b s : ℕ) → r b d.config.master s ≡ q b d.config.master s) → IsFault d m (with_own d.config.master p r) r
 
 -- ---- a fault
 

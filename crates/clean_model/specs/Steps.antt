@@ -227,3 +227,7 @@ IsOp d m o = ((e : LogData) × IsNext d o e)
 -- the picture after a fault: as it was, or with an op taken
 abbrev pub IsFault : LogData → Memory → Picture → Picture → Type 0
 IsFault d m p q = (q ≡ p) ⊎ ((o : LogOp) × IsOp d m o × (taken p d.config.master o ≡ Some q))
+
+-- the replicas of this master as the first picture has them, and all others as the second has them
+abbrev pub with_own : ℕ → Picture → Picture → Picture
+with_own master p q = λ b m s. if m == master then p b m s else q b m s

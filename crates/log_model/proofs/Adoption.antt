@@ -35,17 +35,17 @@ module _ (d : LogData) (p : Picture) (st : State) (is : IsLoaded d p st) where
   abbrev closed : ℕ
   closed = closed_of d.phase
 
-  none_new : (n : Start) → new_of d.phase ≡ Some n → ⊥
+  pub none_new : (n : Start) → new_of d.phase ≡ Some n → ⊥
   none_new n new = let never : None ≡ Some n = sym (ap new_of is.ready) ∙ new in cc
 
-  start_fronts : (k : ℕ) → k ≤ 0 → Represents d.head.start.safe
+  pub start_fronts : (k : ℕ) → k ≤ 0 → Represents d.head.start.safe
       (base_of is.texts d.head.start.others ++ (loaded ++ entries_of (take k []))) st
   start_fronts zero le =
       subst (λ (es : List Entry). Represents d.head.start.safe (base_of is.texts d.head.start.others ++ es) st)
       (sym (append-nil loaded)) is.stands
   start_fronts (suc k) le = absurd (omega arith)
 
-  head_log : IsHeadLog d.config d.next e.head is.texts
+  pub head_log : IsHeadLog d.config d.next e.head is.texts
   head_log =
       let log = is.held.logged.head in
       let size = no_units_length replicas in
@@ -93,7 +93,7 @@ module _ (d : LogData) (p : Picture) (st : State) (is : IsLoaded d p st) where
       ∙ ap (λ (r : Replica). Some r) (same_replica j)
       ∙ ap (λ (k : ℕ). Some (head_replica master e.head closed j k)) (sym (no_units_none replicas j count at))
 
-  mirrored : IsMirrored e is.texts p
+  pub mirrored : IsMirrored e is.texts p
   mirrored =
       let size = no_units_length replicas in
       record {
@@ -104,7 +104,7 @@ module _ (d : LogData) (p : Picture) (st : State) (is : IsLoaded d p st) where
         first = λ lt b s r there. absurd (omega arith);
       }
 
-pub adopted_is_kept : AdoptedIsKept
+abbrev pub adopted_is_kept : AdoptedIsKept
 adopted_is_kept d p st is = record {
   texts = is.texts;
   held = record {

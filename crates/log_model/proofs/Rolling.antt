@@ -18,7 +18,7 @@ use Rattle.log_model.specs.Kept.{IsLogHeld}
 use Rattle.log_model.specs.Laws.{RollingIsHeld, RollingIsStanding, RollingIsKept, OrdinaryIsRoll}
 use Rattle.log_model.specs.Log.{Texts, base_of, state_before, IsSegmentOf, IsNewLog, IsLogged, IsStanding}
 use Rattle.log_model.specs.Mirror.{head_replica, IsHeadReplica, IsReplica, IsOther, IsMirrored}
-use Rattle.log_model.specs.Steps.{rolling, texts_rolling, IsRoll}
+use Rattle.log_model.specs.Steps.{next_start, rolling, texts_rolling, MayRoll, IsRoll}
 use Rattle.log_model.proofs.Fronts.{present_stands}
 use Rattle.log_model.proofs.Lists.{below_at, all_below}
 use Rattle.log_model.proofs.PastHeads.{rolling_is_past}
@@ -152,7 +152,7 @@ rolling_is_kept d p n kept roll stands = record {
 -- ---- an ordinary roll
 
 -- a bag that represents a state does so with the state's own safe version
-recorded_anew : (recorded : ℕ) (bag : List Entry) (st : State) → Represents recorded bag st
+pub recorded_anew : (recorded : ℕ) (bag : List Entry) (st : State) → Represents recorded bag st
     → Represents st.safe bag st
 recorded_anew recorded bag st is = record {
   meaning = is.meaning;
@@ -162,7 +162,7 @@ recorded_anew recorded bag st is = record {
 }
 
 -- the base of the digest in force and the old head is all that the log holds
-whole_base : (d : LogData) (texts : Texts) (p : Picture) → IsLogHeld d texts p
+pub whole_base : (d : LogData) (texts : Texts) (p : Picture) → IsLogHeld d texts p
     → base_of texts (ids_of d.head.start)
     ≡ base_of texts d.head.start.others ++ (d.head.loaded ++ entries_of d.head.units)
 whole_base d texts p held =
@@ -175,28 +175,22 @@ whole_base d texts p held =
         ∙ front_data d.config d.head (length d.head.units) (head_segment d texts p held (length d.head.units))
         ∙ ap (λ (us : List _). d.head.loaded ++ entries_of us) (units_all d.head.units)
 
-pub ordinary_is_roll : OrdinaryIsRoll
-ordinary_is_roll d p kept may = (
-  record {
-    ready = may.ready;
-    next = refl;
-    below = all_below d.next (ids_of d.head.start) below;
-    segment = may.segment;
-    limit = may.limit;
-    held = there;
-  },
-  subst (λ (bag : List Entry). Represents (state_of d).safe bag (state_of d))
-      (sym (whole_base d kept.texts p kept.held))
-      (recorded_anew d.head.start.safe _ (state_of d) (present_stands d kept.texts kept.standing)),
-) where
-  id : ℕ
-  id = d.head.start.id
-
+-- an ordinary roll of a master that is still loading too
+pub ordinary_held : (d : LogData) (texts : Texts) (p : Picture) → IsLogHeld d texts p → MayRoll d
+    → IsRoll d p (next_start d)
+ordinary_held d texts p held may = record {
+  ready = may.ready;
+  next = refl;
+  below = all_below d.next (ids_of d.head.start) below;
+  segment = may.segment;
+  limit = may.limit;
+  held = there;
+} where
   below : (s : ℕ) → IsAmong s (ids_of d.head.start) → s < d.next
   below s m =
-      let less = kept.held.logged.head.next in
+      let less = held.logged.head.next in
       elim (among_push s d.head.start.others d.head.start.id m) as (λ _. s < d.next) [
-        | inl l ↦ (let lt = below_at d.head.start.id d.head.start.others s kept.held.logged.head.below l in omega arith)
+        | inl l ↦ (let lt = below_at d.head.start.id d.head.start.others s held.logged.head.below l in omega arith)
         | inr is ↦ omega arith
       ]
 
@@ -204,6 +198,14 @@ ordinary_is_roll d p kept may = (
       → IsSome (p b d.config.master s)
   there s b m other home = elim (among_push s d.head.start.others d.head.start.id m)
       as (λ _. IsSome (p b d.config.master s)) [
-        | inl l ↦ kept.held.mirrored.others s b (inl l) home
+        | inl l ↦ held.mirrored.others s b (inl l) home
         | inr is ↦ absurd (other (sym is))
       ]
+
+pub ordinary_is_roll : OrdinaryIsRoll
+ordinary_is_roll d p kept may = (
+  ordinary_held d kept.texts p kept.held may,
+  subst (λ (bag : List Entry). Represents (state_of d).safe bag (state_of d))
+      (sym (whole_base d kept.texts p kept.held))
+      (recorded_anew d.head.start.safe _ (state_of d) (present_stands d kept.texts kept.standing)),
+)

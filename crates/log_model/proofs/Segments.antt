@@ -54,7 +54,7 @@ both_of_tablets c xs ys here there e k m at = elim (among_either e xs ys m) as (
 
 -- ---- data
 
-data_split : (xs ys : List Entry) → are_data (xs ++ ys) ≡ true → (are_data xs ≡ true) × (are_data ys ≡ true)
+pub data_split : (xs ys : List Entry) → are_data (xs ++ ys) ≡ true → (are_data xs ≡ true) × (are_data ys ≡ true)
 data_split [] ys e = (refl, e)
 data_split (x ∷ xs) ys e =
     let parts = and_parts (is_data x) (are_data (xs ++ ys)) e in
@@ -62,7 +62,7 @@ data_split (x ∷ xs) ys e =
     let here = parts.0 in
     let more = rest.0 in (rw (here, more) refl, rest.1)
 
-data_alone : (xs : List Entry) → are_data xs ≡ true → filter is_data xs ≡ xs
+pub data_alone : (xs : List Entry) → are_data xs ≡ true → filter is_data xs ≡ xs
 data_alone [] e = refl
 data_alone (x ∷ xs) e =
     let parts = and_parts (is_data x) (are_data xs) e in
@@ -89,7 +89,7 @@ start_segment c n segment limit = record {
 }
 
 -- behind the opening come objects and tombstones
-start_order : (master : ℕ) (n : Start) (es : List Entry) → is_whole (start_entries master n ++ es) ≡ true
+pub start_order : (master : ℕ) (n : Start) (es : List Entry) → is_whole (start_entries master n ++ es) ≡ true
     → (ends_with n.id (ids_of n) ≡ true) × (are_data es ≡ true)
 start_order master n es e = and_parts (ends_with n.id (ids_of n)) (are_data es) e
 
