@@ -1,19 +1,21 @@
 -- The head of the log that an image holds, through each step of a head.
-use Rattle.std.proofs.Common.{◌≡◌, ℕ, zero, suc, ◌+◌, ◌-◌, ◌≤◌, List, [], ◌∷◌, ◌++◌, length, take, drop, refl, sym, ap, subst, ◌∙◌, append_assoc, arith}
+use Rattle.std.proofs.Common.{◌≡◌, ℕ, zero, suc, true, ◌+◌, ◌-◌, ◌≤◌, List, [], ◌∷◌, ◌++◌, length, take, drop, refl, sym, ap, subst, ◌∙◌, append_assoc, arith}
+use Rattle.std.specs.Prelude.{filter}
 use Rattle.std.specs.List.{AllByRecursion}
 use Rattle.std.proofs.lemmas.List.{append-nil, length-append, take_at, take_all}
 use Rattle.entry.specs.declared.entry.Entry.{Entry}
 use Rattle.entry.specs.Format.{IsEntry}
-use Rattle.entry.specs.Text.{text_of, entries_in, opening_of, IsSegment}
+use Rattle.entry.specs.Text.{text_of, is_data, is_whole, entries_in, data_in, opening_of, IsSegment}
 use Rattle.entry.proofs.TextLemmas.{entries_in-text}
 use Rattle.entry.proofs.ListLemmas.{all_split}
 use Rattle.segment.proofs.RowLemmas.{text_of-append}
 use Rattle.log_model.specs.Data.{Start, LogUnit, Head, start_entries, entries_of, head_entries}
 use Rattle.log_model.specs.Steps.{units_between}
+use Rattle.log_model.proofs.Segments.{data_split, data_alone, start_order}
 use Rattle.log_head.specs.declared.head.UnitEnd.{UnitEnd}
 use Rattle.log_head.specs.Head.{HeadValue, end_of}
 use Rattle.log_head.specs.Steps.{fresh_head, with_unit_end}
-use Rattle.log_head.specs.Log.{but_last, start_in, entries_between, units_from, head_of, AreEnds, IsImageOf}
+use Rattle.log_head.specs.Log.{but_last, start_in, entries_between, units_from, loaded_in, head_of, AreEnds, IsImageOf}
 use Rattle.log_head.proofs.Heads.{text_more}
 
 -- ---- the opening
@@ -62,31 +64,45 @@ units_are (u ∷ us) (e ∷ es) before from at each ends =
     (λ i. record { number = ends.0 i; entries = here i } ∷ later i)
 
 module _ (master : ℕ) (h : HeadValue) (l : Head) (is : IsImageOf master h l) where
-  -- the head's entries up to a unit, nothing being loaded
-  entries_at : (n : ℕ) → head_entries master l n ≡ start_entries master l.start ++ entries_of (take n l.units)
-  entries_at n = ap (λ (es : List Entry). start_entries master l.start ++ (es ++ entries_of (take n l.units))) is.none_loaded
+  -- what comes before the units
+  abbrev base_entries : List Entry
+  base_entries = start_entries master l.start ++ l.loaded
+
+  -- the head's entries up to a unit
+  entries_at : (n : ℕ) → head_entries master l n ≡ base_entries ++ entries_of (take n l.units)
+  entries_at n = sym (append_assoc (start_entries master l.start) l.loaded (entries_of (take n l.units)))
+
+  base_is : h.base ≡ length (text_of base_entries)
+  base_is = is.base ∙ ap (λ (es : List Entry). length (text_of es)) (entries_at 0 ∙ append-nil base_entries)
 
   units_all : take (length l.units) l.units ≡ l.units
   units_all = take_all (length l.units) l.units (omega arith)
 
-  image_is : h.image ≡ start_entries master l.start ++ entries_of l.units
+  image_is : h.image ≡ base_entries ++ entries_of l.units
   image_is = is.image ∙ entries_at (length l.units)
-      ∙ ap (λ (us : List LogUnit). start_entries master l.start ++ entries_of us) units_all
+      ∙ ap (λ (us : List LogUnit). base_entries ++ entries_of us) units_all
 
-  text_is : text_of h.image ≡ text_of (start_entries master l.start) ++ text_of (entries_of l.units)
-  text_is = ap text_of image_is ∙ text_of-append (start_entries master l.start) (entries_of l.units)
+  text_is : text_of h.image ≡ text_of base_entries ++ text_of (entries_of l.units)
+  text_is = ap text_of image_is ∙ text_of-append base_entries (entries_of l.units)
 
   -- what the image says is this head
   pub head_is : IsSegment h.image → head_of h ≡ l
   head_is segment =
       let each = subst (λ (es : List Entry). AllByRecursion IsEntry es) image_is segment.each in
-      let split = all_split IsEntry (start_entries master l.start) (entries_of l.units) each in
+      let split = all_split IsEntry base_entries (entries_of l.units) each in
       let start : start_in h.id (opening_of h.image) ≡ l.start =
       (λ i. start_in (sym is.id i) (opening_of (image_is i))) ∙ ap (λ (ids : List ℕ). record { id = l.start.id; others = ids; safe = l.start.safe }) (but_last_is l.start.others l.start.id) in
-      let units : units_from (text_of h.image) h.opening h.units ≡ l.units =
-      ap (λ (bs : List ℕ). units_from bs h.opening h.units) text_is
-      ∙ units_are l.units h.units (text_of (start_entries master l.start)) h.opening is.opening split.1 is.ends in
-      (λ i. record { start = start i; loaded = sym is.none_loaded i; units = units i; taken = sym is.taken i })
+      let order : is_whole (base_entries ++ entries_of l.units) ≡ true =
+      subst (λ (es : List Entry). is_whole es ≡ true) image_is segment.order in
+      let objects = data_split l.loaded (entries_of l.units) (start_order master l.start (l.loaded ++ entries_of l.units) order).1 in
+      let bytes : take h.base (text_of h.image) ≡ text_of base_entries =
+      ap (take h.base) text_is ∙ take_at (text_of base_entries) (text_of (entries_of l.units)) h.base (sym base_is) in
+      let loaded : loaded_in h ≡ l.loaded =
+      ap data_in bytes ∙ ap (filter is_data) (entries_in-text base_entries split.0) ∙ data_alone l.loaded objects.0 in
+      let units : units_from (text_of h.image) h.base h.units ≡ l.units =
+      ap (λ (bs : List ℕ). units_from bs h.base h.units) text_is
+      ∙ units_are l.units h.units (text_of base_entries) h.base base_is split.1 is.ends in
+      (λ i. record { start = start i; loaded = loaded i; units = units i; taken = sym is.taken i })
 
   -- ---- ends
 
@@ -101,18 +117,18 @@ module _ (master : ℕ) (h : HeadValue) (l : Head) (is : IsImageOf master h l) w
       let here = ends.1 in omega arith
 
   -- a replica with the first units is as long as these end
-  pub end_is : (n : ℕ) → end_of h.opening h.units n ≡ length (text_of (head_entries master l n))
+  pub end_is : (n : ℕ) → end_of h.base h.units n ≡ length (text_of (head_entries master l n))
   end_is n =
-      let at = ends_are l.units h.units h.opening n is.ends in
-      let opening = is.opening in
-      let parts = text_more (start_entries master l.start) (entries_of (take n l.units)) in
-      let whole : length (text_of (head_entries master l n)) ≡ length (text_of (start_entries master l.start ++ entries_of (take n l.units))) =
+      let at = ends_are l.units h.units h.base n is.ends in
+      let base = base_is in
+      let parts = text_more base_entries (entries_of (take n l.units)) in
+      let whole : length (text_of (head_entries master l n)) ≡ length (text_of (base_entries ++ entries_of (take n l.units))) =
       ap (λ (es : List Entry). length (text_of es)) (entries_at n) in
       omega arith
 
   -- there are as many ends as units
   pub count_is : length h.units ≡ length l.units
-  count_is = go h.opening h.units l.units is.ends where
+  count_is = go h.base h.units l.units is.ends where
     go : (from : ℕ) (es : List UnitEnd) (us : List LogUnit) → AreEnds from es us → length es ≡ length us
     go from [] [] ends = refl
     go from [] (u ∷ us) ends = absurd ends
@@ -136,45 +152,45 @@ module _ (master : ℕ) (h : HeadValue) (l : Head) (is : IsImageOf master h l) w
       ∙ ap (λ (es : List Entry). u.entries ++ es) (between us m n (omega arith))
 
   -- the bytes of the image up to a unit
-  pub front_is : (n : ℕ) → take (end_of h.opening h.units n) (text_of h.image) ≡ text_of (head_entries master l n)
+  pub front_is : (n : ℕ) → take (end_of h.base h.units n) (text_of h.image) ≡ text_of (head_entries master l n)
   front_is n =
-      let front = start_entries master l.start ++ entries_of (take n l.units) in
+      let front = base_entries ++ entries_of (take n l.units) in
       let rest = entries_of (drop n l.units) in
-      let image : h.image ≡ (start_entries master l.start ++ entries_of (take n l.units)) ++ entries_of (drop n l.units) =
-      image_is ∙ ap (λ (es : List Entry). start_entries master l.start ++ es) (sym (take_drop n l.units))
-      ∙ sym (append_assoc (start_entries master l.start) (entries_of (take n l.units)) (entries_of (drop n l.units))) in
+      let image : h.image ≡ (base_entries ++ entries_of (take n l.units)) ++ entries_of (drop n l.units) =
+      image_is ∙ ap (λ (es : List Entry). base_entries ++ es) (sym (take_drop n l.units))
+      ∙ sym (append_assoc base_entries (entries_of (take n l.units)) (entries_of (drop n l.units))) in
       let bytes : text_of h.image ≡ text_of front ++ text_of rest = ap text_of image ∙ text_of-append front rest in
-      let len : end_of h.opening h.units n ≡ length (text_of front) = end_is n ∙ ap (λ (es : List Entry). length (text_of es)) (entries_at n) in
-      ap (take (end_of h.opening h.units n)) bytes ∙ take_at (text_of front) (text_of rest) (end_of h.opening h.units n) (sym len)
+      let len : end_of h.base h.units n ≡ length (text_of front) = end_is n ∙ ap (λ (es : List Entry). length (text_of es)) (entries_at n) in
+      ap (take (end_of h.base h.units n)) bytes ∙ take_at (text_of front) (text_of rest) (end_of h.base h.units n) (sym len)
       ∙ ap text_of (sym (entries_at n))
 
   -- the bytes of the image between two units are those of the units between them
   pub part_is : (m n : ℕ) → m ≤ n
-      → take (end_of h.opening h.units n - end_of h.opening h.units m) (drop (end_of h.opening h.units m) (text_of h.image))
+      → take (end_of h.base h.units n - end_of h.base h.units m) (drop (end_of h.base h.units m) (text_of h.image))
       ≡ text_of (entries_of (units_between l.units m n))
   part_is m n le =
-      let front = start_entries master l.start ++ entries_of (take m l.units) in
+      let front = base_entries ++ entries_of (take m l.units) in
       let own = entries_of (units_between l.units m n) in
       let rest = entries_of (drop n l.units) in
       let image : h.image ≡ front ++ (own ++ rest) =
-      image_is ∙ ap (λ (es : List Entry). start_entries master l.start ++ es)
+      image_is ∙ ap (λ (es : List Entry). base_entries ++ es)
       (sym (take_drop n l.units) ∙ ap (λ (es : List Entry). es ++ entries_of (drop n l.units)) (sym (between l.units m n le))
       ∙ append_assoc (entries_of (take m l.units)) (entries_of (units_between l.units m n)) (entries_of (drop n l.units)))
-      ∙ sym (append_assoc (start_entries master l.start) (entries_of (take m l.units)) (own ++ rest)) in
+      ∙ sym (append_assoc base_entries (entries_of (take m l.units)) (own ++ rest)) in
       let bytes : text_of h.image ≡ text_of front ++ (text_of own ++ text_of rest) =
       ap text_of image ∙ text_of-append front (own ++ rest) ∙ ap (λ (bs : List ℕ). text_of front ++ bs) (text_of-append own rest) in
-      let from : end_of h.opening h.units m ≡ length (text_of front) = end_is m ∙ ap (λ (es : List Entry). length (text_of es)) (entries_at m) in
-      let upto : end_of h.opening h.units n ≡ length (text_of (start_entries master l.start ++ entries_of (take n l.units))) =
+      let from : end_of h.base h.units m ≡ length (text_of front) = end_is m ∙ ap (λ (es : List Entry). length (text_of es)) (entries_at m) in
+      let upto : end_of h.base h.units n ≡ length (text_of (base_entries ++ entries_of (take n l.units))) =
       end_is n ∙ ap (λ (es : List Entry). length (text_of es)) (entries_at n) in
-      let joined : start_entries master l.start ++ entries_of (take n l.units) ≡ front ++ own =
-      ap (λ (es : List Entry). start_entries master l.start ++ es) (sym (between l.units m n le))
-      ∙ sym (append_assoc (start_entries master l.start) (entries_of (take m l.units)) own) in
+      let joined : base_entries ++ entries_of (take n l.units) ≡ front ++ own =
+      ap (λ (es : List Entry). base_entries ++ es) (sym (between l.units m n le))
+      ∙ sym (append_assoc base_entries (entries_of (take m l.units)) own) in
       let sum = text_more front own in
-      let whole : length (text_of (start_entries master l.start ++ entries_of (take n l.units))) ≡ length (text_of (front ++ own)) =
+      let whole : length (text_of (base_entries ++ entries_of (take n l.units))) ≡ length (text_of (front ++ own)) =
       ap (λ (es : List Entry). length (text_of es)) joined in
-      let to : end_of h.opening h.units n ≡ end_of h.opening h.units m + length (text_of own) = omega arith in
-      ap (λ (bs : List ℕ). take (end_of h.opening h.units n - end_of h.opening h.units m) (drop (end_of h.opening h.units m) bs)) bytes
-      ∙ middle (text_of front) (text_of own) (text_of rest) (end_of h.opening h.units m) (end_of h.opening h.units n) from to
+      let to : end_of h.base h.units n ≡ end_of h.base h.units m + length (text_of own) = omega arith in
+      ap (λ (bs : List ℕ). take (end_of h.base h.units n - end_of h.base h.units m) (drop (end_of h.base h.units m) bs)) bytes
+      ∙ middle (text_of front) (text_of own) (text_of rest) (end_of h.base h.units m) (end_of h.base h.units n) from to
 
   -- ---- steps
 
@@ -199,20 +215,19 @@ module _ (master : ℕ) (h : HeadValue) (l : Head) (is : IsImageOf master h l) w
       let u : LogUnit = record { number = number; entries = unit } in
       let more : List LogUnit = l.units ++ u ∷ [] in
       let all : take (length (l.units ++ u ∷ [])) (l.units ++ u ∷ []) ≡ l.units ++ u ∷ [] = take_all (length (l.units ++ u ∷ [])) (l.units ++ u ∷ []) (omega arith) in
-      let whole : text_of h.image ≡ text_of (start_entries master l.start) ++ text_of (entries_of l.units) = text_is in
-      let size : length (text_of h.image) ≡ h.opening + length (text_of (entries_of l.units)) =
-      ap length text_is ∙ length-append (text_of (start_entries master l.start)) (text_of (entries_of l.units))
-      ∙ ap (λ (n : ℕ). n + length (text_of (entries_of l.units))) (sym is.opening) in
+      let whole : text_of h.image ≡ text_of base_entries ++ text_of (entries_of l.units) = text_is in
+      let size : length (text_of h.image) ≡ h.base + length (text_of (entries_of l.units)) =
+      ap length text_is ∙ length-append (text_of base_entries) (text_of (entries_of l.units))
+      ∙ ap (λ (n : ℕ). n + length (text_of (entries_of l.units))) (sym base_is) in
       let end = text_more h.image unit in
       record {
         id = is.id;
-        none_loaded = is.none_loaded;
         image = ap (λ (es : List Entry). es ++ unit) image_is
-            ∙ append_assoc (start_entries master l.start) (entries_of l.units) unit
-            ∙ ap (λ (es : List Entry). start_entries master l.start ++ es) (sym (entries_push l.units u) ∙ ap entries_of (sym all))
-            ∙ ap (λ (es : List Entry). start_entries master l.start ++ (es ++ entries_of (take (length (l.units ++ u ∷ [])) (l.units ++ u ∷ [])))) (sym is.none_loaded);
-        opening = is.opening;
-        ends = ends_push l.units h.units h.opening u (record { number = number; end = length (text_of (h.image ++ unit)) }) is.ends refl (omega arith);
+            ∙ append_assoc base_entries (entries_of l.units) unit
+            ∙ ap (λ (es : List Entry). base_entries ++ es) (sym (entries_push l.units u) ∙ ap entries_of (sym all))
+            ∙ append_assoc (start_entries master l.start) l.loaded (entries_of (take (length (l.units ++ u ∷ [])) (l.units ++ u ∷ [])));
+        base = is.base;
+        ends = ends_push l.units h.units h.base u (record { number = number; end = length (text_of (h.image ++ unit)) }) is.ends refl (omega arith);
         taken = is.taken;
       }
 
@@ -220,9 +235,8 @@ module _ (master : ℕ) (h : HeadValue) (l : Head) (is : IsImageOf master h l) w
   pub image_with_counts : (ks : List ℕ) → IsImageOf master (record h { taken = ks }) (record l { taken = ks })
   image_with_counts ks = record {
     id = is.id;
-    none_loaded = is.none_loaded;
     image = is.image;
-    opening = is.opening;
+    base = is.base;
     ends = is.ends;
     taken = refl;
   }
@@ -231,4 +245,4 @@ module _ (master : ℕ) (h : HeadValue) (l : Head) (is : IsImageOf master h l) w
 pub image_fresh : (master replicas : ℕ) (start : Start)
     → IsImageOf master (fresh_head master replicas start) (record { start = start; loaded = []; units = []; taken = [] })
 image_fresh master replicas start =
-    record { id = refl; none_loaded = refl; image = sym (append-nil (start_entries master start)); opening = refl; ends = tt; taken = refl }
+    record { id = refl; image = sym (append-nil (start_entries master start)); base = refl; ends = tt; taken = refl }

@@ -4,3 +4,4 @@ pub mod Digests
 pub mod RisingIds
 pub mod Rolls
 pub mod RollLog
+pub mod SettledLog

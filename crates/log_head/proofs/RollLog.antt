@@ -56,9 +56,8 @@ module _ (master : ℕ) (h : HeadValue) (r : Roll) (new : IsNewImage master r) (
   in_force_image : IsImageOf master (in_force h r) (new_head h.replicas (start_of r))
   in_force_image = record {
     id = start_in_id r.id (opening_of r.image);
-    none_loaded = refl;
     image = new ∙ sym (append-nil (start_entries master (start_of r)));
-    opening = ap (λ (es : List Entry). length (text_of es)) new;
+    base = ap (λ (es : List Entry). length (text_of es)) new;
     ends = tt;
     taken = refl;
   }

@@ -22,7 +22,7 @@ pub zeros_length : (n : ℕ) → length (no_units n) ≡ n
 zeros_length zero = refl
 zeros_length (suc n) = ap suc (zeros_length n)
 
-zeros_few : (n : ℕ) → AllByRecursion (λ (k : ℕ). k ≤ 0) (no_units n)
+pub zeros_few : (n : ℕ) → AllByRecursion (λ (k : ℕ). k ≤ 0) (no_units n)
 zeros_few zero = tt
 zeros_few (suc n) = (omega arith, zeros_few n)
 

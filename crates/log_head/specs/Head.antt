@@ -15,8 +15,8 @@ pub record HeadValue : Type 0 where
   pub replicas : ℕ
   -- what the image holds
   pub image : List Entry
-  -- the length of the opening
-  pub opening : ℕ
+  -- where the units begin in the image: behind the opening and what was loaded
+  pub base : ℕ
   pub units : List UnitEnd
   -- how many units each opened replica has
   pub taken : List ℕ
@@ -64,7 +64,7 @@ pub record IsRollValue (replicas count : ℕ) (r : Roll) : Type 0 where
 pub record IsHeadValue (h : HeadValue) : Type 0 where
   pub segment : IsSegment h.image
   pub limit : length (text_of h.image) ≤ 8388608
-  pub units : EndAt h.opening h.units (length (text_of h.image))
+  pub units : EndAt h.base h.units (length (text_of h.image))
   pub opened : length h.taken ≤ h.replicas
   pub few : h.replicas ≤ 64
   -- each replica has some of the first units

@@ -10,8 +10,8 @@ use Rattle.log_model.specs.Steps.{units_between, one_opened, new_head}
 use Rattle.log_head.specs.declared.head.Roll.{Roll}
 use Rattle.log_head.specs.declared.rolling.Leaving.{Leaving}
 use Rattle.log_head.specs.Head.{HeadValue, IsRollValue, digest_of, end_of}
-use Rattle.log_head.specs.Steps.{fresh_head, with_unit_end, start_after, others_after, fresh_roll, in_force}
-use Rattle.log_head.specs.Log.{head_of, start_of, phase_in, IsImageOf, IsNewImage}
+use Rattle.log_head.specs.Steps.{fresh_head, with_unit_end, settled, start_after, others_after, fresh_roll, in_force}
+use Rattle.log_head.specs.Log.{head_of, settled_head, start_of, phase_in, IsImageOf, IsNewImage}
 
 -- An image holds one head of the log, and that is the head which is read from it.
 abbrev pub HeadIsRead : Type 0
@@ -20,18 +20,18 @@ HeadIsRead = (master : ℕ) (h : HeadValue) (l : Head) → IsImageOf master h l 
 -- The first units end where the text of a head with just these units ends.
 abbrev pub EndsAreLengths : Type 0
 EndsAreLengths = (master : ℕ) (h : HeadValue) (l : Head) (n : ℕ) → IsImageOf master h l
-    → end_of h.opening h.units n ≡ length (text_of (head_entries master l n))
+    → end_of h.base h.units n ≡ length (text_of (head_entries master l n))
 
 -- The image up to the end of a unit is the text of a head with the units up to there.
 abbrev pub FrontsAreTexts : Type 0
 FrontsAreTexts = (master : ℕ) (h : HeadValue) (l : Head) (n : ℕ) → IsImageOf master h l
-    → take (end_of h.opening h.units n) (text_of h.image) ≡ text_of (head_entries master l n)
+    → take (end_of h.base h.units n) (text_of h.image) ≡ text_of (head_entries master l n)
 
 -- The bytes of the image between two ends are the units between them, each whole.
 abbrev pub PartsAreUnits : Type 0
 PartsAreUnits = (master : ℕ) (h : HeadValue) (l : Head) (m n : ℕ) → IsImageOf master h l → m ≤ n
-    → take (end_of h.opening h.units n - end_of h.opening h.units m)
-    (drop (end_of h.opening h.units m) (text_of h.image))
+    → take (end_of h.base h.units n - end_of h.base h.units m)
+    (drop (end_of h.base h.units m) (text_of h.image))
     ≡ text_of (entries_of (units_between l.units m n))
 
 -- A new head has no units. Each unit that is appended is one more.
@@ -49,6 +49,12 @@ UnitIsImage = (master : ℕ) (h : HeadValue) (l : Head) (number : ℕ) (unit : L
 abbrev pub CountsAreImage : Type 0
 CountsAreImage = (master : ℕ) (h : HeadValue) (l : Head) (ks : List ℕ) → IsImageOf master h l
     → IsImageOf master (record h { taken = ks }) (record l { taken = ks })
+
+-- Once each replica is open, a head that is settled is the log's head with all that it held as what was loaded.
+abbrev pub SettledIsImage : Type 0
+SettledIsImage = (master : ℕ) (h : HeadValue) (l : Head) → IsImageOf master h l → IsSegment h.image
+    → length h.taken ≡ h.replicas
+    → (head_of (settled h) ≡ settled_head h.replicas l) × IsImageOf master (settled h) (head_of (settled h))
 
 -- ---- rolls
 

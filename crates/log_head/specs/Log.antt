@@ -1,9 +1,11 @@
--- What a head is to the log: its opening, and the units in its image between the ends.
+-- What a head is to the log: its opening, what was loaded, and the units in its image between the ends.
 use Rattle.std.specs.Prelude.{◌≡◌, ℕ, ◌+◌, ◌-◌, ◌==◌, List, [], ◌∷◌, length, take, drop, Option, Some, None, if◌then◌else◌}
 use Rattle.std.specs.Option.{option_map_or}
 use Rattle.entry.specs.declared.entry.Entry.{Entry}
-use Rattle.entry.specs.Text.{text_of, entries_in, Opening, opening_of}
-use Rattle.log_model.specs.Data.{Start, LogUnit, Head, Phase, Ready, Opened, Closed, start_entries, head_entries}
+use Rattle.entry.specs.Text.{text_of, entries_in, data_in, Opening, opening_of}
+use Rattle.log_model.specs.Data.{Start, LogUnit, Head, Phase, Ready, Opened, Closed, start_entries, front_entries}
+use Rattle.log_model.specs.Data.{head_entries}
+use Rattle.log_model.specs.Steps.{no_units}
 use Rattle.log_head.specs.declared.head.Roll.{Roll}
 use Rattle.log_head.specs.declared.head.UnitEnd.{UnitEnd}
 use Rattle.log_head.specs.Head.{HeadValue}
@@ -29,13 +31,26 @@ units_from bytes from [] = []
 units_from bytes from (e ∷ es) =
     record { number = e.number; entries = entries_between bytes from e.end } ∷ units_from bytes e.end es
 
+-- what was loaded: the objects and tombstones before the units
+abbrev pub loaded_in : HeadValue → List Entry
+loaded_in h = data_in (take h.base (text_of h.image))
+
 -- the head as the log knows it
 abbrev pub head_of : HeadValue → Head
 head_of h = record {
   start = start_in h.id (opening_of h.image);
-  loaded = [];
-  units = units_from (text_of h.image) h.opening h.units;
+  loaded = loaded_in h;
+  units = units_from (text_of h.image) h.base h.units;
   taken = h.taken;
+}
+
+-- a head of the log once all that it holds was loaded, and each of its replicas has that
+abbrev pub settled_head : ℕ → Head → Head
+settled_head replicas l = record {
+  start = l.start;
+  loaded = front_entries l (length l.units);
+  units = [];
+  taken = no_units replicas;
 }
 
 -- what the new head of a roll begins with
@@ -65,8 +80,7 @@ AreEnds from (e ∷ es) [] = ⊥
 -- The image holds this head of the log, and the units end where `h` says.
 pub record IsImageOf (master : ℕ) (h : HeadValue) (l : Head) : Type 0 where
   pub id : l.start.id ≡ h.id
-  pub none_loaded : l.loaded ≡ []
   pub image : h.image ≡ head_entries master l (length l.units)
-  pub opening : h.opening ≡ length (text_of (start_entries master l.start))
-  pub ends : AreEnds h.opening h.units l.units
+  pub base : h.base ≡ length (text_of (head_entries master l 0))
+  pub ends : AreEnds h.base h.units l.units
   pub taken : l.taken ≡ h.taken

@@ -40,8 +40,8 @@ units_of h j = unwrap_or (slice_get h.taken j) 0
 -- the bytes of the image between the ends of these units
 abbrev pub bytes_between : HeadValue → ℕ → ℕ → List ℕ
 bytes_between h from to =
-    let start = end_of h.opening h.units from in
-    take (end_of h.opening h.units to - start) (drop start (text_of h.image))
+    let start = end_of h.base h.units from in
+    take (end_of h.base h.units to - start) (drop start (text_of h.image))
 
 -- the segment that it is for
 abbrev pub segment_of : HeadValue → Next → ℕ
@@ -53,9 +53,9 @@ abbrev pub new_bytes : HeadValue → List ℕ
 new_bytes h = option_map_or (λ (r : Roll). text_of r.image) h.roll []
 
 abbrev pub act_of : HeadValue → Next → ActValue
-act_of h (next.OpenFirst j) = Open (take h.opening (text_of h.image))
+act_of h (next.OpenFirst j) = Open (take h.base (text_of h.image))
 act_of h (next.Extend j) =
-    Extend (end_of h.opening h.units (units_of h j)) (bytes_between h (units_of h j) (units_of h j + 1))
+    Extend (end_of h.base h.units (units_of h j)) (bytes_between h (units_of h j) (units_of h j + 1))
 act_of h (next.OpenNew j) = Open (new_bytes h)
 act_of h (next.CloseOld j) = Close
 

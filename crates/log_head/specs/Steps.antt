@@ -21,7 +21,7 @@ fresh_head master replicas start = record {
   id = start.id;
   replicas = replicas;
   image = start_entries master start;
-  opening = length (text_of (start_entries master start));
+  base = length (text_of (start_entries master start));
   units = [];
   taken = [];
   roll = None;
@@ -34,13 +34,17 @@ with_unit_end h number unit = record h {
   units = h.units ++ record { number = number; end = length (text_of (h.image ++ unit)) } ∷ [];
 }
 
--- one more replica is open, and holds the opening alone
+-- one more replica is open, and holds what comes before the units
 abbrev pub with_opened_replica : HeadValue → HeadValue
 with_opened_replica h = record h { taken = h.taken ++ 0 ∷ [] }
 
 -- one more unit on a replica
 abbrev pub with_one_taken : HeadValue → ℕ → HeadValue
 with_one_taken h j = record h { taken = slice_set h.taken j (unwrap_or (slice_get h.taken j) 0 + 1) }
+
+-- all that the head holds was loaded: it has no units, and so each open replica has none
+abbrev pub settled : HeadValue → HeadValue
+settled h = record h { base = length (text_of h.image); units = []; taken = no_units (length h.taken) }
 
 -- ---- a roll
 
@@ -73,7 +77,7 @@ in_force h r = record {
   id = r.id;
   replicas = h.replicas;
   image = r.image;
-  opening = length (text_of r.image);
+  base = length (text_of r.image);
   units = [];
   taken = no_units h.replicas;
   roll = None;

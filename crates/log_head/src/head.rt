@@ -42,8 +42,8 @@ pub struct Head {
     /// How many replicas it will have.
     pub(crate) replicas: usize,
     pub(crate) image: Segment,
-    /// Where the opening ends in the image.
-    pub(crate) opening: usize,
+    /// Where the units begin in the image: behind the opening and what was loaded.
+    pub(crate) base: usize,
     pub(crate) units: Vec<UnitEnd>,
     /// How many units each opened replica has.
     pub(crate) taken: Vec<usize>,
@@ -60,7 +60,7 @@ impl Model for Head {
       id = h.id;
       replicas = h.replicas;
       image = h.image;
-      opening = h.opening;
+      base = h.base;
       units = h.units.items;
       taken = h.taken.items;
       roll = h.roll;
@@ -71,7 +71,7 @@ impl Model for Head {
       id = h.id;
       replicas = h.replicas;
       image = h.image;
-      opening = h.opening;
+      base = h.base;
       units = h.units.items;
       taken = h.taken.items;
       roll = h.roll;
@@ -82,6 +82,7 @@ impl Head {
     ghost use Rattle.log_head.specs.declared.head.UnitEnd.{UnitEnd as UnitValue};
     ghost use Rattle.log_head.specs.Head.{HeadValue, IsHeadValue, end_of, record_at, len_with, everywhere, is_open, IsLagging};
     ghost use Rattle.log_head.specs.Steps.{lone_start, fresh_head, with_unit_end, with_opened_replica, with_one_taken};
+    ghost use Rattle.log_head.specs.Steps.{settled};
     ghost use Rattle.log_model.specs.Data.{Start};
 
     /// The first head of a master. Its image holds the opening alone, and has room for `room` bytes more. No replica is
@@ -100,12 +101,12 @@ impl Head {
         let taken = Vec::with_capacity(alloc, replicas)?;
         let mut image = first_image(alloc, master, safe)?;
         image.reserve(room)?;
-        let opening = image.bytes().len();
+        let base = image.bytes().len();
         Ok(Head {
             id: 1,
             replicas,
             image,
-            opening,
+            base,
             units: Vec::new(alloc),
             taken,
             roll: None,
@@ -164,9 +165,9 @@ impl Head {
         self.image.bytes().len() + bytes <= limit
     }
 
-    /// The opening's bytes: what a new replica holds.
+    /// What a new replica holds: the bytes of the opening and of what was loaded.
     pub fn opening(&self) -> &[u8]
-        ensures { result.now ≡ take self.entry.now.opening (text_of self.entry.now.image) }
+        ensures { result.now ≡ take self.entry.now.base (text_of self.entry.now.image) }
     {
         let end = self.end_of(0);
         &self.image.bytes()[..end]
@@ -186,11 +187,11 @@ impl Head {
     #[tactic(auto, using(crate::proofs::Heads::end_of_le, crate::proofs::Heads::end_of_last))]
     pub fn end_of(&self, units: usize) -> usize
         requires { units ≤ length self.now.units }
-        ensures end { result ≡ end_of self.now.opening self.now.units units }
+        ensures end { result ≡ end_of self.now.base self.now.units units }
         ensures within { result ≤ length (text_of self.now.image) }
     {
         match units.checked_sub(1) {
-            None => self.opening,
+            None => self.base,
             Some(last) => self.units[last].end,
         }
     }
@@ -199,8 +200,8 @@ impl Head {
     #[tactic(auto, using(crate::proofs::Heads::end_of_next, crate::proofs::Heads::end_of_last, crate::proofs::Heads::unit_end_le))]
     pub fn unit_behind(&self, units: usize) -> &[u8]
         requires { units < length self.now.units }
-        ensures { let start = end_of self.entry.now.opening self.entry.now.units units in
-            let end = end_of self.entry.now.opening self.entry.now.units (units + 1) in
+        ensures { let start = end_of self.entry.now.base self.entry.now.units units in
+            let end = end_of self.entry.now.base self.entry.now.units (units + 1) in
             result.now ≡ take (end - start) (drop start (text_of self.entry.now.image)) }
     {
         let start = self.end_of(units);
@@ -283,6 +284,16 @@ impl Head {
         let end = self.image.bytes().len();
         self.units.push_reserved(UnitEnd { number, end });
         Ok(())
+    }
+
+    /// Counts all that the head holds as loaded. It has no units then. Call it once each replica has all units.
+    pub fn settle(&mut self)
+        ensures settled { self.new ≡ settled self.old }
+        ensures valid { IsHeadValue self.new }
+    {
+        self.base = self.image.bytes().len();
+        self.units.clear();
+        self.taken.fill(0);
     }
 }
 

@@ -163,7 +163,7 @@ impl Head {
         }
         let Roll { id, image, .. } = roll;
         self.id = id;
-        self.opening = image.bytes().len();
+        self.base = image.bytes().len();
         self.units.clear();
         self.taken.fill(0);
         Some(replace(&mut self.image, image))

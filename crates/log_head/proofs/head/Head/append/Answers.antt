@@ -12,7 +12,7 @@ grown : (c : goal.After-push_reserved) → IsHeadValue (record {
   id = c.self.inside.id;
   replicas = c.self.inside.replicas;
   image = c.append.new.self;
-  opening = c.self.inside.opening;
+  base = c.self.inside.base;
   units = c.push_reserved.new.self.items;
   taken = c.self.inside.taken.items;
   roll = c.self.inside.roll;
@@ -29,8 +29,8 @@ grown c =
     let items : c.push_reserved.new.self.items ≡ units ++ unit ∷ [] =
     c.push_reserved.ensures.items ∙ rw c.reserve.ensures.items refl in
     let count : length units ≤ length (units ++ unit ∷ []) = omega (arith, length-append units (unit ∷ [])) in
-    let ends : EndAt c.self.inside.opening (units ++ unit ∷ []) (length c.bytes-end.result.now) =
-    EndAt_push units c.self.inside.opening _ unit old.units more in record {
+    let ends : EndAt c.self.inside.base (units ++ unit ∷ []) (length c.bytes-end.result.now) =
+    EndAt_push units c.self.inside.base _ unit old.units more in record {
       segment = c.bytes-end.ensures.valid;
       limit = (let le = c.bytes-end.ensures.limit in omega arith);
       units = rw (items, ← at) ends;

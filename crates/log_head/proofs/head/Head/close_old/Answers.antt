@@ -29,7 +29,7 @@ module _ (c : goal.After-replace) where
     id = r.id;
     replicas = h.replicas;
     image = c.replace.new.dest;
-    opening = length c.bytes.result.now;
+    base = length c.bytes.result.now;
     units = c.clear.new.self.items;
     taken = c.fill.new.self.items;
     roll = c.take.new.self;
@@ -43,7 +43,7 @@ module _ (c : goal.After-replace) where
     id = r.id;
     replicas = h.replicas;
     image = c.replace.ensures.after i;
-    opening = length (c.bytes.ensures.text i);
+    base = length (c.bytes.ensures.text i);
     units = c.clear.ensures.items i;
     taken = (c.fill.ensures.items (λ y e. e) ∙ zeros_are (vec_len c.self.inside.taken) ∙ ap no_units count) i;
     roll = c.take.ensures.after i;
