@@ -76,7 +76,7 @@ image_appended h n [] = sym (append-nil h.image)
 image_appended h n (e ∷ es) = refl
 
 -- the head of the log has that unit, too
-head_appended : (master : ℕ) (h : HeadValue) (n : ℕ) (u : List Entry) → IsImageOf master h (head_of h) → IsHeadValue (appended h n u)
+pub head_appended : (master : ℕ) (h : HeadValue) (n : ℕ) (u : List Entry) → IsImageOf master h (head_of h) → IsHeadValue (appended h n u)
     → (head_of (appended h n u) ≡ record (head_of h) { units = with_unit (head_of h).units n u }) × IsImageOf master (appended h n u) (head_of (appended h n u))
 head_appended master h n [] is head = (refl, is)
 head_appended master h n (e ∷ es) is head =
@@ -88,7 +88,7 @@ pub ready_open : (h : HeadValue) → is_open h ≡ true → phase_of h ≡ Ready
 ready_open h opened = ap (λ (o : Option Roll). option_map_or (phase_in h.replicas) o Ready) (open_parts h opened).1
 
 -- it fits
-fits_then : (d : MasterData) (n : ℕ) (u : List Entry) → IsCore d → (is_empty u ≡ false → is_open d.head ≡ true)
+pub fits_then : (d : MasterData) (n : ℕ) (u : List Entry) → IsCore d → (is_empty u ≡ false → is_open d.head ≡ true)
     → IsHeadValue (appended d.head n u) → (u ≡ []) ⊎ Fits (log_of d) u
 fits_then d n [] core opened head = inl refl
 fits_then d n (e ∷ es) core opened head = inr (record {
@@ -98,7 +98,7 @@ fits_then d n (e ∷ es) core opened head = inr (record {
 })
 
 -- a head with a unit that fits is within the segment
-within_then : (h : HeadValue) (n most : ℕ) (u : List Entry) → length (text_of h.image) ≤ most
+pub within_then : (h : HeadValue) (n most : ℕ) (u : List Entry) → length (text_of h.image) ≤ most
     → (is_empty u ≡ false → length (text_of h.image) + length (text_of u) ≤ most)
     → length (text_of (appended h n u).image) ≤ most
 within_then h n most [] within fits = within
@@ -109,7 +109,7 @@ within_then h n most (e ∷ es) within fits =
     omega arith
 
 -- a unit changes no count: a head that takes one has no roll
-counts_then : (c : Config) (h : HeadValue) (n : ℕ) (u : List Entry) → (is_empty u ≡ false → is_open h ≡ true)
+pub counts_then : (c : Config) (h : HeadValue) (n : ℕ) (u : List Entry) → (is_empty u ≡ false → is_open h ≡ true)
     → head_seglets c (appended h n u) ≡ head_seglets c h
 counts_then c h n [] opened = refl
 counts_then c h n (e ∷ es) opened =
@@ -154,6 +154,7 @@ module _ (d : MasterData) (core : IsCore d) (command : Command) (change : Change
       waiting = d.waiting;
       freed = d.freed;
       is_halted = d.is_halted;
+      origin = d.origin;
     }
 
     admitted : IsAdmitted d command

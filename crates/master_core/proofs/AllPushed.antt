@@ -17,7 +17,7 @@ before_end [] all = refl
 before_end (u ∷ us) all = before_end us all
 
 -- a unit for each end
-unit_count : (bytes : List ℕ) (from : ℕ) (ends : List UnitEnd) → length (units_from bytes from ends) ≡ length ends
+pub unit_count : (bytes : List ℕ) (from : ℕ) (ends : List UnitEnd) → length (units_from bytes from ends) ≡ length ends
 unit_count bytes from [] = refl
 unit_count bytes from (e ∷ es) = ap suc (unit_count bytes e.end es)
 
@@ -26,7 +26,7 @@ all_durable d replicas pushed =
     let both = and_parts (is_open d.head) (fewest (length d.head.units) d.head.taken == length d.head.units) pushed in
     let opened = and_parts (length d.head.taken == d.head.replicas) (is_none d.head.roll) both.0 in
     let all : length d.head.taken ≡ d.config.replicas = eqb-true (length d.head.taken) d.head.replicas opened.0 ∙ replicas in
-    let count = unit_count (text_of d.head.image) d.head.opening d.head.units in
+    let count = unit_count (text_of d.head.image) d.head.base d.head.units in
     let none_less : nat_lt (length d.head.taken) d.config.replicas ≡ false = le-ltb (length d.head.taken) d.config.replicas (omega arith) in
     let each : everywhere (log_of d) ≡ length (log_of d).head.units =
     ap (λ (b : Bool). if b then 0 else fewest (length (log_of d).head.units) d.head.taken) none_less

@@ -5,27 +5,28 @@ use Rattle.cleaner.specs.declared.pass.Pass.{Pass as OpenPass}
 use Rattle.entry.specs.declared.entry.Entry.TheVariants as entry
 use Rattle.entry.specs.Bag.{IsAmong}
 use Rattle.log_head.specs.declared.head.Roll.{Roll}
-use Rattle.log_head.specs.Head.{IsHeadValue}
+use Rattle.log_head.specs.Head.{HeadValue, IsHeadValue}
 use Rattle.log_head.specs.Log.{head_of, IsImageOf}
-use Rattle.log_head.specs.Steps.{fresh_head}
+use Rattle.log_head.specs.Steps.{lone_start, fresh_head}
 use Rattle.log_head.proofs.HeadLog.{head_is, image_fresh, image_with_counts}
-use Rattle.log_model.specs.Data.{Head, start_entries}
+use Rattle.log_model.specs.Data.{Head, Ready, start_entries}
+use Rattle.clean_model.specs.Loading.{restored}
 use Rattle.log_model.specs.Log.{AreBelow}
-use Rattle.log_model.specs.Steps.{first_start}
 use Rattle.master_core.specs.declared.config.Config.{Config}
 use Rattle.master_core.specs.Config.{config_fault}
-use Rattle.master_core.specs.Data.{MasterData, fresh_data}
+use Rattle.master_core.specs.Data.{MasterData}
 use Rattle.master_core.specs.Invariant.{IsRollOf, IsOpenPass, NameBelow, IsCore}
-use Rattle.master_core.specs.Log.{images_of}
+use Rattle.master_core.specs.Loading.{restored_data}
+use Rattle.master_core.specs.Log.{log_config, opening_of, log_of, images_of}
 use Rattle.master_core.specs.Steps.{halted}
 use Rattle.master_core.proofs.Refusals.{has_homes, sizes_of}
 use Rattle.master_core.proofs.Passing.{GoesOn, goes_on}
 use Rattle.segment.proofs.UnitLemmas.{length-head}
 
 -- the opening of the first head has no tombstone
-named_first : (c : Config) → NameBelow (images_of (fresh_data c)) 2
-named_first c s t m = go (1 == s) refl where
-  never : IsAmong (entry.Tombstone t) (start_entries c.master first_start) → ⊥
+named_first : (c : Config) (safe : ℕ) → NameBelow (images_of (restored_data c safe)) 2
+named_first c safe s t m = go (1 == s) refl where
+  never : IsAmong (entry.Tombstone t) (start_entries c.master (lone_start safe)) → ⊥
   never (inl is) = cc
   never (inr (inl is)) = cc
   never (inr (inr (inl is))) = cc
@@ -35,33 +36,48 @@ named_first c s t m = go (1 == s) refl where
   go true here = absurd (never (rw here at m))
   go false away = absurd (rw away at m)
 
-pub fresh_core : (c : Config) → config_fault c ≡ None → IsHeadValue (fresh_head c.master c.replicas first_start) → IsCore (fresh_data c)
-fresh_core c ok head =
-    let is = image_fresh c.master c.replicas first_start in
-    let len = length-head c.master 1 (1 ∷ []) 1 in
-    let least = (sizes_of c ok).least_segment in
-    let enough = (sizes_of c ok).least_seglets in
-    record {
-      config = ok;
-      replicas = refl;
-      history = omega arith;
-      head = head;
-      image = subst (λ (l : Head). IsImageOf c.master (fresh_head c.master c.replicas first_start) l)
-          (sym (head_is c.master (fresh_head c.master c.replicas first_start) _ is head.segment)) is;
-      within = omega arith;
-      closed = sym (ap (λ (l : Head). l.start.others) (head_is c.master (fresh_head c.master c.replicas first_start) _ is head.segment));
-      segments = tt;
-      below = subst (λ (l : Head). AreBelow l.start) (sym (head_is c.master (fresh_head c.master c.replicas first_start) _ is head.segment)) tt;
-      used = omega arith;
-      next = omega arith;
-      roll = tt;
-      pass = tt;
-      named = named_first c;
-      freed = (has_homes c ok).some;
-      budget = omega arith;
-      legal = refl;
-      index = record { kept = record { told = tt; apart = tt }; lies = λ k. tt; safe = refl };
-    }
+module _ (c : Config) (safe : ℕ) (head : IsHeadValue (fresh_head c.master c.replicas (lone_start safe))) where
+  abbrev first : HeadValue
+  first = fresh_head c.master c.replicas (lone_start safe)
+
+  pub head_first : head_of first ≡ record { start = lone_start safe; loaded = []; units = []; taken = [] }
+  head_first = head_is c.master first _ (image_fresh c.master c.replicas (lone_start safe)) head.segment
+
+  pub restored_core : config_fault c ≡ None → IsCore (restored_data c safe)
+  restored_core ok =
+      let len = length-head c.master 1 (1 ∷ []) safe in
+      let least = (sizes_of c ok).least_segment in
+      let enough = (sizes_of c ok).least_seglets in
+      record {
+        config = ok;
+        replicas = refl;
+        history = omega arith;
+        head = head;
+        image = subst (λ (l : Head). IsImageOf c.master first l) (sym head_first) (image_fresh c.master c.replicas (lone_start safe));
+        within = omega arith;
+        closed = sym (ap (λ (l : Head). l.start.others) head_first);
+        segments = tt;
+        below = subst (λ (l : Head). AreBelow l.start) (sym head_first) tt;
+        used = omega arith;
+        next = omega arith;
+        roll = tt;
+        pass = tt;
+        named = named_first c safe;
+        freed = (has_homes c ok).some;
+        budget = omega arith;
+        legal = refl;
+        index = record { kept = record { told = tt; apart = tt }; lies = λ k. tt; safe = refl };
+      }
+
+  pub restored_log : log_of (restored_data c safe) ≡ restored (log_config c) safe
+  restored_log = λ i. record {
+    config = log_config c;
+    opening = opening_of (restored_data c safe);
+    history = [];
+    head = head_first i;
+    phase = Ready;
+    next = 2;
+  }
 
 counted_goes : (d : MasterData) (ks : List ℕ) (p : OpenPass) → IsOpenPass d p
     → GoesOn d (record d { head = record d.head { taken = ks } }) p

@@ -137,9 +137,8 @@ module _ (d : MasterData) (core : IsCore d) (ids : List ℕ) (o : Option Pass) (
     head = valid;
     image = (let is = core.image in record {
       id = is.id;
-      none_loaded = is.none_loaded;
       image = is.image;
-      opening = is.opening;
+      base = is.base;
       ends = is.ends;
       taken = is.taken;
     });

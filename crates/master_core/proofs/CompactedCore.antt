@@ -37,7 +37,7 @@ use Rattle.master_core.specs.Log.{images_of, log_set_ids}
 use Rattle.master_core.specs.Steps.{kept_now, compacted_data}
 use Rattle.master_core.proofs.Imaging.{same_id, ids_in}
 use Rattle.master_core.proofs.Passing.{has_among}
-use Rattle.master_core.proofs.Naming.{has_more, has_put}
+use Rattle.master_core.proofs.Rising.{has_more, has_put}
 use Rattle.compactor.proofs.Ids.{copied_some}
 use Rattle.compactor.proofs.KeptEntries.{kept_length, kept_segment}
 use Rattle.master_core.proofs.Refusals.{passes, sizes_of}

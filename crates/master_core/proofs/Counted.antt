@@ -24,14 +24,14 @@ units_count bytes from (e ∷ es) = ap suc (units_count bytes e.end es)
 
 pub everywhere_is : (d : MasterData) → IsCore d → everywhere d.head ≡ log_everywhere (log_of d)
 everywhere_is d core =
-    let count = units_count (text_of d.head.image) d.head.opening d.head.units in
+    let count = units_count (text_of d.head.image) d.head.base d.head.units in
     λ i. if nat_lt (length d.head.taken) (core.replicas i) then 0 else fewest (count i) d.head.taken
 
 pub durable_is : (d : MasterData) → IsCore d
     → option_map_or (λ (u : UnitEnd). u.number) (slice_get d.head.units (everywhere d.head)) (length d.history) ≡ durable_of (log_of d)
 durable_is d core =
-    numbers_are (text_of d.head.image) d.head.opening d.head.units (length d.history) (everywhere d.head)
-    ∙ ap (records_before (units_from (text_of d.head.image) d.head.opening d.head.units) (length d.history)) (everywhere_is d core)
+    numbers_are (text_of d.head.image) d.head.base d.head.units (length d.history) (everywhere d.head)
+    ∙ ap (records_before (units_from (text_of d.head.image) d.head.base d.head.units) (length d.history)) (everywhere_is d core)
 
 -- the number of a unit that is missing, or all
 pub from_none : (o : Option UnitEnd) (n : ℕ) → option_map (λ (u : UnitEnd). u.number) o ≡ None → option_map_or (λ (u : UnitEnd). u.number) o n ≡ n

@@ -130,7 +130,7 @@ module _ (images grown : ℕ → List Entry) (grow : Grow images grown) (each : 
       subst (λ (c : Contents). Indexes grown new c) (same_contents contents k x has)
       (subst (λ (l : List Held). Indexes grown l contents) (sym same) (index_grown images grown grow each hs contents index))
 
-  put_stands : (front : List Entry) (o : Object) → p.at ≡ length (text_of (images p.segment ++ front))
+  pub put_stands : (front : List Entry) (o : Object) → p.at ≡ length (text_of (images p.segment ++ front))
       → Ends (front ++ entry.Object o ∷ []) → IsAtPlace grown p (entry.Object o)
   put_stands front o e ends = record {
     before = images p.segment ++ front;
@@ -140,7 +140,7 @@ module _ (images grown : ℕ → List Entry) (grow : Grow images grown) (each : 
   }
 
   -- the key's new object stands at the place
-  set_index : (k : Key) (x : Versioned) → IsAtPlace grown p (object_at k x)
+  pub set_index : (k : Key) (x : Versioned) → IsAtPlace grown p (object_at k x)
       → (AreKept (keys_in grown) hs → keys_in grown p ≡ Some k → IsSet (keys_in grown) hs k (Some p) new)
       → Indexes grown new (with_contents contents k (Some x))
   set_index k x stands set =
@@ -202,7 +202,7 @@ module _ (images grown : ℕ → List Entry) (grow : Grow images grown) (each : 
     found_on = λ q r other is. sym (found_before q) ∙ set_finds (keys_in grown) hs new k x kept set q r is (λ own. other (here r own));
   }
 
-  put_at_place : (k : Key) (x : Versioned) → IsAtPlace grown p (object_at k x)
+  pub put_at_place : (k : Key) (x : Versioned) → IsAtPlace grown p (object_at k x)
       → (AreKept (keys_in grown) hs → keys_in grown p ≡ Some k → IsSet (keys_in grown) hs k (Some p) new) → KeepsOthers
   put_at_place k x stands set = set_to k (Some p) (λ r is. sym (same_Some p r is)) (set kept (key_seen grown each p k x stands))
 

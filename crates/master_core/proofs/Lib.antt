@@ -43,3 +43,4 @@ pub mod Committed
 pub mod Taken
 pub mod Ended
 pub mod Closing
+pub mod LoadedCore

@@ -1,5 +1,5 @@
 -- Ids that a core has are below the first unused one.
-use Rattle.std.proofs.Common.{◌≡◌, ◌⊎◌, inl, inr, ℕ, ◌<◌, Bool, true, false, ◌==◌, ◌||◌, List, [], ◌∷◌, ◌++◌, refl, sym, ap, subst, ◌∙◌, arith}
+use Rattle.std.proofs.Common.{◌≡◌, ◌⊎◌, inl, inr, ℕ, ◌<◌, Bool, true, false, ◌==◌, List, [], ◌∷◌, refl, sym, ap, subst, arith}
 use Rattle.std.specs.Prelude.{Option, Some, None, IfSome, unwrap_or, nat_lt, if◌then◌else◌}
 use Rattle.std.proofs.lemmas.Bool.{eqb-true}
 use Rattle.cleaner.specs.declared.pass.Pass.{Pass as OpenPass}
@@ -16,7 +16,7 @@ use Rattle.images.specs.declared.image.Image.{Image}
 use Rattle.images.specs.Sorted.{segment_of}
 use Rattle.log_head.specs.declared.head.Roll.{Roll}
 use Rattle.log_head.specs.Log.{head_of}
-use Rattle.log_model.specs.Ids.{has, inserted, all_inserted}
+use Rattle.log_model.specs.Ids.{inserted, all_inserted}
 use Rattle.versioned_map.specs.declared.command.Command.{Command}
 use Rattle.versioned_map.specs.declared.command.Command.TheVariants.{Get, Put, Delete}
 use Rattle.master_core.specs.declared.change.Change.{Change}
@@ -32,29 +32,6 @@ use Rattle.master_core.proofs.Imaging.{ids_in}
 use Rattle.master_core.proofs.Indexing.{found_lies}
 
 -- ---- ids of a list
-
-pub has_more : (ids : List ℕ) (top s : ℕ) → has (ids ++ top ∷ []) s ≡ (has ids s || (top == s))
-has_more [] top s = go (top == s) where
-  go : (t : Bool) → (t || false) ≡ t
-  go true = refl
-  go false = refl
-has_more (z ∷ ids) top s = go (z == s) (has_more ids top s) where
-  go : (t : Bool) → has (ids ++ top ∷ []) s ≡ (has ids s || (top == s)) → (t || has (ids ++ top ∷ []) s) ≡ ((t || has ids s) || (top == s))
-  go true later = refl
-  go false later = later
-
-pub has_put : (s : ℕ) (ids : List ℕ) (x : ℕ) → has (inserted s ids) x ≡ ((s == x) || has ids x)
-has_put s [] x = refl
-has_put s (z ∷ ids) x = go (nat_lt s z) refl (has_put s ids x) where
-  swap : (a b c : Bool) → (a || (b || c)) ≡ (b || (a || c))
-  swap true true c = refl
-  swap true false c = refl
-  swap false true c = refl
-  swap false false c = refl
-
-  go : (t : Bool) → nat_lt s z ≡ t → has (inserted s ids) x ≡ ((s == x) || has ids x) → has (inserted s (z ∷ ids)) x ≡ ((s == x) || has (z ∷ ids) x)
-  go true is later = rw is refl
-  go false is later = rw is (ap (λ (b : Bool). (z == x) || b) later ∙ swap (z == x) (s == x) (has ids x))
 
 pub among_inserted : (s z : ℕ) (ids : List ℕ) → IsAmong z (inserted s ids) → (s ≡ z) ⊎ IsAmong z ids
 among_inserted s z [] (inl same) = inl same

@@ -1,9 +1,9 @@
 -- A pass that begins leaves a core.
 use Rattle.std.proofs.Common.{◌≡◌, ℕ, ◌+◌, ◌<◌, ◌≤◌, Bool, true, false, List, [], ◌∷◌, ◌++◌, map, drop, length, refl, sym, ap, subst, ◌∙◌, arith}
-use Rattle.std.specs.Prelude.{Option, Some, None, IsSome, unwrap_or, nat_lt, ◌==◌, if◌then◌else◌}
+use Rattle.std.specs.Prelude.{Option, Some, None, IsSome, unwrap_or, ◌==◌, if◌then◌else◌}
 use Rattle.std.specs.List.{AllByRecursion}
 use Rattle.std.specs.Option.{option_map, option_to_list}
-use Rattle.std.proofs.lemmas.Bool.{eqb-true, leb-true, le-ltb}
+use Rattle.std.proofs.lemmas.Bool.{eqb-true, leb-true}
 use Rattle.std.proofs.lemmas.List.{append-nil, map-append}
 use Rattle.std.proofs.lemmas.Option.{same_Some}
 use Rattle.entry.specs.declared.entry.Entry.{Entry}
@@ -27,7 +27,6 @@ use Rattle.images.specs.Sorted.{IsWhole, image_of as image_in, segment_of, added
 use Rattle.images.proofs.Adding.{newest_last, segment_found}
 use Rattle.images.proofs.Callers.{whole_added}
 use Rattle.log_head.specs.declared.head.Roll.{Roll}
-use Rattle.log_model.specs.Ids.{inserted}
 use Rattle.master_core.specs.Data.{MasterData}
 use Rattle.master_core.specs.Images.{survivor_image, new_image_or, images_among}
 use Rattle.master_core.specs.Invariant.{IsCore}

@@ -189,35 +189,38 @@ and_false false = refl
 rolling_closed : (h : HeadValue) (r : Roll) → h.roll ≡ Some r → is_open h ≡ false
 rolling_closed h r is = rw is (and_false (length h.taken == h.replicas))
 
-pub push_passed : (d : MasterData) (push : Next) → d.is_halted ≡ false → IsNextPush d.head (Some push) → push_refusal d ≡ None
-push_passed d push running is = rw (running, waits push is) refl
-  where
-    waits : (n : Next) → IsNextPush d.head (Some n) → is_pushed d.head ≡ false
-    waits (next.OpenFirst j) is =
-        let at = is.0 in
-        let few = is.1 in
-        let test : (length d.head.taken == d.head.replicas) ≡ false = grind (arith, nat_tests) in
-        rw test refl
-    waits (next.Extend j) is =
-        let lagging = is.1 in
-        let some = lagging.2 in
-        let few : fewest (length d.head.units) d.head.taken ≡ lagging.0 =
-        fewest_at (length d.head.units) lagging.0 j d.head.taken lagging.1 lagging.2 lagging.3 in
-        let less : (fewest (length d.head.units) d.head.taken == length d.head.units) ≡ false = grind (arith, nat_tests) in
-        rw less (and_false (is_open d.head))
-    waits (next.OpenNew j) is = (let closed = rolling_closed d.head is.1 is.2 in rw closed refl)
-    waits (next.CloseOld j) is = (let closed = rolling_closed d.head is.1 is.2 in rw closed refl)
+-- something waits to be pushed, or nothing does
+pub still_waits : (h : HeadValue) (n : Next) → IsNextPush h (Some n) → is_pushed h ≡ false
+still_waits h (next.OpenFirst j) is =
+    let at = is.0 in
+    let few = is.1 in
+    let test : (length h.taken == h.replicas) ≡ false = grind (arith, nat_tests) in
+    rw test refl
+still_waits h (next.Extend j) is =
+    let lagging = is.1 in
+    let some = lagging.2 in
+    let few : fewest (length h.units) h.taken ≡ lagging.0 =
+    fewest_at (length h.units) lagging.0 j h.taken lagging.1 lagging.2 lagging.3 in
+    let less : (fewest (length h.units) h.taken == length h.units) ≡ false = grind (arith, nat_tests) in
+    rw less (and_false (is_open h))
+still_waits h (next.OpenNew j) is = let closed = rolling_closed h is.1 is.2 in rw closed refl
+still_waits h (next.CloseOld j) is = let closed = rolling_closed h is.1 is.2 in rw closed refl
 
-pub push_done : (d : MasterData) → d.is_halted ≡ false → IsNextPush d.head None → push_refusal d ≡ Some Nothing
-push_done d running is =
+pub all_pushed : (h : HeadValue) → IsNextPush h None → is_pushed h ≡ true
+all_pushed h is =
     let whole = is.0 in
     let all = whole.opened in
-    let few : fewest (length d.head.units) d.head.taken ≡ length d.head.units =
-    fewest_all (length d.head.units) d.head.taken whole.none_lags in
-    let same : (fewest (length d.head.units) d.head.taken == length d.head.units) ≡ true = grind (arith, nat_tests) in
-    let all_open : (length d.head.taken == d.head.replicas) ≡ true = grind (arith, nat_tests) in
+    let few : fewest (length h.units) h.taken ≡ length h.units = fewest_all (length h.units) h.taken whole.none_lags in
+    let same : (fewest (length h.units) h.taken == length h.units) ≡ true = grind (arith, nat_tests) in
+    let all_open : (length h.taken == h.replicas) ≡ true = grind (arith, nat_tests) in
     let none = is.1 in
-    rw (running, all_open, none, same) refl
+    rw (all_open, none, same) refl
+
+pub push_passed : (d : MasterData) (push : Next) → d.is_halted ≡ false → IsNextPush d.head (Some push) → push_refusal d ≡ None
+push_passed d push running is = let waits = still_waits d.head push is in rw (running, waits) refl
+
+pub push_done : (d : MasterData) → d.is_halted ≡ false → IsNextPush d.head None → push_refusal d ≡ Some Nothing
+push_done d running is = let done = all_pushed d.head is in rw (running, done) refl
 
 pub push_halted : (d : MasterData) → d.is_halted ≡ true → push_refusal d ≡ Some Halted
 push_halted d halted = rw halted refl

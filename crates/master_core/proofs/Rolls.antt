@@ -102,9 +102,8 @@ module _ (d : MasterData) (core : IsCore d) (r : Roll) (is : d.head.roll ≡ Som
       head = valid;
       image = (let own = core.image in record {
         id = own.id;
-        none_loaded = own.none_loaded;
         image = own.image;
-        opening = own.opening;
+        base = own.base;
         ends = own.ends;
         taken = own.taken;
       });

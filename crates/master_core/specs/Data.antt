@@ -1,6 +1,7 @@
 -- What a master knows, its fleet apart.
 use Rattle.std.specs.Prelude.{ℕ, List, [], Bool, false, Option, None}
 use Rattle.cleaner.specs.declared.pass.Pass.{Pass}
+use Rattle.entry.specs.declared.entry.Object.{Object}
 use Rattle.hash_index.specs.declared.place.Held.{Held}
 use Rattle.images.specs.declared.image.Image.{Image}
 use Rattle.versioned_map.specs.declared.command.Record.{Record}
@@ -8,6 +9,15 @@ use Rattle.log_model.specs.Steps.{first_start}
 use Rattle.log_head.specs.Head.{HeadValue}
 use Rattle.log_head.specs.Steps.{fresh_head}
 use Rattle.master_core.specs.declared.config.Config.{Config}
+
+-- What a master began its history with: objects that were loaded, the last one first, and a safe version.
+pub record Origin : Type 0 where
+  pub objects : List Object
+  pub safe : ℕ
+
+-- a new master's: no objects
+abbrev pub no_origin : Origin
+no_origin = record { objects = []; safe = 1 }
 
 pub record MasterData : Type 0 where
   pub config : Config
@@ -29,6 +39,7 @@ pub record MasterData : Type 0 where
   pub freed : ℕ
   -- a backup failed: no step is accepted any more
   pub is_halted : Bool
+  pub origin : Origin
 
 -- a new master's
 abbrev pub fresh_data : Config → MasterData
@@ -44,4 +55,5 @@ fresh_data config = record {
   waiting = [];
   freed = 0;
   is_halted = false;
+  origin = no_origin;
 }

@@ -13,3 +13,4 @@ pub mod Waits
 pub mod Choosing
 pub mod Names
 pub mod Ends
+pub mod Loading

@@ -6,12 +6,11 @@ use Rattle.cleaner.specs.declared.pass.Pass.{Pass}
 use Rattle.cleaner.specs.Passes.{images_in, rest_of, ids_in}
 use Rattle.entry.specs.declared.key.Key.{Key}
 use Rattle.entry.specs.declared.entry.Entry.{Entry}
-use Rattle.entry.specs.Meaning.{Versioned, object_at}
+use Rattle.entry.specs.Meaning.{Versioned, object_at, contents_of}
 use Rattle.entry.specs.Text.{text_of, entries_in}
 use Rattle.segment.specs.Bytes.{standing_at}
 use Rattle.versioned_map.specs.declared.command.Command.{Command}
 use Rattle.versioned_map.specs.Command.{command_key}
-use Rattle.versioned_map.specs.Represents.{empty_state}
 use Rattle.versioned_map.specs.Versioned.{State}
 use Rattle.log_model.specs.Data.{LogConfig, LogData, state_of}
 use Rattle.clean_model.specs.Memory.{Memory, Place as EntryPlace}
@@ -46,9 +45,9 @@ log_config c = record {
   tablets = c.tablets;
 }
 
--- the state that the history begins with: a new master has no keys
+-- the state that the history begins with: a new master has no keys, and a loaded one has what was loaded
 abbrev pub opening_of : MasterData → State
-opening_of d = empty_state
+opening_of d = record { contents = contents_of d.origin.objects; safe = d.origin.safe }
 
 -- the log
 abbrev pub log_of : MasterData → LogData

@@ -11,6 +11,7 @@
 //! The crate stands on `hash_index`, `images`, `cleaner`, `log_head`, `log_model` and `clean_model`.
 #![tactic(auto)]
 
+mod applying;
 mod candidates;
 mod change;
 mod choosing;
@@ -20,6 +21,8 @@ mod config;
 mod ending;
 mod image;
 mod index;
+mod laws;
+mod loading;
 mod rolling;
 mod state;
 mod step;
@@ -29,5 +32,6 @@ mod victims;
 pub use cleaner::PassFault;
 pub use config::{Config, ConfigFault};
 pub use hash_index::Place;
+pub use laws::loading_goes_on;
 pub use state::Core;
 pub use step::{Look, Refusal, Shown, Step, StepAnswer};

@@ -24,7 +24,7 @@ use segment::AppendFault;
 use versioned_map::{Command, Record};
 
 /// The object that a put makes, as it lies in the command.
-fn object_of<'a>(key: &'a Key, version: Version, value: &'a Value) -> EntryRef<'a>
+pub(crate) fn object_of<'a>(key: &'a Key, version: Version, value: &'a Value) -> EntryRef<'a>
     ensures { shown result ≡ object_entry key.entry.now version value.entry.now }
 {
     let key = key.view();

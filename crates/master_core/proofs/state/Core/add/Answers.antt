@@ -87,6 +87,7 @@ module _ (c : goal.After-push_reserved) where
     waiting = d.waiting;
     freed = d.freed;
     is_halted = d.is_halted;
+    origin = d.origin;
   }
 
   abbrev with_reply : Reply → List Record
@@ -105,6 +106,7 @@ module _ (c : goal.After-push_reserved) where
     waiting = d.waiting;
     freed = d.freed;
     is_halted = d.is_halted;
+    origin = d.origin;
   }
 
   core : IsCore left

@@ -95,6 +95,7 @@ module _ (c : goal.After-self-1) where
     waiting = c.reserve-2.new.self.items;
     freed = d'.freed;
     is_halted = d'.is_halted;
+    origin = d'.origin;
   }
 
   is : rolling_data d' ≡ left
@@ -110,6 +111,7 @@ module _ (c : goal.After-self-1) where
     waiting = sym c.reserve-2.ensures.items i;
     freed = d'.freed;
     is_halted = d'.is_halted;
+    origin = d'.origin;
   }
 
   room_then : IsSome c.begin_roll.new.self.roll → length c.reserve.new.self.images < c.reserve.new.self.room

@@ -1,0 +1,147 @@
+//! How a core is loaded before its history begins.
+
+ghost use Rattle.std.specs.Prelude.{◌⊎◌, ◌≡◌, ◌≤◌, ◌^◌, length, true, None, Some, IfErr, OnOk, OnErr};
+ghost use Rattle.std.specs.Result.{result_err};
+ghost use Rattle.compactor.specs.Places.{keys_in};
+ghost use Rattle.entry.specs.Text.{text_of};
+ghost use Rattle.log_head.specs.Head.{IsHeadValue, len_with};
+ghost use Rattle.log_head.specs.Steps.{with_unit_end};
+ghost use Rattle.master_core.specs.Causes.{is_pushed};
+ghost use Rattle.master_core.specs.Images.{images_among};
+ghost use Rattle.master_core.specs.Index.{IsMoved};
+ghost use Rattle.master_core.specs.Invariant.{IsCore};
+ghost use Rattle.master_core.specs.Loading.{IsBare, IsNewObject, Loads, MayLoadNow, Settles};
+ghost use Rattle.master_core.specs.Loading.{loaded_unit, is_object_too_big, load_refusal};
+
+use crate::change::Change;
+use crate::index::{LogImages, move_object};
+use crate::state::Core;
+use crate::step::Refusal;
+use crate::unit::object_of;
+use entry::{NoMemory, Object};
+use hash_index::{Index, Place};
+use images::Images;
+use loaded::Loaded;
+use log_head::Head;
+use segment::AppendFault;
+
+impl Core {
+    /// The tests of an object that is to be loaded.
+    fn admit_object(&self, object: &Object) -> Result<(), Refusal>
+        ensures { result_err result ≡ load_refusal self.now object.now }
+    {
+        if is_object_too_big(object, self.config.segment) {
+            return Err(Refusal::TooBig);
+        }
+        if !self.config.tablets.have(&object.key.view()) {
+            return Err(Refusal::NoTablet);
+        }
+        if !self.head.is_open() {
+            return Err(Refusal::Rolling);
+        }
+        let limit = self.config.segment as usize;
+        if self.head.fits(object_len(object), limit) {
+            return Ok(());
+        }
+        if self.may_roll(2) {
+            return Err(Refusal::Rolling);
+        }
+        Err(Refusal::Full)
+    }
+
+    /// Loads an object with its own version: it is appended to the head, and the history begins with it. Or it is
+    /// refused, and nothing changes. Its key was not loaded before, and its version is below the safe one.
+    pub fn load(&mut self, object: &Object) -> Result<(), Refusal>
+        requires bare { IsBare self.old }
+        requires new { IsNewObject self.old object.now }
+        ensures loaded { OnOk result (Loads self.old object.now self.new) }
+        ensures may { OnOk result (MayLoadNow self.old object.now) }
+        ensures valid { OnOk result (IsCore self.new) }
+        ensures bare { OnOk result (IsBare self.new) }
+        ensures refused { IfErr result (λ r. (load_refusal self.old object.now ≡ Some r)
+            ⊎ ((load_refusal self.old object.now ≡ None) × (r ≡ Refusal.NoMemory))) }
+        ensures err { OnErr result (self.new ≡ self.old) }
+    {
+        self.admit_object(object)?;
+        append_object(
+            &mut self.head,
+            &self.closed,
+            &mut self.index,
+            object,
+            self.config.segment as usize,
+        )?;
+        self.loaded = Loaded::with(&self.loaded, object);
+        Ok(())
+    }
+
+    /// Whether the loading may end: no roll is under way, and each replica has all that was loaded.
+    pub fn can_finish(&self) -> bool
+        ensures { result ≡ is_pushed self.now.head }
+    {
+        match self.head.next() {
+            None => true,
+            Some(_) => false,
+        }
+    }
+
+    /// Ends the loading. The history begins with what was loaded.
+    pub fn settle(&mut self)
+        requires bare { IsBare self.old }
+        requires done { is_pushed self.old.head ≡ true }
+        ensures settled { Settles self.old self.new }
+        ensures valid { IsCore self.new }
+    {
+        self.head.settle();
+    }
+}
+
+/// Whether a put of the object would be too big for a quarter of a segment of this many bytes.
+fn is_object_too_big(object: &Object, segment: u64) -> bool
+    ensures { result ≡ is_object_too_big object.now segment }
+{
+    let bytes = 50 + 2 * object.key.bytes.as_slice().len() + object.value.as_slice().len();
+    bytes as u64 > segment / 4
+}
+
+/// How many bytes the object has in a segment.
+#[tactic(auto, using(crate::proofs::Changes::unit_lengths))]
+fn object_len(object: &Object) -> usize
+    ensures len { result ≡ length (text_of (loaded_unit object.now)) }
+    ensures small { result ≤ 2 ^ 32 }
+{
+    23 + object.key.bytes.as_slice().len() + object.value.as_slice().len()
+}
+
+/// Appends an object that fits, and sets its place in the index. On `Err` only memory was taken.
+fn append_object(
+    head: &mut Head,
+    closed: &Images,
+    index: &mut Index,
+    object: &Object,
+    limit: usize,
+) -> Result<(), NoMemory>
+    requires limit { limit ≤ 8388608 }
+    requires fits { len_with head.old.image (loaded_unit object.now) ≤ limit }
+    ensures valid { OnOk result (IsHeadValue head.new) }
+    ensures head { OnOk result (head.new ≡ with_unit_end head.old 0 (loaded_unit object.now)) }
+    ensures index { OnOk result (IsMoved (keys_in (images_among head.new closed.now.images)) index.old.held
+        (Change.Create object.now.version) object.now.key
+        (record { segment = head.old.id; at = length (text_of head.old.image) }) index.new.held) }
+    ensures err { OnErr result ((head.new ≡ head.old) × (index.new.held ≡ index.old.held)) }
+{
+    let place = Place {
+        segment: head.id(),
+        at: head.image().bytes().len(),
+    };
+    index.reserve(1)?;
+    let entry = object_of(&object.key, object.version, &object.value);
+    match head.append(&[entry], 0, limit) {
+        Ok(()) => {}
+        Err(AppendFault::Full) => unreachable!(),
+        Err(AppendFault::NoMemory) => return Err(NoMemory),
+    }
+    let images = LogImages { head, closed };
+    let change = Change::Create(object.version);
+    move_object(index, &images, &change, &object.key.view(), place);
+    Ok(())
+}
