@@ -42,13 +42,13 @@ use Rattle.master.proofs.Victims.{victim_below, survivor_no_head, never_both}
 
 -- ---- images and the index
 
-images_beside : (images : Images) (s z : ℕ) (es : List Entry) → (z == s) ≡ false → images_with images s es z ≡ images z
+pub images_beside : (images : Images) (s z : ℕ) (es : List Entry) → (z == s) ≡ false → images_with images s es z ≡ images z
 images_beside images s z [] away = refl
 images_beside images s z (e ∷ es) away =
     let here : grown images s e z ≡ images z = rw away refl in
     images_beside (grown images s e) s z es away ∙ here
 
-images_at : (images : Images) (s : ℕ) (es : List Entry) → images_with images s es s ≡ images s ++ es
+pub images_at : (images : Images) (s : ℕ) (es : List Entry) → images_with images s es s ≡ images s ++ es
 images_at images s [] = sym (append-nil (images s))
 images_at images s (e ∷ es) =
     let t = same_id s in
@@ -170,4 +170,4 @@ module _ (d e : MasterData) (f : FleetState) (seat : ℕ) (command : Command) (a
   applied_kept =
       unhanded_kept d e f kept running core is.config leaves.waiting
       (own_intact e core then_memory kept.before (subst (λ (l : LogData). IsIntact l then_memory kept.before) (sym is.log)
-      (apply_keeps (log_of d) m kept.before (dead_segment d command) r kept.intact may named)) model)
+      (apply_keeps (log_of d) m kept.before (dead_segment d command) r kept.holds may named)) model)

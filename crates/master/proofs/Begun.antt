@@ -49,7 +49,8 @@ use Rattle.master.proofs.Agreeing.{Agree, agreeing_is_intact}
 use Rattle.master.proofs.GrownImages.{index_then}
 use Rattle.master.proofs.Handed.{unhanded_kept}
 use Rattle.master.proofs.KeptByEntries.{position_is}
-use Rattle.master.proofs.OpenPasses.{closed_among, same_among, older_image, open_now, victim_older}
+use Rattle.master.proofs.OpenPasses.{closed_among, same_among, older_image, open_now}
+use Rattle.master.proofs.Victims.{victim_older}
 use Rattle.master.proofs.PassPlaces.{is_behind, place_there, place_of, no_places}
 
 -- ---- no test refuses it
@@ -158,7 +159,7 @@ module _ (d : MasterData) (core : IsCore d) (victims : List ℕ) (cursor : Curso
   -- ---- the victims
 
   older : (s : ℕ) → IsAmong s victims → IsAmong s (head_of d.head).start.others
-  older s victim = victim_older x then_core fresh refl s victim
+  older s victim = victim_older x then_core s victim
 
   not_next : (s : ℕ) → IsAmong s victims → d.next ≡ s → ⊥
   not_next s victim same =
@@ -244,7 +245,7 @@ module _ (d e : MasterData) (f : FleetState) (victims : List ℕ) (answer : Step
       subst (λ (l : LogData). IsIntact l (memory_of e) kept.before) (sym is.log)
       (subst (λ (y : MasterData). IsIntact (id_taken (log_of d)) (memory_of y) kept.before) (sym is.rest)
       (agreeing_is_intact (id_taken (log_of d)) (pass_begun (log_of d) (memory_of d) victims) (memory_of (begun_data d victims is.cursor)) kept.before
-      (begin_keeps (log_of d) (memory_of d) kept.before victims kept.intact
+      (begin_keeps (log_of d) (memory_of d) kept.before victims kept.holds
       (may d kept.core victims is.cursor admitted.1 then_core is.begins))
       (agree d kept.core victims is.cursor admitted.1 then_core is.begins)))
 

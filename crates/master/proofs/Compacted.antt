@@ -136,4 +136,4 @@ module _ (d e : MasterData) (f : FleetState) (id : ℕ) (answer : StepAnswer) (k
       unhanded_kept d e f kept fit.running core (ap (λ (x : MasterData). x.config) is.rest)
       leaves.waiting
       (own_intact e core then_memory kept.before (subst (λ (l : LogData). IsIntact l then_memory kept.before) (sym is.log)
-      (compact_keeps (log_of d) m kept.before id kept.intact may)) model)
+      (compact_keeps (log_of d) m kept.before id kept.holds may)) model)

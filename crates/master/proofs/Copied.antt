@@ -281,7 +281,7 @@ module _ (d e : MasterData) (f : FleetState) (answer : StepAnswer) (kept : IsWel
       subst (λ (b : Bool). IsIntact (log_of d)
       (if b then with_copy (memory_of d) rest is.pass.survivor is.treats.entry else record (memory_of d) { rest = rest }) kept.before)
       (copied_is_kept d kept.core is.treats.place is.treats.entry lies is.treats.of_data ∙ test)
-      (copy_keeps (log_of d) (memory_of d) kept.before (entry_place d is.treats.place) rest is.pass.survivor is.treats.entry kept.intact may)
+      (copy_keeps (log_of d) (memory_of d) kept.before (entry_place d is.treats.place) rest is.pass.survivor is.treats.entry kept.holds may)
 
   intact_then : (t : Bool) → is_kept (log_set_ids d) d.index is.treats.place is.treats.entry ≡ t
       → IsIntact (log_of e) (memory_of e) kept.before

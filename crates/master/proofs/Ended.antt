@@ -13,14 +13,15 @@ use Rattle.hash_index.specs.declared.place.Place.{Place}
 use Rattle.hash_index.specs.Map.{found}
 use Rattle.images.specs.declared.image.Image.{Image}
 use Rattle.compactor.specs.Places.{keys_in}
-use Rattle.replica.specs.Picture.{FleetState}
+use Rattle.replica.specs.Picture.{Picture, FleetState}
 use Rattle.log_head.specs.declared.head.Roll.{Roll}
 use Rattle.log_head.specs.Log.{head_of, start_of}
 use Rattle.log_head.specs.Steps.{in_force}
 use Rattle.log_head.proofs.RollLog.{head_in_force}
-use Rattle.log_model.specs.Data.{Start, Head, ids_of}
+use Rattle.log_model.specs.Data.{Start, Head, LogData, ids_of}
 use Rattle.log_model.specs.Ids.{has}
-use Rattle.clean_model.specs.Memory.{Place as EntryPlace, log_ids}
+use Rattle.clean_model.specs.Intact.{IsIntact}
+use Rattle.clean_model.specs.Memory.{Place as EntryPlace, Memory, log_ids}
 use Rattle.clean_model.specs.Steps.{finished}
 use Rattle.clean_model.proofs.KeptEntries.{is_has}
 use Rattle.master_core.specs.Budget.{victims_of, survivors_of, is_committing}
@@ -35,7 +36,7 @@ use Rattle.master_core.proofs.Imaging.{ids_in}
 use Rattle.master_core.proofs.LogIds.{open_of, closed_rise, no_head}
 use Rattle.master_core.proofs.Rising.{Rise, has_not, rise_put}
 use Rattle.master_core.proofs.Rolls.{added_ids, rolls_of, values, closed_images}
-use Rattle.master.specs.Invariant.{IsWellKept}
+use Rattle.master.specs.Invariant.{IsKeptAs}
 use Rattle.master.proofs.LogSets.{new_now}
 use Rattle.master.proofs.Models.{IsModel, LeavesPass, rest_stays, is_model}
 use Rattle.master.proofs.Victims.{victim_below, never_both}
@@ -132,7 +133,8 @@ first_freed (w ∷ ws) more freed s = omega arith
 
 -- ---- the head that was rolled to is in force
 
-module _ (d : MasterData) (f : FleetState) (kept : IsWellKept d f) (r : Roll) (rolls : d.head.roll ≡ Some r) where
+module _ {Holds : LogData → Memory → Picture → Type 0} (d : MasterData) (f : FleetState) (kept : IsKeptAs Holds d f) (r : Roll)
+    (rolls : d.head.roll ≡ Some r) where
   abbrev closed : List Image
   closed = with_closed d.closed d.head.id (Some d.head.image)
 
@@ -149,7 +151,8 @@ module _ (d : MasterData) (f : FleetState) (kept : IsWellKept d f) (r : Roll) (r
 
   -- ---- a commit
 
-  module _ (p : OpenPass) (opened : d.pass ≡ Some p) (commits : p.is_committing ≡ true) where
+  module _ (p : OpenPass) (opened : d.pass ≡ Some p) (commits : p.is_committing ≡ true)
+      (intact : IsIntact (log_of d) (memory_of d) kept.before) where
     abbrev e : MasterData
     e = pass_ended p rolled
 
@@ -171,7 +174,7 @@ module _ (d : MasterData) (f : FleetState) (kept : IsWellKept d f) (r : Roll) (r
     not_victim s listed victim =
         elim (among_push s (start_of r).others (start_of r).id (subst (λ (n : Start). IsAmong s (ids_of n)) start_is listed))
         as (λ _. ⊥) [
-          | inl other ↦ elim (((kept.intact.rolling (start_of r) (new_now d r rolls)).1 committing).0.from s other) as (λ _. ⊥) [
+          | inl other ↦ elim (((intact.rolling (start_of r) (new_now d r rolls)).1 committing).0.from s other) as (λ _. ⊥) [
             | inl old ↦ old.1 victim
             | inr survivor ↦ never_both d kept.core s victim survivor
           ]
@@ -219,8 +222,8 @@ module _ (d : MasterData) (f : FleetState) (kept : IsWellKept d f) (r : Roll) (r
         (apart_rise (leaving p.victims closed) (rise_filter (has p.victims) (ids_in closed) ids_rise))
         (λ s old new. (
         let victim = is_has p.victims s (in_filter (has p.victims) (ids_in closed) s new) in
-        kept.intact.waiting.out s old
-        (kept.intact.passing.victims_count s (subst (λ (ids : List ℕ). IsAmong s ids) (sym victims_are) victim))))
+        intact.waiting.out s old
+        (intact.passing.victims_count s (subst (λ (ids : List ℕ). IsAmong s ids) (sym victims_are) victim))))
 
     pub ended_model : IsModel e (finished (memory_of d))
     ended_model = record {

@@ -89,7 +89,7 @@ module _ (d : MasterData) (f : FleetState) (kept : IsWellKept d f) (passed : fre
 
   pub free_then : (q : Picture) × (taken kept.before d.config.master o ≡ Some q) × IsIntact (log_of d) (freed_more (memory_of d) o.segment) q
   free_then =
-      let gone = free_keeps (log_of d) (memory_of d) kept.before o.segment o.backup kept.intact may in
+      let gone = free_keeps (log_of d) (memory_of d) kept.before o.segment o.backup kept.holds may in
       (gone.0, ap (taken kept.before d.config.master) is.is ∙ gone.1, gone.2)
 
   abbrev more : Memory

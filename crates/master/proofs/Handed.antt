@@ -6,10 +6,11 @@ use Rattle.replica.specs.Picture.{Picture, FleetState}
 use Rattle.replica.specs.Take.{Refuses, taken as fleet_taken}
 use Rattle.replica.specs.declared.op.TakeFault.{TakeFault}
 use Rattle.replica.specs.declared.op.TakeFault.TheVariants as take_fault
+use Rattle.log_model.specs.Data.{LogData}
 use Rattle.log_model.specs.Laws.{with_taken}
 use Rattle.log_model.specs.Ops.{LogOp, op_of, taken}
 use Rattle.log_model.proofs.Fleets.{fleet_takes}
-use Rattle.clean_model.specs.Intact.{IsIntact}
+use Rattle.clean_model.specs.Memory.{Memory}
 use Rattle.clean_model.specs.Steps.{IsOp, IsFault}
 use Rattle.master_core.specs.declared.config.Config.{Config}
 use Rattle.master_core.specs.Data.{MasterData}
@@ -17,12 +18,12 @@ use Rattle.master_core.specs.Invariant.{AreApart, IsCore}
 use Rattle.master_core.specs.Log.{log_of, memory_of}
 use Rattle.master_core.specs.Steps.{halted, refusal_of, failed_data}
 use Rattle.master_core.proofs.Beginning.{halted_core}
-use Rattle.master.specs.Invariant.{IsWellKept}
+use Rattle.master.specs.Invariant.{IsKeptAs}
 use Rattle.master.specs.Steps.{FailsTake}
 
 -- The backups before it take the op.
-module _ (d : MasterData) (f : FleetState) (kept : IsWellKept d f) (running : d.is_halted ≡ false) (o : LogOp)
-    (home : o.backup < d.config.backups) (q : Picture) (took : taken kept.before d.config.master o ≡ Some q) where
+module _ {Holds : LogData → Memory → Picture → Type 0} (d : MasterData) (f : FleetState) (kept : IsKeptAs Holds d f)
+    (running : d.is_halted ≡ false) (o : LogOp) (home : o.backup < d.config.backups) (q : Picture) (took : taken kept.before d.config.master o ≡ Some q) where
   here : f.picture ≡ kept.before
   here = kept.running running
 
@@ -46,13 +47,13 @@ module _ (d : MasterData) (f : FleetState) (kept : IsWellKept d f) (running : d.
       (ap (λ (h : FleetState). h.picture) same, sym (ap (λ (h : FleetState). h.backups) same))
 
   pub handed_kept : (e : MasterData) (g : FleetState) → IsCore e → e.config ≡ d.config → AreApart e.waiting
-      → IsIntact (log_of e) (memory_of e) q → fleet_taken f o.backup (op_of d.config.master o) ≡ Some g → IsWellKept e g
-  handed_kept e g core config apart intact is =
+      → Holds (log_of e) (memory_of e) q → fleet_taken f o.backup (op_of d.config.master o) ≡ Some g → IsKeptAs Holds e g
+  handed_kept e g core config apart then_holds is =
       let same = picture_is g is in
       record {
         core = core;
         before = q;
-        intact = intact;
+        holds = then_holds;
         backups = (let le = kept.backups in let count = same.1 in let own = ap (λ (c : Config). c.backups) config in omega arith);
         now = inl (sym same.0);
         running = λ going. sym same.0;
@@ -61,11 +62,11 @@ module _ (d : MasterData) (f : FleetState) (kept : IsWellKept d f) (running : d.
 
   -- after a fault the backups are as before, or have the op
   module _ (op : IsOp (log_of d) (memory_of d) o) where
-    fault_kept : (g : FleetState) → Refuses f o.backup (op_of d.config.master o) take_fault.Fault g → IsWellKept (halted d) g
+    fault_kept : (g : FleetState) → Refuses f o.backup (op_of d.config.master o) take_fault.Fault g → IsKeptAs Holds (halted d) g
     fault_kept g refused = record {
       core = halted_core d kept.core;
       before = kept.before;
-      intact = kept.intact;
+      holds = kept.holds;
       backups = count refused;
       now = after refused;
       running = λ never. absurd (cc);
@@ -87,11 +88,11 @@ module _ (d : MasterData) (f : FleetState) (kept : IsWellKept d f) (running : d.
       )
 
     pub failed_kept : (g : FleetState) (fault : TakeFault) → Refuses f o.backup (op_of d.config.master o) fault g
-        → IsWellKept (failed_data d fault) g
-    failed_kept g take_fault.NoMemory refused = subst (IsWellKept d) (sym refused) kept
+        → IsKeptAs Holds (failed_data d fault) g
+    failed_kept g take_fault.NoMemory refused = subst (IsKeptAs Holds d) (sym refused) kept
     failed_kept g take_fault.Wrong refused = absurd (never_wrong g refused)
     failed_kept g take_fault.Fault refused = fault_kept g refused
-    failed_kept g take_fault.Spent refused = subst (IsWellKept d) (sym refused.1) kept
+    failed_kept g take_fault.Spent refused = subst (IsKeptAs Holds d) (sym refused.1) kept
 
   -- what a take that failed answers
   pub failed_tells : (Is : LogOp → Type 0) → Is o → (g : FleetState) (fault : TakeFault)
@@ -105,12 +106,12 @@ module _ (d : MasterData) (f : FleetState) (kept : IsWellKept d f) (running : d.
 -- ---- no op
 
 -- a step that hands no op to a backup
-pub unhanded_kept : (d e : MasterData) (f : FleetState) (kept : IsWellKept d f) → d.is_halted ≡ false → IsCore e → e.config ≡ d.config
-    → e.waiting ≡ d.waiting → IsIntact (log_of e) (memory_of e) kept.before → IsWellKept e f
-unhanded_kept d e f kept running core config waiting intact = record {
+pub unhanded_kept : {Holds : LogData → Memory → Picture → Type 0} (d e : MasterData) (f : FleetState) (kept : IsKeptAs Holds d f) → d.is_halted ≡ false → IsCore e → e.config ≡ d.config
+    → e.waiting ≡ d.waiting → Holds (log_of e) (memory_of e) kept.before → IsKeptAs Holds e f
+unhanded_kept d e f kept running core config waiting then_holds = record {
   core = core;
   before = kept.before;
-  intact = intact;
+  holds = then_holds;
   backups = subst (λ (c : Config). c.backups ≤ f.backups) (sym config) kept.backups;
   now = inl (kept.running running);
   running = λ going. kept.running running;

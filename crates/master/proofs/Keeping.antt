@@ -38,6 +38,7 @@ use Rattle.master.proofs.Pushed.{same_rest}
 pub keeps_same : (most : ℕ) (w : World) → Keeps most w w
 keeps_same most w = record {
   config = refl;
+  origin = refl;
   takes = (omega arith, omega arith);
   others = λ b m s other. refl;
   durable = omega arith;
@@ -51,6 +52,7 @@ keeps_on m n a b c first later =
     let rise = first.durable in let rise' = later.durable in
     record {
       config = later.config ∙ first.config;
+      origin = later.origin ∙ first.origin;
       takes = (omega arith, omega arith);
       others = λ k o s other. later.others k o s (λ is. other (is ∙ ap (λ c. c.master) first.config)) ∙ first.others k o s other;
       durable = omega arith;
@@ -68,11 +70,11 @@ keeps_pushed a b c steps s first last =
 -- ---- an op
 
 -- The other fleet has at most one more op taken, and of other masters the same replicas.
-record IsBeside (master : ℕ) (f g : FleetState) : Type 0 where
-  takes : (f.takes ≤ g.takes) × (g.takes ≤ f.takes + 1)
-  others : (b m s : ℕ) → (m ≡ master → ⊥) → g.picture b m s ≡ f.picture b m s
+pub record IsBeside (master : ℕ) (f g : FleetState) : Type 0 where
+  pub takes : (f.takes ≤ g.takes) × (g.takes ≤ f.takes + 1)
+  pub others : (b m s : ℕ) → (m ≡ master → ⊥) → g.picture b m s ≡ f.picture b m s
 
-beside_same : (master : ℕ) (f : FleetState) → IsBeside master f f
+pub beside_same : (master : ℕ) (f : FleetState) → IsBeside master f f
 beside_same master f = record { takes = (omega arith, omega arith); others = λ b m s other. refl }
 
 elsewhere : (b m s c n t : ℕ) → (n ≡ m → ⊥) → is_same_place b m s c n t ≡ false
@@ -89,18 +91,34 @@ module _ (f : FleetState) (b : ℕ) (op : OpValue) where
     others = λ c n t other. (let away = elsewhere b op.master op.segment c n t other in rw away refl);
   })
 
-  taken_beside : (g : FleetState) → taken f b op ≡ Some g → IsBeside op.master f g
+  pub taken_beside : (g : FleetState) → taken f b op ≡ Some g → IsBeside op.master f g
   taken_beside g is = told (nat_lt b f.backups) refl
     where
       told : (test : Bool) → nat_lt b f.backups ≡ test → IsBeside op.master f g
       told true within = effect_beside g (effect op.act (f.picture b op.master op.segment)) (rw within at is)
       told false past = (let never : None ≡ Some g = rw past at is in absurd (cc))
 
-  fault_beside : (g : FleetState) → Refuses f b op take_fault.Fault g → IsBeside op.master f g
+  pub fault_beside : (g : FleetState) → Refuses f b op take_fault.Fault g → IsBeside op.master f g
   fault_beside g (inl same) = subst (IsBeside op.master f) (sym same) (record { takes = (omega arith, omega arith); others = λ c m s other. refl })
   fault_beside g (inr took) =
       let taken = taken_beside took.0 took.1.1 in
       subst (IsBeside op.master f) (sym took.2) (record { takes = taken.takes; others = taken.others })
+
+-- a take that failed changed nothing, or halted the master
+pub take_failed : {P : Type 0} (IsOp : LogOp → Type 0) (old new : World) (r : Refusal) → FailsTake IsOp old r new → (new ≡ old → P)
+    → (FailsTake IsOp old refusal.Halted new → P) → P
+take_failed IsOp old new refusal.NoMemory t same halts = same t
+take_failed IsOp old new refusal.Spent t same halts = same t.1
+take_failed IsOp old new refusal.Halted t same halts = halts t
+take_failed IsOp old new refusal.TooBig t same halts = absurd t
+take_failed IsOp old new refusal.Full t same halts = absurd t
+take_failed IsOp old new refusal.VersionsSpent t same halts = absurd t
+take_failed IsOp old new refusal.HistoryFull t same halts = absurd t
+take_failed IsOp old new refusal.Rolling t same halts = absurd t
+take_failed IsOp old new refusal.Nothing t same halts = absurd t
+take_failed IsOp old new (refusal.Pass fault) t same halts = absurd t
+take_failed IsOp old new refusal.NoTablet t same halts = absurd t
+take_failed IsOp old new refusal.SegmentsSpent t same halts = absurd t
 
 -- ---- a step
 
@@ -119,24 +137,26 @@ is_next d e o (Sealed backup) is = absurd is
 is_next d e o (Freed segment backup) is = absurd is
 
 -- a replica that was freed leaves the log as it is
-log_freed : (d : MasterData) → (log_of (freed_data d) ≡ log_of d) × ((freed_data d).config ≡ d.config)
+log_freed : (d : MasterData)
+    → (log_of (freed_data d) ≡ log_of d) × ((freed_data d).config ≡ d.config) × ((freed_data d).origin ≡ d.origin)
 log_freed d = go (suc d.freed == d.config.replicas) where
   gives : Bool → MasterData
   gives t = if t then record d { waiting = drop 1 d.waiting; freed = 0 } else record d { freed = suc d.freed }
 
-  go : (t : Bool) → (log_of (gives t) ≡ log_of d) × ((gives t).config ≡ d.config)
-  go true = (refl, refl)
-  go false = (refl, refl)
+  go : (t : Bool) → (log_of (gives t) ≡ log_of d) × ((gives t).config ≡ d.config) × ((gives t).origin ≡ d.origin)
+  go true = (refl, refl, refl)
+  go false = (refl, refl, refl)
 
 module _ (old new : World) (kept : IsWellKept old.knows old.fleet) where
   log_kept : IsLogKept (log_of old.knows) kept.before
-  log_kept = kept.intact.log
+  log_kept = kept.holds.log
 
   -- a step that adds no record
-  silent : new.knows.config ≡ old.knows.config → new.knows.history ≡ old.knows.history → IsBeside old.knows.config.master old.fleet new.fleet
+  silent : new.knows.config ≡ old.knows.config → new.knows.origin ≡ old.knows.origin → new.knows.history ≡ old.knows.history → IsBeside old.knows.config.master old.fleet new.fleet
       → durable_of (log_of old.knows) ≤ durable_of (log_of new.knows) → Keeps 1 old new
-  silent config history beside durable = record {
+  silent config origin history beside durable = record {
     config = config;
+    origin = origin;
     takes = beside.takes;
     others = beside.others;
     durable = durable;
@@ -152,6 +172,7 @@ module _ (old new : World) (kept : IsWellKept old.knows old.fleet) where
       let beside = subst (IsBeside d.config.master old.fleet) (sym fleet) (beside_same d.config.master old.fleet) in
       record {
         config = a.config;
+        origin = ap (λ (x : MasterData). x.origin) a.rest;
         takes = beside.takes;
         others = beside.others;
         durable = subst (λ (l : LogData). durable_of (log_of old.knows) ≤ durable_of l) (sym a.log)
@@ -170,61 +191,50 @@ module _ (old new : World) (kept : IsWellKept old.knows old.fleet) where
   rolled : (answer : StepAnswer) → BeginsRoll old.knows answer new.knows → new.fleet ≡ old.fleet → Keeps 1 old new
   rolled answer b fleet =
       let d = old.knows in
-      silent (ap (λ (x : MasterData). x.config) b.rest) (ap (λ (x : MasterData). x.history) b.rest) (quiet fleet)
+      silent (ap (λ (x : MasterData). x.config) b.rest) (ap (λ (x : MasterData). x.origin) b.rest) (ap (λ (x : MasterData). x.history) b.rest) (quiet fleet)
       (subst (λ (l : LogData). durable_of (log_of old.knows) ≤ durable_of l) (sym b.log) (durable_stays_rolling (log_of d) (next_now d)))
 
   compacted : (id : ℕ) (answer : StepAnswer) → Compacts old.knows id answer new.knows → new.fleet ≡ old.fleet → Keeps 1 old new
   compacted id answer c fleet =
-      silent (ap (λ (x : MasterData). x.config) c.rest) (ap (λ (x : MasterData). x.history) c.rest) (quiet fleet) (same_log c.log)
+      silent (ap (λ (x : MasterData). x.config) c.rest) (ap (λ (x : MasterData). x.origin) c.rest) (ap (λ (x : MasterData). x.history) c.rest) (quiet fleet) (same_log c.log)
 
   begun : (ids : List ℕ) (answer : StepAnswer) → BeginsPass old.knows ids answer new.knows → new.fleet ≡ old.fleet → Keeps 1 old new
   begun ids answer b fleet =
       let same : durable_of (id_taken (log_of old.knows)) ≡ durable_of (log_of old.knows) = refl in
-      silent (ap (λ (x : MasterData). x.config) b.rest) (ap (λ (x : MasterData). x.history) b.rest) (quiet fleet)
+      silent (ap (λ (x : MasterData). x.config) b.rest) (ap (λ (x : MasterData). x.origin) b.rest) (ap (λ (x : MasterData). x.history) b.rest) (quiet fleet)
       (subst (λ (l : LogData). durable_of (log_of old.knows) ≤ durable_of l) (sym b.log) (omega arith))
 
   copied : (answer : StepAnswer) → Copies old.knows answer new.knows → new.fleet ≡ old.fleet → Keeps 1 old new
   copied answer c fleet =
-      silent (ap (λ (x : MasterData). x.config) c.rest) (ap (λ (x : MasterData). x.history) c.rest) (quiet fleet) (same_log c.log)
+      silent (ap (λ (x : MasterData). x.config) c.rest) (ap (λ (x : MasterData). x.origin) c.rest) (ap (λ (x : MasterData). x.history) c.rest) (quiet fleet) (same_log c.log)
 
   pushed : (answer : StepAnswer) → Pushes old answer new → Keeps 1 old new
   pushed answer p =
       let same = same_rest old.knows p.push in
-      silent (ap (λ (d : MasterData). d.config) p.rest ∙ same.0) (ap (λ (d : MasterData). d.history) p.rest ∙ same.1)
+      silent (ap (λ (d : MasterData). d.config) p.rest ∙ same.0) (ap (λ (d : MasterData). d.origin) p.rest ∙ same.3) (ap (λ (d : MasterData). d.history) p.rest ∙ same.1)
       (taken_beside old.fleet p.op.backup (op_of old.knows.config.master p.op) new.fleet p.takes.1)
       (durable_stays_next (log_of old.knows) (log_of new.knows) kept.before p.op log_kept (is_next (log_of old.knows) (log_of new.knows) p.op answer p.next))
 
   sealed : (answer : StepAnswer) → Seals old answer new → Keeps 1 old new
   sealed answer s =
-      silent (ap (λ (d : MasterData). d.config) s.rest) (ap (λ (d : MasterData). d.history) s.rest)
+      silent (ap (λ (d : MasterData). d.config) s.rest) (ap (λ (d : MasterData). d.origin) s.rest) (ap (λ (d : MasterData). d.history) s.rest)
       (taken_beside old.fleet s.op.backup (op_of old.knows.config.master s.op) new.fleet s.takes.1) (same_log (ap log_of s.rest))
 
   freed : (answer : StepAnswer) → Frees old answer new → Keeps 1 old new
   freed answer s =
       let same = log_freed old.knows in
-      silent (ap (λ (d : MasterData). d.config) s.rest ∙ same.1)
+      silent (ap (λ (d : MasterData). d.config) s.rest ∙ same.1) (ap (λ (d : MasterData). d.origin) s.rest ∙ same.2)
       (ap (λ (d : MasterData). d.history) s.rest ∙ ap (λ (l : LogData). l.history) same.0)
       (taken_beside old.fleet s.op.backup (op_of old.knows.config.master s.op) new.fleet s.takes.1) (same_log (ap log_of s.rest ∙ same.0))
 
   module _ (IsOp : LogOp → Type 0) where
     halts : FailsTake IsOp old refusal.Halted new → Keeps 1 old new
     halts t =
-        silent (ap (λ (d : MasterData). d.config) t.0) (ap (λ (d : MasterData). d.history) t.0)
+        silent (ap (λ (d : MasterData). d.config) t.0) (ap (λ (d : MasterData). d.origin) t.0) (ap (λ (d : MasterData). d.history) t.0)
         (fault_beside old.fleet t.1.0.backup (op_of old.knows.config.master t.1.0) new.fleet t.1.2) (same_log (ap log_of t.0))
 
     failed : (r : Refusal) → FailsTake IsOp old r new → Keeps 1 old new
-    failed refusal.NoMemory t = unchanged t
-    failed refusal.Spent t = unchanged t.1
-    failed refusal.Halted t = halts t
-    failed refusal.TooBig t = absurd t
-    failed refusal.Full t = absurd t
-    failed refusal.VersionsSpent t = absurd t
-    failed refusal.HistoryFull t = absurd t
-    failed refusal.Rolling t = absurd t
-    failed refusal.Nothing t = absurd t
-    failed (refusal.Pass fault) t = absurd t
-    failed refusal.NoTablet t = absurd t
-    failed refusal.SegmentsSpent t = absurd t
+    failed r t = take_failed IsOp old new r t unchanged halts
 
   step_keeps : (step : Step) (result : Result StepAnswer Refusal) → Steps old step result new → Keeps 1 old new
   step_keeps (Apply seat command) (Ok answer) t = applied seat command answer t.0 t.1

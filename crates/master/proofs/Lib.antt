@@ -6,6 +6,7 @@ pub mod Victims
 pub mod Handed
 pub mod Agreeing
 pub mod OpenPasses
+pub mod Lasting
 pub mod Models
 pub mod Starting
 pub mod Applied
@@ -14,6 +15,8 @@ pub mod Rolled
 pub mod NextOps
 pub mod Ended
 pub mod Pushed
+pub mod Served
+pub mod Loaded
 pub mod PassPlaces
 pub mod GrownImages
 pub mod MovedPlaces
@@ -22,5 +25,7 @@ pub mod Copied
 pub mod Sealed
 pub mod Freed
 pub mod Keeping
+pub mod KeptLoading
 pub mod Runs
 pub mod Validity
+mod Retired

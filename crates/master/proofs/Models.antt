@@ -1,5 +1,4 @@
--- All is intact of a master's memory, if it is so of the model's after a step and this has the same images and the same
--- pass.
+-- What holds of the model's memory after a step holds of a master's, if this has the same images and the same pass.
 use Rattle.std.proofs.Common.{◌≡◌, ℕ, ◌≤◌, inl, inr, Bool, List, [], ◌∷◌, ◌++◌, map, refl, sym, ap, subst, ◌∙◌, arith}
 use Rattle.std.specs.Prelude.{Option, Some, None, IfSome}
 use Rattle.std.specs.Option.{option_map, option_map_or}
@@ -17,12 +16,14 @@ use Rattle.entry.specs.Meaning.{Versioned, object_at}
 use Rattle.hash_index.specs.declared.place.Place.{Place}
 use Rattle.compactor.specs.Places.{IsAtPlace}
 use Rattle.log_head.specs.Log.{head_of, phase_of}
-use Rattle.log_model.specs.Data.{ids_of, new_of}
+use Rattle.log_model.specs.Data.{LogData, ids_of, new_of}
+use Rattle.log_model.specs.Log.{Texts}
 use Rattle.replica.specs.Picture.{Picture}
 use Rattle.clean_model.specs.Intact.{IsIntact}
 use Rattle.clean_model.specs.Memory.{Place as EntryPlace, Index, Images, Pass, Memory, IsAt, StandsAt, SegmentHas, new_ids, log_ids, log_set_of}
+use Rattle.clean_model.specs.Covered.{map_of}
 use Rattle.clean_model.specs.Same.{IsFoundInBoth, IsSameMemory}
-use Rattle.clean_model.proofs.SameMemories.{same_is_intact}
+use Rattle.clean_model.specs.Tracked.{IsTracked}
 use Rattle.master_core.specs.Budget.{victims_of, survivors_of, is_committing}
 use Rattle.master_core.specs.Data.{MasterData}
 use Rattle.master_core.specs.Index.{LiesFound}
@@ -31,6 +32,7 @@ use Rattle.master_core.specs.Log.{log_of, state_now, images_of, find, position_o
 use Rattle.master_core.proofs.Finding.{each_of, found_place}
 use Rattle.master_core.proofs.LogIds.{older_image}
 use Rattle.master.proofs.KeptByEntries.{stands_by_entries}
+use Rattle.master.proofs.Lasting.{Lasts, intact_lasts}
 use Rattle.master.proofs.LogSets.{among_at_place, entry_counts}
 use Rattle.master.proofs.Victims.{victim_below}
 
@@ -92,7 +94,15 @@ module _ (e : MasterData) (core : IsCore e) where
     go (Some q) None is none lies = absurd lies
     go (Some q) (Some x) is none lies = absurd (cc)
 
-module _ (e : MasterData) (core : IsCore e) (m : Memory) (p : Picture) (i : IsIntact (log_of e) m p) (is : IsModel e m) where
+module _ {Holds : LogData → Memory → Picture → Type 0} (lasts : Lasts Holds) (e : MasterData) (core : IsCore e) (m : Memory) (p : Picture)
+    (i : Holds (log_of e) m p) (is : IsModel e m) where
+  texts : Texts
+  texts = (lasts.tracked (log_of e) m p i).0
+
+  tracked : IsTracked (log_set_of (log_of e) m texts) m.pass m.index (map_of (log_of e))
+  unfolding texts
+  tracked = (lasts.tracked (log_of e) m p i).1
+
   ids_are : log_ids (log_of e) (memory_of e) ≡ log_ids (log_of e) m
   ids_are = ap (λ (x : Pass). ids_of (head_of e.head).start ++ (new_ids (new_of (phase_of e.head)) ++ x.survivors)) is.pass
 
@@ -112,7 +122,7 @@ module _ (e : MasterData) (core : IsCore e) (m : Memory) (p : Picture) (i : IsIn
     image_is : images_of e place.0.segment ≡ m.images place.0.segment
     image_is = is.images place.0.segment counts
 
-    there : SegmentHas (log_set_of (log_of e) m i.log.texts) place.0.segment (object_at k x)
+    there : SegmentHas (log_set_of (log_of e) m texts) place.0.segment (object_at k x)
     there = record {
       counts = counts;
       among = inl (subst (λ (es : List Entry). IsAmong (object_at k x) es) image_is among);
@@ -121,9 +131,9 @@ module _ (e : MasterData) (core : IsCore e) (m : Memory) (p : Picture) (i : IsIn
     -- both find it in one segment
     found : IsFoundInBoth m (memory_of e) k x
     found =
-        let was = i.tracked.found k x has in
+        let was = tracked.found k x has in
         let segment : was.place.segment ≡ place.0.segment =
-        elim (i.tracked.lies k x was.place has was.indexed place.0.segment object there refl) as (λ _. was.place.segment ≡ place.0.segment) [
+        elim (tracked.lies k x was.place has was.indexed place.0.segment object there refl) as (λ _. was.place.segment ≡ place.0.segment) [
           | inl same ↦ same
           | inr copied ↦ absurd (is.behind k place.0 was.place place.1 was.indexed copied.victim copied.survivor)
         ] in
@@ -153,9 +163,13 @@ module _ (e : MasterData) (core : IsCore e) (m : Memory) (p : Picture) (i : IsIn
     freed = is.freed;
   }
 
-  -- all is intact of the master's own memory
-  pub own_intact : IsIntact (log_of e) (memory_of e) p
-  own_intact = same_is_intact (log_of e) m (memory_of e) p i same
+  -- it holds of the master's own memory
+  pub own_holds : Holds (log_of e) (memory_of e) p
+  own_holds = lasts.same (log_of e) m (memory_of e) p i same
+
+pub own_intact : (e : MasterData) → IsCore e → (m : Memory) (p : Picture) → IsIntact (log_of e) m p → IsModel e m
+    → IsIntact (log_of e) (memory_of e) p
+own_intact e core m p i is = own_holds intact_lasts e core m p i is
 
 -- ---- a pass that goes on
 

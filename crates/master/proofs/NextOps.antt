@@ -77,7 +77,7 @@ module _ (d : MasterData) (core : IsCore d) where
         home = subst (λ (s : ℕ). IsHomeAt (log_of d) s j (home d.config d.head.id j)) (sym core.image.id)
             (home_at d.head.id j (let lt = slice_get_within d.head.taken j units is.1.1 in let few = core.head.opened in omega arith));
         segment = sym core.image.id;
-        act = ap (λ (n : ℕ). Extend (end_of d.head.opening d.head.units n) (bytes_between d.head n (n + 1))) units_are
+        act = ap (λ (n : ℕ). Extend (end_of d.head.base d.head.units n) (bytes_between d.head n (n + 1))) units_are
             ∙ (λ i. Extend (end_is d.config.master d.head (head_of d.head) core.image units i)
             (part_is d.config.master d.head (head_of d.head) core.image units (units + 1) (omega arith) i))
             ∙ ap (λ (to : ℕ). Extend (length (text_of (head_entries d.config.master (head_of d.head) units)))

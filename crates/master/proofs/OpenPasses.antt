@@ -17,14 +17,15 @@ use Rattle.log_head.specs.declared.head.Roll.{Roll}
 use Rattle.log_head.specs.Head.{HeadValue}
 use Rattle.log_head.specs.Log.{head_of}
 use Rattle.log_model.specs.Data.{ids_of}
-use Rattle.log_model.specs.Ids.{has}
-use Rattle.clean_model.proofs.KeptEntries.{has_is, is_has}
+use Rattle.clean_model.proofs.KeptEntries.{has_is}
 use Rattle.entry.proofs.BagLemmas.{among_last}
+use Rattle.master_core.specs.Budget.{victims_of}
 use Rattle.master_core.specs.Data.{MasterData}
 use Rattle.master_core.specs.Images.{new_image_or, images_among}
 use Rattle.master_core.specs.Invariant.{IsRollOf, IsOpenPass, IsCore}
 use Rattle.master_core.specs.Log.{images_of, rest_now}
 use Rattle.master_core.proofs.Imaging.{other_id}
+use Rattle.master.proofs.Victims.{victim_older}
 
 -- ---- closed segments
 
@@ -77,13 +78,9 @@ module _ (d : MasterData) (core : IsCore d) where
     pub rest_is : rest_now d ≡ rest_of (images_in d.closed) p
     rest_is = ap (λ (o : Option Pass). option_map_or (rest_of (images_in d.closed)) o []) opened
 
-    pub victim_older : (s : ℕ) → IsAmong s p.victims → IsAmong s (head_of d.head).start.others
-    victim_older s victim =
-        is_has (head_of d.head).start.others s
-        (all_among (λ (z : ℕ). has (head_of d.head).start.others z ≡ true) p.victims s open_now.victims.older victim)
-
     pub victim_image : (s : ℕ) → IsAmong s p.victims → images_of d s ≡ images_in d.closed s
-    victim_image s victim = older_image s (victim_older s victim)
+    victim_image s victim =
+        older_image s (victim_older d core s (subst (λ (o : Option Pass). IsAmong s (victims_of o)) (sym opened) victim))
 
     pub below_survivor : (s : ℕ) → IsAmong s p.victims → s < p.survivor
     below_survivor s victim = (is_victim d.closed p.survivor p.victims s open_now.pass.victims victim).1

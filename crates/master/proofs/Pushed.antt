@@ -13,13 +13,12 @@ use Rattle.log_head.specs.declared.next.Next.TheVariants as next
 use Rattle.log_head.specs.Log.{phase_of}
 use Rattle.log_head.specs.Next.{IsNextPush, replica_of, segment_of}
 use Rattle.log_head.specs.Steps.{in_force, with_new_replica, with_closed_replica, old_image}
-use Rattle.log_model.specs.Data.{Start, new_of}
+use Rattle.log_model.specs.Data.{Start, LogData, new_of}
 use Rattle.log_model.specs.Ops.{LogOp, op_of, taken}
 use Rattle.log_model.specs.Steps.{IsNext}
 use Rattle.clean_model.specs.Intact.{IsIntact}
 use Rattle.clean_model.specs.Memory.{Memory}
 use Rattle.clean_model.specs.Steps.{finished, ended, after_take, IsOp}
-use Rattle.clean_model.proofs.Taking.{take_keeps}
 use Rattle.master_core.specs.declared.step.Step.TheVariants.{Push}
 use Rattle.master_core.specs.Budget.{is_committing}
 use Rattle.master_core.specs.Data.{MasterData}
@@ -29,31 +28,37 @@ use Rattle.master_core.specs.Log.{log_of, memory_of}
 use Rattle.master_core.specs.Steps.{pass_ended, roll_ended, closed_data, taken_data, refusal_of, failed_data}
 use Rattle.master_core.proofs.Imaging.{same_roll}
 use Rattle.master_core.proofs.Refusals.{push_passed}
-use Rattle.master.specs.Invariant.{IsWellKept}
+use Rattle.master.specs.Invariant.{IsKeptAs}
 use Rattle.master.specs.Pushes.{answer_of}
 use Rattle.master.specs.Steps.{IsPushOp, Declines}
 use Rattle.master.specs.World.{World}
 use Rattle.master.proofs.Ended.{same_model, rolled_model, apart_then, ended_model}
 use Rattle.master.proofs.Handed.{not_wrong, handed_kept, failed_kept, failed_tells}
+use Rattle.master.proofs.Lasting.{Lasts}
 use Rattle.master.proofs.LogSets.{new_is, new_now}
-use Rattle.master.proofs.Models.{IsModel, own_intact}
+use Rattle.master.proofs.Models.{IsModel, own_holds}
 use Rattle.master.proofs.NextOps.{log_op, next_told, next_is}
 use Rattle.master.proofs.Placing.{home_within}
 
 -- ---- what a push leaves
 
--- the end of a roll changes neither the configuration nor the history
-ended_rest : (o : Option OpenPass) (e : MasterData) → ((roll_ended o e).config ≡ e.config) × ((roll_ended o e).history ≡ e.history)
-ended_rest None e = (refl, refl)
+-- the configuration, the history and what was loaded are the same, and so is whether a backup failed
+abbrev pub SameRest : MasterData → MasterData → Type 0
+SameRest e d = (e.config ≡ d.config) × (e.history ≡ d.history) × (e.is_halted ≡ d.is_halted)
+    × (e.origin ≡ d.origin)
+
+-- the end of a roll leaves them so
+ended_rest : (o : Option OpenPass) (e : MasterData) → SameRest (roll_ended o e) e
+ended_rest None e = (refl, refl, refl, refl)
 ended_rest (Some p) e = go p.is_committing where
   gives : Bool → MasterData
   gives t = if t then pass_ended p e else e
 
-  go : (t : Bool) → ((gives t).config ≡ e.config) × ((gives t).history ≡ e.history)
-  go true = (refl, refl)
-  go false = (refl, refl)
+  go : (t : Bool) → SameRest (gives t) e
+  go true = (refl, refl, refl, refl)
+  go false = (refl, refl, refl, refl)
 
-closed_rest : (d : MasterData) (r : Roll) → ((closed_data d r).config ≡ d.config) × ((closed_data d r).history ≡ d.history)
+closed_rest : (d : MasterData) (r : Roll) → SameRest (closed_data d r) d
 closed_rest d r = go (suc r.closed == d.head.replicas) where
   closed_one : MasterData
   closed_one = record d {
@@ -64,27 +69,27 @@ closed_rest d r = go (suc r.closed == d.head.replicas) where
   gives : Bool → MasterData
   gives t = if t then roll_ended d.pass closed_one else closed_one
 
-  go : (t : Bool) → ((gives t).config ≡ d.config) × ((gives t).history ≡ d.history)
+  go : (t : Bool) → SameRest (gives t) d
   go true = ended_rest d.pass closed_one
-  go false = (refl, refl)
+  go false = (refl, refl, refl, refl)
 
 -- nor does a push
-pub same_rest : (d : MasterData) (push : Next) → ((taken_data d push).config ≡ d.config) × ((taken_data d push).history ≡ d.history)
-same_rest d (next.OpenFirst j) = (refl, refl)
-same_rest d (next.Extend j) = (refl, refl)
+pub same_rest : (d : MasterData) (push : Next) → SameRest (taken_data d push) d
+same_rest d (next.OpenFirst j) = (refl, refl, refl, refl)
+same_rest d (next.Extend j) = (refl, refl, refl, refl)
 same_rest d (next.OpenNew j) = go d.head.roll where
   gives : Option Roll → MasterData
   gives o = option_map_or (λ (r : Roll). record d { head = with_new_replica d.head r }) o d
 
-  go : (o : Option Roll) → ((gives o).config ≡ d.config) × ((gives o).history ≡ d.history)
-  go None = (refl, refl)
-  go (Some r) = (refl, refl)
+  go : (o : Option Roll) → SameRest (gives o) d
+  go None = (refl, refl, refl, refl)
+  go (Some r) = (refl, refl, refl, refl)
 same_rest d (next.CloseOld j) = go d.head.roll where
   gives : Option Roll → MasterData
   gives o = option_map_or (closed_data d) o d
 
-  go : (o : Option Roll) → ((gives o).config ≡ d.config) × ((gives o).history ≡ d.history)
-  go None = (refl, refl)
+  go : (o : Option Roll) → SameRest (gives o) d
+  go None = (refl, refl, refl, refl)
   go (Some r) = closed_rest d r
 
 -- ---- what is shown of the data after a push
@@ -101,7 +106,12 @@ goes_on x y m is = ap (λ (z : Option Start). ended x z m) is ∙ same x where
   same None = refl
   same (Some n) = refl
 
-module _ (d : MasterData) (f : FleetState) (kept : IsWellKept d f) where
+-- only a master of which all is intact has an open pass
+abbrev pub IsIntactInPass : MasterData → Picture → Type 0
+IsIntactInPass d p = (pass : OpenPass) → d.pass ≡ Some pass → IsIntact (log_of d) (memory_of d) p
+
+module _ {Holds : LogData → Memory → Picture → Type 0} (d : MasterData) (f : FleetState) (kept : IsKeptAs Holds d f)
+    (intact : IsIntactInPass d kept.before) where
   abbrev m : Memory
   m = memory_of d
 
@@ -152,8 +162,8 @@ module _ (d : MasterData) (f : FleetState) (kept : IsWellKept d f) where
     pass_taken p opened true is core = record {
       model = subst (IsModel (pass_ended p rolled))
           (sym (after_end true (ap (λ (o : Option OpenPass). option_map_or (λ (q : OpenPass). q.is_committing) o false) opened ∙ is)))
-          (ended_model d f kept r rolls p opened is);
-      apart = apart_then d f kept r rolls p opened is;
+          (ended_model d f kept r rolls p opened is (intact p opened));
+      apart = apart_then d f kept r rolls p opened is (intact p opened);
     }
     pass_taken p opened false is core =
         ordinary (ap (λ (o : Option OpenPass). option_map_or (λ (q : OpenPass). q.is_committing) o false) opened ∙ is) core
@@ -182,8 +192,8 @@ module _ (d : MasterData) (f : FleetState) (kept : IsWellKept d f) where
 
 -- ---- the op
 
-module _ (d : MasterData) (push : Next) (f : FleetState) (kept : IsWellKept d f) (running : d.is_halted ≡ false)
-    (waits : IsNextPush d.head (Some push)) where
+module _ {Holds : LogData → Memory → Picture → Type 0} (lasts : Lasts Holds) (d : MasterData) (push : Next) (f : FleetState)
+    (kept : IsKeptAs Holds d f) (running : d.is_halted ≡ false) (waits : IsNextPush d.head (Some push)) where
   abbrev o : LogOp
   o = log_op d push
 
@@ -197,13 +207,13 @@ module _ (d : MasterData) (push : Next) (f : FleetState) (kept : IsWellKept d f)
   push_within = home_within d.config kept.core.config (segment_of d.head push) (replica_of push)
 
   pub push_then : (q : Picture) × (taken kept.before d.config.master o ≡ Some q)
-      × IsIntact (log_of (taken_data d push)) (after_take (log_of d) (log_of (taken_data d push)) (memory_of d)) q
-  push_then = take_keeps (log_of d) (log_of (taken_data d push)) (memory_of d) kept.before o kept.intact coming
+      × Holds (log_of (taken_data d push)) (after_take (log_of d) (log_of (taken_data d push)) (memory_of d)) q
+  push_then = lasts.take (log_of d) (log_of (taken_data d push)) (memory_of d) kept.before o kept.holds coming
 
   pub push_not_wrong : (g : FleetState) (x : TakeFault) → Refuses f o.backup (op_of d.config.master o) x g → x ≡ take_fault.Wrong → ⊥
   push_not_wrong = not_wrong d f kept running o push_within push_then.0 push_then.1
 
-  pub push_failed : (g : FleetState) (x : TakeFault) → Refuses f o.backup (op_of d.config.master o) x g → IsWellKept (failed_data d x) g
+  pub push_failed : (g : FleetState) (x : TakeFault) → Refuses f o.backup (op_of d.config.master o) x g → IsKeptAs Holds (failed_data d x) g
   push_failed = failed_kept d f kept running o push_within push_then.0 push_then.1 push_is
 
   pub push_declines : (g : FleetState) (x : TakeFault) → Refuses f o.backup (op_of d.config.master o) x g
@@ -216,14 +226,14 @@ module _ (d : MasterData) (push : Next) (f : FleetState) (kept : IsWellKept d f)
             (answer_of push o.backup o.segment, taken_data d push, next_told d kept.core push waits) g x refused,
       )
 
-  module _ (core : IsCore (taken_data d push)) where
+  module _ (intact : IsIntactInPass d kept.before) (core : IsCore (taken_data d push)) where
     abbrev e : MasterData
     e = taken_data d push
 
     then_is : IsTaken d e
-    then_is = is_taken d f kept push waits core
+    then_is = is_taken d f kept intact push waits core
 
-    pub taken_kept : (g : FleetState) → fleet_taken f o.backup (op_of d.config.master o) ≡ Some g → IsWellKept (taken_data d push) g
+    pub taken_kept : (g : FleetState) → fleet_taken f o.backup (op_of d.config.master o) ≡ Some g → IsKeptAs Holds (taken_data d push) g
     taken_kept g took =
         handed_kept d f kept running o push_within push_then.0 push_then.1 e g core (same_rest d push).0 then_is.apart
-        (own_intact e core (after_take (log_of d) (log_of e) (memory_of d)) push_then.0 push_then.2 then_is.model) took
+        (own_holds lasts e core (after_take (log_of d) (log_of e) (memory_of d)) push_then.0 push_then.2 then_is.model) took

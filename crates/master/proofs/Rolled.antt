@@ -11,7 +11,7 @@ use Rattle.entry.specs.declared.key.Key.{Key}
 use Rattle.entry.specs.declared.entry.Entry.{Entry}
 use Rattle.entry.specs.Bag.{IsAmong}
 use Rattle.entry.specs.Format.{IsEntry}
-use Rattle.replica.specs.Picture.{FleetState}
+use Rattle.replica.specs.Picture.{Picture, FleetState}
 use Rattle.hash_index.specs.declared.place.Place.{Place}
 use Rattle.images.specs.Sorted.{segment_of}
 use Rattle.log_head.specs.declared.head.Roll.{Roll}
@@ -20,10 +20,9 @@ use Rattle.log_head.specs.Steps.{start_after, fresh_roll}
 use Rattle.log_head.proofs.RollLog.{start_is}
 use Rattle.log_model.specs.Data.{Start, LogData, new_of, start_entries}
 use Rattle.log_model.specs.Steps.{next_start, rolling}
-use Rattle.clean_model.specs.Intact.{IsIntact}
 use Rattle.clean_model.specs.Memory.{Place as EntryPlace, Memory}
 use Rattle.clean_model.specs.Steps.{MayCommit, commit_start, rolled}
-use Rattle.clean_model.proofs.Rolling.{roll_keeps, commit_keeps}
+use Rattle.clean_model.proofs.Rolling.{commit_keeps}
 use Rattle.master_core.specs.declared.step.StepAnswer.{StepAnswer}
 use Rattle.master_core.specs.Budget.{victims_of, survivors_of, is_ready, is_committing}
 use Rattle.master_core.specs.Data.{MasterData}
@@ -35,10 +34,11 @@ use Rattle.master_core.proofs.Imaging.{same_id, rolled_own, rolled_other, rolled
 use Rattle.master_core.proofs.Indexing.{Grow, found_grown}
 use Rattle.master_core.proofs.LogIds.{no_segment, no_next}
 use Rattle.master_core.proofs.Refusals.{may_begin, open_parts}
-use Rattle.master.specs.Invariant.{IsWellKept}
+use Rattle.master.specs.Invariant.{IsKeptAs, IsWellKept}
 use Rattle.master.proofs.LogSets.{new_now}
 use Rattle.master.proofs.Handed.{unhanded_kept}
-use Rattle.master.proofs.Models.{IsModel, LeavesPass, is_model, own_intact}
+use Rattle.master.proofs.Lasting.{Lasts, intact_lasts}
+use Rattle.master.proofs.Models.{IsModel, LeavesPass, is_model, own_holds}
 use Rattle.master.proofs.Victims.{victim_below, never_both}
 
 -- ---- the open pass, once it says whether its commit is under way
@@ -67,8 +67,16 @@ module _ (replicas : ℕ) where
   committing None = refl
   committing (Some p) = refl
 
-module _ (d e : MasterData) (f : FleetState) (answer : StepAnswer) (kept : IsWellKept d f) (is : BeginsRoll d answer e)
-    (may : MayRollNow d) (core : IsCore e) where
+-- the commit of a pass that is ready keeps what holds
+abbrev pub CommitKeeps : (LogData → Memory → Picture → Type 0) → MasterData → Picture → Type 0
+CommitKeeps Holds d p =
+    is_ready d ≡ true → MayCommit (log_of d) (memory_of d) (commit_start (log_of d) (memory_of d))
+    → Holds (rolling (log_of d) (commit_start (log_of d) (memory_of d)))
+    (rolled (log_of d) (memory_of d) (commit_start (log_of d) (memory_of d)) true) p
+
+module _ {Holds : LogData → Memory → Picture → Type 0} (lasts : Lasts Holds) (d e : MasterData) (f : FleetState)
+    (answer : StepAnswer) (kept : IsKeptAs Holds d f) (commit : CommitKeeps Holds d kept.before)
+    (is : BeginsRoll d answer e) (may : MayRollNow d) (core : IsCore e) where
   abbrev m : Memory
   m = memory_of d
 
@@ -117,14 +125,14 @@ module _ (d e : MasterData) (f : FleetState) (answer : StepAnswer) (kept : IsWel
   abbrev then_memory : Memory
   then_memory = rolled (log_of d) m n (is_ready d)
 
-  rolled_by : (t : Bool) → is_ready d ≡ t → IsIntact (rolling (log_of d) (next_of t)) (rolled (log_of d) m (next_of t) t) kept.before
+  rolled_by : (t : Bool) → is_ready d ≡ t → Holds (rolling (log_of d) (next_of t)) (rolled (log_of d) m (next_of t) t) kept.before
   rolled_by true ready =
-      commit_keeps (log_of d) m kept.before (commit_start (log_of d) m) kept.intact
+      commit ready
       (subst (λ (t : Bool). MayCommit (log_of d) m (next_of t)) ready (may.0 ready))
-  rolled_by false unready = roll_keeps (log_of d) m kept.before kept.intact (may.1 unready)
+  rolled_by false unready = lasts.roll (log_of d) m kept.before kept.holds (may.1 unready)
 
-  rolled_intact : IsIntact (log_of e) then_memory kept.before
-  rolled_intact = subst (λ (l : LogData). IsIntact l then_memory kept.before) (sym is.log) (rolled_by (is_ready d) refl)
+  rolled_holds : Holds (log_of e) then_memory kept.before
+  rolled_holds = subst (λ (l : LogData). Holds l then_memory kept.before) (sym is.log) (rolled_by (is_ready d) refl)
 
   -- ---- images
 
@@ -187,7 +195,13 @@ module _ (d e : MasterData) (f : FleetState) (answer : StepAnswer) (kept : IsWel
   model = is_model d e leaves then_memory.images m.index (is_ready d)
       (ap is_committing is.rest ∙ committing d.config.replicas d.pass) (λ s counts. same_images s) behind
 
-  pub rolled_kept : IsWellKept e f
-  rolled_kept =
+  pub rolled_kept_as : IsKeptAs Holds e f
+  rolled_kept_as =
       unhanded_kept d e f kept running core (ap (λ (x : MasterData). x.config) is.rest)
-      leaves.waiting (own_intact e core then_memory kept.before rolled_intact model)
+      leaves.waiting (own_holds lasts e core then_memory kept.before rolled_holds model)
+
+pub rolled_kept : (d e : MasterData) (f : FleetState) (answer : StepAnswer) → IsWellKept d f → BeginsRoll d answer e → MayRollNow d → IsCore e
+    → IsWellKept e f
+rolled_kept d e f answer kept is may core =
+    rolled_kept_as intact_lasts d e f answer kept
+    (λ ready now. commit_keeps (log_of d) (memory_of d) kept.before (commit_start (log_of d) (memory_of d)) kept.holds now) is may core

@@ -125,7 +125,7 @@ module _ (d : MasterData) (f : FleetState) (kept : IsWellKept d f) (passed : sea
 
   pub seal_then : (q : Picture) × (taken kept.before d.config.master o ≡ Some q) × IsIntact (log_of d) (sealed_more (memory_of d) is.pass.survivor) q
   seal_then =
-      let gone = seal_keeps (log_of d) (memory_of d) kept.before is.pass.survivor o.backup kept.intact may in
+      let gone = seal_keeps (log_of d) (memory_of d) kept.before is.pass.survivor o.backup kept.holds may in
       (gone.0, ap (taken kept.before d.config.master) is.is ∙ gone.1, gone.2)
 
   agree : Agree (log_of d) (sealed_more (memory_of d) is.pass.survivor) (memory_of (sealed_data d))

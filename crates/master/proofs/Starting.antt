@@ -52,7 +52,7 @@ module _ (c : Config) (f : FleetState) (ok : config_fault c ≡ None) (core : Is
   fresh_kept backups nothing = record {
     core = core;
     before = f.picture;
-    intact = own_intact (fresh_data c) core (first_memory (log_config c)) f.picture
+    holds = own_intact (fresh_data c) core (first_memory (log_config c)) f.picture
         (subst (λ (l : LogData). IsIntact l (first_memory (log_config c)) f.picture) (sym log_fresh)
         (fresh_is_intact (log_config c) f.picture
         (record { placed = placed c ok; segment = core.head.segment; limit = core.head.limit; nothing = nothing }))) model;

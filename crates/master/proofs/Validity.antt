@@ -19,12 +19,12 @@ valid d f kept = record {
   safe = kept.core.index.safe;
   imaged = imaged d kept.core;
   budget = kept.core.budget;
-  sound = fault_is_sound (log_of d) (memory_of d) kept.before f.picture kept.intact kept.now;
-  covered = fault_is_covered (log_of d) (memory_of d) kept.before f.picture kept.intact kept.now;
+  sound = fault_is_sound (log_of d) (memory_of d) kept.before f.picture kept.holds kept.now;
+  covered = fault_is_covered (log_of d) (memory_of d) kept.before f.picture kept.holds kept.now;
   durable = record {
-    past = kept.intact.log.past;
-    counted = (intact_is_durable (log_of d) (memory_of d) kept.before kept.intact).0;
-    replicated = fault_is_replicated (log_of d) (memory_of d) kept.before f.picture kept.intact kept.now;
+    past = kept.holds.log.past;
+    counted = (intact_is_durable (log_of d) (memory_of d) kept.before kept.holds).0;
+    replicated = fault_is_replicated (log_of d) (memory_of d) kept.before f.picture kept.holds kept.now;
   };
   pushed = all_durable d kept.core.replicas;
 }

@@ -7,6 +7,7 @@ use Rattle.master.specs.World.{World}
 
 pub record Keeps (most : ℕ) (old new : World) : Type 0 where
   pub config : new.knows.config ≡ old.knows.config
+  pub origin : new.knows.origin ≡ old.knows.origin
   -- at most this many ops were taken
   pub takes : (old.fleet.takes ≤ new.fleet.takes) × (new.fleet.takes ≤ old.fleet.takes + most)
   -- no replica of another master changed

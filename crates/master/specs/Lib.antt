@@ -4,4 +4,5 @@ pub mod Pushes
 pub mod Passes
 pub mod Valid
 pub mod Steps
+pub mod Loading
 pub mod Invariant

@@ -17,5 +17,8 @@ pub record World : Type 0 where
 abbrev pub world : {F : Type 0} → (F → FleetState) → MasterValue F → World
 world state v = record { knows = v.knows; fleet = state v.fleet }
 
+abbrev pub world_of : MasterData → FleetState → World
+world_of d f = record { knows = d; fleet = f }
+
 abbrev pub limited_world : World → ℕ → World
 limited_world w n = record w { fleet = limited w.fleet n }

@@ -10,8 +10,11 @@
 #![tactic(auto)]
 
 mod cleaning;
+mod loading;
 mod master;
+mod pushing;
 
+pub use loading::Loading;
 pub use master::Master;
 pub use master_core::{
     Config, ConfigFault, Core, Look, PassFault, Refusal, Shown, Step, StepAnswer,

@@ -1,8 +1,7 @@
 //! One master over a fleet of backups.
 
-ghost use Rattle.std.specs.Prelude.{List, ◌⊎◌, ◌≡◌, ◌≤◌, ◌<◌, ℕ, None, Some, false, true, length, IfOk, IfErr, IfSome, OnOk, OnErr};
+ghost use Rattle.std.specs.Prelude.{List, ◌⊎◌, ◌≡◌, ◌≤◌, ◌<◌, ℕ, None, length, IfOk, IfErr, IfSome, OnOk, OnErr};
 ghost use Rattle.std.specs.Result.{result_err};
-ghost use Rattle.log_head.specs.Next.{IsNextPush};
 ghost use Rattle.log_model.specs.Data.{durable_of};
 ghost use Rattle.master_core.specs.Causes.{command_refusal};
 ghost use Rattle.master_core.specs.Change.{IsFound};
@@ -13,15 +12,14 @@ ghost use Rattle.master_core.specs.Shown.{IsShown, NeedsMemory};
 ghost use Rattle.master_core.specs.Steps.{reply_now};
 ghost use Rattle.master.specs.Invariant.{IsWellKept};
 ghost use Rattle.master.specs.Keeps.{Keeps};
-ghost use Rattle.master.specs.Pushes.{answer_of};
 ghost use Rattle.master.specs.Steps.{Accepts, Declines, Steps, IsRun};
 ghost use Rattle.master.specs.Valid.{IsValid};
 ghost use Rattle.master.specs.World.{world};
 
+use crate::pushing;
 use entry::NoMemory;
-use log_head::Next;
 use master_core::{Config, Core, Look, Refusal, Shown, Step, StepAnswer};
-use replica::{Bench, Fleet};
+use replica::{Bench, Fleet, TakeFault};
 use std::alloc::Global;
 use std::marker::Model;
 use versioned_map::{Command, Record, Reply};
@@ -29,7 +27,7 @@ use versioned_map::{Command, Record, Reply};
 /// A log-structured store over a fleet of backups.
 #[derive(Drop)]
 pub struct Master<F: Fleet> {
-    alloc: Global,
+    pub(crate) alloc: Global,
     pub(crate) core: Core,
     pub(crate) fleet: F,
 }
@@ -203,32 +201,7 @@ impl<F: Fleet> Master<F> {
         ensures accepted { IfOk result (λ a. Accepts (world F.state self.old) Step.Push a (world F.state self.new)) }
         ensures refused { IfErr result (λ r. Declines (world F.state self.old) Step.Push r (world F.state self.new)) }
     {
-        if self.core.is_halted() {
-            return Err(Refusal::Halted);
-        }
-        match self.core.next() {
-            None => Err(Refusal::Nothing),
-            Some(next) => self.hand(next),
-        }
-    }
-
-    /// Hands the op of a push to its backup.
-    fn hand(&mut self, next: Next) -> Result<StepAnswer, Refusal>
-        requires running { self.old.knows.is_halted ≡ false }
-        requires next { IsNextPush self.old.knows.head (Some next) }
-        ensures accepted { IfOk result (λ a. Accepts (world F.state self.old) Step.Push a (world F.state self.new)) }
-        ensures refused { IfErr result (λ r. Declines (world F.state self.old) Step.Push r (world F.state self.new)) }
-    {
-        let op = self.core.head().op(self.core.master(), next);
-        let segment = op.segment;
-        let backup = self.core.home(segment, next.replica());
-        match self.fleet.take(backup, &op) {
-            Ok(()) => {
-                self.core.took(next);
-                Ok(answer(next, backup, segment))
-            }
-            Err(fault) => Err(self.core.fail(fault)),
-        }
+        pushing::push(&mut self.core, &mut self.fleet)
     }
 
     /// Makes the steps in order, and answers what each of them answered. All memory for this is taken before the first
@@ -270,6 +243,7 @@ impl<F: Fleet> Master<F> {
 }
 
 impl<F: Bench> Master<F> {
+    ghost use Rattle.replica.specs.Retire.{Retires};
     ghost use Rattle.master.specs.World.{limited_world};
 
     /// Lets the fleet take `n` more ops.
@@ -280,17 +254,21 @@ impl<F: Bench> Master<F> {
         self.fleet.limit(n);
         self.show_valid();
     }
-}
 
-/// What a push answers.
-fn answer(next: Next, backup: u64, segment: u64) -> StepAnswer
-    ensures { result ≡ answer_of next backup segment }
-{
-    match next {
-        Next::OpenFirst(_) => StepAnswer::Opened(backup, segment),
-        Next::Extend(_) => StepAnswer::Extended(backup, segment),
-        Next::OpenNew(_) => StepAnswer::Opened(backup, segment),
-        Next::CloseOld(_) => StepAnswer::Closed(backup, segment),
+    /// Frees the replicas of all other masters: by backup, then by master, then by segment, one Free a take. It ends at
+    /// the first fault, and what was freed before stays freed. What the master knows and its own replicas stay as they
+    /// are, so no fault halts it.
+    pub fn retire(&mut self) -> Result<(), TakeFault>
+        ensures retires { Retires (F.Fleet.state self.old.fleet) self.old.knows.config.master result
+            (F.Fleet.state self.new.fleet) }
+        ensures knows { self.new.knows ≡ self.old.knows }
+        ensures same { (b s : ℕ) → (F.Fleet.state self.new.fleet).picture b self.old.knows.config.master s
+            ≡ (F.Fleet.state self.old.fleet).picture b self.old.knows.config.master s }
+        ensures valid { IsValid self.new.knows (F.Fleet.state self.new.fleet) }
+    {
+        let result = self.fleet.retire(self.core.master());
+        self.show_valid();
+        result
     }
 }
 

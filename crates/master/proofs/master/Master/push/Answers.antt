@@ -1,10 +1,14 @@
-use Rattle.std.proofs.Common.{inl, refl, sym, ◌∙◌}
-use Rattle.master_core.specs.Data.{MasterData}
-use Rattle.master_core.proofs.Refusals.{push_done}
+use Rattle.std.proofs.Common.{inl}
 use Rattle.master.proofs.master.Master.push.Goals as goal
 
-pub returns-in-None-clause-refused : goal.returns-in-None-clause-refused
-returns-in-None-clause-refused g c =
-    let d : MasterData = c.self.inside.core in
-    rw (← c.self.view_is)
-    (inl (push_done d (sym c.is_halted.ensures ∙ c.if-is_halted.false) c.in-None.ensures.next, refl))
+pub push-requires : goal.push-requires
+push-requires g c = record { served = inl c.self.invariant }
+
+pub invariant_of-self : goal.invariant_of-self
+invariant_of-self g c = c.push.ensures.served.0 c.self.invariant
+
+pub returns-clause-accepted : goal.returns-clause-accepted
+returns-clause-accepted g c = rw (← c.self.view_is) c.push.ensures.accepted
+
+pub returns-clause-refused : goal.returns-clause-refused
+returns-clause-refused g c = rw (← c.self.view_is) c.push.ensures.refused

@@ -1,0 +1,65 @@
+//! One op of a push, on the core of a master and its fleet.
+
+ghost use Rattle.std.specs.Prelude.{◌≡◌, Some, false, IfOk, IfErr};
+ghost use Rattle.log_head.specs.Next.{IsNextPush};
+ghost use Rattle.master.specs.Invariant.{IsServed, StaysServed};
+ghost use Rattle.master.specs.Pushes.{answer_of};
+ghost use Rattle.master.specs.Steps.{Accepts, Declines};
+ghost use Rattle.master.specs.World.{world_of};
+
+use log_head::Next;
+use master_core::{Core, Refusal, Step, StepAnswer};
+use replica::Fleet;
+
+/// Hands one op to one backup.
+pub(crate) fn push<F: Fleet>(core: &mut Core, fleet: &mut F) -> Result<StepAnswer, Refusal>
+    requires served { IsServed core.old (F.state fleet.old) }
+    ensures accepted { IfOk result (λ a.
+        Accepts (world_of core.old (F.state fleet.old)) Step.Push a (world_of core.new (F.state fleet.new))) }
+    ensures refused { IfErr result (λ r.
+        Declines (world_of core.old (F.state fleet.old)) Step.Push r (world_of core.new (F.state fleet.new))) }
+    ensures served { StaysServed core.old (F.state fleet.old) core.new (F.state fleet.new) }
+{
+    if core.is_halted() {
+        return Err(Refusal::Halted);
+    }
+    match core.next() {
+        None => Err(Refusal::Nothing),
+        Some(next) => hand(core, fleet, next),
+    }
+}
+
+/// Hands the op of a push to its backup.
+fn hand<F: Fleet>(core: &mut Core, fleet: &mut F, next: Next) -> Result<StepAnswer, Refusal>
+    requires running { core.old.is_halted ≡ false }
+    requires next { IsNextPush core.old.head (Some next) }
+    requires served { IsServed core.old (F.state fleet.old) }
+    ensures accepted { IfOk result (λ a.
+        Accepts (world_of core.old (F.state fleet.old)) Step.Push a (world_of core.new (F.state fleet.new))) }
+    ensures refused { IfErr result (λ r.
+        Declines (world_of core.old (F.state fleet.old)) Step.Push r (world_of core.new (F.state fleet.new))) }
+    ensures served { StaysServed core.old (F.state fleet.old) core.new (F.state fleet.new) }
+{
+    let op = core.head().op(core.master(), next);
+    let segment = op.segment;
+    let backup = core.home(segment, next.replica());
+    match fleet.take(backup, &op) {
+        Ok(()) => {
+            core.took(next);
+            Ok(answer(next, backup, segment))
+        }
+        Err(fault) => Err(core.fail(fault)),
+    }
+}
+
+/// What a push answers.
+fn answer(next: Next, backup: u64, segment: u64) -> StepAnswer
+    ensures { result ≡ answer_of next backup segment }
+{
+    match next {
+        Next::OpenFirst(_) => StepAnswer::Opened(backup, segment),
+        Next::Extend(_) => StepAnswer::Extended(backup, segment),
+        Next::OpenNew(_) => StepAnswer::Opened(backup, segment),
+        Next::CloseOld(_) => StepAnswer::Closed(backup, segment),
+    }
+}
