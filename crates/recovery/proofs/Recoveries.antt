@@ -96,6 +96,10 @@ module _ (hs : List Holding) (m : ℕ) (d : LogData) (p : Picture) (keep : ℕ �
   pub replay-want : (c : Choice) (plan : Plan) (e : ReplayFault) → IsPlanOf hs m c plan → IsRefusal plan.segments e
       → IsReplayWant e
   replay-want c plan replay_fault.NoMemory planned says = tt
+  replay-want c plan (replay_fault.Double segment) planned says = absurd says
+  replay-want c plan replay_fault.Stranger planned says = absurd says
+  replay-want c plan (replay_fault.MissingGroup segment) planned says = absurd says
+  replay-want c plan (replay_fault.Stray key) planned says = absurd says
   replay-want c plan replay_fault.Clash planned says =
       let clean : IsClean (among (bag_of c)) =
       sound.clean keep c (surviving-choice hs m d p keep is shows c planned.choice) in

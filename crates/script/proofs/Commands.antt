@@ -17,7 +17,7 @@ use Rattle.script.specs.declared.node.Node.{Node}
 use Rattle.script.specs.Lives.{HasLived, life_to}
 use Rattle.script.specs.Served.{LivesOn, IsServed, IsUnserved, IsSpent, IsOf, IsNodeAt, left_now, life_of, record_of}
 use Rattle.script.specs.Told.{Position, command_of}
-use Rattle.script.proofs.Standing.{Answered, still_stands, stands_longer, record_there, lived, lived_longer}
+use Rattle.script.proofs.Standing.{Answered, same_opening, still_stands, stands_longer, record_there, lived, lived_longer}
 
 -- ---- a record that was added, and what followed
 
@@ -28,6 +28,7 @@ added_before d mid e command reply added on =
     let more = on.durable in
     record {
       config = on.config ∙ added.config;
+      origin = on.origin ∙ added.origin;
       durable = omega arith;
       history = on.history ∙ append-nil mid.history ∙ added.history;
     }
@@ -37,7 +38,7 @@ lived_so_far : (mid e : MasterData) (config : Config) (f : FleetState) → IsVal
     → count ≡ length e.history → HasLived config (life_to (life_of e) count) mid f
 lived_so_far mid e config f valid on count configured whole = record {
   configured = sym on.config ∙ configured;
-  opening = refl;
+  opening = same_opening mid e on.origin;
   history = sym (ap (λ (n : ℕ). take n e.history) whole ∙ take-length e.history ∙ on.history ∙ append-nil mid.history);
   valid = valid;
 }
@@ -75,7 +76,7 @@ module _ (d e : MasterData) (old new : Node) (config : Config) (at : Position) (
           (command, asks, refl),
           elim why [
             | inl memory ↦ inl memory
-            | inr test ↦ inr (command, asks, inl (d, f, lived d e old new config at None of s f valid [] g.history, test))
+            | inr test ↦ inr (command, asks, inl (d, f, lived d e old new config at None of s f valid g.origin [] g.history, test))
           ],
         ),
       ),

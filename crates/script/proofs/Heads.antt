@@ -14,7 +14,7 @@ use Rattle.replica.specs.Picture.{Replica, FleetState}
 use Rattle.replica.specs.Take.{effect, taken, with_effect}
 use Rattle.master_core.specs.declared.step.Refusal.{Refusal}
 use Rattle.master_core.specs.declared.step.Refusal.TheVariants as refusal
-use Rattle.master_core.specs.declared.step.Step.TheVariants.{Push}
+use Rattle.master_core.specs.declared.step.Step.TheVariants.{BeginRoll, Push}
 use Rattle.master_core.specs.declared.step.StepAnswer.{StepAnswer}
 use Rattle.master_core.specs.declared.step.StepAnswer.TheVariants as answer
 use Rattle.master_core.specs.Data.{MasterData}
@@ -112,7 +112,7 @@ start_id : (id : ℕ) (o : Option Opening) → (start_in id o).id ≡ id
 start_id id None = refl
 start_id id (Some o) = refl
 
-no_roll : (all : Bool) (o : Option Roll) → (all && is_none o) ≡ true → o ≡ None
+pub no_roll : (all : Bool) (o : Option Roll) → (all && is_none o) ≡ true → o ≡ None
 no_roll true None e = refl
 no_roll true (Some r) e = absurd (cc)
 no_roll false o e = absurd (cc)
@@ -139,11 +139,10 @@ next_id d = go (is_ready d) _ _ refl refl
     go true commit next one other = one
     go false commit next one other = other
 
--- a roll that begins leads to the next id
-next_head : (old mid : World) → GoesRolling old mid → is_open old.knows.head ≡ true → LeadsTo old.knows.next (log_of mid.knows)
-next_head old mid (inl (a, begins)) opened =
-    inr (next_now old.knows, ap (λ (l : LogData). new_of l.phase) begins.0.log, next_id old.knows)
-next_head old mid (inr (same, inl test)) opened = absurd (tested old.knows.is_halted (is_open old.knows.head) _ _ opened test)
+-- a roll begins at an open head
+pub begins_now : (old mid : World) → GoesRolling old mid → is_open old.knows.head ≡ true → (a : StepAnswer) × Accepts old BeginRoll a mid
+begins_now old mid (inl begins) opened = begins
+begins_now old mid (inr (same, inl test)) opened = absurd (tested old.knows.is_halted (is_open old.knows.head) _ _ opened test)
   where
     tested : (halted opened spent may : Bool) → opened ≡ true → (if halted then Some refusal.Halted else if not opened then Some refusal.Rolling
         else if spent then Some refusal.SegmentsSpent else if may then Some refusal.Full else None) ≡ Some refusal.Rolling → ⊥
@@ -152,7 +151,13 @@ next_head old mid (inr (same, inl test)) opened = absurd (tested old.knows.is_ha
     tested false true true may is e = cc
     tested false true false true is e = cc
     tested false true false false is e = cc
-next_head old mid (inr (same, inr memory)) opened = let both = memory.1 in absurd (cc)
+begins_now old mid (inr (same, inr memory)) opened = let both = memory.1 in absurd (cc)
+
+-- a roll that begins leads to the next id
+next_head : (old mid : World) → GoesRolling old mid → is_open old.knows.head ≡ true → LeadsTo old.knows.next (log_of mid.knows)
+next_head old mid rolling opened =
+    let begins = (begins_now old mid rolling opened).1.0 in
+    inr (next_now old.knows, ap (λ (l : LogData). new_of l.phase) begins.log, next_id old.knows)
 
 new_start : (replicas : ℕ) (r : Roll) → new_of (phase_in replicas r) ≡ Some (start_of r)
 new_start replicas r = go (r.opened == replicas)
@@ -178,7 +183,8 @@ awaited_head old mid r (inr (same, why)) is = subst (λ (w : World). LeadsTo r.i
   start_id r.id (opening_of r.image),
 ))
 
-last_open : (old new : World) → PushesUntil old refusal.Nothing new → is_open new.knows.head ≡ true
+-- once nothing waits the head is open
+pub last_open : (old new : World) → PushesUntil old refusal.Nothing new → is_open new.knows.head ≡ true
 last_open old new (count, last, pushed, stops) = open_push last new refusal.Nothing stops refl
 
 rolled : (old mid new : World) → GoesRolling old mid → PushesUntil mid refusal.Nothing new → IsRolled old new.knows.head.id new

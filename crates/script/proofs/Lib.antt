@@ -10,5 +10,8 @@ pub mod LongerLives
 pub mod Turning
 pub mod Fronts
 pub mod Steps
+pub mod AnyStep
 pub mod ByHand
 pub mod Parts
+pub mod Listings
+pub mod Cleaned

@@ -35,7 +35,7 @@ use Rattle.script.specs.Told.{is_of_push}
 -- ---- a master goes on
 
 pub goes_nowhere : (d : MasterData) → LivesOn d d []
-goes_nowhere d = record { config = refl; durable = omega arith; history = sym (append-nil d.history) }
+goes_nowhere d = record { config = refl; origin = refl; durable = omega arith; history = sym (append-nil d.history) }
 
 pub goes_further : (old mid new : MasterData) → LivesOn old mid [] → LivesOn mid new [] → LivesOn old new []
 goes_further old mid new before more =
@@ -43,6 +43,7 @@ goes_further old mid new before more =
     let is = more.durable in
     record {
       config = more.config ∙ before.config;
+      origin = more.origin ∙ before.origin;
       durable = omega arith;
       history = more.history ∙ append-nil mid.history ∙ before.history;
     }
@@ -92,7 +93,7 @@ taken_history d (next.CloseOld j) = go d.head.roll
     go None = refl
     go (Some r) = closed_history d r
 
-pushed_history : (old new : World) (r : Result StepAnswer Refusal) → Steps old Push r new → new.knows.history ≡ old.knows.history
+pub pushed_history : (old new : World) (r : Result StepAnswer Refusal) → Steps old Push r new → new.knows.history ≡ old.knows.history
 pushed_history old new (Ok a) h = ap (λ (d : MasterData). d.history) h.rest ∙ taken_history old.knows h.push
 pushed_history old new (Err r) (inl h) = ap (λ (w : World). w.knows.history) h.1
 pushed_history old new (Err r) (inr h) = refused_history (IsPushOp old) old new r h.1
@@ -104,6 +105,7 @@ push_goes_on from old new r before push kept =
     let is = kept.durable in
     record {
       config = kept.config ∙ before.config;
+      origin = kept.origin ∙ before.origin;
       durable = omega arith;
       history = pushed_history old new r push ∙ before.history;
     }
@@ -159,16 +161,9 @@ spent_push old new r h is = go (subst (λ (x : Refusal). Declines old Push x new
 
 -- ---- a roll that begins
 
-begun_history : (old new : World) (r : Result StepAnswer Refusal) → Steps old BeginRoll r new → new.knows.history ≡ old.knows.history
+pub begun_history : (old new : World) (r : Result StepAnswer Refusal) → Steps old BeginRoll r new → new.knows.history ≡ old.knows.history
 begun_history old new (Ok a) h = ap (λ (d : MasterData). d.history) h.0.rest
 begun_history old new (Err r) h = ap (λ (w : World). w.knows.history) h.0
-
-pub begin_goes_on : (old new : World) (r : Result StepAnswer Refusal) → Steps old BeginRoll r new → Keeps 1 old new → LivesOn old.knows new.knows []
-begin_goes_on old new r begin kept = record {
-  config = kept.config;
-  durable = kept.durable;
-  history = begun_history old new r begin ∙ sym (append-nil old.knows.history);
-}
 
 -- no test refuses a roll as spent, and a roll takes nothing
 pub spent_begin : (old new : World) (r : Refusal) → Declines old BeginRoll r new → r ≡ refusal.Spent → ⊥
@@ -188,18 +183,10 @@ spent_begin old new r h is = go (subst (λ (x : Refusal). Declines old BeginRoll
 
 -- ---- a compaction
 
-compacted_history : (old new : World) (id : ℕ) (r : Result StepAnswer Refusal) → Steps old (Compact id) r new
+pub compacted_history : (old new : World) (id : ℕ) (r : Result StepAnswer Refusal) → Steps old (Compact id) r new
     → new.knows.history ≡ old.knows.history
 compacted_history old new id (Ok a) h = ap (λ (d : MasterData). d.history) h.0.rest
 compacted_history old new id (Err r) h = ap (λ (w : World). w.knows.history) h.0
-
-pub compact_goes_on : (old new : World) (id : ℕ) (r : Result StepAnswer Refusal) → Steps old (Compact id) r new → Keeps 1 old new
-    → LivesOn old.knows new.knows []
-compact_goes_on old new id r compact kept = record {
-  config = kept.config;
-  durable = kept.durable;
-  history = compacted_history old new id r compact ∙ sym (append-nil old.knows.history);
-}
 
 -- no test refuses a compaction as spent, and it takes nothing
 pub spent_compact : (old new : World) (id : ℕ) (r : Refusal) → Declines old (Compact id) r new → r ≡ refusal.Spent → ⊥
@@ -234,6 +221,7 @@ applied_goes_on old new command place reply is kept =
     let same = ap (reply_in reply) is.0.told in (
       record {
         config = kept.config;
+        origin = kept.origin;
         durable = kept.durable;
         history = ap (λ (l : LogData). l.history) is.0.log ∙ ap (λ (x : Reply). old.knows.history ++ record_of command x) (sym same);
       },

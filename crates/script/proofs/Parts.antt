@@ -1,6 +1,6 @@
 -- A part of a cleaning: steps of one kind, one after another.
-use Rattle.std.proofs.Common.{◌≡◌, ◌<◌, ◌-◌, ℕ, suc, List, [], ◌∷◌, length, refl, sym, ap, subst, ◌∙◌, arith}
-use Rattle.std.specs.Prelude.{Option, Some, None, Result, Ok, Err}
+use Rattle.std.proofs.Common.{◌≡◌, ◌<◌, ◌-◌, ℕ, suc, true, [], ◌∷◌, length, refl, ap, subst, ◌∙◌, arith}
+use Rattle.std.specs.Prelude.{Option, Result, Ok}
 use Rattle.std.specs.Option.{option_map_or}
 use Rattle.cleaner.specs.declared.pass.Pass.{Pass}
 use Rattle.cleaner.specs.Passes.{images_in, rest_of}
@@ -20,9 +20,9 @@ use Rattle.script.specs.declared.whole_pass.Part.TheVariants as part
 use Rattle.script.specs.Cleans.{StopsAt, step_of}
 use Rattle.script.specs.Rolls.{AreStepped, StepsUntil}
 use Rattle.script.specs.Served.{LivesOn, IsSpent}
+use Rattle.script.proofs.AnyStep.{makes_no_record, step_goes_on, step_spent}
 use Rattle.script.proofs.Heads.{taken_counts}
 use Rattle.script.proofs.MasterSteps.{goes_further}
-use Rattle.script.proofs.PassSteps.{copy_goes_on, free_goes_on, seal_goes_on, spent_copy, spent_free, spent_seal}
 
 -- ---- what is left to a part
 
@@ -70,15 +70,15 @@ part_less p s old new r a of is gives =
 
 -- ---- what a part makes
 
-part_goes_on : (p : Part) (old new : World) (r : Result StepAnswer Refusal) → Steps old (step_of p) r new → Keeps 1 old new → LivesOn old.knows new.knows []
-part_goes_on part.Copies old new r gives keeps = copy_goes_on old new r gives keeps
-part_goes_on part.Seals old new r gives keeps = seal_goes_on old new r gives keeps
-part_goes_on part.Frees old new r gives keeps = free_goes_on old new r gives keeps
+no_record : (p : Part) → makes_no_record (step_of p) ≡ true
+no_record part.Copies = refl
+no_record part.Seals = refl
+no_record part.Frees = refl
 
 pub goes_on_by : (p : Part) (s : Step) (from : MasterData) (old new : World) (r : Result StepAnswer Refusal) → s ≡ step_of p → LivesOn from old.knows []
     → Steps old s r new → Keeps 1 old new → LivesOn from new.knows []
 goes_on_by p s from old new r of before gives keeps =
-    goes_further from old.knows new.knows before (part_goes_on p old new r (subst (λ (x : Step). Steps old x r new) of gives) keeps)
+    goes_further from old.knows new.knows before (step_goes_on (step_of p) (no_record p) old new r (subst (λ (x : Step). Steps old x r new) of gives) keeps)
 
 -- one step more
 pub one_step_more : (p : Part) (s : Step) (from old new : World) (r : Result StepAnswer Refusal) (a : StepAnswer) → s ≡ step_of p → r ≡ Ok a → Steps old s r new
@@ -100,10 +100,5 @@ pub part_stops : (p : Part) (s : Step) (from old new : World) (r : Refusal) → 
     → Declines old s r new → (r ≡ refusal.Nothing → ⊥) → StopsAt (step_of p) from r new
 part_stops p s from old new r of before refuses more = (part_until p s from old new r of before refuses, more)
 
-declined_spent : (p : Part) (old new : World) (r : Refusal) → Declines old (step_of p) r new → r ≡ refusal.Spent → IsSpent new.fleet
-declined_spent part.Copies old new r refuses is = absurd (spent_copy old new r refuses is)
-declined_spent part.Seals old new r refuses is = spent_seal old new r refuses is
-declined_spent part.Frees old new r refuses is = spent_free old new r refuses is
-
 pub part_spent : (p : Part) (s : Step) (old new : World) (r : Refusal) → s ≡ step_of p → Declines old s r new → r ≡ refusal.Spent → IsSpent new.fleet
-part_spent p s old new r of refuses is = declined_spent p old new r (subst (λ (x : Step). Declines old x r new) of refuses) is
+part_spent p s old new r of refuses is = (step_spent (step_of p) (no_record p) old new r (subst (λ (x : Step). Declines old x r new) of refuses) is).0

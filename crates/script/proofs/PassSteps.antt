@@ -1,6 +1,5 @@
 -- What a step of a pass adds to a master.
-use Rattle.std.proofs.Common.{◌≡◌, ℕ, suc, Bool, true, false, List, [], drop, refl, sym, ap, subst, inl, inr, ◌∙◌}
-use Rattle.std.proofs.lemmas.List.{append-nil}
+use Rattle.std.proofs.Common.{◌≡◌, ℕ, suc, Bool, true, false, List, drop, refl, ap, subst, inl, inr, ◌∙◌}
 use Rattle.std.specs.Option.{option_map_or}
 use Rattle.std.specs.Prelude.{Option, Some, None, Result, Ok, Err, ◌==◌, if◌then◌else◌}
 use Rattle.cleaner.specs.declared.fault.PassFault.{PassFault}
@@ -11,56 +10,38 @@ use Rattle.master_core.specs.declared.step.Step.TheVariants.{BeginClean, Copy, S
 use Rattle.master_core.specs.declared.step.StepAnswer.{StepAnswer}
 use Rattle.master_core.specs.Causes.{space_refusal}
 use Rattle.master_core.specs.Data.{MasterData}
-use Rattle.master.specs.Keeps.{Keeps}
 use Rattle.master.specs.Passes.{IsSealOp, IsFreeOp}
 use Rattle.master.specs.Steps.{Steps, Declines}
 use Rattle.master.specs.World.{World}
-use Rattle.script.specs.Served.{LivesOn, IsSpent}
+use Rattle.script.specs.Served.{IsSpent}
 use Rattle.script.proofs.MasterSteps.{refused_history, spent_take}
 
--- a step that keeps the history goes on
-goes_on_with : (old new : World) → new.knows.history ≡ old.knows.history → Keeps 1 old new → LivesOn old.knows new.knows []
-goes_on_with old new same kept = record {
-  config = kept.config;
-  durable = kept.durable;
-  history = same ∙ sym (append-nil old.knows.history);
-}
+-- ---- the history stays
 
-clean_history : (old new : World) (ids : List ℕ) (r : Result StepAnswer Refusal) → Steps old (BeginClean ids) r new
+pub clean_history : (old new : World) (ids : List ℕ) (r : Result StepAnswer Refusal) → Steps old (BeginClean ids) r new
     → new.knows.history ≡ old.knows.history
 clean_history old new ids (Ok a) h = ap (λ (d : MasterData). d.history) h.0.rest
 clean_history old new ids (Err r) h = ap (λ (w : World). w.knows.history) h.0
 
-pub clean_goes_on : (old new : World) (ids : List ℕ) (r : Result StepAnswer Refusal) → Steps old (BeginClean ids) r new → Keeps 1 old new
-    → LivesOn old.knows new.knows []
-clean_goes_on old new ids r clean kept = goes_on_with old new (clean_history old new ids r clean) kept
-
-copied_history : (old new : World) (r : Result StepAnswer Refusal) → Steps old Copy r new → new.knows.history ≡ old.knows.history
+pub copied_history : (old new : World) (r : Result StepAnswer Refusal) → Steps old Copy r new → new.knows.history ≡ old.knows.history
 copied_history old new (Ok a) h = ap (λ (d : MasterData). d.history) h.0.rest
 copied_history old new (Err r) h = ap (λ (w : World). w.knows.history) h.0
 
-pub copy_goes_on : (old new : World) (r : Result StepAnswer Refusal) → Steps old Copy r new → Keeps 1 old new → LivesOn old.knows new.knows []
-copy_goes_on old new r copy kept = goes_on_with old new (copied_history old new r copy) kept
-
-sealed_history : (old new : World) (r : Result StepAnswer Refusal) → Steps old Seal r new → new.knows.history ≡ old.knows.history
+pub sealed_history : (old new : World) (r : Result StepAnswer Refusal) → Steps old Seal r new → new.knows.history ≡ old.knows.history
 sealed_history old new (Ok a) h = ap (λ (d : MasterData). d.history) h.rest
 sealed_history old new (Err r) (inl h) = ap (λ (w : World). w.knows.history) h.1
 sealed_history old new (Err r) (inr h) = refused_history (IsSealOp old.knows) old new r h.1
-
-pub seal_goes_on : (old new : World) (r : Result StepAnswer Refusal) → Steps old Seal r new → Keeps 1 old new → LivesOn old.knows new.knows []
-seal_goes_on old new r seal kept = goes_on_with old new (sealed_history old new r seal) kept
 
 freed_as : (d : MasterData) (last : Bool) → (if last then record d { waiting = drop 1 d.waiting; freed = 0 } else record d { freed = suc d.freed }).history ≡ d.history
 freed_as d true = refl
 freed_as d false = refl
 
-freed_history : (old new : World) (r : Result StepAnswer Refusal) → Steps old Free r new → new.knows.history ≡ old.knows.history
+pub freed_history : (old new : World) (r : Result StepAnswer Refusal) → Steps old Free r new → new.knows.history ≡ old.knows.history
 freed_history old new (Ok a) h = ap (λ (d : MasterData). d.history) h.rest ∙ freed_as old.knows (suc old.knows.freed == old.knows.config.replicas)
 freed_history old new (Err r) (inl h) = ap (λ (w : World). w.knows.history) h.1
 freed_history old new (Err r) (inr h) = refused_history (IsFreeOp old.knows) old new r h.1
 
-pub free_goes_on : (old new : World) (r : Result StepAnswer Refusal) → Steps old Free r new → Keeps 1 old new → LivesOn old.knows new.knows []
-free_goes_on old new r free kept = goes_on_with old new (freed_history old new r free) kept
+-- ---- which refusals are of a fleet that is spent
 
 -- no test refuses a pass as spent, and its begin takes nothing
 space_unspent : (may few spent : Bool) → (if may then Some refusal.Full else if few then Some (refusal.Pass TooMuch)

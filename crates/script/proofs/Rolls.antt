@@ -17,7 +17,7 @@ use Rattle.script.specs.declared.node.Node.{Node}
 use Rattle.script.specs.Lives.{Life, life_to, IsLeftBySpent}
 use Rattle.script.specs.Served.{LivesOn, IsUnserved, IsSpent, IsOf, IsNodeAt, Refuses, AnswersLine, StaysAt, WaitsForRoll, MakesRoom, fleet_of, left_now, life_of}
 use Rattle.script.specs.Told.{Position, command_of, is_of_push, pushes, IsTest, IsStepRefusal, TellsNoStep, Tells}
-use Rattle.script.proofs.Standing.{Answered, asks_master, still_stands, lived, lived_longer}
+use Rattle.script.proofs.Standing.{Answered, asks_master, same_opening, still_stands, lived, lived_longer}
 use Rattle.script.proofs.Commands.{stopped_told, refused_told}
 
 -- ---- refusals
@@ -51,7 +51,7 @@ waits_told d e old new config at s none command r f h valid of is (inl (g, inr t
         g.history ∙ append-nil d.history,
       ),
       none,
-      (d, f, lived d e old new config at None of s f valid [] g.history, test ∙ ap Some is),
+      (d, f, lived d e old new config at None of s f valid g.origin [] g.history, test ∙ ap Some is),
     )
 
 -- ---- a step or a roll that was not made
@@ -136,7 +136,8 @@ no_room_told old mid new config line command a asks waits makes d at s =
     let was = waits d at s in
     let told = makes was.0 at was.1.0 in
     let back = sym told.3 in
-    let same : life_of was.0 ≡ life_of told.0 = λ i. record { opening = opening_of was.0; history = back i } in (
+    let opening = same_opening was.0 told.0 (told.2.begun ∙ sym was.1.0.begun) in
+    let same : life_of was.0 ≡ life_of told.0 = λ i. record { opening = opening i; history = back i } in (
       told.0,
       told.1,
       told.2,

@@ -10,10 +10,11 @@ use Rattle.replica.specs.Picture.{FleetState}
 use Rattle.versioned_map.specs.declared.command.Command.{Command}
 use Rattle.versioned_map.specs.declared.command.Record.{Record}
 use Rattle.versioned_map.specs.declared.command.Reply.{Reply}
+use Rattle.entry.specs.Meaning.{contents_of}
 use Rattle.log_model.specs.Data.{durable_of}
 use Rattle.master_core.specs.declared.config.Config.{Config}
-use Rattle.master_core.specs.Data.{MasterData}
-use Rattle.master_core.specs.Log.{log_of}
+use Rattle.master_core.specs.Data.{Origin, MasterData}
+use Rattle.master_core.specs.Log.{opening_of, log_of}
 use Rattle.master.specs.Valid.{IsValid}
 use Rattle.master.specs.World.{MasterValue}
 use Rattle.script.specs.declared.answer.Answer.{Answer}
@@ -25,6 +26,10 @@ use Rattle.script.specs.Served.{LivesOn, IsOf, IsNodeAt, AnswersLine, is_up, lif
 use Rattle.script.specs.Told.{Position, command_of, is_for_master, is_for_none, Tells}
 
 -- ---- what the node stands for goes on
+
+-- masters of one origin begin with one state
+pub same_opening : (d e : MasterData) → e.origin ≡ d.origin → opening_of d ≡ opening_of e
+same_opening d e is = ap (λ (o : Origin). record { contents = contents_of o.objects; safe = o.safe }) (sym is)
 
 -- the record that was added is at the end of what was
 last_record : (xs : List Record) (r : Record) → slice_get (xs ++ r ∷ []) (length xs) ≡ Some r
@@ -45,6 +50,7 @@ module _ (d e : MasterData) (old new : Node) (config : Config) (at : Position) (
       record {
         node_of = of;
         configured = g.config ∙ s.configured;
+        begun = g.origin ∙ s.begun;
         made = s.made ∙ ap length (sym (g.history ∙ append-nil d.history));
         acknowledged = omega arith;
       }
@@ -55,6 +61,7 @@ module _ (d e : MasterData) (old new : Node) (config : Config) (at : Position) (
   stands_longer command reply acknowledged g kept = record {
     node_of = of;
     configured = g.config ∙ s.configured;
+    begun = g.origin ∙ s.begun;
     made =
         let longer = ap length g.history in
         let count = length-append d.history (record_of command reply) in
@@ -72,8 +79,8 @@ module _ (d e : MasterData) (old new : Node) (config : Config) (at : Position) (
   all_made more is = sym ((λ i. take (s.made i) (is i)) ∙ take-append_seam d.history more)
 
   -- a master that had lived all so far
-  pub lived : (f : FleetState) → IsValid d f → (more : List Record) → e.history ≡ d.history ++ more → HasLived config (life_to (life_of e) at.made) d f
-  lived f valid more is = record { configured = s.configured; opening = refl; history = all_made more is; valid = valid }
+  pub lived : (f : FleetState) → IsValid d f → e.origin ≡ d.origin → (more : List Record) → e.history ≡ d.history ++ more → HasLived config (life_to (life_of e) at.made) d f
+  lived f valid origin more is = record { configured = s.configured; opening = same_opening d e origin; history = all_made more is; valid = valid }
 
   -- and one that has lived all
   pub lived_longer : (f : FleetState) → IsValid e f → (count : ℕ) → e.config ≡ config → count ≡ length e.history → HasLived config (life_to (life_of e) count) e f
@@ -115,7 +122,7 @@ pub same_told : (old new : Node) (config : Config) (line : LineValue) (a : Answe
 same_told old new config line a same tells d at s = (
   d,
   at,
-  record { node_of = same d at.left s.node_of; configured = s.configured; made = s.made; acknowledged = s.acknowledged },
+  record { node_of = same d at.left s.node_of; configured = s.configured; begun = s.begun; made = s.made; acknowledged = s.acknowledged },
   ([], sym (append-nil d.history)),
   tells d at s,
 )

@@ -41,7 +41,7 @@ module _ (d e : MasterData) (old new : Node) (config : Config) (at : Position) (
       subst (λ (p : Position). IsNodeAt new config e p) same (still_stands d e old new config at None of s on)
 
   before : HasLived config (life_to (life_of e) at.made) d f
-  before = lived d e old new config at None of s f valid [] on.history
+  before = lived d e old new config at None of s f valid on.origin [] on.history
 
   after : HasLived config (life_to (life_of e) at.made) e g
   after = lived_longer d e old new config at None of s g now at.made stays.configured stays.made

@@ -13,7 +13,7 @@ use Rattle.lines.specs.declared.reading.Taken.{Taken}
 use Rattle.versioned_map.specs.declared.command.Record.{Record}
 use Rattle.master_core.specs.declared.config.Config.{Config}
 use Rattle.versioned_map.specs.History.{IsLegal}
-use Rattle.master_core.specs.Data.{MasterData}
+use Rattle.master_core.specs.Data.{Origin, MasterData, no_origin}
 use Rattle.master_core.specs.Log.{opening_of}
 use Rattle.versioned_map.specs.Represents.{empty_state}
 use Rattle.script.specs.declared.answer.Answer.{Answer}
@@ -23,12 +23,14 @@ use Rattle.script.specs.declared.session.Session.{Session}
 use Rattle.script.specs.Runs.{IsOfFleet, IsScriptLine, texts_of, answers_of, AreLines, IsTakenLine, IsBadLine, TellOneLife, EndsWith, Prints, RunsScript}
 use Rattle.script.specs.declared.node.Node.{Node}
 use Rattle.script.specs.declared.node.Node.TheVariants.{Up, Down, Changing}
-use Rattle.script.specs.Lives.{Left}
+use Rattle.script.specs.Lives.{Life, Left}
 use Rattle.script.specs.Served.{BeginsSession, IsOf, IsNodeAt, life_of}
 use Rattle.script.specs.Texts.{answer_text}
 use Rattle.script.specs.Told.{Told, Position, at_start, Tells, AreTelling}
 use Rattle.script.specs.Turns.{RunsText, IsPrinted, PrintsText, TakesTurn, IsNoMore}
 use Rattle.script.proofs.LongerLives.{telling_longer, telling_more}
+use Rattle.script.proofs.Standing.{same_opening}
+use Rattle.entry.specs.Meaning.{contents_of}
 
 -- ---- a line that was run
 
@@ -63,6 +65,10 @@ turn_fault old new number had left held holds text taken fault.NoMemory whole co
       | inr e ↦ let long = ap length e.0 in omega arith
     ] in
     (taken, consumed, count, p)
+
+-- a master that began with no keys
+empty_opening : (d : MasterData) → d.origin ≡ no_origin → opening_of d ≡ empty_state
+empty_opening d is = ap (λ (o : Origin). record { contents = contents_of o.objects; safe = o.safe }) is
 
 -- ---- all lines so far
 
@@ -110,7 +116,7 @@ answers-more told t = flat_map-append _ told (t ∷ []) ∙ ap (λ l. answers_of
 module _ (config : Config) (old : Session) (had mid left held wrote holds : Option (List ℕ)) (number : ℕ) (r : Running config old had mid held wrote number) where
   -- the lines tell of one history
   tell_so_far : TellOneLife config r.told
-  tell_so_far = (life_of r.knows, refl, legal_of old.node r.at.left r.knows r.stands.node_of, r.at, r.telling, r.stands.made)
+  tell_so_far = (life_of r.knows, empty_opening r.knows r.stands.begun, legal_of old.node r.at.left r.knows r.stands.node_of, r.at, r.telling, r.stands.made)
 
   module _ (new : Session) (text : List ℕ) (a : Answer) (runs : RunsText old text new a) (whole : IsLineText text) where
     abbrev next_told : Told
@@ -124,12 +130,15 @@ module _ (config : Config) (old : Session) (had mid left held wrote holds : Opti
     telling_on =
         let same = sym after_line.3.1 in
         let within : r.at.made ≤ length r.knows.history = let made = r.stands.made in omega arith in
-        let longer = subst (λ (h : List Record). AreTelling config (record { opening = opening_of after_line.0; history = h }) at_start r.told r.at) same
+        let opening = same_opening r.knows after_line.0 (after_line.2.begun ∙ sym r.stands.begun) in
+        let later : ◌≡◌ {A = Life} (record { opening = opening_of r.knows; history = r.knows.history ++ after_line.3.0 }) (life_of after_line.0) =
+        λ i. record { opening = opening i; history = same i } in
+        let longer = subst (λ (l : Life). AreTelling config l at_start r.told r.at) later
         (telling_longer config (opening_of r.knows) r.knows.history after_line.3.0 at_start r.told r.at within r.telling) in
         telling_more config (life_of after_line.0) at_start r.told r.at next_told after_line.1 longer after_line.4
 
     tell_longer : TellOneLife config (r.told ++ next_told ∷ [])
-    tell_longer = (life_of after_line.0, refl, legal_of new.node after_line.1.left after_line.0 after_line.2.node_of, after_line.1, telling_on, after_line.2.made)
+    tell_longer = (life_of after_line.0, empty_opening after_line.0 after_line.2.begun, legal_of new.node after_line.1.left after_line.0 after_line.2.node_of, after_line.1, telling_on, after_line.2.made)
 
     line_there : All (IsScriptLine config.backups) (r.told ++ next_told ∷ [])
     line_there = All-push (IsScriptLine config.backups) r.told next_told r.lines

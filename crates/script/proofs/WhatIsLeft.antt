@@ -1,10 +1,11 @@
 -- Crashes, losses and recoveries, told of what is left of a master.
-use Rattle.std.proofs.Common.{◌≡◌, ℕ, Bool, true, false, cond, List, [], ◌∷◌, refl, sym, ap, subst, ◌∙◌, arith}
+use Rattle.std.proofs.Common.{◌≡◌, ℕ, Bool, true, false, cond, List, [], ◌∷◌, refl, sym, ap, subst, inr, ◌∙◌, arith}
+use Rattle.std.specs.declared.alloc.AllocError.{AllocError}
 use Rattle.std.proofs.lemmas.List.{append-nil}
-use Rattle.std.specs.Prelude.{Option, Some, None, not, ◌==◌, ◌||◌, ◌↔◌}
+use Rattle.std.specs.Prelude.{Option, Some, None, not, ◌==◌, ◌||◌, ◌↔◌, Result, Ok, Err, IfOk}
 use Rattle.backup.specs.State.{fleet_state, lost}
 use Rattle.backup.specs.declared.fleet.MemoryFleet.{MemoryFleet}
-use Rattle.lines.specs.Grammar.{LineValue, Crash, Lose, Recover}
+use Rattle.lines.specs.Grammar.{LineValue, Crash, Lose, Recover, Holdings}
 use Rattle.entry.specs.declared.entry.Entry.{Entry}
 use Rattle.entry.specs.Bag.{IsAmong}
 use Rattle.entry.specs.Meaning.{IsMeaning, among, contents_of}
@@ -28,11 +29,29 @@ use Rattle.recovery.proofs.Recoveries.{IsSomePrefix, IsSomeLoss}
 use Rattle.script.specs.declared.answer.Answer.TheVariants as answer
 use Rattle.script.specs.declared.node.Node.{Node}
 use Rattle.script.specs.declared.node.Node.TheVariants.{Down}
-use Rattle.script.specs.Lives.{Left, is_left, IsHomeBy}
-use Rattle.script.specs.Served.{IsLeftOf, IsOf, IsNodeAt, AnswersLine, is_up, left_now, life_of}
-use Rattle.script.specs.Told.{Position, IsRecoveredAt, Tells}
+use Rattle.script.specs.Lives.{Life, life_to, Left, is_left, IsHomeBy}
+use Rattle.script.specs.Served.{IsLeftOf, IsOf, IsNodeAt, AnswersLine, is_up, left_now, life_of, held_answer}
+use Rattle.script.specs.Told.{Position, IsRecoveredAt, AreLeft, AreHeldAt, Tells}
 use Rattle.script.proofs.Standing.{Answered, still_stands, lived_longer, is_up_none}
 use Rattle.script.proofs.MasterSteps.{goes_nowhere}
+
+-- ---- what backups hold
+
+-- of what is left the backups hold just these
+held_of_left : (config : Config) (d : MasterData) (l : Left) (f : FleetState) (hs : List Holding) → d.config ≡ config → IsLeftOf d l f → AreHeld hs f.picture
+    → AreLeft config l hs
+held_of_left config d l f hs same of shown h its =
+    let left = left_on (is_left l.lost) l.picture in
+    let master : d.config.master ≡ h.master = ap (λ (c : Config). c.master) same ∙ sym its in
+    let there : f.picture h.backup h.master h.segment ≡ left h.backup h.master h.segment =
+    subst (λ (m : ℕ). f.picture h.backup m h.segment ≡ left h.backup m h.segment) master (of.shown h.backup h.segment) in
+    subst (λ (r : Option Replica). IsAmong h hs ↔ (r ≡ Some (record { bytes = h.bytes; is_open = h.is_open }))) there (shown h)
+
+pub held_down : (config : Config) (life : Life) (at : Position) (result : Result (List Holding) AllocError) (d : MasterData) (l : Left) (f : FleetState)
+    → d.config ≡ config → at.left ≡ Some l → IsLeftOf d l f → IfOk result (λ hs. AreHeld hs f.picture) → Tells config life at Holdings (held_answer result) at
+held_down config life at (Err fault) d l f same left of shown = inr (refl, refl, refl)
+held_down config life at (Ok hs) d l f same left of shown =
+    (refl, subst (λ (o : Option Left). AreHeldAt config (life_to life at.made) o hs) (sym left) (held_of_left config d l f hs same of shown), refl)
 
 -- ---- crashes and losses
 
@@ -125,6 +144,7 @@ module _ (node : Node) (fleet : MemoryFleet) (config : Config) (d : MasterData) 
         record {
           node_of = (less, refl, lost_of d l (fleet_state fleet) (fleet_state new) backup is left_at.2);
           configured = s.configured;
+          begun = s.begun;
           made = s.made;
           acknowledged = s.acknowledged;
         },

@@ -1,5 +1,8 @@
 -- What a whole cleaning makes of a master and its fleet, from the begin of its pass to the last free.
-use Rattle.std.specs.Prelude.{◌≡◌, ◌⊎◌, ℕ, List, Result, Ok, Err}
+use Rattle.std.specs.Prelude.{◌≡◌, ◌⊎◌, ℕ, List, [], ◌∷◌, ◌++◌, Result, Ok, Err, None}
+use Rattle.log_head.specs.Head.{digest_of}
+use Rattle.log_model.specs.Ids.{inserted, without}
+use Rattle.master_core.specs.Budget.{newest_digest}
 use Rattle.master_core.specs.declared.step.Refusal.{Refusal}
 use Rattle.master_core.specs.declared.step.Refusal.TheVariants.{Nothing}
 use Rattle.master_core.specs.declared.step.Step.{Step}
@@ -94,11 +97,20 @@ abbrev pub Finishes : World → Result ℕ Refusal → World → Type 0
 Finishes old (Ok head) new = IsFinished old head new
 Finishes old (Err r) new = IsNotFinished old r new
 
--- A pass over these victims began with this survivor, and all of it was made.
+-- the ids of a digest once a commit replaced these victims by this survivor, under this head
+abbrev pub digest_after : List ℕ → List ℕ → ℕ → ℕ → List ℕ
+digest_after ids victims survivor head = inserted survivor (without victims ids) ++ head ∷ []
+
+-- A pass over these victims began with this survivor, and all of it was made. The roll was its commit: the digest in
+-- force lists the survivor in place of the victims, the pass has ended, and nothing waits to be freed.
 pub record IsCleaned (old : World) (victims : List ℕ) (survivor head : ℕ) (new : World) : Type 0 where
   pub begun : World
   pub begins : Accepts old (BeginClean victims) (Begun survivor) begun
   pub finished : IsFinished begun head new
+  -- a head that a roll was opening then is listed too
+  pub digest : digest_of new.knows.head.image ≡ digest_after (newest_digest old.knows.head) victims survivor head
+  pub ended : new.knows.pass ≡ None
+  pub freed : new.knows.waiting ≡ []
 
 -- The pass couldn't begin, or what came after its begin stopped at a refusal.
 abbrev pub IsNotCleaned : World → List ℕ → Refusal → World → Type 0

@@ -21,7 +21,7 @@ use Rattle.master_core.specs.declared.step.Step.TheVariants as step
 use Rattle.master_core.specs.declared.step.StepAnswer.{StepAnswer}
 use Rattle.master_core.specs.declared.step.StepAnswer.TheVariants as step_answer
 use Rattle.master_core.specs.Causes.{command_refusal}
-use Rattle.master_core.specs.Data.{MasterData}
+use Rattle.master_core.specs.Data.{MasterData, no_origin}
 use Rattle.master_core.specs.Log.{opening_of, log_of}
 use Rattle.master.specs.Steps.{Steps}
 use Rattle.master.specs.Valid.{IsValid}
@@ -41,6 +41,7 @@ use Rattle.script.specs.Told.{Position, at_start, command_of, is_of_push, IsTest
 -- the master goes on: its configuration is the same, as much is durable or more, and it has these records more
 pub record LivesOn (old new : MasterData) (more : List Record) : Type 0 where
   pub config : new.config ≡ old.config
+  pub origin : new.origin ≡ old.origin
   pub durable : durable_of (log_of old) ≤ durable_of (log_of new)
   pub history : new.history ≡ old.history ++ more
 
@@ -128,6 +129,8 @@ LiftsLimit new answer = Unit {0}
 pub record IsNodeAt (node : Node) (config : Config) (d : MasterData) (at : Position) : Type 0 where
   pub node_of : IsOf node at.left d
   pub configured : d.config ≡ config
+  -- it began with no keys
+  pub begun : d.origin ≡ no_origin
   pub made : at.made ≡ length d.history
   pub acknowledged : at.acknowledged ≤ durable_of (log_of d)
 

@@ -34,3 +34,6 @@ loop-place-preserved-in_default-3 g c = (
   push_goes_on _ _ _ _ c.loop-place.invariant.0 c.step.ensures.gives c.step.ensures.keeps,
   one_more _ _ _ _ c.in_default.field-0 c.in_default.is c.step.ensures.gives c.loop-place.invariant.1,
 )
+
+pub loop-place-smaller-in_default-3 : goal.loop-place-smaller-in_default-3
+loop-place-smaller-in_default-3 g c = fewer_left _ _ _ c.in_default.field-0 c.in_default.is c.step.ensures.gives

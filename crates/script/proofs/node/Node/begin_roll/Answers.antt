@@ -1,46 +1,35 @@
-use Rattle.std.proofs.Common.{refl, subst}
-use Rattle.std.specs.Prelude.{Ok, Err}
-use Rattle.backup.specs.State.{fleet_state}
+use Rattle.std.proofs.Common.{refl}
 use Rattle.lines.specs.Grammar.{BeginRoll}
-use Rattle.master.specs.World.{world}
-use Rattle.master.specs.Steps.{Accepts}
 use Rattle.master_core.specs.declared.step.Step.TheVariants as step
-use Rattle.master_core.specs.declared.step.StepAnswer.TheVariants as answer
 use Rattle.script.specs.declared.answer.Answer.TheVariants as told
 use Rattle.script.specs.Served.{AnswersLine, MakesStep}
 use Rattle.script.proofs.ByHand.{made_step, made_told, refused_step, refused_told}
-use Rattle.script.proofs.MasterSteps.{begin_goes_on, spent_begin}
 use Rattle.script.proofs.node.Node.begin_roll.Goals.{in-Ok-Rolling, in-Err}
 use Rattle.script.proofs.node.Node.begin_roll.Goals as goal
 
 pub returns-clause-told : goal.returns-clause-told
 returns-clause-told c = λ config.
-    let up = c.in-Up.up in
-    let m = c.step.new.self in
-    let before = world fleet_state up in
-    let after = world fleet_state m in
-    elim c.match-step.branch as (λ _. AnswersLine c.args.self.now config BeginRoll c.match-step.self c.match-step.result) [
+    let node = c.args.self.now in
+    let line = BeginRoll in
+    elim c.match-step.branch as (λ _. AnswersLine node config line c.match-step.self c.match-step.result) [
       | in-Ok-Rolling w ↦ rw (w.self-is, w.result-is)
-          (let on = begin_goes_on before after (Ok w.in-Ok-Rolling.field-0) w.in-Ok-Rolling.ensures.gives w.in-Ok-Rolling.ensures.keeps in
-          let gives = subst (λ a. Accepts before step.BeginRoll a after) w.in-Ok-Rolling.field-0-is w.in-Ok-Rolling.ensures.gives in
-          made_told c.args.self.now up m c.in-Up.is step.BeginRoll on w.in-Ok-Rolling.ensures.valid (answer.Rolling w.in-Ok-Rolling.id) gives config BeginRoll (told.Opening w.in-Ok-Rolling.id)
-          (λ life at none is. (none, refl, is, refl)))
+          (let a = w.in-Ok-Rolling in
+          made_told node c.in-Up.up c.step.new.self c.in-Up.is step.BeginRoll refl a.ensures.valid config line
+          _ _ a.field-0-is a.ensures.gives a.ensures.keeps (told.Opening a.id) (λ life at none is. (none, refl, is, refl)))
       | in-Err w ↦ rw (w.self-is, w.result-is)
-          (let r = w.in-Err.refusal in
-          let on = begin_goes_on before after (Err r) w.in-Err.ensures.gives w.in-Err.ensures.keeps in
-          refused_told c.args.self.now up m c.in-Up.is step.BeginRoll on w.in-Err.ensures.valid r w.in-Err.ensures.gives w.refuse.new.self w.refuse.result w.refuse.ensures
-          config BeginRoll refl (λ life is. is) (λ is. absurd (spent_begin before after r w.in-Err.ensures.gives is)) (λ is. absurd (spent_begin before after r w.in-Err.ensures.gives is)))
+          (let e = w.in-Err in
+          refused_told node c.in-Up.up c.step.new.self c.in-Up.is step.BeginRoll refl e.ensures.valid config line
+          e.refusal e.ensures.gives e.ensures.keeps w.refuse.new.self w.refuse.result w.refuse.ensures refl refl (λ life is. is))
     ]
 
 pub returns-clause-stepped : goal.returns-clause-stepped
 returns-clause-stepped c =
-    let up = c.in-Up.up in
-    let m = c.step.new.self in
-    let before = world fleet_state up in
-    let after = world fleet_state m in
-    elim c.match-step.branch as (λ _. MakesStep c.args.self.now step.BeginRoll c.match-step.self c.match-step.result) [
+    let node = c.args.self.now in
+    elim c.match-step.branch as (λ _. MakesStep node step.BeginRoll c.match-step.self c.match-step.result) [
       | in-Ok-Rolling w ↦ rw (w.self-is, w.result-is)
-          (made_step c.args.self.now up m c.in-Up.is step.BeginRoll (answer.Rolling w.in-Ok-Rolling.id) (subst (λ a. Accepts before step.BeginRoll a after) w.in-Ok-Rolling.field-0-is w.in-Ok-Rolling.ensures.gives) (told.Opening w.in-Ok-Rolling.id) refl refl)
+          (let a = w.in-Ok-Rolling in
+          made_step node c.in-Up.up c.step.new.self c.in-Up.is step.BeginRoll _ _ a.field-0-is a.ensures.gives (told.Opening a.id) refl refl)
       | in-Err w ↦ rw (w.self-is, w.result-is)
-          (refused_step c.args.self.now up m c.in-Up.is step.BeginRoll w.in-Err.refusal w.in-Err.ensures.gives w.refuse.new.self w.refuse.result w.refuse.ensures)
+          (let e = w.in-Err in
+          refused_step node c.in-Up.up c.step.new.self c.in-Up.is step.BeginRoll e.refusal e.ensures.gives w.refuse.new.self w.refuse.result w.refuse.ensures)
     ]

@@ -1,8 +1,7 @@
 use Rattle.std.proofs.Common.{[], refl, subst}
-use Rattle.std.specs.Prelude.{Ok, Err, None}
+use Rattle.std.specs.Prelude.{Err, None}
 use Rattle.lines.specs.Grammar.{Clean}
 use Rattle.backup.specs.State.{fleet_state}
-use Rattle.master.specs.World.{world}
 use Rattle.master_core.specs.Data.{MasterData}
 use Rattle.script.specs.declared.node.Node.{Node}
 use Rattle.script.specs.declared.node.Node.TheVariants.{Up}

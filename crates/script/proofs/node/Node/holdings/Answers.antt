@@ -5,11 +5,12 @@ use Rattle.lines.specs.Grammar.{Holdings}
 use Rattle.replica.specs.Picture.{FleetState, AreHeld}
 use Rattle.script.specs.declared.answer.Answer.{Answer}
 use Rattle.script.specs.declared.node.Node.{Node}
-use Rattle.script.specs.declared.node.Node.TheVariants.{Up}
+use Rattle.script.specs.declared.node.Node.TheVariants.{Up, Down}
 use Rattle.script.specs.Served.{IsOf, life_of}
 use Rattle.script.specs.Told.{Tells}
 use Rattle.script.proofs.Standing.{stays_told, lived_longer}
 use Rattle.script.proofs.Steps.{held_up}
+use Rattle.script.proofs.WhatIsLeft.{held_down}
 use Rattle.script.proofs.node.Node.holdings.Goals as goal
 
 pub returns-in-Up : goal.returns-in-Up
@@ -20,3 +21,9 @@ returns-in-Up c = λ config. stays_told c.args.self.now config Holdings c.held.r
     subst (λ (a : Answer). Tells config (life_of d) at Holdings a at) (sym c.held.ensures)
     (held_up config (life_of d) at c.inventory.result d f was.0 lived
     (subst (λ (x : FleetState). IfOk c.inventory.result (λ hs. AreHeld hs x.picture)) (ap fleet_state c.fleet.ensures) c.inventory.ensures.shown)))
+
+pub returns-in-Down : goal.returns-in-Down
+returns-in-Down c = λ config. stays_told c.args.self.now config Holdings c.held-in-Down.result (λ d at s.
+    let was : IsOf (Down c.in-Down.fleet) at.left d = subst (λ (n : Node). IsOf n at.left d) c.in-Down.is s.node_of in
+    subst (λ (a : Answer). Tells config (life_of d) at Holdings a at) (sym c.held-in-Down.ensures)
+    (held_down config (life_of d) at c.inventory-in-Down.result d was.0 (fleet_state c.in-Down.fleet) s.configured was.1 was.2 c.inventory-in-Down.ensures.shown))
