@@ -1,6 +1,7 @@
 //! The tests of all crates: vectors of entries and of segments, images in memory, the index, compaction, a pass, the
-//! lines of scripts, ops on backups, plans and rebuilt logs from replicas that are made by hand, runs of masters, turns
-//! of a cleaner, drills, comparisons with the plain programs, and whole scripts.
+//! lines of scripts, ops on backups, heads, wills, replicas that are freed, plans and rebuilt logs from replicas that are
+//! made by hand, runs of masters, masters that are restored, turns of a cleaner, drills, comparisons with the plain
+//! programs, and whole scripts.
 #![tactic(auto)]
 
 #[cfg(test)]
@@ -16,13 +17,19 @@ mod compactions;
 #[cfg(test)]
 mod comparisons;
 #[cfg(test)]
+mod divided;
+#[cfg(test)]
 mod drills;
 #[cfg(test)]
 mod entries;
 #[cfg(test)]
+mod heads;
+#[cfg(test)]
 mod indexes;
 #[cfg(test)]
 mod lines_of_scripts;
+#[cfg(test)]
+mod loadings;
 #[cfg(test)]
 mod options;
 #[cfg(test)]
@@ -33,6 +40,8 @@ mod plans;
 mod questions;
 #[cfg(test)]
 mod rebuilds;
+#[cfg(test)]
+mod retiring;
 #[cfg(test)]
 mod rolls;
 #[cfg(test)]
@@ -47,3 +56,5 @@ mod segments;
 mod turns;
 #[cfg(test)]
 mod vectors;
+#[cfg(test)]
+mod wills;

@@ -11,7 +11,7 @@ use std::str;
 use std::test::Fail;
 
 /// A table, a key in it, a version, and a value of one byte. A tombstone has no value.
-type Line<'a> = (u64, &'a str, u64, Option<u8>);
+pub type Line<'a> = (u64, &'a str, u64, Option<u8>);
 
 /// Writes an object with a value of one byte, or a tombstone.
 fn write_entry(
@@ -53,7 +53,7 @@ const ONE: &str = "01 0000000000000007 0000000000000001 01";
 const TWO: &str = "01 0000000000000007 0000000000000002 01";
 
 /// The header of a segment, and its lines.
-type Log<'a> = (&'a str, &'a [Line<'a>]);
+pub type Log<'a> = (&'a str, &'a [Line<'a>]);
 
 fn segment_of(alloc: Global, log: &Log<'_>) -> Result<Segment, Fail> {
     let (header, lines) = log;
@@ -64,7 +64,7 @@ fn segment_of(alloc: Global, log: &Log<'_>) -> Result<Segment, Fail> {
     Ok(read_segment(alloc, bytes.as_slice())?)
 }
 
-fn segments_of(alloc: Global, logs: &[Log<'_>]) -> Result<Segments, Fail> {
+pub fn segments_of(alloc: Global, logs: &[Log<'_>]) -> Result<Segments, Fail> {
     let mut segments = Vec::new(alloc);
     for log in logs {
         segments.push(segment_of(alloc, log)?)?;
@@ -72,7 +72,7 @@ fn segments_of(alloc: Global, logs: &[Log<'_>]) -> Result<Segments, Fail> {
     Ok(Segments::new(segments))
 }
 
-fn write_object(text: &mut String, object: &Object) -> Result<(), AllocError> {
+pub fn write_object(text: &mut String, object: &Object) -> Result<(), AllocError> {
     let table = object.key.table;
     let key = str::from_utf8(object.key.bytes.as_slice()).unwrap_or("?");
     let version = object.version.get();
