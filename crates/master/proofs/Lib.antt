@@ -29,3 +29,4 @@ pub mod KeptLoading
 pub mod Runs
 pub mod Validity
 mod Retired
+pub mod SizeTablets

@@ -1,12 +1,15 @@
 //! A pass of a master: it begins, copies entry by entry, and its survivor is sealed. What it leaves is freed.
 
-ghost use Rattle.std.specs.Prelude.{◌≡◌, None, IfOk, IfErr, OnErr};
+ghost use Rattle.std.specs.Prelude.{◌≡◌, None, true, IfOk, IfErr, OnErr};
+ghost use Rattle.tablet_will.specs.Sizes.{are_sizes};
 ghost use Rattle.master_core.specs.Choosing.{chosen, next_step, NeedsChoice};
+ghost use Rattle.master_core.specs.Log.{state_now};
+ghost use Rattle.master_core.specs.Sizes.{AreSizesOf};
 ghost use Rattle.master.specs.Steps.{Accepts, Declines};
 ghost use Rattle.master.specs.World.{world};
 
 use crate::master::Master;
-use entry::{NoMemory, Row};
+use entry::{NoMemory, Row, Size};
 use master_core::{Refusal, Step, StepAnswer};
 use replica::{Act, Fleet, Op};
 
@@ -27,6 +30,15 @@ impl<F: Fleet> Master<F> {
         ensures refused { OnErr result ((self.now.knows.pass ≡ None) × NeedsChoice self.now.knows) }
     {
         self.core.next_step()
+    }
+
+    /// The sizes of the live objects, by table, then by place. Each is the length of the object's entry, and lies in a
+    /// tablet of the configuration. Nothing changes.
+    pub fn sizes(&self) -> Result<Vec<Size>, NoMemory>
+        ensures sizes { IfOk result (λ sizes. AreSizesOf (state_now self.now.knows).contents sizes.items) }
+        ensures tablets { IfOk result (λ sizes. are_sizes self.now.knows.config.tablets sizes.items ≡ true) }
+    {
+        self.core.sizes()
     }
 
     /// Begins a pass over these victims.

@@ -3,7 +3,7 @@
 ghost use Rattle.std.specs.Prelude.{◌≡◌, ◌≤◌, ℕ, None, true, false, IfOk, IfErr, OnOk, OnErr};
 ghost use Rattle.master_core.specs.Causes.{is_pushed};
 ghost use Rattle.master_core.specs.Config.{config_fault};
-ghost use Rattle.master_core.specs.Loading.{restored_data, Settles};
+ghost use Rattle.master_core.specs.Loading.{restored_data, IsNewObject, Loads, Settles};
 ghost use Rattle.master.specs.Loading.{IsNewEntry, LoadsEntry, DeclinesLoad, KeepsLoading};
 ghost use Rattle.master.specs.Steps.{Accepts, Declines};
 ghost use Rattle.master.specs.Valid.{IsValid};
@@ -11,7 +11,7 @@ ghost use Rattle.master.specs.World.{world};
 
 use crate::master::Master;
 use crate::pushing;
-use entry::{Entry, NoMemory, SafeVersion};
+use entry::{Entry, NoMemory, Object, SafeVersion};
 use master_core::{Config, Core, Refusal, Step, StepAnswer};
 use replica::Fleet;
 use std::alloc::Global;
@@ -71,9 +71,20 @@ impl<F: Fleet> Loading<F> {
         ensures fleet { self.new.fleet ≡ self.old.fleet }
     {
         match entry {
-            Entry::Object(object) => self.core.load(object),
+            Entry::Object(object) => self.load_object(object),
             _ => unreachable!(),
         }
+    }
+
+    /// Loads an object as `load` does. The object isn't copied to be handed over.
+    pub fn load_object(&mut self, object: &Object) -> Result<(), Refusal>
+        requires object { IsNewObject self.old.knows object.now }
+        ensures loaded { OnOk result (Loads self.old.knows object.now self.new.knows) }
+        ensures refused { IfErr result (λ r.
+            DeclinesLoad self.old.knows (Entry.Object object.now) r self.new.knows) }
+        ensures fleet { self.new.fleet ≡ self.old.fleet }
+    {
+        self.core.load(object)
     }
 
     /// Hands one op to one backup, as a master's push.

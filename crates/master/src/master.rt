@@ -17,7 +17,7 @@ ghost use Rattle.master.specs.Valid.{IsValid};
 ghost use Rattle.master.specs.World.{world};
 
 use crate::pushing;
-use entry::NoMemory;
+use entry::{NoMemory, Tablet};
 use master_core::{Config, Core, Look, Refusal, Shown, Step, StepAnswer};
 use replica::{Bench, Fleet, TakeFault};
 use std::alloc::Global;
@@ -87,6 +87,13 @@ impl<F: Fleet> Master<F> {
         ensures { result ≡ self.now.knows.config.master }
     {
         self.core.master()
+    }
+
+    /// The tablets of the configuration.
+    pub fn tablets(&self) -> &[Tablet]
+        ensures { result.now ≡ self.now.knows.config.tablets }
+    {
+        self.core.tablets()
     }
 
     /// The number of the head in force.
@@ -230,8 +237,10 @@ impl<F: Fleet> Master<F> {
     pub fn crash(self) -> F
         ensures fleet { result ≡ self.fleet }
         ensures valid { IsValid self.knows (F.state result) }
+        ensures backups { self.knows.config.backups ≤ (F.state result).backups }
     {
         self.show_valid();
+        self.show_kept();
         let Master {
             alloc: _,
             core,

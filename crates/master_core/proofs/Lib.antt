@@ -44,3 +44,7 @@ pub mod Taken
 pub mod Ended
 pub mod Closing
 pub mod LoadedCore
+pub mod LiveObjects
+pub mod LiveCore
+pub mod SizeWalk
+pub mod SizeOrder

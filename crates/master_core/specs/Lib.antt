@@ -14,3 +14,4 @@ pub mod Choosing
 pub mod Names
 pub mod Ends
 pub mod Loading
+pub mod Sizes

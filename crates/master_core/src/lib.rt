@@ -24,6 +24,7 @@ mod index;
 mod laws;
 mod loading;
 mod rolling;
+mod sizes;
 mod state;
 mod step;
 mod unit;

@@ -17,7 +17,7 @@ use crate::config::Config;
 use crate::image::image_of;
 use crate::step::{Look, Refusal, Shown};
 use cleaner::Pass;
-use entry::{NoMemory, Row, SafeVersion};
+use entry::{NoMemory, Row, SafeVersion, Tablet};
 use hash_index::Index;
 use images::Images;
 use loaded::Loaded;
@@ -162,6 +162,13 @@ impl Core {
         ensures { result ≡ self.now.config.master }
     {
         self.config.master
+    }
+
+    /// The tablets of the configuration.
+    pub fn tablets(&self) -> &[Tablet]
+        ensures { result.now ≡ self.now.config.tablets }
+    {
+        self.config.tablets.as_slice()
     }
 
     /// Whether a backup failed.

@@ -8,7 +8,7 @@ use Rattle.master_core.specs.Invariant.{IsCore}
 use Rattle.master_core.specs.Loading.{IsBare, Loads, MayLoadNow}
 use Rattle.master.specs.Invariant.{IsWellLoaded}
 use Rattle.master.proofs.Loaded.{object_is_loaded}
-use Rattle.master.proofs.loading.Loading.load.Goals as goal
+use Rattle.master.proofs.loading.Loading.load_object.Goals as goal
 
 -- whether it was loaded or refused
 loaded_then : (d e : MasterData) (f : FleetState) (o : Object) (result : Result (Unit {0}) Refusal) → IsWellLoaded d f → OnOk result (Loads d o e)
@@ -18,5 +18,5 @@ loaded_then d e f o (Err r) loaded is may core bare same = subst (λ (m : Master
 
 pub invariant_of-self : goal.invariant_of-self
 invariant_of-self g c =
-    loaded_then c.self.inside.core c.load.new.self (g.F.Fleet.state c.self.inside.fleet) c.in-Object.object c.load.result c.self.invariant
+    loaded_then c.self.inside.core c.load.new.self (g.F.Fleet.state c.self.inside.fleet) c.args.object.now c.load.result c.self.invariant
     c.load.ensures.loaded c.load.ensures.may c.load.ensures.valid c.load.ensures.bare c.load.ensures.err
