@@ -4,3 +4,15 @@ pub mod MeaningLemmas
 pub mod GatheringLemmas
 pub mod SiftLemmas
 pub mod ReplayLemmas
+pub mod Listed
+pub mod Settled
+pub mod Members
+pub mod Turning
+pub mod Marks
+pub mod AllGroups
+pub mod Kept
+pub mod Wholes
+pub mod LoadSteps
+pub mod LoadRoom
+pub mod LoadList
+pub mod AdoptedList

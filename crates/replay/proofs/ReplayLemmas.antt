@@ -167,13 +167,13 @@ module _ (gs : List Grouped) (g : Grouped) (old new : List Claim) (kept : AreKep
 
 -- ---- the greatest version
 
-bound_has : (cs : List Claimed) (c : Claimed) → IsAmong c cs → c.version + 1 ≤ bound_of_claims cs
+pub bound_has : (cs : List Claimed) (c : Claimed) → IsAmong c cs → c.version + 1 ≤ bound_of_claims cs
 bound_has [] c m = absurd m
 bound_has (d ∷ cs) c (inl e) =
     let same : d.version ≡ c.version = ap (λ (z : Claimed). z.version) e in grind (arith, same)
 bound_has (d ∷ cs) c (inr m) = let more = bound_has cs c m in grind (arith, more)
 
-bound_under : (cs ds : List Claimed) → ((c : Claimed) → IsAmong c cs → IsAmong c ds)
+pub bound_under : (cs ds : List Claimed) → ((c : Claimed) → IsAmong c cs → IsAmong c ds)
     → bound_of_claims cs ≤ bound_of_claims ds
 bound_under [] ds h = omega arith
 bound_under (c ∷ cs) ds h =

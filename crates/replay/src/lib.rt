@@ -1,16 +1,24 @@
 //! What the log of a plan stands for: the objects that are left, and a safe version for what follows.
 //!
-//! The layer above uses `rebuild_plain`: with Ok the objects are what the segments mean, in order, each key once.
+//! The layers above use `rebuild_plain` and `rebuild`: with Ok the objects are what the segments mean, in order, each key
+//! once. A master adopts them by `adopt`.
 #![tactic(auto)]
 
+mod adopting;
 mod claim;
 mod fault;
 mod gathering;
 mod joining;
+mod plain;
+mod rebuilding;
 mod rebuilt;
 mod replay;
+mod settling;
 mod winners;
 
+pub use adopting::{adopt, adopt_list};
 pub use fault::ReplayFault;
-pub use rebuilt::{Objects, Rebuilt, rebuild_plain};
+pub use plain::rebuild_plain;
+pub use rebuilding::rebuild;
+pub use rebuilt::{Objects, Rebuilt};
 pub use replay::{Replay, Replayed};

@@ -5,7 +5,7 @@ ghost use Rattle.std.specs.List.{list_any};
 ghost use Rattle.backup.specs.Groups.{grouped};
 ghost use Rattle.backup.specs.declared.group.Group.{Group as GroupValue};
 ghost use Rattle.replay.specs.Replaying.{IsReplayed, IsTakeFault, IsFinishFault, Takes, taken, IsLowest, lower_of};
-ghost use Rattle.replay.specs.Replaying.{IsPlaced, IsMisplaced};
+ghost use Rattle.replay.specs.Replaying.{IsPlaced, IsMisplaced, AreKept};
 
 use crate::claim::Claim;
 use crate::fault::ReplayFault;
@@ -141,6 +141,13 @@ impl<'a> Replay<'a> {
         self.groups.push_reserved(group);
         self.claims = claims;
         Ok(())
+    }
+
+    /// What the groups claim, in order.
+    pub(crate) fn kept(&self) -> &[Claim<'a>]
+        ensures { AreKept self.now.groups result.now }
+    {
+        self.claims.as_slice()
     }
 
     /// What the groups stand for, in memory of its own, once there is one of each segment. MissingGroup names the

@@ -1,0 +1,116 @@
+-- A list that is adopted.
+use Rattle.std.proofs.Common.{◌≡◌, ℕ, zero, suc, Bool, true, false, List, [], ◌∷◌, length, refl, sym, ap, subst, inl, inr, ◌∙◌, arith}
+use Rattle.std.specs.Prelude.{Some, None, if◌then◌else◌, ◌==◌, ◌&&◌, is_none}
+use Rattle.std.proofs.lemmas.Bool.{and_parts}
+use Rattle.entry.specs.declared.entry.Object.{Object}
+use Rattle.entry.specs.declared.key.Key.{Key}
+use Rattle.entry.specs.Meaning.{contents_of}
+use Rattle.replica.specs.Picture.{FleetState}
+use Rattle.log_model.specs.Data.{fewest}
+use Rattle.log_model.specs.Steps.{no_units}
+use Rattle.log_head.specs.Head.{HeadValue, is_open}
+use Rattle.log_head.specs.Steps.{settled}
+use Rattle.log_head.proofs.Rolls.{zeros_length}
+use Rattle.master_core.specs.declared.config.Config.{Config}
+use Rattle.master_core.specs.declared.step.Refusal.{Refusal}
+use Rattle.master_core.specs.declared.step.Refusal.TheVariants as refusal
+use Rattle.master_core.specs.declared.step.Step.TheVariants.{Push, BeginRoll}
+use Rattle.master_core.specs.Causes.{is_pushed}
+use Rattle.master_core.specs.Data.{MasterData}
+use Rattle.master_core.specs.Loading.{restored_data, Settles}
+use Rattle.master.specs.Steps.{Declines}
+use Rattle.master.specs.World.{World}
+use Rattle.replay.specs.declared.rebuilt.Rebuilt.{Rebuilt}
+use Rattle.replay.specs.Adopting.{HasLoaded, DeclinesFirst, IsStuck, Stops, IsAdopted, IsAdoptedOn}
+use Rattle.replay.proofs.LoadList.{contents_loaded}
+use Rattle.replay.proofs.LoadSteps.{has_kept, stacked}
+
+-- ---- a head that is settled
+
+none_fewer : (n : ℕ) → fewest 0 (no_units n) ≡ 0
+none_fewer zero = refl
+none_fewer (suc n) = let rest = none_fewer n in omega arith
+
+settled_open : (h : HeadValue) → is_open (settled h) ≡ is_open h
+settled_open h = ap (λ (n : ℕ). (n == h.replicas) && is_none h.roll) (zeros_length (length h.taken))
+
+settled_pushed : (h : HeadValue) → is_open h ≡ true → is_pushed (settled h) ≡ true
+settled_pushed h opened =
+    ap (λ (t : Bool). t && (fewest 0 (no_units (length h.taken)) == 0)) (settled_open h ∙ opened)
+    ∙ ap (λ (n : ℕ). true && (n == 0)) (none_fewer (length h.taken))
+
+-- ---- what is adopted
+
+pub adopted_is : (c : Config) (r : Rebuilt) (os : List Object) (start now : World) (m : MasterData) → start.knows ≡ restored_data c r.safe
+    → os ≡ r.objects → HasLoaded os start now → is_pushed now.knows.head ≡ true → Settles now.knows m → IsAdopted c r m
+adopted_is c r os start now m made listed steps pushed settles =
+    let kept = has_kept os start now steps in
+    let opened = (and_parts (is_open now.knows.head) _ pushed).0 in
+    let objects : m.origin.objects ≡ stacked r.objects [] =
+    ap (λ (d : MasterData). d.origin.objects) settles.rest ∙ kept.objects
+    ∙ ap (λ (d : MasterData). stacked os d.origin.objects) made ∙ ap (λ (ps : List Object). stacked ps []) listed in
+    let safe : m.origin.safe ≡ r.safe =
+    ap (λ (d : MasterData). d.origin.safe) settles.rest ∙ kept.safe ∙ ap (λ (d : MasterData). d.origin.safe) made in
+    let contents : (k : Key) → contents_of m.origin.objects k ≡ contents_of r.objects k =
+    λ k. ap (λ (ps : List Object). contents_of ps k) objects ∙ contents_loaded r.objects k r.ordered in
+    record {
+      config = ap (λ (d : MasterData). d.config) settles.rest ∙ kept.config ∙ ap (λ (d : MasterData). d.config) made;
+      opening = λ i. record { contents = λ k. contents k i; safe = safe i };
+      history = ap (λ (d : MasterData). d.history) settles.rest ∙ kept.history ∙ ap (λ (d : MasterData). d.history) made;
+      opened = ap (λ (d : MasterData). is_open d.head) settles.rest ∙ settled_open now.knows.head ∙ opened;
+      pushed = ap (λ (d : MasterData). is_pushed d.head) settles.rest ∙ settled_pushed now.knows.head opened;
+    }
+
+-- ---- its fleet
+
+pub adopted_from : (c : Config) (safe : ℕ) (start : World) (f g h : FleetState) → start.knows ≡ restored_data c safe → start.fleet ≡ f
+    → IsAdoptedOn start.knows.config.master start.fleet g → h ≡ g → IsAdoptedOn c.master f h
+adopted_from c safe start f g h made fleet is same =
+    subst (IsAdoptedOn c.master f) (sym same)
+    (subst (λ (m : ℕ). IsAdoptedOn m f g) (ap (λ (d : MasterData). d.config.master) made)
+    (subst (λ (x : FleetState). IsAdoptedOn start.knows.config.master x g) fleet is))
+
+-- ---- spent
+
+spent_first : (os : List Object) (old new : World) → DeclinesFirst os old refusal.Spent new → ⊥
+spent_first [] old new h = h
+spent_first (o ∷ os) old new ((same, inl test), fleet) = tested _ _ _ _ test
+  where
+    tested : (big tablet full room : Bool) → (if big then Some refusal.TooBig else if tablet then Some refusal.NoTablet
+        else if full then Some refusal.Full else if room then Some refusal.Rolling else None) ≡ Some refusal.Spent → ⊥
+    tested true tablet full room e = cc
+    tested false true full room e = cc
+    tested false false true room e = cc
+    tested false false false true e = cc
+    tested false false false false e = cc
+spent_first (o ∷ os) old new ((same, inr memory), fleet) = let none = memory.1 in cc
+
+spent_push : (old new : World) → Declines old Push refusal.Spent new → new.fleet.takes ≡ new.fleet.end
+spent_push old new (inl h) = absurd (tested old.knows.is_halted (is_pushed old.knows.head) h.0)
+  where
+    tested : (halted pushed : Bool) → (if halted then Some refusal.Halted else if pushed then Some refusal.Nothing else None) ≡ Some refusal.Spent → ⊥
+    tested true pushed e = cc
+    tested false true e = cc
+    tested false false e = cc
+spent_push old new (inr h) = subst (λ (w : World). w.fleet.takes ≡ w.fleet.end) (sym h.1.1) h.1.0
+
+spent_roll : (old new : World) → Declines old BeginRoll refusal.Spent new → ⊥
+spent_roll old new (same, inl test) = tested _ _ _ _ test
+  where
+    tested : (halted opened spent may : Bool) → (if halted then Some refusal.Halted else if opened then Some refusal.Rolling
+        else if spent then Some refusal.SegmentsSpent else if may then Some refusal.Full else None) ≡ Some refusal.Spent → ⊥
+    tested true opened spent may e = cc
+    tested false true spent may e = cc
+    tested false false true may e = cc
+    tested false false false true e = cc
+    tested false false false false e = cc
+spent_roll old new (same, inr memory) = let none = memory.1 in cc
+
+-- only a fleet that is spent refuses as Spent
+pub stops_spent : (os : List Object) (a c : World) (r : Refusal) → Stops os a r c → r ≡ refusal.Spent → c.fleet.takes ≡ c.fleet.end
+stops_spent os a c r stops is = go (subst (λ (x : Refusal). IsStuck stops.left stops.mid x c) is stops.cause)
+  where
+    go : IsStuck stops.left stops.mid refusal.Spent c → c.fleet.takes ≡ c.fleet.end
+    go (inl h) = absurd (spent_first stops.left stops.mid c h)
+    go (inr (inl h)) = spent_push stops.mid c h
+    go (inr (inr h)) = absurd (spent_roll stops.mid c h)

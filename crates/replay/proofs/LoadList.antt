@@ -1,0 +1,181 @@
+-- A list that is loaded, object by object.
+use Rattle.std.proofs.Common.{◌≡◌, ◌<◌, ◌≤◌, ℕ, suc, ◌+◌, Bool, true, false, List, [], ◌∷◌, ◌++◌, length, get_or, take, drop, drop-cons, refl, sym, ap, subst, inl, inr, ◌∙◌, arith}
+use Rattle.std.proofs.Math.Seq.{take-suc}
+use Rattle.std.proofs.lemmas.List.{append-nil, take-append-drop, take_all}
+use Rattle.std.specs.Prelude.{Option, Some, None, if◌then◌else◌, Result, Ok, Err, IfErr, OnOk, map}
+use Rattle.std.proofs.lemmas.List.Elements.{All-contains}
+use Rattle.std.specs.List.Sorted.{IsStrictlySortedBy}
+use Rattle.std.specs.declared.cmp.Ordering.TheVariants.{Less, Equal}
+use Rattle.entry.specs.declared.entry.Entry.TheVariants as entry
+use Rattle.entry.specs.declared.entry.Object.{Object}
+use Rattle.entry.specs.declared.key.Key.{Key}
+use Rattle.entry.specs.Bag.{IsAmong}
+use Rattle.entry.specs.Meaning.{Versioned, contents_of, versioned}
+use Rattle.entry.specs.Order.{key_cmp, key_eq}
+use Rattle.entry.proofs.BagLemmas.{among_image, among_place}
+use Rattle.entry.proofs.KeyOrder.{key_eq_decides, key_cmp_same}
+use Rattle.entry.proofs.ListLemmas.{all_among}
+use Rattle.master_core.specs.declared.config.Config.{Config}
+use Rattle.master_core.specs.declared.step.Refusal.{Refusal}
+use Rattle.master_core.specs.declared.step.Refusal.TheVariants as refusal
+use Rattle.master_core.specs.Data.{MasterData}
+use Rattle.master_core.specs.Loading.{restored_data, IsNewObject}
+use Rattle.master.specs.Loading.{DeclinesLoad}
+use Rattle.master.specs.World.{World}
+use Rattle.replay.specs.declared.rebuilt.Rebuilt.{Rebuilt}
+use Rattle.replay.specs.Adopting.{HasLoaded, Stops}
+use Rattle.replay.specs.Fresh.{AreNew}
+use Rattle.replay.specs.Listed.{AreOrdered}
+use Rattle.replay.proofs.LoadSteps.{KeepsLoaded, stacked, loads_further, stops_later, stops_of_more}
+
+-- ---- keys
+
+key_other : (a b : Key) → (a ≡ b → ⊥) → key_eq a b ≡ false
+key_other a b apart = go (key_eq a b) refl
+  where
+    go : (t : Bool) → key_eq a b ≡ t → key_eq a b ≡ false
+    go true e = absurd (apart ((key_eq_decides a b).0 e))
+    go false e = e
+
+-- in order the first key comes no more
+keys_apart : (o p : Object) (os : List Object) → AreOrdered (o ∷ os) → IsAmong p os → o.key ≡ p.key → ⊥
+unfolding IsStrictlySortedBy
+keys_apart o p os sorted m same =
+    let less : key_cmp o.key p.key ≡ Less =
+    all_among (λ k. key_cmp o.key k ≡ Less) (map (λ (z : Object). z.key) os) p.key sorted.0
+    (among_image (λ (z : Object). z.key) os p m) in
+    let equal : key_cmp o.key p.key ≡ Equal = key_cmp_same o.key p.key same in
+    cc
+
+ordered_rest : (o : Object) (os : List Object) → AreOrdered (o ∷ os) → AreOrdered os
+unfolding IsStrictlySortedBy
+ordered_rest o os sorted = sorted.1
+
+none_of : (k : Key) (os : List Object) → ((p : Object) → IsAmong p os → key_eq k p.key ≡ false) → contents_of os k ≡ None
+none_of k [] each = refl
+none_of k (p ∷ os) each =
+    let here = each p (inl refl) in
+    let rest = none_of k os (λ q m. each q (inr m)) in
+    rw here rest
+
+-- what the first has, or else the second
+abbrev either : Option Versioned → Option Versioned → Option Versioned
+either (Some x) y = Some x
+either None y = y
+
+either_none : (x : Option Versioned) → either x None ≡ x
+either_none (Some x) = refl
+either_none None = refl
+
+contents_stacked : (os base : List Object) (k : Key) → AreOrdered os
+    → contents_of (stacked os base) k ≡ either (contents_of os k) (contents_of base k)
+contents_stacked [] base k sorted = refl
+contents_stacked (o ∷ os) base k sorted =
+    contents_stacked os (o ∷ base) k (ordered_rest o os sorted) ∙ by_test (key_eq k o.key) refl
+  where
+    by_test : (t : Bool) → key_eq k o.key ≡ t → either (contents_of os k) (if t then Some (versioned o) else contents_of base k)
+        ≡ either (if t then Some (versioned o) else contents_of os k) (contents_of base k)
+    by_test true e =
+        let same : k ≡ o.key = (key_eq_decides k o.key).0 e in
+        let none : contents_of os k ≡ None =
+        none_of k os (λ p m. key_other k p.key (λ is. keys_apart o p os sorted m (sym same ∙ is))) in
+        ap (λ (x : Option Versioned). either x (Some (versioned o))) none
+    by_test false e = refl
+
+-- loaded from the first on, an ordered list has what it has
+pub contents_loaded : (os : List Object) (k : Key) → AreOrdered os → contents_of (stacked os []) k ≡ contents_of os k
+contents_loaded os k sorted = contents_stacked os [] k sorted ∙ either_none (contents_of os k)
+
+-- ---- objects that may be loaded
+
+pub new_still : (o : Object) (old new : World) → KeepsLoaded [] old new → IsNewObject old.knows o → IsNewObject new.knows o
+new_still o old new kept is = record {
+  absent = ap (λ (os : List Object). contents_of os o.key) kept.objects ∙ is.absent;
+  low = subst (λ (n : ℕ). o.version < n) (sym kept.safe) is.low;
+}
+
+pub new_first : (d : MasterData) (o : Object) (os rest : List Object) → os ≡ o ∷ rest → AreNew d os → IsNewObject d o
+new_first d o os rest is new = (subst (AreNew d) is new).each o (inl refl)
+
+pub new_rest : (o : Object) (os rest : List Object) (old new : World) → os ≡ o ∷ rest → KeepsLoaded (o ∷ []) old new
+    → AreNew old.knows os → AreNew new.knows rest
+new_rest o os rest old new is kept before = record {
+  ordered = ordered_rest o rest all.ordered;
+  each = λ p m. record { absent = none p m; low = subst (λ (n : ℕ). p.version < n) (sym kept.safe) (all.each p (inr m)).low };
+}
+  where
+    all : AreNew old.knows (o ∷ rest)
+    all = subst (AreNew old.knows) is before
+
+    none : (p : Object) → IsAmong p rest → contents_of new.knows.origin.objects p.key ≡ None
+    none p m =
+        let other : key_eq p.key o.key ≡ false = key_other p.key o.key (λ same. keys_apart o p rest all.ordered m (sym same)) in
+        let was : contents_of old.knows.origin.objects p.key ≡ None = (all.each p (inr m)).absent in
+        let now : contents_of (o ∷ old.knows.origin.objects) p.key ≡ None = rw other was in
+        ap (λ (os : List Object). contents_of os p.key) kept.objects ∙ now
+
+-- a rebuilt list may be loaded
+pub new_list : (c : Config) (r : Rebuilt) (d : MasterData) (os : List Object) → d ≡ restored_data c r.safe → os ≡ r.objects → AreNew d os
+new_list c r d os made listed =
+    subst (λ (e : MasterData). AreNew e os) (sym made) (subst (AreNew (restored_data c r.safe)) (sym listed) (record {
+      ordered = r.ordered;
+      each = λ o m. record {
+        absent = refl;
+        low = All-contains (λ (p : Object). p.version < r.safe) r.objects o r.below (among_place o r.objects m);
+      };
+    }))
+
+-- ---- one object
+
+-- a load that is refused changes nothing
+pub load_same : (o : Object) (old new : World) (r : Refusal) → DeclinesLoad old.knows (entry.Object o) r new.knows
+    → new.fleet ≡ old.fleet → new ≡ old
+load_same o old new r h fleet = λ i. record { knows = h.0 i; fleet = fleet i }
+
+pub load_not_nothing : (o : Object) (d e : MasterData) (r : Refusal) → DeclinesLoad d (entry.Object o) r e → r ≡ refusal.Nothing → ⊥
+load_not_nothing o d e r h is = go (subst (λ (x : Refusal). DeclinesLoad d (entry.Object o) x e) is h)
+  where
+    tested : (big tablet full room : Bool) → (if big then Some refusal.TooBig else if tablet then Some refusal.NoTablet
+        else if full then Some refusal.Full else if room then Some refusal.Rolling else None) ≡ Some refusal.Nothing → ⊥
+    tested true tablet full room e = cc
+    tested false true full room e = cc
+    tested false false true room e = cc
+    tested false false false true e = cc
+    tested false false false false e = cc
+
+    go : DeclinesLoad d (entry.Object o) refusal.Nothing e → ⊥
+    go (same, inl test) = tested _ _ _ _ test
+    go (same, inr memory) = let none = memory.1 in cc
+
+-- ---- the object at a place
+
+pub drop_at : (os : List Object) (i : ℕ) (o : Object) → i < length os → o ≡ get_or os i o → drop i os ≡ o ∷ drop (i + 1) os
+drop_at os i o lt is =
+    let one : suc i ≡ i + 1 = omega arith in
+    drop-cons os i o lt ∙ ap (λ (x : Object). x ∷ drop (suc i) os) (sym is) ∙ ap (λ (n : ℕ). o ∷ drop n os) one
+
+pub take_at : (os : List Object) (i : ℕ) (o : Object) → i < length os → o ≡ get_or os i o → take (i + 1) os ≡ take i os ++ o ∷ []
+take_at os i o lt is =
+    let one : i + 1 ≡ suc i = omega arith in
+    ap (λ (n : ℕ). take n os) one ∙ take-suc os i o lt ∙ ap (λ (x : Object). take i os ++ x ∷ []) (sym is)
+
+pub stops_in_list : (os : List Object) (i : ℕ) (o : Object) (rest : List Object) (a b c : World) (r : Refusal) → drop i os ≡ o ∷ rest
+    → HasLoaded (take i os) a b → Stops (o ∷ []) b r c → Stops os a r c
+stops_in_list os i o rest a b c r is before stops =
+    subst (λ (ps : List Object). Stops ps a r c) (ap (λ (ps : List Object). take i os ++ ps) (sym is) ∙ take-append-drop i os)
+    (stops_later (take i os) (o ∷ rest) a b c r before (stops_of_more (o ∷ []) rest b c r stops))
+
+-- ---- the end of the list
+
+module _ (os : List Object) (i : ℕ) (a b c : World) (past : length os ≤ i) (before : HasLoaded (take i os) a b) where
+  whole : HasLoaded os a b
+  whole = subst (λ (ps : List Object). HasLoaded ps a b) (take_all i os past) before
+
+  pub list_loaded : (result : Result (Unit {0}) Refusal) → OnOk result (HasLoaded [] b c) → OnOk result (HasLoaded os a c)
+  list_loaded (Ok u) steps = subst (λ (ps : List Object). HasLoaded ps a c) (append-nil os) (loads_further os [] a b c whole steps)
+  list_loaded (Err r) steps = tt
+
+  pub list_stopped : (result : Result (Unit {0}) Refusal) → IfErr result (λ r. Stops [] b r c) → IfErr result (λ r. Stops os a r c)
+  list_stopped (Ok u) stops = tt
+  list_stopped (Err r) stops =
+      subst (λ (ps : List Object). Stops ps a r c) (append-nil os) (stops_later os [] a b c r whole stops)

@@ -1,0 +1,10 @@
+use Rattle.master.specs.World.{world}
+use Rattle.replay.specs.Adopting.{ops_left}
+use Rattle.replay.proofs.LoadRoom.{Pushed}
+use Rattle.replay.proofs.adopting.push_all.Given as goal
+
+abbrev pub invariant-loop-refusal : goal.invariant-loop-refusal
+invariant-loop-refusal g l = Pushed (world g.F.Fleet.state l.fn.loading) (world g.F.Fleet.state l.loading)
+
+abbrev pub decreases-loop-refusal : goal.decreases-loop-refusal
+decreases-loop-refusal g l = ops_left (g.F.Fleet.state l.loading.fleet)

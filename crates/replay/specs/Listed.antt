@@ -1,0 +1,13 @@
+-- What is true of each list that a log is rebuilt to.
+use Rattle.std.specs.Prelude.{ℕ, ◌<◌, List, map, All}
+use Rattle.std.specs.List.Sorted.{IsStrictlySortedBy}
+use Rattle.entry.specs.declared.entry.Object.{Object}
+use Rattle.entry.specs.Order.{key_cmp}
+
+-- by table and then key bytes, each key once
+abbrev pub AreOrdered : List Object → Type 0
+AreOrdered os = IsStrictlySortedBy key_cmp (map (λ (o : Object). o.key) os)
+
+-- each version is below the safe one
+abbrev pub AreBelow : ℕ → List Object → Type 0
+AreBelow safe os = All (λ (o : Object). o.version < safe) os

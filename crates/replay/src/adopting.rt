@@ -1,0 +1,138 @@
+//! A master that goes on with what a log stands for.
+
+ghost use Rattle.std.specs.Prelude.{◌≡◌, ◌≤◌, ◌<◌, ℕ, [], ◌∷◌, true, false, None, IfOk, IfErr, OnOk};
+ghost use Rattle.master_core.specs.Causes.{is_pushed};
+ghost use Rattle.master_core.specs.Config.{config_fault};
+ghost use Rattle.master_core.specs.Loading.{IsNewObject};
+ghost use Rattle.master.specs.Valid.{IsValid};
+ghost use Rattle.master.specs.World.{world};
+ghost use Rattle.replay.specs.Adopting.{HasLoaded, Stops, ops_left, IsAdopted, IsAdoptedOn, DeclinesList};
+ghost use Rattle.replay.specs.Fresh.{AreNew};
+
+use crate::rebuilt::Rebuilt;
+use entry::{NoMemory, Object};
+use master::{Loading, Master};
+use master_core::{Config, Refusal};
+use replica::Fleet;
+use std::alloc::Global;
+
+/// Pushes until nothing waits.
+fn push_all<F: Fleet>(loading: &mut Loading<F>) -> Result<(), Refusal>
+    ensures went_on { OnOk result (HasLoaded [] (world F.state loading.old) (world F.state loading.new)) }
+    ensures pushed { OnOk result (is_pushed loading.new.knows.head ≡ true) }
+    ensures took { OnOk result (is_pushed loading.old.knows.head ≡ false →
+        ops_left (F.state loading.new.fleet) < ops_left (F.state loading.old.fleet)) }
+    ensures stopped { IfErr result (λ r. Stops [] (world F.state loading.old) r (world F.state loading.new)) }
+{
+    loop {
+        if let Err(refusal) = loading.push() {
+            return match refusal {
+                Refusal::Nothing => Ok(()),
+                _ => Err(refusal),
+            };
+        }
+    }
+}
+
+/// Begins a roll if the head is open, and pushes until nothing waits.
+fn make_room<F: Fleet>(loading: &mut Loading<F>) -> Result<(), Refusal>
+    ensures went_on { OnOk result (HasLoaded [] (world F.state loading.old) (world F.state loading.new)) }
+    ensures took { OnOk result (ops_left (F.state loading.new.fleet) < ops_left (F.state loading.old.fleet)) }
+    ensures stopped { IfErr result (λ r. Stops [] (world F.state loading.old) r (world F.state loading.new)) }
+{
+    match loading.begin_roll() {
+        Ok(_) => push_all(loading),
+        Err(refusal) => match refusal {
+            Refusal::Rolling => push_all(loading),
+            _ => Err(refusal),
+        },
+    }
+}
+
+/// Loads one object, into a new head if the one in force has no room for it.
+fn load_one<F: Fleet>(loading: &mut Loading<F>, object: &Object) -> Result<(), Refusal>
+    requires { IsNewObject loading.old.knows object.now }
+    ensures loaded { OnOk result (HasLoaded (object.now ∷ []) (world F.state loading.old)
+        (world F.state loading.new)) }
+    ensures stopped { IfErr result (λ r.
+        Stops (object.now ∷ []) (world F.state loading.old) r (world F.state loading.new)) }
+{
+    loop {
+        match loading.load_object(object) {
+            Ok(()) => return Ok(()),
+            Err(refusal) => match refusal {
+                Refusal::Rolling => make_room(loading)?,
+                _ => return Err(refusal),
+            },
+        }
+    }
+}
+
+/// Loads the objects in order, and pushes until nothing waits.
+fn load_all<F: Fleet>(loading: &mut Loading<F>, objects: &[Object]) -> Result<(), Refusal>
+    requires { AreNew loading.old.knows objects.now }
+    ensures loaded { OnOk result (HasLoaded objects.now (world F.state loading.old) (world F.state loading.new)) }
+    ensures pushed { OnOk result (is_pushed loading.new.knows.head ≡ true) }
+    ensures stopped { IfErr result (λ r.
+        Stops objects.now (world F.state loading.old) r (world F.state loading.new)) }
+{
+    for object in objects {
+        load_one(loading, object)?;
+    }
+    push_all(loading)
+}
+
+/// A master whose history begins with the list, under a number that has no replicas. No replica of another master
+/// changes. It loads what the head takes, and only then pushes. If it is refused, the fleet comes back with what was
+/// taken so far; NoMemory also comes before the first take.
+pub fn adopt_list<F: Fleet>(
+    alloc: Global,
+    rebuilt: &Rebuilt,
+    config: Config,
+    fleet: F,
+) -> Result<Master<F>, (Refusal, F)>
+    requires config { config_fault config ≡ None }
+    requires backups { config.backups ≤ (F.state fleet).backups }
+    requires none { (b s : ℕ) → (F.state fleet).picture b config.master s ≡ None }
+    ensures adopted { IfOk result (λ m. IsAdopted config rebuilt.now m.knows) }
+    ensures valid { IfOk result (λ m. IsValid m.knows (F.state m.fleet)) }
+    ensures fleet { IfOk result (λ m. IsAdoptedOn config.master (F.state fleet) (F.state m.fleet)) }
+    ensures refused { IfErr result (λ e. DeclinesList config rebuilt.now (F.state fleet) e.0 (F.state e.1)) }
+    ensures left { IfErr result (λ e. IsAdoptedOn config.master (F.state fleet) (F.state e.1)) }
+    ensures spent { IfErr result (λ e. e.0 ≡ Refusal.Spent → (F.state e.1).takes ≡ (F.state e.1).end) }
+{
+    match Master::restore(alloc, config, rebuilt.safe, fleet) {
+        Ok(mut loading) => match load_all(&mut loading, rebuilt.objects.as_slice()) {
+            Ok(()) => match loading.finish() {
+                Ok(master) => Ok(master),
+                Err(_) => unreachable!(),
+            },
+            Err(refusal) => Err((refusal, loading.crash())),
+        },
+        Err((NoMemory, fleet)) => Err((Refusal::NoMemory, fleet)),
+    }
+}
+
+/// A master whose history begins with the list, as `adopt_list` makes it. If it is refused, list and fleet come back.
+pub fn adopt<F: Fleet>(
+    alloc: Global,
+    rebuilt: Rebuilt,
+    config: Config,
+    fleet: F,
+) -> Result<Master<F>, (Refusal, Rebuilt, F)>
+    requires config { config_fault config ≡ None }
+    requires backups { config.backups ≤ (F.state fleet).backups }
+    requires none { (b s : ℕ) → (F.state fleet).picture b config.master s ≡ None }
+    ensures adopted { IfOk result (λ m. IsAdopted config rebuilt m.knows) }
+    ensures valid { IfOk result (λ m. IsValid m.knows (F.state m.fleet)) }
+    ensures fleet { IfOk result (λ m. IsAdoptedOn config.master (F.state fleet) (F.state m.fleet)) }
+    ensures list { IfErr result (λ e. e.1 ≡ rebuilt) }
+    ensures refused { IfErr result (λ e. DeclinesList config rebuilt (F.state fleet) e.0 (F.state e.2)) }
+    ensures left { IfErr result (λ e. IsAdoptedOn config.master (F.state fleet) (F.state e.2)) }
+    ensures spent { IfErr result (λ e. e.0 ≡ Refusal.Spent → (F.state e.2).takes ≡ (F.state e.2).end) }
+{
+    match adopt_list(alloc, &rebuilt, config, fleet) {
+        Ok(master) => Ok(master),
+        Err((refusal, fleet)) => Err((refusal, rebuilt, fleet)),
+    }
+}
