@@ -1,5 +1,8 @@
+pub mod Counting
+pub mod Whole
 pub mod Choices
 pub mod Recoveries
 pub mod Asked
 pub mod AskedOnce
 pub mod Drilling
+pub mod Lives

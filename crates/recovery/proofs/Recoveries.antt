@@ -1,13 +1,17 @@
 -- What is recovered of a sound state, and what a refusal means.
 use Rattle.std.proofs.Common.{◌≡◌, ℕ, max, inl, Bool, List, ◌∷◌, refl, sym, ap, subst, ◌∙◌, take}
 use Rattle.entry.specs.Bag.{IsAmong}
+use Rattle.entry.specs.Key.{place_of}
 use Rattle.entry.specs.Meaning.{IsMeaning, IsClean, among, bound_of, contents_of}
+use Rattle.tablet_will.specs.declared.part.Part.{Part}
+use Rattle.backup.specs.Division.{AreCovered}
 use Rattle.replica.specs.declared.holding.Holding.{Holding}
 use Rattle.replica.specs.Picture.{Picture, shown_by, survivors}
 use Rattle.replica.specs.Choice.{Choice, bag_of}
 use Rattle.replica.specs.Survival.{BothSurvive}
 use Rattle.replay.specs.Bags.{segments_bag}
-use Rattle.replay.specs.Rebuilt.{IsRebuilt, IsRefusal}
+use Rattle.replay.specs.Rebuilt.{IsRebuilt}
+use Rattle.replay.specs.Rebuilds.{CanBeRebuilt}
 use Rattle.replay.specs.declared.rebuilt.Rebuilt.{Rebuilt}
 use Rattle.replay.specs.declared.fault.ReplayFault.{ReplayFault}
 use Rattle.replay.specs.declared.fault.ReplayFault.TheVariants as replay_fault
@@ -24,6 +28,9 @@ use Rattle.versioned_map.proofs.Meanings.{one_contents}
 use Rattle.recovery.specs.Recovered.{Shows, IsRecovered, IsPlanLoss, IsPlanWant, IsLossOrMemory, IsWant, IsReplayWant}
 use Rattle.recovery.specs.declared.recovery.RecoveryFault.{RecoveryFault}
 use Rattle.recovery.specs.declared.recovery.RecoveryFault.TheVariants as fault
+use Rattle.recovery.specs.declared.order.GroupOrder.{GroupOrder}
+use Rattle.recovery.specs.Orders.{order_for, Covers, NamesGroups}
+use Rattle.recovery.proofs.Whole.{ids_differ}
 use Rattle.recovery.proofs.Choices.{bag-of-plan, surviving-choice, shown-choice, shown-good, shown-agree}
 
 -- ---- what is recovered
@@ -61,10 +68,10 @@ rebuilt-prefix hs m c plan r planned rebuilt d p keep sound is shows =
 -- ---- what is refused
 
 -- whatever sound state the inventory shows a part of: a loss, or memory ran out, and the latter alone if both survive
-abbrev pub IsSomeLoss : List Holding → ℕ → RecoveryFault → Type 0
-IsSomeLoss hs m e =
+abbrev pub IsSomeLoss : List Holding → ℕ → List Part → GroupOrder → RecoveryFault → Type 0
+IsSomeLoss hs m will order e =
     (d : LogData) (p : Picture) (keep : ℕ → Bool) → IsSound d p → d.config.master ≡ m
-    → Shows hs (survivors keep (shown_by p)) m →
+    → Shows hs (survivors keep (shown_by p)) m → Covers d.config.tablets will → NamesGroups hs m will order →
     IsLossOrMemory e × (BothSurvive (IsHome d) (shown_by p) d.config.master keep → IsWant e)
 
 module _ (hs : List Holding) (m : ℕ) (d : LogData) (p : Picture) (keep : ℕ → Bool)
@@ -92,25 +99,35 @@ module _ (hs : List Holding) (m : ℕ) (d : LogData) (p : Picture) (keep : ℕ �
   plan-loss (plan_fault.BadReplica backup id) says loss = absurd (none-bad backup id says)
   plan-loss plan_fault.NoMemory says loss = (tt, λ both. tt)
 
-  -- the log that was chosen is clean
-  pub replay-want : (c : Choice) (plan : Plan) (e : ReplayFault) → IsPlanOf hs m c plan → IsRefusal plan.segments e
-      → IsReplayWant e
-  replay-want c plan replay_fault.NoMemory planned says = tt
-  replay-want c plan (replay_fault.Double segment) planned says = absurd says
-  replay-want c plan replay_fault.Stranger planned says = absurd says
-  replay-want c plan (replay_fault.MissingGroup segment) planned says = absurd says
-  replay-want c plan (replay_fault.Stray key) planned says = absurd says
-  replay-want c plan replay_fault.Clash planned says =
-      let clean : IsClean (among (bag_of c)) =
-      sound.clean keep c (surviving-choice hs m d p keep is shows c planned.choice) in
-      absurd (says (subst (λ es. IsClean (among es)) (sym (bag-of-plan hs m c plan planned)) clean))
+  -- the log that was chosen can be rebuilt, by a will that covers the tablets and an order that names its groups once
+  pub rebuildable : (will : List Part) (order : GroupOrder) (c : Choice) (plan : Plan) → IsPlanOf hs m c plan
+      → Covers d.config.tablets will → NamesGroups hs m will order
+      → CanBeRebuilt plan.segments will (order_for plan will order)
+  rebuildable will order c plan planned covers names =
+      let choice = surviving-choice hs m d p keep is shows c planned.choice in
+      let bag = bag-of-plan hs m c plan planned in
+      record {
+        ids = ids_differ hs m c plan planned;
+        clean = subst (λ es. IsClean (among es)) (sym bag) (sound.clean keep c choice);
+        covered =
+            subst (AreCovered will) (sym bag)
+            (λ e among k of. covers k.table (place_of k.bytes) (sound.keys keep c choice e k among of));
+        whole = names plan (c, planned);
+      }
 
-pub refused-plan : (hs : List Holding) (m : ℕ) (e : PlanFault) → IsPlanFault hs m e → NamesLoss hs m e
-    → IsSomeLoss hs m (fault.Plan e)
-refused-plan hs m e says loss d p keep sound is shows = plan-loss hs m d p keep sound is shows e says loss
+memory-want : (e : ReplayFault) → e ≡ replay_fault.NoMemory → IsReplayWant e
+memory-want e is = subst IsReplayWant (sym is) tt
 
-pub refused-replay : (hs : List Holding) (m : ℕ) (c : Choice) (plan : Plan) (e : ReplayFault) →
-    IsPlanOf hs m c plan → IsRefusal plan.segments e → IsSomeLoss hs m (fault.Replay e)
-refused-replay hs m c plan e planned says d p keep sound is shows =
-    let want = replay-want hs m d p keep sound is shows c plan e planned says in
+pub refused-plan : (hs : List Holding) (m : ℕ) (will : List Part) (order : GroupOrder) (e : PlanFault)
+    → IsPlanFault hs m e → NamesLoss hs m e → IsSomeLoss hs m will order (fault.Plan e)
+refused-plan hs m will order e says loss d p keep sound is shows covers names =
+    plan-loss hs m d p keep sound is shows e says loss
+
+pub refused-replay : (hs : List Holding) (m : ℕ) (will : List Part) (order : GroupOrder) (c : Choice) (plan : Plan)
+    (e : ReplayFault) → IsPlanOf hs m c plan
+    → (CanBeRebuilt plan.segments will (order_for plan will order) → e ≡ replay_fault.NoMemory)
+    → IsSomeLoss hs m will order (fault.Replay e)
+refused-replay hs m will order c plan e planned whole d p keep sound is shows covers names =
+    let want =
+    memory-want e (whole (rebuildable hs m d p keep sound is shows will order c plan planned covers names)) in
     (want, λ both. want)

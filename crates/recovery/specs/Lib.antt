@@ -1,4 +1,6 @@
 pub mod Kept
+pub mod Orders
 pub mod Recovered
+pub mod Lives
 pub mod Texts
 pub mod Drilled

@@ -6,21 +6,26 @@ use Rattle.entry.specs.Bag.{IsAmong}
 use Rattle.entry.specs.Meaning.{contents_of}
 use Rattle.entry.specs.Order.{key_cmp}
 use Rattle.replica.specs.declared.holding.Holding.{Holding}
-use Rattle.replica.specs.Choice.{Choice}
 use Rattle.replica.specs.Picture.{Shown, IsHeld}
-use Rattle.recovery_plan.specs.declared.chosen.Plan.{Plan as PlanValue}
+use Rattle.tablet_will.specs.declared.part.Part.{Part}
+use Rattle.backup.specs.Division.{AreCovered}
+use Rattle.recovery_plan.specs.declared.chosen.Plan.{Plan}
 use Rattle.recovery_plan.specs.declared.fault.PlanFault.{PlanFault}
 use Rattle.recovery_plan.specs.declared.fault.PlanFault.TheVariants as plan_fault
-use Rattle.recovery_plan.specs.Planned.{IsPlanOf, IsPlanFault, NamesLoss}
+use Rattle.recovery_plan.specs.Planned.{IsPlanFault, NamesLoss}
 use Rattle.replay.specs.declared.fault.ReplayFault.{ReplayFault}
 use Rattle.replay.specs.declared.fault.ReplayFault.TheVariants as replay_fault
 use Rattle.replay.specs.declared.rebuilt.Rebuilt.{Rebuilt}
-use Rattle.replay.specs.Rebuilt.{IsRebuilt, IsRefusal}
+use Rattle.replay.specs.Bags.{segments_bag}
+use Rattle.replay.specs.Rebuilt.{IsRebuilt}
+use Rattle.replay.specs.Rebuilds.{IsRebuildFault, NamesEach, count_of}
 use Rattle.versioned_map.specs.History.{commands_of}
 use Rattle.log_model.specs.Data.{LogData, state_after, durable_of}
 use Rattle.versioned_map.specs.Versioned.{IsSafeAfter}
 use Rattle.recovery.specs.declared.recovery.RecoveryFault.{RecoveryFault}
-use Rattle.recovery.specs.declared.recovery.RecoveryFault.TheVariants.{Plan, Replay}
+use Rattle.recovery.specs.declared.recovery.RecoveryFault.TheVariants as fault
+use Rattle.recovery.specs.declared.order.GroupOrder.{GroupOrder}
+use Rattle.recovery.specs.Orders.{IsPlan, order_for}
 
 -- the inventory has of this master just what is shown
 abbrev pub Shows : List Holding → Shown → ℕ → Type 0
@@ -67,27 +72,29 @@ IsReplayWant _ = ⊥
 
 -- what is refused is lost, or memory ran out
 abbrev pub IsLossOrMemory : RecoveryFault → Type 0
-IsLossOrMemory (Plan fault) = IsPlanLoss fault
-IsLossOrMemory (Replay fault) = IsReplayWant fault
+IsLossOrMemory (fault.Plan loss) = IsPlanLoss loss
+IsLossOrMemory (fault.Replay refused) = IsReplayWant refused
 
 -- memory ran out
 abbrev pub IsWant : RecoveryFault → Type 0
-IsWant (Plan fault) = IsPlanWant fault
-IsWant (Replay fault) = IsReplayWant fault
+IsWant (fault.Plan loss) = IsPlanWant loss
+IsWant (fault.Replay refused) = IsReplayWant refused
 
 -- ---- any inventory, whatever it shows
 
--- a plan of the inventory
-abbrev pub IsPlan : List Holding → ℕ → PlanValue → Type 0
-IsPlan inventory master plan = (c : Choice) × IsPlanOf inventory master c plan
+-- What the log of a plan of the inventory stands for, with no key that the will sends nowhere, and by an order that
+-- names each group once.
+pub record IsRebuiltFrom (inventory : List Holding) (master : ℕ) (will : List Part) (order : GroupOrder)
+    (r : Rebuilt) : Type 0 where
+  pub plan : Plan
+  pub planned : IsPlan inventory master plan
+  pub covered : AreCovered will (segments_bag plan.segments)
+  pub whole : NamesEach (count_of plan.segments will) (order_for plan will order)
+  pub rebuilt : IsRebuilt plan.segments plan.safe r
 
--- what the log of a plan of the inventory stands for
-abbrev pub IsRebuiltFrom : List Holding → ℕ → Rebuilt → Type 0
-IsRebuiltFrom inventory master r =
-    (plan : PlanValue) × IsPlan inventory master plan × IsRebuilt plan.segments plan.safe r
-
--- The inventory has the fault: there is no plan of it, or the log of its plan is refused.
-abbrev pub IsRefusedFrom : List Holding → ℕ → RecoveryFault → Type 0
-IsRefusedFrom inventory master (Plan fault) = IsPlanFault inventory master fault × NamesLoss inventory master fault
-IsRefusedFrom inventory master (Replay fault) =
-    (plan : PlanValue) × IsPlan inventory master plan × IsRefusal plan.segments fault
+-- The inventory has the fault: there is no plan of it, or the log of its plan is refused, by this will or this order.
+abbrev pub IsRefusedFrom : List Holding → ℕ → List Part → GroupOrder → RecoveryFault → Type 0
+IsRefusedFrom inventory master will order (fault.Plan loss) =
+    IsPlanFault inventory master loss × NamesLoss inventory master loss
+IsRefusedFrom inventory master will order (fault.Replay refused) = (plan : Plan) × IsPlan inventory master plan
+    × IsRebuildFault plan.segments will (order_for plan will order) refused

@@ -5,6 +5,7 @@ ghost use Rattle.master.specs.World.{world};
 ghost use Rattle.recovery.specs.Drilled.{IsDrill};
 
 use crate::inventory::inventory_of;
+use crate::order::GroupOrder;
 use crate::recovery::{RecoveryFault, recover};
 use entry::NoMemory;
 use master::{Master, Refusal, Step, StepAnswer};
@@ -12,6 +13,7 @@ use recovery_plan::PlanFault;
 use replay::Rebuilt;
 use replica::Fleet;
 use std::alloc::Global;
+use tablet_will::Will;
 
 /// What the steps answered, what was recovered after them, and the fleet as it was left.
 #[derive(Drop)]
@@ -21,16 +23,20 @@ pub struct Drill<F> {
     pub fleet: F,
 }
 
-/// Lets a master take any steps, stops it, and recovers it from what these backups hold, and from nothing else. If
-/// memory for the answers runs out, the master comes back as it was.
+/// Lets a master take any steps, stops it, and recovers it from what these backups hold, and from nothing else, by any
+/// will and in any order. It may be a new master, or one that took over what was recovered. If memory for the answers
+/// runs out, the master comes back as it was.
 pub fn run_drill<F: Fleet>(
     alloc: Global,
     master: Master<F>,
     steps: &[Step],
     kept: &[u64],
+    will: &Will,
+    order: &GroupOrder,
 ) -> Result<Drill<F>, (NoMemory, Master<F>)>
     ensures drill { IfOk result (λ d.
-        IsDrill (world F.state master) steps.now kept.now d.answers.items d.recovered (F.state d.fleet)) }
+        IsDrill (world F.state master) steps.now kept.now will.now order.now d.answers.items d.recovered
+        (F.state d.fleet)) }
     ensures refused { IfErr result (λ e. world F.state e.1 ≡ world F.state master) }
 {
     let mut master = master;
@@ -41,7 +47,7 @@ pub fn run_drill<F: Fleet>(
     };
     let fleet = master.crash();
     let recovered = match inventory_of(alloc, &fleet, kept) {
-        Ok(inventory) => recover(alloc, &inventory, number),
+        Ok(inventory) => recover(alloc, &inventory, number, will, order),
         Err(NoMemory) => Err(RecoveryFault::Plan(PlanFault::NoMemory)),
     };
     Ok(Drill {

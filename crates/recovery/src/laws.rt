@@ -1,8 +1,20 @@
 //! Laws about what a recovery gives back.
 
+ghost use Rattle.recovery.specs.Lives.{VersionsRise};
+ghost use Rattle.recovery.specs.Orders.{OrdersNameGroups};
 ghost use Rattle.recovery.specs.Recovered.{AcknowledgedAreRecovered};
 
 /// A recovered prefix holds every acknowledged command.
 pub fn acknowledged_recovered()
     ensures { AcknowledgedAreRecovered }
+{}
+
+/// Forward and Reverse name each group of a plan once, so a recovery by either refuses for a loss or memory alone.
+pub fn orders_name_groups()
+    ensures { OrdersNameGroups }
+{}
+
+/// Over lives that each begin with what was recovered of the one before, the versions of a key rise.
+pub fn versions_rise()
+    ensures { VersionsRise }
 {}

@@ -1,18 +1,22 @@
 //! The theorem on recovery: what some backups still hold of a master gives back its map after a prefix of its commands.
 //!
 //! `recover` promises it for any sound state of which an inventory shows a part, and `run_drill` for a whole life: any
-//! steps of any master, its end, and the recovery from what these backups hold. Both rest on the definitions of
-//! `log_model` alone: what a sound picture is, and what was durable. `specs/Recovered.antt` defines what comes back.
+//! steps of any master, its end, and the recovery from what these backups hold. Segments are divided by any will, and
+//! their groups replayed in any order. Both rest on the definitions of `log_model` alone: what a sound picture is, and
+//! what was durable. `specs/Recovered.antt` defines what comes back, `specs/Orders.antt` which wills cover the tablets.
 #![tactic(auto)]
 
 mod drill;
 mod inventory;
 mod laws;
+mod order;
 mod recovery;
 
 pub use drill::{Drill, run_drill};
 pub use inventory::inventory_of;
-pub use laws::acknowledged_recovered;
+pub use laws::{acknowledged_recovered, orders_name_groups, versions_rise};
+pub use order::{GroupOrder, numbers};
 pub use recovery::{RecoveryFault, recover};
 pub use recovery_plan::{Plan, PlanFault, plan};
-pub use replay::{Rebuilt, ReplayFault, rebuild_plain};
+pub use replay::{Rebuilt, ReplayFault, rebuild, rebuild_plain};
+pub use tablet_will::{Will, make_will};

@@ -1,19 +1,27 @@
 //! Recovery from the replicas that are left, and from nothing else.
 
-ghost use Rattle.std.specs.Prelude.{◌≡◌, ℕ, Bool, IfOk, IfErr, Some};
+ghost use Rattle.std.specs.Prelude.{◌≡◌, ℕ, Bool, IfOk, IfErr, OnOk, Some};
+ghost use Rattle.entry.specs.Meaning.{IsClean, among};
 ghost use Rattle.replica.specs.Picture.{Picture, shown_by, survivors};
 ghost use Rattle.replica.specs.Survival.{BothSurvive};
+ghost use Rattle.backup.specs.Division.{AreCovered};
+ghost use Rattle.replay.specs.Bags.{segments_bag};
+ghost use Rattle.replay.specs.Rebuilt.{IsRebuilt};
+ghost use Rattle.replay.specs.Rebuilds.{IsRebuildFault, CanBeRebuilt, NamesEach, count_of};
 ghost use Rattle.log_model.specs.Data.{LogData, IsHome};
 ghost use Rattle.log_model.specs.Sound.{IsSound};
+ghost use Rattle.recovery.specs.Orders.{order_for, Covers, NamesGroups};
 ghost use Rattle.recovery.specs.Recovered.{Shows, IsRecovered, IsLossOrMemory, IsWant, IsRebuiltFrom, IsRefusedFrom};
 ghost use Rattle.recovery.specs.Texts.{recovery_fault_text};
 
-use recovery_plan::{PlanFault, plan};
-use replay::{Rebuilt, ReplayFault, rebuild_plain};
+use crate::order::{GroupOrder, numbers};
+use recovery_plan::{Plan, PlanFault, plan};
+use replay::{Rebuilt, ReplayFault, rebuild};
 use replica::Inventory;
 use std::alloc::Global;
 use std::error::Error;
 use std::fmt;
+use tablet_will::Will;
 
 /// Why nothing was recovered.
 #[derive(Debug, Drop)]
@@ -35,26 +43,61 @@ impl fmt::Display for RecoveryFault {
     }
 }
 
-/// The objects of a master, and a safe version for what follows, from what some backups hold.
-pub fn recover(alloc: Global, inventory: &Inventory, master: u64) -> Result<Rebuilt, RecoveryFault>
+/// Rebuilds the plan by the will, group by group in this order. More groups than a `usize` counts are NoMemory.
+fn rebuild_in(
+    alloc: Global,
+    plan: &Plan,
+    will: &Will,
+    order: &GroupOrder,
+) -> Result<Rebuilt, ReplayFault>
+    ensures ok { IfOk result (IsRebuilt plan.now.segments plan.now.safe) }
+    ensures covered { OnOk result (AreCovered will.now (segments_bag plan.now.segments)) }
+    ensures order { OnOk result
+        (NamesEach (count_of plan.now.segments will.now) (order_for plan.now will.now order.now)) }
+    ensures fault { IfErr result (IsRebuildFault plan.now.segments will.now (order_for plan.now will.now order.now)) }
+    ensures whole { IfErr result (λ fault.
+        CanBeRebuilt plan.now.segments will.now (order_for plan.now will.now order.now) →
+        fault ≡ ReplayFault.NoMemory) }
+{
+    let segments = plan.segments.as_slice().len();
+    let Some(count) = segments.checked_mul(will.partitions() as usize) else {
+        return Err(ReplayFault::NoMemory);
+    };
+    let Ok(numbers) = numbers(alloc, order, count) else {
+        return Err(ReplayFault::NoMemory);
+    };
+    rebuild(alloc, plan, will, numbers.as_slice())
+}
+
+/// The objects of a master, and a safe version for what follows, from what some backups hold. The will says how each
+/// segment is divided into groups, and the order in which turn each group is replayed.
+pub fn recover(
+    alloc: Global,
+    inventory: &Inventory,
+    master: u64,
+    will: &Will,
+    order: &GroupOrder,
+) -> Result<Rebuilt, RecoveryFault>
     // Of whatever sound state of the master the inventory shows what some backups still hold: exactly the map after a
-    // prefix of its commands, each durable one among them.
+    // prefix of its commands, each durable one among them. So it is by any will and in any order.
     ensures ok { IfOk result (λ r. (d : LogData) (p : Picture) (keep : ℕ → Bool) →
         IsSound d p → d.config.master ≡ master → Shows inventory.now (survivors keep (shown_by p)) master →
         (count : ℕ) × IsRecovered d count r) }
     // Of such a state a fault is a lost head or segment, or memory ran out; and a loss comes only if it hides the log.
+    // The will must cover the tablets, and the order name each group once.
     ensures refused { IfErr result (λ e. (d : LogData) (p : Picture) (keep : ℕ → Bool) →
         IsSound d p → d.config.master ≡ master → Shows inventory.now (survivors keep (shown_by p)) master →
+        Covers d.config.tablets will.now → NamesGroups inventory.now master will.now order.now →
         IsLossOrMemory e × (BothSurvive (IsHome d) (shown_by p) d.config.master keep → IsWant e)) }
     // Of any inventory: what comes back, or the fault, follows from it.
-    ensures rebuilt { IfOk result (IsRebuiltFrom inventory.now master) }
-    ensures fault { IfErr result (IsRefusedFrom inventory.now master) }
+    ensures rebuilt { IfOk result (IsRebuiltFrom inventory.now master will.now order.now) }
+    ensures fault { IfErr result (IsRefusedFrom inventory.now master will.now order.now) }
 {
     let plan = match plan(alloc, inventory, master) {
         Ok(plan) => plan,
         Err(fault) => return Err(RecoveryFault::Plan(fault)),
     };
-    match rebuild_plain(alloc, &plan) {
+    match rebuild_in(alloc, &plan, will, order) {
         Ok(rebuilt) => Ok(rebuilt),
         Err(fault) => Err(RecoveryFault::Replay(fault)),
     }

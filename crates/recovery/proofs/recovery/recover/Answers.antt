@@ -3,25 +3,32 @@ use Rattle.recovery.proofs.recovery.recover.Goals as goal
 
 pub returns-in-Err-clause-refused : goal.returns-in-Err-clause-refused
 returns-in-Err-clause-refused c =
-    refused-plan c.args.inventory.now c.args.master c.in-Err.fault c.in-Err.ensures.fault c.in-Err.ensures.loss
+    refused-plan c.args.inventory.now c.args.master c.args.will.now c.args.order.now c.in-Err.fault
+    c.in-Err.ensures.fault c.in-Err.ensures.loss
 
 pub returns-in-Err-clause-fault : goal.returns-in-Err-clause-fault
 returns-in-Err-clause-fault c = (c.in-Err.ensures.fault, c.in-Err.ensures.loss)
 
-pub returns-in-Ok-rebuild_plain-clause-ok : goal.returns-in-Ok-rebuild_plain-clause-ok
-returns-in-Ok-rebuild_plain-clause-ok c =
+pub returns-in-Ok-rebuild_in-clause-ok : goal.returns-in-Ok-rebuild_in-clause-ok
+returns-in-Ok-rebuild_in-clause-ok c =
     let found = c.in-Ok.ensures.ok in
-    rebuilt-prefix c.args.inventory.now c.args.master found.0 c.in-Ok.plan c.in-Ok-rebuild_plain.rebuilt found.1
-    c.in-Ok-rebuild_plain.ensures.ok
+    rebuilt-prefix c.args.inventory.now c.args.master found.0 c.in-Ok.plan c.in-Ok-rebuild_in.rebuilt found.1
+    c.in-Ok-rebuild_in.ensures.ok
 
-pub returns-in-Ok-rebuild_plain-clause-rebuilt : goal.returns-in-Ok-rebuild_plain-clause-rebuilt
-returns-in-Ok-rebuild_plain-clause-rebuilt c = (c.in-Ok.plan, c.in-Ok.ensures.ok, c.in-Ok-rebuild_plain.ensures.ok)
+pub returns-in-Ok-rebuild_in-clause-rebuilt : goal.returns-in-Ok-rebuild_in-clause-rebuilt
+returns-in-Ok-rebuild_in-clause-rebuilt c = record {
+  plan = c.in-Ok.plan;
+  planned = c.in-Ok.ensures.ok;
+  covered = c.in-Ok-rebuild_in.ensures.covered;
+  whole = c.in-Ok-rebuild_in.ensures.order;
+  rebuilt = c.in-Ok-rebuild_in.ensures.ok;
+}
 
 pub returns-clause-refused : goal.returns-clause-refused
 returns-clause-refused c =
     let found = c.in-Ok.ensures.ok in
-    refused-replay c.args.inventory.now c.args.master found.0 c.in-Ok.plan c.in-Err-rebuild_plain.fault found.1
-    c.in-Err-rebuild_plain.ensures.err
+    refused-replay c.args.inventory.now c.args.master c.args.will.now c.args.order.now found.0 c.in-Ok.plan
+    c.in-Err-rebuild_in.fault found.1 c.in-Err-rebuild_in.ensures.whole
 
 pub returns-clause-fault : goal.returns-clause-fault
-returns-clause-fault c = (c.in-Ok.plan, c.in-Ok.ensures.ok, c.in-Err-rebuild_plain.ensures.err)
+returns-clause-fault c = (c.in-Ok.plan, c.in-Ok.ensures.ok, c.in-Err-rebuild_in.ensures.fault)

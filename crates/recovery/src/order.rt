@@ -1,0 +1,46 @@
+//! The order in which the groups of a log are replayed.
+
+ghost use Rattle.std.specs.Prelude.{◌≡◌, IfOk};
+ghost use Rattle.std.specs.List.{range_with_len};
+ghost use Rattle.recovery.specs.Orders.{order_of};
+
+use entry::{NoMemory, Row};
+use std::alloc::Global;
+
+/// The order in which the groups of a log are replayed. Groups are counted from 0: segment by segment, and of one
+/// segment by partition.
+#[derive(Drop)]
+pub enum GroupOrder {
+    /// As they are counted.
+    Forward,
+    /// The last comes first.
+    Reverse,
+    /// As these numbers say. A recovery refuses an order that leaves a group out, or names one twice.
+    Given(Row<usize>),
+}
+
+/// The numbers from 0 on, as many as this.
+fn counted(alloc: Global, count: usize) -> Result<Vec<usize>, NoMemory>
+    ensures { IfOk result (λ numbers. numbers.items ≡ range_with_len 0 count) }
+{
+    let mut numbers = Vec::new(alloc);
+    for number in 0..count {
+        numbers.push(number)?;
+    }
+    Ok(numbers)
+}
+
+/// The numbers of so many groups, in this order. With Given they are the given ones, however many there are.
+pub fn numbers(alloc: Global, order: &GroupOrder, count: usize) -> Result<Vec<usize>, NoMemory>
+    ensures { IfOk result (λ numbers. numbers.items ≡ order_of order.now count) }
+{
+    match order {
+        GroupOrder::Forward => counted(alloc, count),
+        GroupOrder::Reverse => {
+            let mut numbers = counted(alloc, count)?;
+            numbers.reverse();
+            Ok(numbers)
+        }
+        GroupOrder::Given(given) => Ok(Vec::from_slice(alloc, given.as_slice())?),
+    }
+}
