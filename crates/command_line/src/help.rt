@@ -24,7 +24,8 @@ pub(crate) const AFTER_HELP: &str = "Lines of a script:
   stop N     Lets the backups take N more pieces of the log, and then no more
   crash      Drops the master; the backups keep what they hold
   lose B     Makes backup B lose all that it holds, once the master is gone; backups count from 0
-  recover    Shows the table that is rebuilt from what the backups hold
+  will       Cuts the tables into partitions by --bytes and --objects, and shows them
+  recover    Shows the table that is rebuilt from what the backups hold; also 'recover reverse'
   # TEXT     Does nothing, like an empty line
 
 Example:

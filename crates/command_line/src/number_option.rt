@@ -86,7 +86,7 @@ pub(crate) const BYTES: NumberOption = NumberOption {
     least: 1,
     most: 4294967296,
     default: 1048576,
-    help: "Bytes of a partition of a will: 1 to 4294967296 [default: 1048576]; sets nothing yet",
+    help: "Most bytes of a partition of a will: 1 to 4294967296 [default: 1048576]",
 };
 
 pub(crate) const OBJECTS: NumberOption = NumberOption {
@@ -94,7 +94,7 @@ pub(crate) const OBJECTS: NumberOption = NumberOption {
     least: 1,
     most: 4294967296,
     default: 1000000,
-    help: "Objects of a partition of a will: 1 to 4294967296 [default: 1000000]; sets nothing yet",
+    help: "Most objects of a partition of a will: 1 to 4294967296 [default: 1000000]",
 };
 
 /// All options, in the order of the help.

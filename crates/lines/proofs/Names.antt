@@ -3,8 +3,10 @@ use Rattle.std.proofs.Common.{◌≡◌, ◌∙◌, ◌==◌, ◌+◌, ◌^◌, 
 use Rattle.std.specs.Str.Parse.{digits_value}
 use Rattle.std.specs.Fmt.{decimal}
 use Rattle.lines.specs.Grammar.{LineValue, words_of}
-use Rattle.lines.specs.Grammar.{Idle, Put, New, Cas, Get, Del, Compact, Roll, BeginRoll, Push, Log, Room, Hex, Stop, Crash, Lose, Recover, Holdings}
+use Rattle.lines.specs.Grammar.{Idle, Put, New, Cas, Get, Del, Compact, Roll, BeginRoll, Push, Log, Room, Hex, Stop, Crash, Lose, Will, Recover, Holdings}
 use Rattle.lines.specs.Grammar.{Clean, Begin, Copy, Seal, Free}
+use Rattle.lines.specs.declared.line.ReplayOrder.{ReplayOrder}
+use Rattle.lines.specs.declared.line.ReplayOrder.TheVariants.{Forward, Reverse}
 use Rattle.lines.specs.Words.{AreWordsOf, ReadsWords}
 use Rattle.lines.proofs.NumberWords.{value, values}
 
@@ -16,6 +18,10 @@ number_at i ws = digits_value 10 (word_at i ws)
 
 abbrev numbers_behind : List (List ℕ) → List ℕ
 numbers_behind ws = map (digits_value 10) (drop 1 ws)
+
+abbrev order_behind : List (List ℕ) → ReplayOrder
+order_behind [] = Forward
+order_behind (w ∷ ws) = Reverse
 
 -- the sum of a word's bytes, which is another for each name
 abbrev sum_of : List ℕ → ℕ
@@ -43,13 +49,14 @@ line_of ws =
     (cond (are_named (codes "stop") ws) (Stop (number_at 1 ws))
     (cond (are_named (codes "crash") ws) Crash
     (cond (are_named (codes "lose") ws) (Lose (number_at 1 ws))
-    (cond (are_named (codes "recover") ws) Recover
+    (cond (are_named (codes "will") ws) Will
+    (cond (are_named (codes "recover") ws) (Recover (order_behind (drop 1 ws)))
     (cond (are_named (codes "holdings") ws) Holdings
     (cond (are_named (codes "clean") ws) (Clean (numbers_behind ws))
     (cond (are_named (codes "begin") ws) (Begin (numbers_behind ws))
     (cond (are_named (codes "copy") ws) Copy
     (cond (are_named (codes "seal") ws) Seal
-    (cond (are_named (codes "free") ws) Free Idle)))))))))))))))))))))
+    (cond (are_named (codes "free") ws) Free Idle))))))))))))))))))))))
 
 pub line_is : (words : List (List ℕ)) (line : LineValue) → AreWordsOf words line → line_of words ≡ line
 line_is words Idle are = absurd are
@@ -70,7 +77,9 @@ line_is words (Hex n) are = ap line_of are.spelled ∙ ap Hex (value n are.limit
 line_is words (Stop n) are = ap line_of are.spelled ∙ ap Stop (value n are.limits)
 line_is words Crash are = ap line_of are.spelled
 line_is words (Lose n) are = ap line_of are.spelled ∙ ap Lose (value n are.limits)
-line_is words Recover are = ap line_of are.spelled
+line_is words Will are = ap line_of are.spelled
+line_is words (Recover Forward) are = ap line_of are.spelled
+line_is words (Recover Reverse) are = ap line_of are.spelled
 line_is words Holdings are = ap line_of are.spelled
 line_is words (Clean ns) are = ap line_of are.spelled ∙ ap Clean (values ns are.limits.1)
 line_is words (Begin ns) are = ap line_of are.spelled ∙ ap Begin (values ns are.limits.1)

@@ -5,6 +5,8 @@ use Rattle.std.specs.Fmt.{decimal}
 use Rattle.lines.specs.Numbers.{numbers_of}
 use Rattle.lines.specs.declared.line.Line.{Line}
 use Rattle.lines.specs.declared.line.Line.TheVariants as line
+use Rattle.lines.specs.declared.line.ReplayOrder.{ReplayOrder}
+use Rattle.lines.specs.declared.line.ReplayOrder.TheVariants.{Forward, Reverse}
 
 -- ---- lines
 
@@ -26,7 +28,8 @@ pub data LineValue : Type 0 where
   Stop : (takes : ℕ) → LineValue
   Crash : LineValue
   Lose : (backup : ℕ) → LineValue
-  Recover : LineValue
+  Will : LineValue
+  Recover : (order : ReplayOrder) → LineValue
   Holdings : LineValue
   Clean : (segments : List ℕ) → LineValue
   Begin : (segments : List ℕ) → LineValue
@@ -52,7 +55,8 @@ shown_line (line.Hex segment) = Hex segment
 shown_line (line.Stop takes) = Stop takes
 shown_line line.Crash = Crash
 shown_line (line.Lose backup) = Lose backup
-shown_line line.Recover = Recover
+shown_line line.Will = Will
+shown_line (line.Recover order) = Recover order
 shown_line line.Holdings = Holdings
 shown_line (line.Clean segments) = Clean (numbers_of segments)
 shown_line (line.Begin segments) = Begin (numbers_of segments)
@@ -74,6 +78,11 @@ pub record IsKeyWord (key : List ℕ) : Type 0 where
 
 -- ---- how a line is written
 
+-- the word behind `recover` that names the order of the replay; without one it goes forward
+abbrev pub order_words : ReplayOrder → List (List ℕ)
+order_words Forward = []
+order_words Reverse = codes "reverse" ∷ []
+
 -- the words of a line that does something; a number is written in decimal digits without leading zeros
 abbrev pub words_of : LineValue → List (List ℕ)
 words_of Idle = []
@@ -92,7 +101,8 @@ words_of (Hex segment) = codes "hex" ∷ decimal segment ∷ []
 words_of (Stop takes) = codes "stop" ∷ decimal takes ∷ []
 words_of Crash = codes "crash" ∷ []
 words_of (Lose backup) = codes "lose" ∷ decimal backup ∷ []
-words_of Recover = codes "recover" ∷ []
+words_of Will = codes "will" ∷ []
+words_of (Recover order) = codes "recover" ∷ order_words order
 words_of Holdings = codes "holdings" ∷ []
 words_of (Clean segments) = codes "clean" ∷ map decimal segments
 words_of (Begin segments) = codes "begin" ∷ map decimal segments
@@ -118,7 +128,8 @@ IsLine (Hex segment) = segment < 2 ^ 64
 IsLine (Stop takes) = takes < 2 ^ 64
 IsLine Crash = Unit {0}
 IsLine (Lose backup) = backup < 2 ^ 64
-IsLine Recover = Unit {0}
+IsLine Will = Unit {0}
+IsLine (Recover order) = Unit {0}
 IsLine Holdings = Unit {0}
 IsLine (Clean segments) = (0 < length segments) × All (λ n. n < 2 ^ 64) segments
 IsLine (Begin segments) = (0 < length segments) × All (λ n. n < 2 ^ 64) segments

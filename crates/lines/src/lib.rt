@@ -13,7 +13,7 @@ mod reading;
 mod words;
 
 pub use laws::one_line;
-pub use line::Line;
+pub use line::{Line, ReplayOrder};
 pub use numbers::Numbers;
 pub use parse::parse_line;
 pub use reading::{ReadFault, Taken, next_line};

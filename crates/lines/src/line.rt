@@ -2,6 +2,15 @@
 
 use crate::numbers::Numbers;
 
+/// In which order a recovery takes what it replays.
+#[derive(Clone, Copy, Debug)]
+pub enum ReplayOrder {
+    /// The groups of the log in the order in which it lists them.
+    Forward,
+    /// The last of them first.
+    Reverse,
+}
+
 /// A line of a script. Keys, values and rows of numbers are borrowed from the text that was parsed.
 #[derive(Clone, Copy, Debug)]
 pub enum Line<'a> {
@@ -64,8 +73,12 @@ pub enum Line<'a> {
     Lose {
         backup: u64,
     },
+    /// Make the will of the live objects, and hand it to the coordinator.
+    Will,
     /// Recover the crashed master.
-    Recover,
+    Recover {
+        order: ReplayOrder,
+    },
     /// Show each replica that backups hold.
     Holdings,
     /// Clean these segments to the end: one or more.

@@ -1,10 +1,11 @@
 //! Parsing lines.
 
-ghost use Rattle.std.specs.Prelude.{◌≡◌, ◌∷◌, ◌↔◌, ℕ, IfSome, IsNone, IsTrue, codes};
-ghost use Rattle.lines.specs.Grammar.{IsIdle, LineValue, Says, shown_line};
+ghost use Rattle.std.specs.Prelude.{◌≡◌, ◌≢◌, ◌∷◌, ◌↔◌, ℕ, IfSome, IsNone, IsTrue, codes};
+ghost use Rattle.lines.specs.Grammar.{IsIdle, LineValue, Says, order_words, shown_line};
 ghost use Rattle.lines.specs.Words.{AreNumber, IsNoLongName, ReadsWords};
+ghost use Rattle.lines.specs.declared.line.ReplayOrder.{ReplayOrder};
 
-use crate::line::Line;
+use crate::line::{Line, ReplayOrder};
 use crate::words::Words;
 
 /// Parses a line, given without its line feed. `None` is a bad line.
@@ -44,6 +45,7 @@ fn parse_words(mut words: Words<'_>) -> Option<Line<'_>>
         name if is(name, "lose") => lose(words),
         name if is(name, "clean") => clean(words),
         name if is(name, "begin") => begin(words),
+        name if is(name, "recover") => recover(words),
         name => only_name(name, words),
     }
 }
@@ -169,6 +171,32 @@ fn begin(words: Words<'_>) -> Option<Line<'_>>
     }
 }
 
+/// The words behind `recover` as the order of the replay.
+fn recover(words: Words<'_>) -> Option<Line<'_>>
+    ensures { ReadsWords (codes "recover" ∷ words.entry) result }
+{
+    match order(words) {
+        Some(order) => Some(Line::Recover { order }),
+        None => None,
+    }
+}
+
+/// The order of a replay that the words name.
+fn order(mut words: Words<'_>) -> Option<ReplayOrder>
+    ensures sound { IfSome result (λ order. words.entry ≡ order_words order) }
+    ensures complete { IsNone result → (order : ReplayOrder) → words.entry ≢ order_words order }
+{
+    let Some(word) = words.next_word() else {
+        return Some(ReplayOrder::Forward);
+    };
+    words.end()?;
+    if is(word, "reverse") {
+        Some(ReplayOrder::Reverse)
+    } else {
+        None
+    }
+}
+
 /// The words as one number.
 fn only_number(mut words: Words<'_>) -> Option<u64>
     ensures sound { IfSome result (λ n. AreNumber words.entry n) }
@@ -192,7 +220,7 @@ fn only_name<'a>(name: &[u8], words: Words<'a>) -> Option<Line<'a>>
         name if is(name, "log") => Some(Line::Log),
         name if is(name, "room") => Some(Line::Room),
         name if is(name, "crash") => Some(Line::Crash),
-        name if is(name, "recover") => Some(Line::Recover),
+        name if is(name, "will") => Some(Line::Will),
         name if is(name, "holdings") => Some(Line::Holdings),
         name if is(name, "copy") => Some(Line::Copy),
         name if is(name, "seal") => Some(Line::Seal),
