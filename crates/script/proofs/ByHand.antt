@@ -68,7 +68,7 @@ module _ (node : Node) (up m : MasterValue MemoryFleet) (there : node ≡ Up up)
           m.knows,
           at,
           stays d m.knows node (Up m) config at s old.0 of (fleet_state up.fleet) (fleet_state m.fleet) old.2 now on_up,
-          ([], on_up.history),
+          ([], on_up.origin, on_up.history),
           tells (life_of m.knows) at old.0 (told_at (Ok a) gives kept d at s),
         )
 

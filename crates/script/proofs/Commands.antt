@@ -56,7 +56,7 @@ module _ (d e : MasterData) (old new : Node) (config : Config) (at : Position) (
         e,
         record { made = suc at.made; acknowledged = suc at.made; left = None },
         stands_longer d e old new config at None of s command reply (suc at.made) g (omega arith),
-        (record_of command reply, g.history),
+        (record_of command reply, g.origin, g.history),
         (none, ((command, asks, record_there d e old new config at None of s command reply g), refl)),
       )
 
@@ -67,7 +67,7 @@ module _ (d e : MasterData) (old new : Node) (config : Config) (at : Position) (
     e,
     record { made = at.made; acknowledged = at.acknowledged; left = None },
     still_stands d e old new config at None of s g,
-    ([], g.history),
+    ([], g.origin, g.history),
     inl (
       none,
       inl (
@@ -91,7 +91,7 @@ module _ (d e : MasterData) (old new : Node) (config : Config) (at : Position) (
         e,
         record { made = suc at.made; acknowledged = at.acknowledged; left = None },
         stands,
-        (record_of command reply, g.history),
+        (record_of command reply, g.origin, g.history),
         inl (
           none,
           inl (
@@ -119,8 +119,8 @@ module _ (d e : MasterData) (old new : Node) (config : Config) (at : Position) (
         e,
         record { made = at.made; acknowledged = at.acknowledged; left = Some (left_now f) },
         stands,
-        ([], g.history),
-        (
+        ([], g.origin, g.history),
+        inl (
           none,
           left_now f,
           (e, f, lived_longer d e old new config at (Some (left_now f)) of s f valid at.made stands.configured stands.made, refl, spent),
@@ -136,8 +136,8 @@ module _ (d e : MasterData) (old new : Node) (config : Config) (at : Position) (
         e,
         record { made = suc at.made; acknowledged = at.acknowledged; left = Some (left_now f) },
         stands,
-        (record_of command reply, g.history),
-        (
+        (record_of command reply, g.origin, g.history),
+        inl (
           none,
           left_now f,
           (e, f, lived_longer d e old new config at (Some (left_now f)) of s f valid (suc at.made) stands.configured stands.made, refl, spent),

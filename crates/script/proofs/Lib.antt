@@ -6,7 +6,11 @@ pub mod Standing
 pub mod Commands
 pub mod Rolls
 pub mod WhatIsLeft
+pub mod Willed
 pub mod LongerLives
+pub mod Succeeding
+pub mod Retired
+pub mod NextLife
 pub mod Turning
 pub mod Fronts
 pub mod Steps

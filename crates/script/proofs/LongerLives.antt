@@ -7,7 +7,8 @@ use Rattle.versioned_map.specs.declared.command.Command.{Command}
 use Rattle.versioned_map.specs.declared.command.Record.{Record}
 use Rattle.master_core.specs.declared.config.Config.{Config}
 use Rattle.versioned_map.specs.History.{commands_of}
-use Rattle.versioned_map.specs.Versioned.{State, after as map_after}
+use Rattle.versioned_map.specs.Versioned.{State, after as map_after, IsSafeAfter}
+use Rattle.replay.specs.declared.rebuilt.Rebuilt.{Rebuilt}
 use Rattle.script.specs.declared.answer.Answer.{Answer}
 use Rattle.script.specs.declared.answer.Answer.TheVariants as answer
 use Rattle.script.specs.Lives.{Life, life_to, Left, IsLeftBy, IsLeftBySpent}
@@ -16,8 +17,8 @@ use Rattle.master_core.specs.declared.step.Step.{Step}
 use Rattle.master_core.specs.declared.step.StepAnswer.{StepAnswer}
 use Rattle.master_core.specs.declared.step.Step.TheVariants as step
 use Rattle.master_core.specs.declared.step.StepAnswer.TheVariants as step_answer
-use Rattle.script.specs.Told.{Told, Position, IsRecordAt, IsIn, IsCause, IsImageAt, IsPushedAt, Tells, AreTelling}
-use Rattle.script.specs.Told.{IsStepAt, IsRollAt, IsCleanAt, IsStepRefusal, IsDigestAt, IsRoomAt, AreHeldAt}
+use Rattle.script.specs.Told.{Position, IsRecordAt, IsIn, IsCause, IsImageAt, IsPushedAt, IsRecoveredAt, IsUnadopted, Tells}
+use Rattle.script.specs.Told.{IsStepAt, IsRollAt, IsCleanAt, IsStepRefusal, IsDigestAt, IsRoomAt, IsWillAt, AreHeldAt}
 
 -- ---- a longer history tells the same
 
@@ -36,14 +37,15 @@ module _ (config : Config) (life : Life) where
   as_before : (at next : Position) → next ≡ at → at.made ≤ next.made
   as_before at next is = let same = ap (λ (p : Position). p.made) is in omega arith
 
-  rises : (at : Position) (line : LineValue) (a : Answer) (next : Position) → Tells config life at line a next → at.made ≤ next.made
+  pub rises : (at : Position) (line : LineValue) (a : Answer) (next : Position) → Tells config life at line a next → at.made ≤ next.made
   rises at line answer.Silent next t = as_before at next t.1
   rises at line (answer.Reply reply) next t = let made = ap (λ (p : Position). p.made) t.1.1 in omega arith
   rises at line (answer.Refused r) next t = elim t [
     | inl (none, inl (unspent, inl (out, why))) ↦ let made = ap (λ (p : Position). p.made) out.2 in omega arith
     | inl (none, inl (unspent, inr (added, pushed, waits))) ↦ let made = ap (λ (p : Position). p.made) added.2 in omega arith
     | inl (none, inr refused) ↦ let made = ap (λ (p : Position). p.made) refused.3 in omega arith
-    | inr u ↦ as_before at next u.2
+    | inr (inl u) ↦ as_before at next u.2
+    | inr (inr (unspent, u)) ↦ as_before at next u.2
   ]
   rises at line (answer.Head id) next t = as_before at next t.3
   rises at line (answer.Opening id) next t = as_before at next t.3
@@ -60,28 +62,26 @@ module _ (config : Config) (life : Life) where
   rises at line (answer.Cleaned survivor head) next t = as_before at next t.2
   rises at line (answer.Log ids) next t = as_before at next t.3
   rises at line (answer.Room used free) next t = as_before at next t.3
+  rises at line (answer.Will parts limits) next t = as_before at next t.3
+  rises at line (answer.BadLimits limits) next t = as_before at next t.3
   rises at line (answer.Holdings hs) next t = as_before at next t.2
   rises at line (answer.Hex bytes) next t = as_before at next t.2
   rises at line (answer.NotInLog segment) next t = as_before at next t.3
   rises at line (answer.Stop takes) next t = as_before at next t.1
-  rises at line answer.Stopped next t = elim t.3 [
-    | inl out ↦ let made = ap (λ (p : Position). p.made) out.2 in omega arith
-    | inr (inl added) ↦ let made = ap (λ (p : Position). p.made) added.2 in omega arith
-    | inr (inr out) ↦ let made = ap (λ (p : Position). p.made) out.1 in omega arith
+  rises at line answer.Stopped next t = elim t [
+    | inl (none, l, spent, inl out) ↦ let made = ap (λ (p : Position). p.made) out.2 in omega arith
+    | inl (none, l, spent, inr (inl added)) ↦ let made = ap (λ (p : Position). p.made) added.2 in omega arith
+    | inl (none, l, spent, inr (inr out)) ↦ let made = ap (λ (p : Position). p.made) out.1 in omega arith
+    | inr u ↦ as_before at next u.2
   ]
   rises at line answer.Crashed next t = let made = ap (λ (p : Position). p.made) t.4 in omega arith
   rises at line (answer.Lost backup) next t = let made = ap (λ (p : Position). p.made) t.3 in omega arith
-  rises at line (answer.Recovered r) next t = as_before at next t.5
+  rises at line (answer.Recovered r) next t = absurd t
+  rises at line (answer.NotRetired fault) next t = absurd t
+  rises at line answer.NumbersSpent next t = as_before at next t.2
   rises at line (answer.NotRecovered fault) next t = as_before at next t.4
   rises at line answer.Down next t = as_before at next t.2
   rises at line answer.Up next t = as_before at next t.2
-
-  telling_rises : (from : Position) (told : List Told) (last : Position) → AreTelling config life from told last → from.made ≤ last.made
-  telling_rises from [] last are = as_before from last are
-  telling_rises from (t ∷ ts) last are =
-      let here = rises from t.line t.answer are.0 are.1 in
-      let rest = telling_rises are.0 ts last are.2 in
-      omega arith
 
 module _ (config : Config) (opening : State) (history more : List Record) where
   abbrev life : Life
@@ -107,7 +107,30 @@ module _ (config : Config) (opening : State) (history more : List Record) where
   step_longer at is s a next within t =
       (t.0, t.1, subst (λ (l : Life). IsStepAt config l s a) (same_front at.made within) t.2, t.3)
 
-  tells_longer : (at : Position) (line : LineValue) (a : Answer) (next : Position) → at.made ≤ length history → next.made ≤ length history
+  -- a table that was recovered
+  recovered_longer : (at : Position) (r : Rebuilt) → IsRecoveredAt life at r → IsRecoveredAt longer at r
+  recovered_longer at r found =
+      let table = found.3 in
+      let inside = table.within in
+      let count = length-append history more in
+      let same = sym (take-commands history more found.0 table.within) in (
+        found.0,
+        found.1,
+        found.2,
+        record {
+          within = omega arith;
+          exactly = table.exactly ∙ ap (λ (cs : List Command). (map_after opening cs).contents) same;
+          order = table.order;
+          safe = subst (λ (cs : List Command). IsSafeAfter opening cs r.safe) same table.safe;
+        },
+      )
+
+  unadopted_longer : (at : Position) (line : LineValue) (r : Refusal) (next : Position) → IsUnadopted config life at line r next
+      → IsUnadopted config longer at line r next
+  unadopted_longer at line r next (asks, (l, left, table, (found, of_left), new, number, declined), is) =
+      (asks, (l, left, table, (recovered_longer at table found, of_left), new, number, declined), is)
+
+  pub tells_longer : (at : Position) (line : LineValue) (a : Answer) (next : Position) → at.made ≤ length history → next.made ≤ length history
       → Tells config life at line a next → Tells config longer at line a next
   tells_longer at line answer.Silent next within after t = t
   tells_longer at line (answer.Reply reply) next within after t = (t.0, (record_longer at.made line reply t.1.0, t.1.1))
@@ -131,7 +154,8 @@ module _ (config : Config) (opening : State) (history more : List Record) where
         refused.3,
       ),
     )
-    | inr u ↦ inr u
+    | inr (inl u) ↦ inr (inl u)
+    | inr (inr (unspent, u)) ↦ inr (inr (unspent, unadopted_longer at line r next u))
   ]
   tells_longer at line (answer.Head id) next within after t =
       (t.0, t.1, subst (λ (l : Life). IsRollAt config l (Ok id)) (same_front at.made within) t.2, t.3)
@@ -168,6 +192,9 @@ module _ (config : Config) (opening : State) (history more : List Record) where
       (t.0, t.1, subst (λ (l : Life). IsDigestAt config l ids) (same_front at.made within) t.2, t.3)
   tells_longer at line (answer.Room used free) next within after t =
       (t.0, t.1, subst (λ (l : Life). IsRoomAt config l used free) (same_front at.made within) t.2, t.3)
+  tells_longer at line (answer.Will parts limits) next within after t =
+      (t.0, t.1, subst (λ (l : Life). IsWillAt config l limits parts) (same_front at.made within) t.2, t.3)
+  tells_longer at line (answer.BadLimits limits) next within after t = t
   tells_longer at line (answer.Holdings hs) next within after t =
       (t.0, subst (λ (l : Life). AreHeldAt config l at.left hs) (same_front at.made within) t.1, t.2)
   tells_longer at line (answer.Hex bytes) next within after t =
@@ -175,54 +202,25 @@ module _ (config : Config) (opening : State) (history more : List Record) where
   tells_longer at line (answer.NotInLog segment) next within after t =
       (t.0, t.1, subst (λ (l : Life). IsImageAt config l segment None) (same_front at.made within) t.2, t.3)
   tells_longer at line (answer.Stop takes) next within after t = t
-  tells_longer at line answer.Stopped next within after t = (
-    t.0,
-    t.1,
-    subst (λ (l : Life). IsLeftBySpent config l t.1) (same_front next.made after) t.2,
-    elim t.3 [
-      | inl out ↦ inl out
-      | inr (inl added) ↦ inr (inl (in_longer at line (Some t.1) next added))
-      | inr (inr out) ↦ inr (inr out)
-    ],
-  )
+  tells_longer at line answer.Stopped next within after t = elim t [
+    | inl (none, l, spent, why) ↦ inl (
+      none,
+      l,
+      subst (λ (x : Life). IsLeftBySpent config x l) (same_front next.made after) spent,
+      elim why [
+        | inl out ↦ inl out
+        | inr (inl added) ↦ inr (inl (in_longer at line (Some l) next added))
+        | inr (inr out) ↦ inr (inr out)
+      ],
+    )
+    | inr u ↦ inr (unadopted_longer at line _ next u)
+  ]
   tells_longer at line answer.Crashed next within after t =
       (t.0, t.1, t.2, subst (λ (l : Life). IsLeftBy config l t.2) (same_front at.made within) t.3, t.4)
   tells_longer at line (answer.Lost backup) next within after t = t
-  tells_longer at line (answer.Recovered r) next within after t =
-      let table = t.3.3 in
-      let inside = table.within in
-      let count = length-append history more in (
-        t.0,
-        t.1,
-        t.2,
-        (
-          t.3.0,
-          t.3.1,
-          t.3.2,
-          record {
-            within = omega arith;
-            exactly = table.exactly
-                ∙ ap (λ (cs : List Command). (map_after opening cs).contents) (sym (take-commands history more t.3.0 table.within));
-            order = table.order;
-          },
-        ),
-        t.4,
-        t.5,
-      )
+  tells_longer at line (answer.Recovered r) next within after t = absurd t
+  tells_longer at line (answer.NotRetired fault) next within after t = absurd t
+  tells_longer at line answer.NumbersSpent next within after t = t
   tells_longer at line (answer.NotRecovered fault) next within after t = t
   tells_longer at line answer.Down next within after t = t
   tells_longer at line answer.Up next within after t = t
-
-  pub telling_longer : (from : Position) (told : List Told) (last : Position) → last.made ≤ length history → AreTelling config life from told last
-      → AreTelling config longer from told last
-  telling_longer from [] last within are = are
-  telling_longer from (t ∷ ts) last within are =
-      let here = rises config life from t.line t.answer are.0 are.1 in
-      let rest = telling_rises config life are.0 ts last are.2 in
-      (are.0, tells_longer from t.line t.answer are.0 (omega arith) (omega arith) are.1, telling_longer are.0 ts last within are.2)
-
--- one line more
-pub telling_more : (config : Config) (life : Life) (from : Position) (told : List Told) (mid : Position) (t : Told) (next : Position)
-    → AreTelling config life from told mid → Tells config life mid t.line t.answer next → AreTelling config life from (told ++ t ∷ []) next
-telling_more config life from [] mid t next are tells = (next, subst (λ (p : Position). Tells config life p t.line t.answer next) are tells, refl)
-telling_more config life from (first ∷ rest) mid t next are tells = (are.0, are.1, telling_more config life are.0 rest mid t next are.2 tells)

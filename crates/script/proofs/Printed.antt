@@ -9,7 +9,8 @@ use Rattle.std.specs.Io.KnownBytes.{Appends}
 use Rattle.std.proofs.KnownBytes.{Appends-trans}
 use Rattle.std.proofs.lemmas.List.{flat_map_more, take_more}
 use Rattle.entry.specs.declared.entry.Object.{Object}
-use Rattle.script.specs.Texts.{object_text}
+use Rattle.tablet_will.specs.declared.part.Part.{Part}
+use Rattle.script.specs.Texts.{object_text, part_text, place_text}
 
 pub one_printed : {X : Type 0} (text : X → List ℕ) (xs : List X) (i : ℕ) (default : X) (old mid new : Option (List ℕ)) → i < length xs
     → Appends old mid (flat_map text (take i xs)) → Appends mid new (text (get_or xs i default))
@@ -47,3 +48,30 @@ short_printed digits value post line start at written =
     written ∙ sym (append_assoc digits (32 ∷ value) (10 ∷ post)) ∙ sym (append_assoc (digits ++ 32 ∷ value) (10 ∷ []) post) in
     ap (λ (n : ℕ). take n (drop start line)) count ∙ ap (take (length (digits ++ 32 ∷ value ++ 10 ∷ []))) whole
     ∙ take-append_seam (digits ++ 32 ∷ value ++ 10 ∷ []) post
+
+-- what ends with a space, before what follows
+spaced : (a b c : List ℕ) → (a ++ 32 ∷ []) ++ (b ++ c) ≡ (a ++ 32 ∷ b) ++ c
+spaced a b c = sym (append_assoc (a ++ 32 ∷ []) b c) ∙ ap (λ (l : List ℕ). l ++ c) (append_assoc a (32 ∷ []) b)
+
+-- four pieces of a line as one
+joined : (t f l p : List ℕ) → (((t ++ 32 ∷ []) ++ (f ++ 32 ∷ [])) ++ (l ++ 32 ∷ [])) ++ (p ++ 10 ∷ []) ≡ t ++ 32 ∷ f ++ 32 ∷ l ++ 32 ∷ p ++ 10 ∷ []
+joined t f l p =
+    ap (λ (x : List ℕ). (x ++ (l ++ 32 ∷ [])) ++ (p ++ 10 ∷ [])) (spaced t f (32 ∷ []))
+    ∙ ap (λ (x : List ℕ). x ++ (p ++ 10 ∷ [])) (spaced (t ++ 32 ∷ f) l (32 ∷ [])) ∙ spaced (t ++ 32 ∷ f ++ 32 ∷ l) p (10 ∷ [])
+
+four_printed : (t f l p : List ℕ) (a b c d e : Option (List ℕ)) → Appends a b (t ++ 32 ∷ []) → Appends b c (f ++ 32 ∷ []) → Appends c d (l ++ 32 ∷ [])
+    → Appends d e (p ++ 10 ∷ []) → Appends a e (t ++ 32 ∷ f ++ 32 ∷ l ++ 32 ∷ p ++ 10 ∷ [])
+four_printed t f l p a b c d e one two three four =
+    subst (Appends a e) (joined t f l p) (Appends-trans a d e _ _ (Appends-trans a c d _ _ (Appends-trans a b c _ _ one two) three) four)
+
+-- the pieces of a part's line
+pub part_printed : (q : Part) (a b c d e : Option (List ℕ)) → Appends a b (decimal q.table ++ 32 ∷ []) → Appends b c (place_text q.first ++ 32 ∷ [])
+    → Appends c d (place_text q.last ++ 32 ∷ []) → Appends d e (decimal q.partition ++ 10 ∷ []) → Appends a e (part_text q)
+part_printed q a b c d e = four_printed (decimal q.table) (place_text q.first) (place_text q.last) (decimal q.partition) a b c d e
+
+-- the last line, behind others
+pub last_printed : (lines words digits : List ℕ) (a b c : Option (List ℕ)) → Appends a b lines → Appends b c (words ++ digits ++ 10 ∷ [])
+    → Appends a c (lines ++ words ++ digits ++ 10 ∷ [])
+last_printed lines words digits a b c before last =
+    subst (Appends a c) (sym (append_assoc lines (words ++ digits) (10 ∷ [])) ∙ ap (λ (l : List ℕ). l ++ 10 ∷ []) (sym (append_assoc lines words digits)))
+    (Appends-trans a b c _ _ before last)

@@ -9,13 +9,12 @@ use Rattle.master_core.specs.declared.config.Config.{Config}
 use Rattle.master_core.specs.declared.step.Refusal.{Refusal}
 use Rattle.master_core.specs.declared.step.Refusal.TheVariants as refusal
 use Rattle.master_core.specs.Data.{MasterData}
-use Rattle.master_core.specs.Log.{opening_of}
 use Rattle.master.specs.Valid.{IsValid}
 use Rattle.script.specs.declared.answer.Answer.{Answer}
 use Rattle.script.specs.declared.answer.Answer.TheVariants as answer
 use Rattle.script.specs.declared.node.Node.{Node}
 use Rattle.script.specs.Lives.{Life, life_to, IsLeftBySpent}
-use Rattle.script.specs.Served.{LivesOn, IsUnserved, IsSpent, IsOf, IsNodeAt, Refuses, AnswersLine, StaysAt, WaitsForRoll, MakesRoom, fleet_of, left_now, life_of}
+use Rattle.script.specs.Served.{LivesOn, IsUnserved, IsSpent, IsOf, IsNodeAt, Refuses, AnswersLine, LivesSame, StaysAt, WaitsForRoll, MakesRoom, fleet_of, left_now, life_of}
 use Rattle.script.specs.Told.{Position, command_of, is_of_push, pushes, IsTest, IsStepRefusal, TellsNoStep, Tells}
 use Rattle.script.proofs.Standing.{Answered, asks_master, same_opening, still_stands, lived, lived_longer}
 use Rattle.script.proofs.Commands.{stopped_told, refused_told}
@@ -48,7 +47,7 @@ waits_told d e old new config at s none command r f h valid of is (inl (g, inr t
       e,
       (
         subst (λ (p : Position). IsNodeAt new config e p) same (still_stands d e old new config at None of s g),
-        g.history ∙ append-nil d.history,
+        (g.origin, g.history ∙ append-nil d.history),
       ),
       none,
       (d, f, lived d e old new config at None of s f valid g.origin [] g.history, test ∙ ap Some is),
@@ -60,13 +59,13 @@ pub no_step_told : (d e : MasterData) (old mid new : Node) (config : Config) (at
     → (line : LineValue) (r : Refusal) (a : Answer) (g : FleetState) → IsOf mid None e → fleet_of mid ≡ Some g → IsValid e g
     → (r ≡ refusal.Spent → IsSpent g) → (r ≡ refusal.Spent → pushes line ≡ true) → LivesOn d e []
     → IsStepRefusal config (life_to (life_of e) at.made) line r → Refuses mid r new a
-    → (e : MasterData) × (next : Position) × IsNodeAt new config e next × (e.history ≡ d.history) × TellsNoStep config (life_of e) at line a next
+    → (e : MasterData) × (next : Position) × IsNodeAt new config e next × LivesSame d e × TellsNoStep config (life_of e) at line a next
 no_step_told d e old mid new config at s none line r a g of fleet now spent may on why (inl (is, unspent, same)) =
     let stays = subst (λ (n : Node). IsOf n None e) (sym same) of in (
       e,
       record { made = at.made; acknowledged = at.acknowledged; left = None },
       still_stands d e old new config at None stays s on,
-      on.history ∙ append-nil d.history,
+      (on.origin, on.history ∙ append-nil d.history),
       subst (λ (x : Answer). TellsNoStep config (life_of e) at line x (record { made = at.made; acknowledged = at.acknowledged; left = None })) (sym is)
           (none, why, unspent, refl),
     )
@@ -76,7 +75,7 @@ no_step_told d e old mid new config at s none line r a g of fleet now spent may 
       e,
       record { made = at.made; acknowledged = at.acknowledged; left = Some (left_now g) },
       stands,
-      on.history ∙ append-nil d.history,
+      (on.origin, on.history ∙ append-nil d.history),
       subst (λ (x : Answer). TellsNoStep config (life_of e) at line x (record { made = at.made; acknowledged = at.acknowledged; left = Some (left_now g) })) (sym is) (
         none,
         left_now g,
@@ -93,7 +92,7 @@ pub later_told : (d e : MasterData) (mid new : Node) (config : Config) (at : Pos
     → AnswersLine mid config line new a → Answered d new config at line a
 later_told d e mid new config at line a stays answers =
     let told = answers e at stays.0 in
-    (told.0, told.1, told.2, (told.3.0, told.3.1 ∙ ap (λ l. l ++ told.3.0) stays.1), told.4)
+    (told.0, told.1, told.2, (told.3.0, told.3.1 ∙ stays.1.0, told.3.2 ∙ ap (λ l. l ++ told.3.0) stays.1.1), told.4)
 
 -- it waits still
 pub rolling_told : (old new : Node) (config : Config) (line : LineValue) (command : Command) → command_of line ≡ Some command
@@ -103,7 +102,7 @@ rolling_told old new config line command asks waits d at s =
       told.0,
       at,
       told.1.0,
-      ([], told.1.1 ∙ sym (append-nil d.history)),
+      ([], told.1.1.0, told.1.1.1 ∙ sym (append-nil d.history)),
       inl (
         told.2,
         inl (
@@ -121,7 +120,7 @@ no_room_tells : (config : Config) (life : Life) (at : Position) (line : LineValu
     → at.left ≡ None → IsTest config (life_to life at.made) command refusal.Rolling → TellsNoStep config life at Roll a next → Tells config life at line a next
 no_room_tells config life at line command (answer.Refused r) next asks none test t =
     inl (none, inl (t.2, inl ((command, asks, t.3), inr (command, asks, inr (test, t.1)))))
-no_room_tells config life at line command answer.Stopped next asks none test t = (
+no_room_tells config life at line command answer.Stopped next asks none test t = inl (
   none,
   t.1,
   subst (λ n. IsLeftBySpent config (life_to life n) t.1) (sym (ap (λ (p : Position). p.made) t.4)) t.2,
@@ -135,13 +134,13 @@ pub no_room_told : (old mid new : Node) (config : Config) (line : LineValue) (co
 no_room_told old mid new config line command a asks waits makes d at s =
     let was = waits d at s in
     let told = makes was.0 at was.1.0 in
-    let back = sym told.3 in
-    let opening = same_opening was.0 told.0 (told.2.begun ∙ sym was.1.0.begun) in
+    let back = sym told.3.1 in
+    let opening = same_opening was.0 told.0 told.3.0 in
     let same : life_of was.0 ≡ life_of told.0 = λ i. record { opening = opening i; history = back i } in (
       told.0,
       told.1,
       told.2,
-      ([], told.3 ∙ was.1.1 ∙ sym (append-nil d.history)),
+      ([], told.3.0 ∙ was.1.1.0, told.3.1 ∙ was.1.1.1 ∙ sym (append-nil d.history)),
       no_room_tells config (life_of told.0) at line command a told.1 asks was.2
           (subst (λ (l : Life). IsTest config (life_to l at.made) command refusal.Rolling) same was.3) told.4,
     )
@@ -152,4 +151,4 @@ pub room_told : (old mid made new : Node) (config : Config) (line : LineValue) (
 room_told old mid made new config line command a waits makes answers d at s =
     let was = waits d at s in
     let room = makes was.0 at was.1.0 in
-    later_told d room.0 made new config at line a (room.1.0, room.1.1 ∙ was.1.1) answers
+    later_told d room.0 made new config at line a (room.1.0, (room.1.1.0 ∙ was.1.1.0, room.1.1.1 ∙ was.1.1.1)) answers

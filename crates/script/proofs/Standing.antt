@@ -3,11 +3,13 @@ use Rattle.std.proofs.Common.{◌≡◌, ℕ, suc, ◌≤◌, true, false, List,
 use Rattle.std.proofs.lemmas.List.{append-nil, length-append}
 use Rattle.std.proofs.Math.Seq.{take-length}
 use lib.Seq.{take-append_seam}
-use Rattle.std.specs.Prelude.{Option, Some, None, slice_get}
+use Rattle.std.specs.Prelude.{Option, Some, None, Result, Ok, Err, IfOk, is_err, slice_get}
 use Rattle.backup.specs.declared.fleet.MemoryFleet.{MemoryFleet}
-use Rattle.lines.specs.Grammar.{LineValue, Put, New, Cas, Get, Del}
+use Rattle.lines.specs.Grammar.{LineValue, Put, New, Cas, Get, Del, Recover}
+use Rattle.lines.specs.declared.line.ReplayOrder.{ReplayOrder}
 use Rattle.replica.specs.Picture.{FleetState}
 use Rattle.versioned_map.specs.declared.command.Command.{Command}
+use Rattle.versioned_map.specs.History.{IsLegal}
 use Rattle.versioned_map.specs.declared.command.Record.{Record}
 use Rattle.versioned_map.specs.declared.command.Reply.{Reply}
 use Rattle.entry.specs.Meaning.{contents_of}
@@ -17,12 +19,15 @@ use Rattle.master_core.specs.Data.{Origin, MasterData}
 use Rattle.master_core.specs.Log.{opening_of, log_of}
 use Rattle.master.specs.Valid.{IsValid}
 use Rattle.master.specs.World.{MasterValue}
+use Rattle.master_core.specs.declared.step.Refusal.{Refusal}
+use Rattle.recovery.specs.declared.recovery.RecoveryFault.TheVariants as fault
+use Rattle.recovery_plan.specs.declared.fault.PlanFault.TheVariants as plan_fault
 use Rattle.script.specs.declared.answer.Answer.{Answer}
 use Rattle.script.specs.declared.answer.Answer.TheVariants as answer
 use Rattle.script.specs.declared.node.Node.{Node}
 use Rattle.script.specs.declared.node.Node.TheVariants.{Up, Down, Changing}
 use Rattle.script.specs.Lives.{life_to, HasLived, Left}
-use Rattle.script.specs.Served.{LivesOn, IsOf, IsNodeAt, AnswersLine, is_up, life_of, record_of}
+use Rattle.script.specs.Served.{LivesOn, IsOf, IsNodeAt, AnswersLine, LivesLonger, is_up, life_of, record_of}
 use Rattle.script.specs.Told.{Position, command_of, is_for_master, is_for_none, Tells}
 
 -- ---- what the node stands for goes on
@@ -38,8 +43,7 @@ last_record (x ∷ xs) r = last_record xs r
 
 abbrev pub Answered : MasterData → Node → Config → Position → LineValue → Answer → Type 0
 Answered d new config at line a =
-    (e : MasterData) × (next : Position) × IsNodeAt new config e next × ((more : List Record) × (e.history ≡ d.history ++ more))
-    × Tells config (life_of e) at line a next
+    (e : MasterData) × (next : Position) × IsNodeAt new config e next × LivesLonger d e × Tells config (life_of e) at line a next
 
 module _ (d e : MasterData) (old new : Node) (config : Config) (at : Position) (left : Option Left) (of : IsOf new left e) (s : IsNodeAt old config d at) where
   -- the line made no record
@@ -50,7 +54,6 @@ module _ (d e : MasterData) (old new : Node) (config : Config) (at : Position) (
       record {
         node_of = of;
         configured = g.config ∙ s.configured;
-        begun = g.origin ∙ s.begun;
         made = s.made ∙ ap length (sym (g.history ∙ append-nil d.history));
         acknowledged = omega arith;
       }
@@ -61,7 +64,6 @@ module _ (d e : MasterData) (old new : Node) (config : Config) (at : Position) (
   stands_longer command reply acknowledged g kept = record {
     node_of = of;
     configured = g.config ∙ s.configured;
-    begun = g.origin ∙ s.begun;
     made =
         let longer = ap length g.history in
         let count = length-append d.history (record_of command reply) in
@@ -93,6 +95,12 @@ module _ (d e : MasterData) (old new : Node) (config : Config) (at : Position) (
 
 -- ---- where a node stands
 
+-- whatever a node stands for has a legal history
+pub legal_of : (node : Node) (left : Option Left) (d : MasterData) → IsOf node left d → IsLegal (opening_of d) d.history
+legal_of (Up m) left d of = of.2.legal
+legal_of (Down fleet) left d of = of.2.valid.legal
+legal_of Changing left d of = absurd of
+
 pub is_up_none : (node : Node) (d : MasterData) (left : Option Left) → is_up node ≡ true → IsOf node left d → left ≡ None
 is_up_none (Up m) d left up of = of.0
 is_up_none (Down fleet) d left up of = absurd (cc)
@@ -113,7 +121,7 @@ is_down_some Changing d left down of = absurd of
 -- a node answers of what it stands for, and stays
 pub stays_told : (node : Node) (config : Config) (line : LineValue) (a : Answer)
     → ((d : MasterData) (at : Position) → IsNodeAt node config d at → Tells config (life_of d) at line a at) → AnswersLine node config line node a
-stays_told node config line a tells d at s = (d, at, s, ([], sym (append-nil d.history)), tells d at s)
+stays_told node config line a tells d at s = (d, at, s, ([], refl, sym (append-nil d.history)), tells d at s)
 
 -- the node that is left stands for the same, where it stood
 pub same_told : (old new : Node) (config : Config) (line : LineValue) (a : Answer)
@@ -122,8 +130,8 @@ pub same_told : (old new : Node) (config : Config) (line : LineValue) (a : Answe
 same_told old new config line a same tells d at s = (
   d,
   at,
-  record { node_of = same d at.left s.node_of; configured = s.configured; begun = s.begun; made = s.made; acknowledged = s.acknowledged },
-  ([], sym (append-nil d.history)),
+  record { node_of = same d at.left s.node_of; configured = s.configured; made = s.made; acknowledged = s.acknowledged },
+  ([], refl, sym (append-nil d.history)),
   tells d at s,
 )
 
@@ -145,3 +153,15 @@ asks_master (Cas table key version value) command is = refl
 asks_master (Get table key) command is = refl
 asks_master (Del table key) command is = refl
 asks_master line command is = absurd (cc)
+
+-- ---- answers without a refusal
+
+pub ok_of_no_err : (r : Result (Unit {0}) Refusal) (P : Type 0) → is_err r ≡ false → IfOk r (λ u. P) → P
+ok_of_no_err (Ok u) P none all = all
+ok_of_no_err (Err e) P none all = absurd (cc)
+
+-- memory ran out before a recovery of what is left
+pub want_at : (node : Node) (config : Config) (order : ReplayOrder) → is_up node ≡ false
+    → AnswersLine node config (Recover order) node (answer.NotRecovered (fault.Plan plan_fault.NoMemory))
+want_at node config order down =
+    stays_told node config (Recover order) (answer.NotRecovered (fault.Plan plan_fault.NoMemory)) (λ d at s. let l = is_down_some node d at.left down s.node_of in ((order, refl), l.0, l.1, (tt, λ both. tt), refl))

@@ -56,7 +56,7 @@ module _ (d e : MasterData) (old new : Node) (config : Config) (at : Position) (
 
   pub head_told : (id : ℕ) → Rolls (record { knows = d; fleet = f }) (Ok id) (record { knows = e; fleet = g })
       → Answered d new config at Roll (answer.Head id)
-  head_told id rolls = (e, at, stays, ([], on.history), (none, refl, roll_at (Ok id) rolls, refl))
+  head_told id rolls = (e, at, stays, ([], on.origin, on.history), (none, refl, roll_at (Ok id) rolls, refl))
 
   pub clean_at : (victims : List ℕ) (r : Result (ℕ × ℕ) Refusal)
       → Cleans (record { knows = d; fleet = f }) victims r (record { knows = e; fleet = g })
@@ -67,14 +67,14 @@ module _ (d e : MasterData) (old new : Node) (config : Config) (at : Position) (
       → Cleans (record { knows = d; fleet = f }) victims (Ok (survivor, head)) (record { knows = e; fleet = g })
       → Answered d new config at (Clean victims) (answer.Cleaned survivor head)
   cleaned_told victims survivor head cleans =
-      (e, at, stays, ([], on.history), (none, (victims, refl, clean_at victims (Ok (survivor, head)) cleans), refl))
+      (e, at, stays, ([], on.origin, on.history), (none, (victims, refl, clean_at victims (Ok (survivor, head)) cleans), refl))
 
 -- ---- a step that is refused
 
 no_step_tells : (config : Config) (life : Life) (at : Position) (line : LineValue) (a : Answer) (next : Position) → is_for_master line ≡ true
     → TellsNoStep config life at line a next → Tells config life at line a next
 no_step_tells config life at line (answer.Refused r) next up t = inl (t.0, inr t)
-no_step_tells config life at line answer.Stopped next up t = (
+no_step_tells config life at line answer.Stopped next up t = inl (
   t.0,
   t.1,
   subst (λ n. IsLeftBySpent config (life_to life n) t.1) (sym (ap (λ (p : Position). p.made) t.4)) t.2,
@@ -91,11 +91,11 @@ pub no_step_answered : (d e : MasterData) (old mid new : Node) (config : Config)
     → IsStepRefusal config (life_to (life_of e) at.made) line r → Refuses mid r new a → Answered d new config at line a
 no_step_answered d e old mid new config at s none line up r a g of fleet now spent may on why gives =
     let t = no_step_told d e old mid new config at s none line r a g of fleet now spent may on why gives in
-    (t.0, t.1, t.2, ([], t.3 ∙ sym (append-nil d.history)), no_step_tells config (life_of t.0) at line a t.1 up t.4)
+    (t.0, t.1, t.2, ([], t.3.0, t.3.1 ∙ sym (append-nil d.history)), no_step_tells config (life_of t.0) at line a t.1 up t.4)
 
 -- ---- what a refusal leaves
 
-unspent_answer : (r : Refusal) → (r ≡ refusal.Spent → ⊥) → refusal_answer r ≡ answer.Refused r
+pub unspent_answer : (r : Refusal) → (r ≡ refusal.Spent → ⊥) → refusal_answer r ≡ answer.Refused r
 unspent_answer refusal.Spent unspent = absurd (unspent refl)
 unspent_answer r unspent = refl
 
@@ -135,6 +135,6 @@ command_makes old line new a lifts some = λ again. lifts
 -- what the fleet of a master holds is shown, or memory ran out
 pub held_up : (config : Config) (life : Life) (at : Position) (result : Result (List Holding) AllocError) (d : MasterData) (f : FleetState) → at.left ≡ None
     → HasLived config (life_to life at.made) d f → IfOk result (λ hs. AreHeld hs f.picture) → Tells config life at Holdings (held_answer result) at
-held_up config life at (Err fault) d f none has shown = inr (refl, refl, refl)
+held_up config life at (Err fault) d f none has shown = inr (inl (refl, refl, refl))
 held_up config life at (Ok hs) d f none has shown =
     (refl, subst (λ (o : Option Left). AreHeldAt config (life_to life at.made) o hs) (sym none) (d, f, has, shown), refl)

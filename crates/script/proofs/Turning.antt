@@ -12,7 +12,6 @@ use Rattle.lines.specs.declared.reading.ReadFault.{ReadFault}
 use Rattle.lines.specs.declared.reading.Taken.{Taken}
 use Rattle.versioned_map.specs.declared.command.Record.{Record}
 use Rattle.master_core.specs.declared.config.Config.{Config}
-use Rattle.versioned_map.specs.History.{IsLegal}
 use Rattle.master_core.specs.Data.{Origin, MasterData, no_origin}
 use Rattle.master_core.specs.Log.{opening_of}
 use Rattle.versioned_map.specs.Represents.{empty_state}
@@ -20,16 +19,18 @@ use Rattle.script.specs.declared.answer.Answer.{Answer}
 use Rattle.script.specs.declared.fault.ScriptFault.{ScriptFault}
 use Rattle.script.specs.declared.fault.ScriptFault.TheVariants as fault
 use Rattle.script.specs.declared.session.Session.{Session}
-use Rattle.script.specs.Runs.{IsOfFleet, IsScriptLine, texts_of, answers_of, AreLines, IsTakenLine, IsBadLine, TellOneLife, EndsWith, Prints, RunsScript}
-use Rattle.script.specs.declared.node.Node.{Node}
-use Rattle.script.specs.declared.node.Node.TheVariants.{Up, Down, Changing}
-use Rattle.script.specs.Lives.{Life, Left}
-use Rattle.script.specs.Served.{BeginsSession, IsOf, IsNodeAt, life_of}
+use Rattle.script.specs.Runs.{IsOfFleet, IsScriptLine, texts_of, answers_of, AreLines, IsTakenLine, IsBadLine, EndsWith, Prints, RunsScript}
+use Rattle.command_line.specs.declared.settings.Options.{Options}
+use Rattle.lines.specs.Grammar.{LineValue, Recover}
+use Rattle.script.specs.Configuration.{config_of}
+use Rattle.script.specs.Lives.{Life}
+use Rattle.script.specs.Served.{BeginsSession, AnswersLine, IsNodeAt, IsCovered, RunsLine, Stands, life_of, standing_of}
 use Rattle.script.specs.Texts.{answer_text}
-use Rattle.script.specs.Told.{Told, Position, at_start, Tells, AreTelling}
+use Rattle.script.specs.Succession.{Standing, at_first, Succeeds, Moves, AreTelling, TellLives}
+use Rattle.script.specs.Told.{Told, Position, at_start, Tells}
 use Rattle.script.specs.Turns.{RunsText, IsPrinted, PrintsText, TakesTurn, IsNoMore}
-use Rattle.script.proofs.LongerLives.{telling_longer, telling_more}
-use Rattle.script.proofs.Standing.{same_opening}
+use Rattle.script.proofs.Succeeding.{nothing_more, telling_longer, telling_more, with_more}
+use Rattle.script.proofs.Standing.{legal_of, same_opening}
 use Rattle.entry.specs.Meaning.{contents_of}
 
 -- ---- a line that was run
@@ -72,40 +73,109 @@ empty_opening d is = ap (λ (o : Origin). record { contents = contents_of o.obje
 
 -- ---- all lines so far
 
--- whatever a node stands for has a legal history
-legal_of : (node : Node) (left : Option Left) (d : MasterData) → IsOf node left d → IsLegal (opening_of d) d.history
-legal_of (Up m) left d of = of.2.legal
-legal_of (Down fleet) left d of = of.2.valid.legal
-legal_of Changing left d of = absurd of
-
 -- the lines that were run before the one of this number, and what the session stands for
 pub record Running (config : Config) (session : Session) (had left held holds : Option (List ℕ)) (number : ℕ) : Type 0 where
   pub told : List Told
+  pub first : Life
   pub knows : MasterData
   pub at : Position
-  pub master : session.master ≡ config.master
-  pub fleet : session.backups ≡ config.backups
-  pub stands : IsNodeAt session.node config knows at
+  pub set : config_of session.options 1 ≡ config
+  pub covers : IsCovered session
+  pub stands : IsNodeAt session.node (config_of session.options session.master) knows at
   pub count : suc (length told) ≡ number
   pub lines : All (IsScriptLine config.backups) told
-  pub telling : AreTelling config (life_of knows) at_start told at
+  pub opening : first.opening ≡ empty_state
+  pub telling : AreTelling (at_first config first) told (standing_of (config_of session.options session.master) knows at)
   pub consumed : Consumes had left (texts_of told)
   pub printed : Appends held holds (answers_of told)
 
-pub starts_running : (config : Config) (session : Session) (had held : Option (List ℕ)) → BeginsSession config session → Running config session had had held held 1
-starts_running config session had held begins = record {
-  told = [];
-  knows = begins.stands.0;
-  at = at_start;
-  master = begins.number;
-  fleet = begins.backups;
-  stands = begins.stands.1;
-  count = refl;
-  lines = All-nil (IsScriptLine config.backups);
-  telling = refl;
-  consumed = Consumes-nil had;
-  printed = Appends-nil held;
-}
+pub starts_running : (options : Options) (session : Session) (had held : Option (List ℕ)) → BeginsSession options session
+    → Running (config_of options 1) session had had held held 1
+starts_running options session had held begins =
+    let d = begins.stands.0 in
+    let set = begins.set in
+    let number = begins.number in
+    let same : config_of session.options session.master ≡ config_of options 1 = λ i. config_of (set i) (number i) in
+    record {
+      told = [];
+      first = life_of d;
+      knows = d;
+      at = at_start;
+      set = ap (λ (o : Options). config_of o 1) set;
+      covers = begins.covers;
+      stands = subst (λ (c : Config). IsNodeAt session.node c d at_start) (sym same) begins.stands.1;
+      count = refl;
+      lines = All-nil (IsScriptLine (config_of options 1).backups);
+      opening = empty_opening d begins.stands.3;
+      telling = λ i. standing_of (same i) d at_start;
+      consumed = Consumes-nil had;
+      printed = Appends-nil held;
+    }
+
+-- the session stands for some master
+pub running_stands : (config : Config) (session : Session) (had left held holds : Option (List ℕ)) (number : ℕ)
+    → Running config session had left held holds number → Stands session
+running_stands config session had left held holds number r = (r.covers, (r.knows, r.at, r.stands))
+
+-- ---- where a line leads
+
+-- the session stands for another master or the same, and the line leads there from where it stood
+abbrev LeadsOn : Session → LineValue → Answer → Session → MasterData → Position → Type 0
+LeadsOn old line a new d at = (e : MasterData) × (next : Position) × IsNodeAt new.node (config_of new.options new.master) e next
+    × ((more : List Record)
+    × Moves (with_more (standing_of (config_of old.options old.master) d at) more) line a
+    (standing_of (config_of new.options new.master) e next))
+
+answers_lead : (old new : Session) (line : LineValue) (a : Answer) (d : MasterData) (at : Position) → new.options ≡ old.options
+    → new.master ≡ old.master → AnswersLine old.node (config_of old.options old.master) line new.node a
+    → IsNodeAt old.node (config_of old.options old.master) d at → LeadsOn old line a new d at
+answers_lead old new line a d at options number answers s =
+    let c = config_of old.options old.master in
+    let told = answers d at s in
+    let e = told.0 in
+    let same : config_of new.options new.master ≡ c = λ i. config_of (options i) (number i) in
+    let opening = sym (same_opening d e told.3.1) in
+    let history = told.3.2 in
+    let lives : ◌≡◌ {A = Life} (life_of e) (record { opening = opening_of d; history = d.history ++ told.3.0 }) =
+    λ i. record { opening = opening i; history = history i } in (
+      e,
+      told.1,
+      subst (λ (k : Config). IsNodeAt new.node k e told.1) (sym same) told.2,
+      (
+        told.3.0,
+        inl (record { config = same; life = lives; tells = subst (λ (l : Life). Tells c l at line a told.1) lives told.4 }),
+      ),
+    )
+
+line_leads : (old new : Session) (line : LineValue) (a : Answer) → RunsLine old line new a → (d : MasterData) (at : Position)
+    → IsNodeAt old.node (config_of old.options old.master) d at → LeadsOn old line a new d at
+line_leads old new line a (inl r) d at s = answers_lead old new line a d at r.options r.number (r.answers (config_of old.options old.master) refl) s
+line_leads old new line a (inr r) d at s =
+    subst (λ (l : LineValue). LeadsOn old l a new d at) (sym r.asks)
+    (elim r.recovers [
+      | inl (number, answers) ↦ answers_lead old new (Recover r.order) a d at r.options number answers s
+      | inr begins ↦
+          let next = begins d at s in
+          let options = sym r.options in
+          let from = standing_of (config_of old.options old.master) d at in (
+            next.0,
+            next.1,
+            subst (λ (o : Options). IsNodeAt new.node (config_of o new.master) next.0 next.1) options next.2,
+            (
+              [],
+              subst (λ (f : Standing). Moves f (Recover r.order) a (standing_of (config_of new.options new.master) next.0 next.1)) (sym (nothing_more from))
+                  (inr (subst (λ (o : Options). Succeeds from (Recover r.order) a (standing_of (config_of o new.master) next.0 next.1)) options next.4)),
+            ),
+          )
+    ])
+
+covers_on : (old new : Session) (line : LineValue) (a : Answer) → RunsLine old line new a → Stands old → IsCovered new
+covers_on old new line a (inl r) stands = r.covers stands
+covers_on old new line a (inr r) stands = r.covers stands
+
+options_on : (old new : Session) (line : LineValue) (a : Answer) → RunsLine old line new a → new.options ≡ old.options
+options_on old new line a (inl r) = r.options
+options_on old new line a (inr r) = r.options
 
 texts-more : (told : List Told) (t : Told) → texts_of (told ++ t ∷ []) ≡ texts_of told ++ (t.text ++ 10 ∷ [])
 texts-more told t = flat_map-append _ told (t ∷ []) ∙ ap (λ l. texts_of told ++ l) (append-nil (t.text ++ 10 ∷ []))
@@ -114,35 +184,53 @@ answers-more : (told : List Told) (t : Told) → answers_of (told ++ t ∷ []) �
 answers-more told t = flat_map-append _ told (t ∷ []) ∙ ap (λ l. answers_of told ++ l) (append-nil (answer_text t.answer))
 
 module _ (config : Config) (old : Session) (had mid left held wrote holds : Option (List ℕ)) (number : ℕ) (r : Running config old had mid held wrote number) where
-  -- the lines tell of one history
-  tell_so_far : TellOneLife config r.told
-  tell_so_far = (life_of r.knows, empty_opening r.knows r.stands.begun, legal_of old.node r.at.left r.knows r.stands.node_of, r.at, r.telling, r.stands.made)
+  fleet : old.options.backups ≡ config.backups
+  fleet = ap (λ (c : Config). c.backups) r.set
+
+  abbrev now : Standing
+  now = standing_of (config_of old.options old.master) r.knows r.at
+
+  -- the lines tell of one life after another
+  tell_so_far : TellLives config r.told
+  tell_so_far = (
+    r.first,
+    r.opening,
+    now,
+    r.telling,
+    record { legal = legal_of old.node r.at.left r.knows r.stands.node_of; whole = r.stands.made },
+  )
 
   module _ (new : Session) (text : List ℕ) (a : Answer) (runs : RunsText old text new a) (whole : IsLineText text) where
     abbrev next_told : Told
     next_told = record { text = text; line = runs.line; answer = a }
 
-    abbrev after_line : (e : MasterData) × (next : Position) × IsNodeAt new.node config e next
-        × ((more : List Record) × (e.history ≡ r.knows.history ++ more)) × Tells config (life_of e) r.at runs.line a next
-    after_line = runs.answers.answers config (sym r.master) r.knows r.at r.stands
+    abbrev after_line : LeadsOn old runs.line a new r.knows r.at
+    after_line = line_leads old new runs.line a runs.runs r.knows r.at r.stands
 
-    telling_on : AreTelling config (life_of after_line.0) at_start (r.told ++ next_told ∷ []) after_line.1
-    telling_on =
-        let same = sym after_line.3.1 in
-        let within : r.at.made ≤ length r.knows.history = let made = r.stands.made in omega arith in
-        let opening = same_opening r.knows after_line.0 (after_line.2.begun ∙ sym r.stands.begun) in
-        let later : ◌≡◌ {A = Life} (record { opening = opening_of r.knows; history = r.knows.history ++ after_line.3.0 }) (life_of after_line.0) =
-        λ i. record { opening = opening i; history = same i } in
-        let longer = subst (λ (l : Life). AreTelling config l at_start r.told r.at) later
-        (telling_longer config (opening_of r.knows) r.knows.history after_line.3.0 at_start r.told r.at within r.telling) in
-        telling_more config (life_of after_line.0) at_start r.told r.at next_told after_line.1 longer after_line.4
+    abbrev after_this : Standing
+    after_this = standing_of (config_of new.options new.master) after_line.0 after_line.1
 
-    tell_longer : TellOneLife config (r.told ++ next_told ∷ [])
-    tell_longer = (life_of after_line.0, empty_opening after_line.0 after_line.2.begun, legal_of new.node after_line.1.left after_line.0 after_line.2.node_of, after_line.1, telling_on, after_line.2.made)
+    abbrev longer : (before : List Record) × AreTelling (with_more (at_first config r.first) before) r.told (with_more now after_line.3.0)
+    longer = telling_longer (at_first config r.first) r.told now after_line.3.0 (let made = r.stands.made in omega arith) r.telling
+
+    abbrev first_on : Life
+    first_on = record { opening = r.first.opening; history = r.first.history ++ longer.0 }
+
+    telling_on : AreTelling (at_first config first_on) (r.told ++ next_told ∷ []) after_this
+    telling_on = telling_more (at_first config first_on) r.told (with_more now after_line.3.0) next_told after_this longer.1 after_line.3.1
+
+    tell_longer : TellLives config (r.told ++ next_told ∷ [])
+    tell_longer = (
+      first_on,
+      r.opening,
+      after_this,
+      telling_on,
+      record { legal = legal_of new.node after_line.1.left after_line.0 after_line.2.node_of; whole = after_line.2.made },
+    )
 
     line_there : All (IsScriptLine config.backups) (r.told ++ next_told ∷ [])
     line_there = All-push (IsScriptLine config.backups) r.told next_told r.lines
-        (record { whole = whole; says = runs.says; of_fleet = subst (λ (n : ℕ). IsOfFleet n runs.line) r.fleet runs.of_fleet })
+        (record { whole = whole; says = runs.says; of_fleet = subst (λ (n : ℕ). IsOfFleet n runs.line) fleet runs.of_fleet })
 
     answers_on : Appends wrote holds (answer_text a) → Appends held holds (answers_of (r.told ++ next_told ∷ []))
     answers_on printed = subst (Appends held holds) (sym (answers-more r.told next_told)) (Appends-trans held wrote holds (answers_of r.told) (answer_text a) r.printed printed)
@@ -154,13 +242,15 @@ module _ (config : Config) (old : Session) (had mid left held wrote holds : Opti
         let longer = length-append r.told (next_told ∷ []) in
         record {
           told = r.told ++ next_told ∷ [];
+          first = first_on;
           knows = after_line.0;
           at = after_line.1;
-          master = runs.answers.number ∙ r.master;
-          fleet = runs.answers.backups ∙ r.fleet;
+          set = ap (λ (o : Options). config_of o 1) (options_on old new runs.line a runs.runs) ∙ r.set;
+          covers = covers_on old new runs.line a runs.runs (r.covers, (r.knows, r.at, r.stands));
           stands = after_line.2;
           count = omega arith;
           lines = line_there;
+          opening = r.opening;
           telling = telling_on;
           consumed = subst (Consumes had left) (sym (texts-more r.told next_told)) (Consumes-trans had mid left (texts_of r.told) (text ++ 10 ∷ []) r.consumed consumed);
           printed = answers_on printed;
@@ -209,8 +299,8 @@ module _ (config : Config) (old : Session) (had mid left held wrote holds : Opti
   runs_out : Consumes mid left [] → IsAtEnd left → Keeps wrote holds → RunsScript config had left held holds (Ok tt)
   runs_out consumed end kept = closes [] (Ok tt) consumed (inl (append-nil (texts_of r.told)), end) (kept_answers kept)
 
-  bad_here : (n : ℕ) (bad : List ℕ) → n ≡ number → IsBadLine old.backups number bad left → IsBadLine config.backups n bad left
-  bad_here n bad is line = subst (λ (k : ℕ). IsBadLine k n bad left) r.fleet (subst (λ (k : ℕ). IsBadLine old.backups k bad left) (sym is) line)
+  bad_here : (n : ℕ) (bad : List ℕ) → n ≡ number → IsBadLine old.options.backups number bad left → IsBadLine config.backups n bad left
+  bad_here n bad is line = subst (λ (k : ℕ). IsBadLine k n bad left) fleet (subst (λ (k : ℕ). IsBadLine old.options.backups k bad left) (sym is) line)
 
   pub fails : (new : Session) (f : ScriptFault) → TakesTurn old new number mid left wrote holds (Err f) → RunsScript config had left held holds (Err f)
   fails new (fault.BadLine n) t =
@@ -239,7 +329,7 @@ pub runs_dry : (config : Config) (old : Session) (had mid left held wrote : Opti
 runs_dry config old had mid left held wrote number is r (Ok done) n = runs_out config old had mid left held wrote wrote number r n.0 n.1 (Keeps-refl wrote)
 runs_dry config old had mid left held wrote number is r (Err (fault.BadLine n)) none =
     fails config old had mid left held wrote wrote number r old (fault.BadLine n)
-    (none.0 ∙ sym is, none.1, none.2, subst (λ (k : ℕ). IsBadLine old.backups k none.1 left) (none.0 ∙ sym is) (none.3 old.backups), Keeps-refl wrote)
+    (none.0 ∙ sym is, none.1, none.2, subst (λ (k : ℕ). IsBadLine old.options.backups k none.1 left) (none.0 ∙ sym is) (none.3 old.options.backups), Keeps-refl wrote)
 runs_dry config old had mid left held wrote number is r (Err fault.ReadFailed) none =
     fails config old had mid left held wrote wrote number r old fault.ReadFailed (none.0, none.1, none.2, Keeps-refl wrote)
 runs_dry config old had mid left held wrote number is r (Err fault.WriteFailed) none = absurd none
@@ -275,7 +365,13 @@ begins_not config had held = record {
   taken = [];
   consumed = Consumes-nil had;
   lines = All-nil (IsScriptLine config.backups);
-  tells = (record { opening = empty_state; history = [] }, refl, refl, at_start, refl, refl);
+  tells = (
+    record { opening = empty_state; history = [] },
+    refl,
+    at_first config (record { opening = empty_state; history = [] }),
+    refl,
+    record { legal = refl; whole = refl },
+  );
   ends = ([], refl, omega arith);
   prints = Appends-nil held;
 }

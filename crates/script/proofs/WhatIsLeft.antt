@@ -1,11 +1,12 @@
 -- Crashes, losses and recoveries, told of what is left of a master.
-use Rattle.std.proofs.Common.{◌≡◌, ℕ, Bool, true, false, cond, List, [], ◌∷◌, refl, sym, ap, subst, inr, ◌∙◌, arith}
+use Rattle.std.proofs.Common.{◌≡◌, ℕ, ◌≤◌, Bool, true, false, cond, List, [], ◌∷◌, refl, sym, ap, subst, inl, inr, ◌∙◌, arith}
 use Rattle.std.specs.declared.alloc.AllocError.{AllocError}
 use Rattle.std.proofs.lemmas.List.{append-nil}
 use Rattle.std.specs.Prelude.{Option, Some, None, not, ◌==◌, ◌||◌, ◌↔◌, Result, Ok, Err, IfOk}
 use Rattle.backup.specs.State.{fleet_state, lost}
 use Rattle.backup.specs.declared.fleet.MemoryFleet.{MemoryFleet}
 use Rattle.lines.specs.Grammar.{LineValue, Crash, Lose, Recover, Holdings}
+use Rattle.lines.specs.declared.line.ReplayOrder.{ReplayOrder}
 use Rattle.entry.specs.declared.entry.Entry.{Entry}
 use Rattle.entry.specs.Bag.{IsAmong}
 use Rattle.entry.specs.Meaning.{IsMeaning, among, contents_of}
@@ -21,6 +22,9 @@ use Rattle.master_core.specs.Data.{MasterData}
 use Rattle.master_core.specs.Log.{log_of}
 use Rattle.master.specs.Valid.{IsValid}
 use Rattle.recovery.specs.Kept.{is_kept}
+use Rattle.recovery.specs.Orders.{Covers, NamesGroups}
+use Rattle.recovery.specs.declared.order.GroupOrder.{GroupOrder}
+use Rattle.tablet_will.specs.declared.part.Part.{Part}
 use Rattle.recovery.specs.Recovered.{Shows, IsRecovered, IsRebuiltFrom}
 use Rattle.recovery.specs.declared.recovery.RecoveryFault.{RecoveryFault}
 use Rattle.recovery.specs.declared.recovery.RecoveryFault.TheVariants as fault
@@ -31,7 +35,7 @@ use Rattle.script.specs.declared.node.Node.{Node}
 use Rattle.script.specs.declared.node.Node.TheVariants.{Down}
 use Rattle.script.specs.Lives.{Life, life_to, Left, is_left, IsHomeBy}
 use Rattle.script.specs.Served.{IsLeftOf, IsOf, IsNodeAt, AnswersLine, is_up, left_now, life_of, held_answer}
-use Rattle.script.specs.Told.{Position, IsRecoveredAt, AreLeft, AreHeldAt, Tells}
+use Rattle.script.specs.Told.{Position, IsRecoveredAt, IsFoundAt, AreLeft, AreHeldAt, Tells}
 use Rattle.script.proofs.Standing.{Answered, still_stands, lived_longer, is_up_none}
 use Rattle.script.proofs.MasterSteps.{goes_nowhere}
 
@@ -49,18 +53,18 @@ held_of_left config d l f hs same of shown h its =
 
 pub held_down : (config : Config) (life : Life) (at : Position) (result : Result (List Holding) AllocError) (d : MasterData) (l : Left) (f : FleetState)
     → d.config ≡ config → at.left ≡ Some l → IsLeftOf d l f → IfOk result (λ hs. AreHeld hs f.picture) → Tells config life at Holdings (held_answer result) at
-held_down config life at (Err fault) d l f same left of shown = inr (refl, refl, refl)
+held_down config life at (Err fault) d l f same left of shown = inr (inl (refl, refl, refl))
 held_down config life at (Ok hs) d l f same left of shown =
     (refl, subst (λ (o : Option Left). AreHeldAt config (life_to life at.made) o hs) (sym left) (held_of_left config d l f hs same of shown), refl)
 
 -- ---- crashes and losses
 
 -- a master that stops leaves the whole of what its fleet holds
-pub left_of : (d : MasterData) (fleet : MemoryFleet) → IsValid d (fleet_state fleet) → IsOf (Down fleet) (Some (left_now (fleet_state fleet))) d
-left_of d fleet valid = (
+pub left_of : (d : MasterData) (fleet : MemoryFleet) → IsValid d (fleet_state fleet) → d.config.backups ≤ (fleet_state fleet).backups → IsOf (Down fleet) (Some (left_now (fleet_state fleet))) d
+left_of d fleet valid all = (
   left_now (fleet_state fleet),
   refl,
-  record { crashed = fleet_state fleet; valid = valid; picture = refl; shown = λ b s. refl },
+  record { crashed = fleet_state fleet; valid = valid; picture = refl; shown = λ b s. refl; backups = all },
 )
 
 pub crashed_told : (old new : Node) (config : Config) (line : LineValue) (f : FleetState) → is_up old ≡ true
@@ -73,7 +77,7 @@ crashed_told old new config line f up leaves is d at s =
       d,
       record { made = at.made; acknowledged = at.acknowledged; left = Some (left_now f) },
       stands,
-      ([], sym (append-nil d.history)),
+      ([], refl, sym (append-nil d.history)),
       (
         none,
         is,
@@ -97,15 +101,17 @@ lost_of d l old new backup is of = record {
   shown = λ b s. (λ i. (is i).picture b d.config.master s)
       ∙ ap (λ (r : Option Replica). cond (not (backup == b)) r None) (of.shown b s)
       ∙ cut_twice (backup == b) (is_kept l.lost b) (l.picture b d.config.master s);
+  backups = let was = of.backups in let same = ap (λ (f : FleetState). f.backups) is in omega arith;
 }
 
 -- a fleet with the same picture
-pub same_picture : (d : MasterData) (l : Left) (old new : FleetState) → new.picture ≡ old.picture → IsLeftOf d l old → IsLeftOf d l new
-same_picture d l old new is of = record {
+pub same_picture : (d : MasterData) (l : Left) (old new : FleetState) → new.picture ≡ old.picture → new.backups ≡ old.backups → IsLeftOf d l old → IsLeftOf d l new
+same_picture d l old new is same of = record {
   crashed = of.crashed;
   valid = of.valid;
   picture = of.picture;
   shown = λ b s. (λ i. is i b d.config.master s) ∙ of.shown b s;
+  backups = let was = of.backups in omega arith;
 }
 
 -- ---- recovery
@@ -127,7 +133,7 @@ table_told d node config at r s found =
     let made = s.made in
     let durable = found.1.durable in
     let within = found.1.within in
-    (found.0, omega arith, omega arith, record { within = found.1.within; exactly = found.1.exactly; order = found.1.order })
+    (found.0, omega arith, omega arith, record { within = found.1.within; exactly = found.1.exactly; order = found.1.order; safe = found.1.safe })
 
 -- a down node's line on what is left
 module _ (node : Node) (fleet : MemoryFleet) (config : Config) (d : MasterData) (at : Position) (down : node ≡ Down fleet) (s : IsNodeAt node config d at) where
@@ -144,11 +150,10 @@ module _ (node : Node) (fleet : MemoryFleet) (config : Config) (d : MasterData) 
         record {
           node_of = (less, refl, lost_of d l (fleet_state fleet) (fleet_state new) backup is left_at.2);
           configured = s.configured;
-          begun = s.begun;
           made = s.made;
           acknowledged = s.acknowledged;
         },
-        ([], sym (append-nil d.history)),
+        ([], refl, sym (append-nil d.history)),
         (refl, l, left_at.1, refl),
       )
 
@@ -163,29 +168,32 @@ module _ (node : Node) (fleet : MemoryFleet) (config : Config) (d : MasterData) 
     sound = subst (λ (p : Picture). IsSound (log_of d) p) (sym left_at.2.picture) left_at.2.valid.sound
 
     -- a table of the choice that the plan has
-    pub rebuilt_told : (r : Rebuilt) → IsSomePrefix hs master r → IsRebuiltFrom hs master r → Tells config (life_of d) at Recover (answer.Recovered r) at
-    rebuilt_told r recovers from =
+    pub table_found : (r : Rebuilt) → IsSomePrefix hs master r → (will : List Part) (order : GroupOrder) → IsRebuiltFrom hs master will order r
+        → (l : Left) × (at.left ≡ Some l) × IsFoundAt config (life_of d) at l r
+    table_found r recovers will order from =
         let found = recovers (log_of d) left_at.0.picture (is_left left_at.0.lost) sound of_master shows in
-        let c = from.1.0 in
-        let choice = surviving-choice hs master (log_of d) left_at.0.picture (is_left left_at.0.lost) of_master shows c from.1.1.choice in
-        let bag = bag-of-plan hs master c from.0 from.1.1 in (
-          refl,
+        let c = from.planned.0 in
+        let choice = surviving-choice hs master (log_of d) left_at.0.picture (is_left left_at.0.lost) of_master shows c from.planned.1.choice in
+        let bag = bag-of-plan hs master c from.plan from.planned.1 in (
           left_at.0,
           left_at.1,
-          table_told d node config at r s found,
           (
-            c,
-            subst (λ (n : ℕ). IsShownChoice (survivors (is_left left_at.0.lost) (shown_by left_at.0.picture)) n c)
-                (ap (λ (k : Config). k.master) s.configured) choice,
-            subst (λ (es : List Entry). IsMeaning (among es) (contents_of r.objects)) bag from.2.meaning,
+            table_told d node config at r s found,
+            (
+              c,
+              subst (λ (n : ℕ). IsShownChoice (survivors (is_left left_at.0.lost) (shown_by left_at.0.picture)) n c)
+                  (ap (λ (k : Config). k.master) s.configured) choice,
+              subst (λ (es : List Entry). IsMeaning (among es) (contents_of r.objects)) bag from.rebuilt.meaning,
+            ),
           ),
-          refl,
         )
 
-    pub loss_told : (e : RecoveryFault) → IsSomeLoss hs master e → Tells config (life_of d) at Recover (answer.NotRecovered e) at
-    loss_told e refuses =
-        let loss = refuses (log_of d) left_at.0.picture (is_left left_at.0.lost) sound of_master shows in (
-          refl,
+    pub loss_told : (e : RecoveryFault) (will : List Part) (order : GroupOrder) → IsSomeLoss hs master will order e → Covers config.tablets will
+        → NamesGroups hs master will order → (asked : ReplayOrder) → Tells config (life_of d) at (Recover asked) (answer.NotRecovered e) at
+    loss_told e will order refuses covers names asked =
+        let here : Covers d.config.tablets will = subst (λ (k : Config). Covers k.tablets will) (sym s.configured) covers in
+        let loss = refuses (log_of d) left_at.0.picture (is_left left_at.0.lost) sound of_master shows here names in (
+          (asked, refl),
           left_at.0,
           left_at.1,
           (
@@ -198,5 +206,5 @@ module _ (node : Node) (fleet : MemoryFleet) (config : Config) (d : MasterData) 
         )
 
   -- a refusal for memory names no loss
-  pub want_told : Tells config (life_of d) at Recover (answer.NotRecovered (fault.Plan plan_fault.NoMemory)) at
-  want_told = (refl, left_at.0, left_at.1, (tt, λ both. tt), refl)
+  pub want_told : (order : ReplayOrder) → Tells config (life_of d) at (Recover order) (answer.NotRecovered (fault.Plan plan_fault.NoMemory)) at
+  want_told order = ((order, refl), left_at.0, left_at.1, (tt, λ both. tt), refl)

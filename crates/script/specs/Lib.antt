@@ -1,9 +1,12 @@
 pub mod Configuration
+pub mod Numbers
+pub mod Wills
 pub mod Texts
 pub mod Lives
 pub mod Rolls
 pub mod Cleans
 pub mod Told
+pub mod Succession
 pub mod Served
 pub mod Runs
 pub mod Turns

@@ -5,13 +5,11 @@ use Rattle.std.specs.Io.KnownBytes.{Appends, Consumes, IsAtEnd}
 use Rattle.lines.specs.Grammar.{LineValue, Says, Lose}
 use Rattle.lines.specs.Reading.{IsUnbroken, IsLineText}
 use Rattle.master_core.specs.declared.config.Config.{Config}
-use Rattle.versioned_map.specs.History.{IsLegal}
-use Rattle.versioned_map.specs.Represents.{empty_state}
 use Rattle.script.specs.declared.fault.ScriptFault.{ScriptFault}
 use Rattle.script.specs.declared.fault.ScriptFault.TheVariants.{BadLine, ReadFailed, WriteFailed, NoMemory}
-use Rattle.script.specs.Lives.{Life}
+use Rattle.script.specs.Succession.{TellLives}
 use Rattle.script.specs.Texts.{answer_text}
-use Rattle.script.specs.Told.{Told, Position, at_start, AreTelling}
+use Rattle.script.specs.Told.{Told}
 
 -- ---- lines
 
@@ -59,12 +57,6 @@ IsBadLine backups number taken left =
 abbrev pub RunResult : Type 0
 RunResult = Result (Unit {0}) ScriptFault
 
--- The lines tell of one life of a master of this configuration. It begins with no keys, its replies are the versioned
--- map's, and it has no records but those of the lines.
-abbrev pub TellOneLife : Config → List Told → Type 0
-TellOneLife config told = (life : Life) × (life.opening ≡ empty_state) × IsLegal life.opening life.history
-    × (last : Position) × AreTelling config life at_start told last × (last.made ≡ length life.history)
-
 -- What was taken of the reader: the lines that were run, and then nothing, or a bad line, which has the next number,
 -- or part of a line at a fault.
 abbrev pub EndsWith : ℕ → List Told → List ℕ → Option (List ℕ) → Result (Unit {0}) ScriptFault → Type 0
@@ -88,6 +80,6 @@ pub record RunsScript (config : Config) (had left held holds : Option (List ℕ)
   pub taken : List ℕ
   pub consumed : Consumes had left taken
   pub lines : All (IsScriptLine config.backups) told
-  pub tells : TellOneLife config told
+  pub tells : TellLives config told
   pub ends : EndsWith config.backups told taken left result
   pub prints : Prints held holds told result

@@ -1,11 +1,15 @@
 -- What a session stands for, and what its lines do to it.
 use Rattle.std.specs.Prelude.{◌≡◌, ◌⊎◌, ℕ, ◌<◌, ◌≤◌, List, [], ◌∷◌, ◌++◌, Bool, true, false, Option, Some, None, length}
 use Rattle.backup.specs.State.{fleet_state}
-use Rattle.lines.specs.Grammar.{LineValue, Roll, BeginRoll, Compact, Push, Clean, Begin, Copy, Seal, Free}
+use Rattle.backup.specs.declared.fleet.MemoryFleet.{MemoryFleet}
+use Rattle.command_line.specs.declared.settings.Options.{Options}
+use Rattle.lines.specs.Grammar.{LineValue, Roll, BeginRoll, Compact, Push, Clean, Begin, Copy, Seal, Free, Will, Recover}
 use Rattle.std.specs.Prelude.{Result, Ok, Err, IsSome}
 use Rattle.std.specs.Option.{option_map}
 use Rattle.std.specs.declared.alloc.AllocError.{AllocError}
+use Rattle.replay.specs.declared.rebuilt.Rebuilt.{Rebuilt}
 use Rattle.replica.specs.declared.holding.Holding.{Holding}
+use Rattle.replica.specs.declared.op.TakeFault.TheVariants as take_fault
 use Rattle.replica.specs.Picture.{FleetState, left_on}
 use Rattle.replica.specs.Take.{limited, no_limit}
 use Rattle.versioned_map.specs.declared.command.Command.{Command}
@@ -25,18 +29,27 @@ use Rattle.master_core.specs.Data.{MasterData, no_origin}
 use Rattle.master_core.specs.Log.{opening_of, log_of}
 use Rattle.master.specs.Steps.{Steps}
 use Rattle.master.specs.Valid.{IsValid}
-use Rattle.master.specs.World.{World, world}
+use Rattle.master.specs.World.{MasterValue, World, world}
 use Rattle.script.specs.declared.answer.Answer.{Answer}
 use Rattle.script.specs.declared.answer.Answer.TheVariants.{Refused, Stopped, Holdings, Reply as Replied, Head, Opening, Compacted, Extended, Opened, Closed}
-use Rattle.script.specs.declared.answer.Answer.TheVariants.{Begun, Moved, Carried, Dropped, Sealed, Freed, Cleaned}
+use Rattle.script.specs.declared.answer.Answer.TheVariants.{Begun, Moved, Carried, Dropped, Sealed, Freed, Cleaned, NotRetired}
 use Rattle.script.specs.declared.answer.Answer.TheVariants as answers
 use Rattle.script.specs.declared.node.Node.{Node}
 use Rattle.script.specs.declared.node.Node.TheVariants.{Up, Down, Changing}
 use Rattle.script.specs.declared.session.Session.{Session}
+use Rattle.script.specs.Configuration.{config_of, tables_to}
+use Rattle.script.specs.Numbers.{Renumbers}
 use Rattle.script.specs.Lives.{Life, life_to, Left, is_left}
+use Rattle.replay.specs.Adopting.{IsAdopted}
+use Rattle.recovery.specs.Orders.{Covers}
 use Rattle.script.specs.Cleans.{Cleans}
 use Rattle.script.specs.Rolls.{PushesUntil, Rolls}
-use Rattle.script.specs.Told.{Position, at_start, command_of, is_of_push, IsTest, TellsNoStep, Tells}
+use Rattle.script.specs.Told.{Position, at_start, command_of, is_of_push, IsTest, TellsNoStep, Tells, IsFoundAt, IsListDeclined, HasLimits}
+use Rattle.script.specs.Succession.{Standing, Succeeds}
+use Rattle.tablet_will.specs.declared.part.Part.{Part}
+use Rattle.tablet_will.specs.Parts.{Divides}
+use Rattle.script.specs.declared.will.Limits.{Limits}
+use Rattle.lines.specs.declared.line.ReplayOrder.{ReplayOrder}
 
 -- the master goes on: its configuration is the same, as much is durable or more, and it has these records more
 pub record LivesOn (old new : MasterData) (more : List Record) : Type 0 where
@@ -80,6 +93,7 @@ pub record IsLeftOf (d : MasterData) (l : Left) (f : FleetState) : Type 0 where
   pub valid : IsValid d crashed
   pub picture : l.picture ≡ crashed.picture
   pub shown : (b s : ℕ) → f.picture b d.config.master s ≡ left_on (is_left l.lost) l.picture b d.config.master s
+  pub backups : d.config.backups ≤ f.backups
 
 -- a master that is up knows `d`; one that is down knew `d`, and `left` is left of it
 abbrev pub IsOf : Node → Option Left → MasterData → Type 0
@@ -129,8 +143,6 @@ LiftsLimit new answer = Unit {0}
 pub record IsNodeAt (node : Node) (config : Config) (d : MasterData) (at : Position) : Type 0 where
   pub node_of : IsOf node at.left d
   pub configured : d.config ≡ config
-  -- it began with no keys
-  pub begun : d.origin ≡ no_origin
   pub made : at.made ≡ length d.history
   pub acknowledged : at.acknowledged ≤ durable_of (log_of d)
 
@@ -200,12 +212,16 @@ MakesClean old victims new answer = (new ≡ old) × (answer ≡ answers.Down)
 
 -- ---- lines
 
+-- the same life, with more records or as many
+abbrev pub LivesLonger : MasterData → MasterData → Type 0
+LivesLonger d e = (more : List Record) × (e.origin ≡ d.origin) × (e.history ≡ d.history ++ more)
+
 -- Whatever the node stood for, the new one goes on with its life, and the answer is one that the line tells of that
 -- life.
 abbrev pub AnswersLine : Node → Config → LineValue → Node → Answer → Type 0
 AnswersLine old config line new answer = (d : MasterData) (at : Position) → IsNodeAt old config d at →
     (e : MasterData) × (next : Position) × IsNodeAt new config e next
-    × ((more : List Record) × (e.history ≡ d.history ++ more)) × Tells config (life_of e) at line answer next
+    × LivesLonger d e × Tells config (life_of e) at line answer next
 
 -- What a line makes of the node: just its step, its roll or its cleaning. After a command's line a stopped node has no
 -- limit.
@@ -221,18 +237,135 @@ MakesLine old Seal new answer = MakesStep old step.Seal new answer
 MakesLine old Free new answer = MakesStep old step.Free new answer
 MakesLine old line new answer = IsSome (command_of line) → LiftsLimit new answer
 
--- the same for a session, which keeps its master's number and its count of backups
+-- ---- recovery
+
+-- where a node stands that stands for this master
+abbrev pub standing_of : Config → MasterData → Position → Standing
+standing_of config d at = record { config = config; life = life_of d; at = at }
+
+-- whatever is left on the fleet of a master of this configuration, its recovery gives this table
+abbrev pub FindsTable : MemoryFleet → Config → Rebuilt → Type 0
+FindsTable fleet config r = (d : MasterData) (at : Position) → IsNodeAt (Down fleet) config d at →
+    (l : Left) × (at.left ≡ Some l) × IsFoundAt config (life_of d) at l r
+
+-- A table was found, and a configuration for a master with a greater number. The fleet holds no replica of that one.
+pub record IsFoundIn (fleet : MemoryFleet) (options : Options) (master : ℕ) (r : Rebuilt) (config : Config) : Type 0 where
+  pub table : FindsTable fleet (config_of options master) r
+  pub configured : config ≡ config_of options config.master
+  pub greater : master < config.master
+  pub unused : (b s : ℕ) → (fleet_state fleet).picture b config.master s ≡ None
+
+-- whatever is left on the fleet of a master of this configuration, this answer tells why nothing was found
+abbrev pub FindsNone : MemoryFleet → Config → Answer → Type 0
+FindsNone fleet config answer = (order : ReplayOrder) (d : MasterData) (at : Position)
+    → IsNodeAt (Down fleet) config d at → Tells config (life_of d) at (Recover order) answer at
+
+-- the fleet has as many backups as before, and no replica of another master changed
+pub record SparesOthers (old : FleetState) (master : ℕ) (new : FleetState) : Type 0 where
+  pub backups : new.backups ≡ old.backups
+  pub others : (b m s : ℕ) → (m ≡ master → ⊥) → new.picture b m s ≡ old.picture b m s
+
+-- A table was adopted, and the new master is up. Or it was refused, and the answer tells so: then the node has the fleet
+-- still, and what other masters left.
+abbrev pub Adopts : MemoryFleet → Rebuilt → Config → Node → Option Answer → Type 0
+Adopts fleet r config new None = (m : MasterValue MemoryFleet) × (new ≡ Up m) × IsAdopted config r m.knows
+    × IsValid m.knows (fleet_state m.fleet)
+Adopts fleet r config new (Some answer) = (left : MemoryFleet) × (new ≡ Down left)
+    × SparesOthers (fleet_state fleet) config.master (fleet_state left)
+    × ((refusal : Refusal) × IsListDeclined config r refusal × (answer ≡ refusal_answer refusal))
+
+-- why the replicas of other masters weren't all freed
+abbrev pub IsCut : FleetState → Answer → Type 0
+IsCut f Stopped = IsSpent f
+IsCut f (NotRetired fault) = fault ≡ take_fault.Spent → ⊥
+IsCut f answer = ⊥
+
+-- no replica of another master is held
+abbrev pub HasNoOther : FleetState → ℕ → Type 0
+HasNoOther f master = (b m s : ℕ) → (m ≡ master → ⊥) → f.picture b m s ≡ None
+
+-- The replicas of all other masters were freed. Or that was cut short, and the master was dropped.
+abbrev pub RetiresOthers : MasterData → Node → Option Answer → Type 0
+RetiresOthers d new None = (m : MasterValue MemoryFleet) × (new ≡ Up m) × (m.knows ≡ d)
+    × IsValid d (fleet_state m.fleet) × HasNoOther (fleet_state m.fleet) d.config.master
+RetiresOthers d new (Some answer) =
+    (f : FleetState) × IsValid d f × IsOf new (Some (left_now f)) d × IsCut f answer
+
+-- whatever the node stood for, that life ended, and the new node stands for the next
+abbrev pub BeginsNext : Node → Config → ReplayOrder → Node → Config → Answer → Type 0
+BeginsNext old config order new next answer = (d : MasterData) (at : Position) → IsNodeAt old config d at →
+    (e : MasterData) × (to : Position) × IsNodeAt new next e to × (e.history ≡ [])
+    × Succeeds (standing_of config d at) (Recover order) answer (standing_of next e to)
+
+-- What a recovery makes of a node, and of the number that a later recovery asks for. The life of the master goes on, or
+-- the next begins.
+abbrev pub Recovers : Node → Options → ℕ → ReplayOrder → Node → Answer → ℕ → Type 0
+Recovers old options master order new answer number =
+    ((number ≡ master) × AnswersLine old (config_of options master) (Recover order) new answer)
+    ⊎ BeginsNext old (config_of options master) order new (config_of options number) answer
+
+-- ---- wills
+
+-- the limits of the wills that these options ask for
+abbrev pub limits_of : Options → Limits
+limits_of options = record { bytes = options.bytes; objects = options.objects }
+
+-- A will that was made is handed over. After any other answer the will is the same.
+abbrev pub HandsOver : List Part → Answer → List Part → Type 0
+HandsOver old (answers.Will parts limits) new = new ≡ parts
+HandsOver old answer new = new ≡ old
+
+-- the will is the same, or it divides the tablets of the node's master
+abbrev pub DividesAnew : Node → List Part → List Part → Type 0
+DividesAnew node old new = (config : Config) (d : MasterData) (at : Position) → IsNodeAt node config d at →
+    (new ≡ old) ⊎ Divides config.tablets new
+
+-- what a line makes of the coordinator's will: the line `will` makes it anew, and no other line changes it
+abbrev pub MakesWill : Session → LineValue → Session → Answer → Type 0
+MakesWill old Will new answer = HandsOver old.will answer new.will × HasLimits (limits_of old.options) answer
+MakesWill old line new answer = new.will ≡ old.will
+
+-- ---- sessions
+
+-- the session's will has a partition for each place of the tablets
+abbrev pub IsCovered : Session → Type 0
+IsCovered s = Covers (tables_to s.options.tables) s.will
+
+-- the session stands for some master, at some position
+abbrev pub Stands : Session → Type 0
+Stands s = IsCovered s
+    × ((d : MasterData) × (at : Position) × IsNodeAt s.node (config_of s.options s.master) d at)
+
+-- What a line makes of a session that goes on with the life of its master.
 pub record SessionAnswers (old : Session) (line : LineValue) (new : Session) (answer : Answer) : Type 0 where
   pub number : new.master ≡ old.master
-  pub backups : new.backups ≡ old.backups
+  pub options : new.options ≡ old.options
+  pub used : new.used ≡ old.used
+  pub covers : Stands old → IsCovered new
   pub answers : (config : Config) → config.master ≡ old.master → AnswersLine old.node config line new.node answer
   pub makes : MakesLine old.node line new.node answer
+  pub wills : MakesWill old line new answer
 
--- a session at its start: its master has this configuration and an open head, and nothing is told of it yet
-pub record BeginsSession (config : Config) (s : Session) : Type 0 where
-  pub stands : (d : MasterData) × IsNodeAt s.node config d at_start × (is_open d.head ≡ true)
-  pub number : s.master ≡ config.master
-  pub backups : s.backups ≡ config.backups
+-- what a recovery makes of a session
+pub record SessionRecovers (old : Session) (line : LineValue) (new : Session) (answer : Answer) : Type 0 where
+  pub order : ReplayOrder
+  pub asks : line ≡ Recover order
+  pub options : new.options ≡ old.options
+  pub covers : Stands old → IsCovered new
+  pub numbers : Renumbers old.master old.used new.master new.used
+  pub recovers : Recovers old.node old.options old.master order new.node answer new.master
+
+-- what a line makes of a session
+abbrev pub RunsLine : Session → LineValue → Session → Answer → Type 0
+RunsLine old line new answer = SessionAnswers old line new answer ⊎ SessionRecovers old line new answer
+
+-- A session at its start: master 1 has this configuration, an open head and no keys, and nothing is told of it yet.
+pub record BeginsSession (options : Options) (s : Session) : Type 0 where
+  pub stands : (d : MasterData) × IsNodeAt s.node (config_of options 1) d at_start × (is_open d.head ≡ true)
+      × (d.origin ≡ no_origin)
+  pub number : s.master ≡ 1
+  pub set : s.options ≡ options
+  pub covers : IsCovered s
 
 -- the answer that shows what backups hold
 abbrev pub held_answer : Result (List Holding) AllocError → Answer
@@ -241,9 +374,13 @@ held_answer (Err fault) = Refused NoMemory
 
 -- ---- commands and rolls
 
+-- the same life, with the same records
+abbrev pub LivesSame : MasterData → MasterData → Type 0
+LivesSame d e = (e.origin ≡ d.origin) × (e.history ≡ d.history)
+
 -- the node stands at this position, with the same records
 abbrev pub StaysAt : Node → Config → MasterData → Position → MasterData → Type 0
-StaysAt node config d at e = IsNodeAt node config e at × (e.history ≡ d.history)
+StaysAt node config d at e = IsNodeAt node config e at × LivesSame d e
 
 -- a roll is due or under way, so a test refuses the command, and nothing was done
 abbrev pub WaitsForRoll : Node → Config → Command → Node → Type 0
@@ -260,7 +397,7 @@ Serves old command new None = (config : Config) → WaitsForRoll old config comm
 -- Either a roll was made and the head is open, or the answer tells why not. No record was made.
 abbrev pub MakesRoom : Node → Config → Node → Option Answer → Type 0
 MakesRoom old config new (Some answer) = (d : MasterData) (at : Position) → IsNodeAt old config d at →
-    (e : MasterData) × (next : Position) × IsNodeAt new config e next × (e.history ≡ d.history)
+    (e : MasterData) × (next : Position) × IsNodeAt new config e next × LivesSame d e
     × TellsNoStep config (life_of e) at Roll answer next
 MakesRoom old config new None = (d : MasterData) (at : Position) → IsNodeAt old config d at →
     (e : MasterData) × StaysAt new config d at e × (is_open e.head ≡ true)
@@ -269,7 +406,10 @@ MakesRoom old config new None = (d : MasterData) (at : Position) → IsNodeAt ol
 -- wait.
 pub record AnswersAfterRoll (mid : Session) (line : LineValue) (new : Session) (answer : Answer) : Type 0 where
   pub number : new.master ≡ mid.master
-  pub backups : new.backups ≡ mid.backups
+  pub options : new.options ≡ mid.options
+  pub used : new.used ≡ mid.used
+  pub covers : IsCovered mid → IsCovered new
   pub answers : (old : Node) (config : Config) (command : Command) → command_of line ≡ Some command
       → WaitsForRoll old config command mid.node → AnswersLine old config line new.node answer
   pub lifted : LiftsLimit new.node answer
+  pub will : new.will ≡ mid.will

@@ -3,15 +3,20 @@ use Rattle.std.specs.Prelude.{◌≡◌, ℕ, ◌/◌, ◌%◌, List, [], ◌∷
 use Rattle.std.specs.Prelude.{None as nothing}
 use Rattle.std.specs.List.{flat_map}
 use Rattle.std.specs.Fmt.{decimal, digit_glyph}
+use Rattle.std.specs.Int.{w64, to_be_bytes}
 use Rattle.std.specs.Io.KnownBytes.{Appends}
 use Rattle.entry.specs.declared.entry.Object.{Object}
 use Rattle.replica.specs.declared.holding.Holding.{Holding}
+use Rattle.replica.specs.declared.op.TakeFault.{TakeFault}
+use Rattle.replica.specs.declared.op.TakeFault.TheVariants as take_fault
 use Rattle.replay.specs.declared.rebuilt.Rebuilt.{Rebuilt}
 use Rattle.recovery.specs.Texts.{recovery_fault_text}
 use Rattle.versioned_map.specs.declared.command.Reply.{Reply}
 use Rattle.versioned_map.specs.declared.command.Reply.TheVariants as reply
 use Rattle.master_core.specs.declared.config.ConfigFault.{ConfigFault}
 use Rattle.master_core.specs.Names.{refusal_text, config_fault_name}
+use Rattle.tablet_will.specs.declared.part.Part.{Part}
+use Rattle.tablet_will.specs.Parts.{partitions_of}
 use Rattle.script.specs.declared.answer.Answer.{Answer}
 use Rattle.script.specs.declared.answer.Answer.TheVariants as answer
 use Rattle.script.specs.declared.fault.ScriptFault.{ScriptFault}
@@ -67,6 +72,26 @@ holding_text h =
     decimal h.backup ++ 32 ∷ decimal h.master ++ 32 ∷ decimal h.segment ++ 32 ∷ decimal (length h.bytes)
     ++ state_text h.is_open
 
+-- the name of a fault
+abbrev pub take_fault_text : TakeFault → List ℕ
+take_fault_text take_fault.NoMemory = codes "NoMemory"
+take_fault_text take_fault.Wrong = codes "Wrong"
+take_fault_text take_fault.Fault = codes "Fault"
+take_fault_text take_fault.Spent = codes "Spent"
+
+-- a place as 16 hexadecimal digits
+abbrev pub place_text : ℕ → List ℕ
+place_text place = flat_map hex_digits (to_be_bytes w64 place)
+
+-- table, first and last place, and partition
+abbrev pub part_text : Part → List ℕ
+part_text q =
+    decimal q.table ++ 32 ∷ place_text q.first ++ 32 ∷ place_text q.last ++ 32 ∷ decimal q.partition ++ 10 ∷ []
+
+-- a line for each part, in order, and a line with the number of partitions
+abbrev pub will_text : List Part → List ℕ
+will_text qs = flat_map part_text qs ++ codes "partitions " ++ decimal (partitions_of qs) ++ 10 ∷ []
+
 -- ---- answers
 
 abbrev pub answer_text : Answer → List ℕ
@@ -96,8 +121,12 @@ answer_text (answer.Freed segment backup) = op_text (codes "freed ") segment bac
 answer_text (answer.Cleaned survivor head) = op_text (codes "cleaned ") survivor head
 answer_text (answer.Log ids) = log_text ids
 answer_text (answer.Room used free) = room_text used free
+answer_text (answer.Will parts limits) = will_text parts
+answer_text (answer.BadLimits limits) = codes "refused BadLimits" ++ 10 ∷ []
 answer_text (answer.Holdings hs) = flat_map holding_text hs
 answer_text answer.Down = codes "refused Down" ++ 10 ∷ []
+answer_text (answer.NotRetired fault) = codes "refused " ++ take_fault_text fault ++ 10 ∷ []
+answer_text answer.NumbersSpent = codes "refused NumbersSpent" ++ 10 ∷ []
 answer_text answer.Up = codes "refused Up" ++ 10 ∷ []
 
 -- ---- faults of a run

@@ -1,5 +1,5 @@
 -- What the lines of a script tell of a master's life.
-use Rattle.std.specs.Prelude.{◌≡◌, ◌⊎◌, ◌↔◌, ℕ, suc, ◌≤◌, List, [], ◌∷◌, map, take, length, Bool, true, false, Option, Some, None, Result, Ok, Err, slice_get}
+use Rattle.std.specs.Prelude.{◌≡◌, ◌⊎◌, ◌↔◌, ℕ, suc, ◌<◌, ◌≤◌, List, ◌∷◌, map, take, length, Bool, true, false, Option, Some, None, Result, Ok, Err, slice_get}
 use Rattle.std.specs.List.Sorted.{IsStrictlySortedBy}
 use Rattle.std.specs.Option.{option_map}
 use Rattle.entry.specs.declared.entry.Object.{Object}
@@ -7,7 +7,8 @@ use Rattle.entry.specs.Meaning.{IsMeaning, among, contents_of}
 use Rattle.entry.specs.Order.{key_cmp}
 use Rattle.entry.specs.Text.{text_of}
 use Rattle.lines.specs.Grammar.{LineValue, Idle, Put, New, Cas, Get, Del, Compact, Roll, BeginRoll, Push, Log, Room, Hex, Stop, Crash}
-use Rattle.lines.specs.Grammar.{Lose, Recover, Holdings, Clean, Begin, Copy, Seal, Free}
+use Rattle.lines.specs.Grammar.{Lose, Will, Recover, Holdings, Clean, Begin, Copy, Seal, Free}
+use Rattle.lines.specs.declared.line.ReplayOrder.{ReplayOrder}
 use Rattle.replica.specs.Choice.{Choice, IsShownChoice, bag_of}
 use Rattle.entry.specs.Bag.{IsAmong}
 use Rattle.replica.specs.declared.holding.Holding.{Holding}
@@ -18,7 +19,7 @@ use Rattle.versioned_map.specs.declared.command.Command.TheVariants as command
 use Rattle.versioned_map.specs.declared.command.If.TheVariants.{Any, Absent, Version}
 use Rattle.versioned_map.specs.declared.command.Reply.{Reply}
 use Rattle.versioned_map.specs.History.{commands_of}
-use Rattle.versioned_map.specs.Versioned.{after}
+use Rattle.versioned_map.specs.Versioned.{after, IsSafeAfter}
 use Rattle.master_core.specs.declared.config.Config.{Config}
 use Rattle.master_core.specs.declared.step.Refusal.{Refusal}
 use Rattle.master_core.specs.declared.step.Refusal.TheVariants as refusal
@@ -39,6 +40,11 @@ use Rattle.recovery.specs.Recovered.{IsLossOrMemory, IsWant}
 use Rattle.script.specs.declared.answer.Answer.{Answer}
 use Rattle.script.specs.declared.answer.Answer.TheVariants as answer
 use Rattle.script.specs.Lives.{Life, life_to, HasLived, Left, is_left, IsLeftBy, IsLeftBySpent, IsHomeBy}
+use Rattle.replay.specs.Adopting.{DeclinesList}
+use Rattle.tablet_will.specs.declared.part.Part.{Part}
+use Rattle.tablet_will.specs.Sizes.{are_limits}
+use Rattle.script.specs.declared.will.Limits.{Limits}
+use Rattle.script.specs.Wills.{IsWillOf}
 use Rattle.script.specs.Cleans.{Cleans}
 use Rattle.script.specs.Rolls.{PushesUntil, Rolls}
 
@@ -187,6 +193,7 @@ abbrev pub shows : LineValue → Bool
 shows (Hex segment) = true
 shows Log = true
 shows Holdings = true
+shows Will = true
 shows _ = false
 
 -- a master that has lived this life has this digest in force
@@ -209,6 +216,19 @@ abbrev pub AreHeldAt : Config → Life → Option Left → List Holding → Type
 AreHeldAt config life None hs = (d : MasterData) × (f : FleetState) × HasLived config life d f × AreHeld hs f.picture
 AreHeldAt config life (Some l) hs = AreLeft config l hs
 
+-- ---- wills
+
+-- the will of the objects of the versioned map after this life
+abbrev pub IsWillAt : Config → Life → Limits → List Part → Type 0
+IsWillAt config life limits parts =
+    IsWillOf config.tablets (after life.opening (commands_of life.history)).contents limits parts
+
+-- the answer to the line `will` is of these limits
+abbrev pub HasLimits : Limits → Answer → Type 0
+HasLimits limits (answer.Will parts under) = under ≡ limits
+HasLimits limits (answer.BadLimits under) = under ≡ limits
+HasLimits limits _ = Unit {0}
+
 -- ---- images
 
 -- a master that has lived this life has this image of the segment
@@ -218,11 +238,13 @@ IsImageAt config life segment image = (d : MasterData) × (f : FleetState) × Ha
 
 -- ---- recovered tables
 
--- the objects are those of the versioned map after this many records, sorted by table and then by key bytes
+-- The objects are those of the versioned map after this many records, sorted by table and then by key bytes. The safe
+-- version is above each version that a key had until then.
 pub record IsTableAfter (life : Life) (count : ℕ) (r : Rebuilt) : Type 0 where
   pub within : count ≤ length life.history
   pub exactly : contents_of r.objects ≡ (after life.opening (take count (commands_of life.history))).contents
   pub order : IsStrictlySortedBy key_cmp (map (λ (o : Object). o.key) r.objects)
+  pub safe : IsSafeAfter life.opening (take count (commands_of life.history)) r.safe
 
 -- the table is that after a prefix of the lines' records, and the prefix has each acknowledged one
 abbrev pub IsRecoveredAt : Life → Position → Rebuilt → Type 0
@@ -233,6 +255,29 @@ IsRecoveredAt life at r =
 abbrev pub IsOfLeft : Config → Left → Rebuilt → Type 0
 IsOfLeft config l r = (c : Choice) × IsShownChoice (survivors (is_left l.lost) (shown_by l.picture)) config.master c
     × IsMeaning (among (bag_of c)) (contents_of r.objects)
+
+-- the line asks for a recovery, in some order
+abbrev pub IsRecover : LineValue → Type 0
+IsRecover line = (order : ReplayOrder) × (line ≡ Recover order)
+
+-- a recovery of what is left gives this table
+abbrev pub IsFoundAt : Config → Life → Position → Left → Rebuilt → Type 0
+IsFoundAt config life at l r = IsRecoveredAt life at r × IsOfLeft config l r
+
+-- the same configuration, for a master with a greater number
+abbrev pub IsNextConfig : Config → Config → Type 0
+IsNextConfig old new = (old.master < new.master) × (new ≡ record old { master = new.master })
+
+-- a master of this configuration doesn't adopt the table, over some fleet
+abbrev pub IsListDeclined : Config → Rebuilt → Refusal → Type 0
+IsListDeclined config table r = (before after : FleetState) × DeclinesList config table before r after
+
+-- The table was recovered, and no master adopted it, for this refusal. What is left of the old master stays.
+abbrev pub IsUnadopted : Config → Life → Position → LineValue → Refusal → Position → Type 0
+IsUnadopted config life at line r next = IsRecover line × ((l : Left) × (at.left ≡ Some l)
+    × (table : Rebuilt) × IsFoundAt config life at l table
+    × (new : Config) × IsNextConfig config new × IsListDeclined new table r)
+    × (next ≡ at)
 
 -- what the refusal names is lost, or memory ran out; if the backups that are left have head and segments, memory did
 abbrev pub IsLossOf : Config → Left → RecoveryFault → Type 0
@@ -259,6 +304,7 @@ is_for_master Seal = true
 is_for_master Free = true
 is_for_master Log = true
 is_for_master Room = true
+is_for_master Will = true
 is_for_master (Hex segment) = true
 is_for_master Crash = true
 is_for_master _ = false
@@ -266,17 +312,19 @@ is_for_master _ = false
 -- the line works only while there is no master
 abbrev pub is_for_none : LineValue → Bool
 is_for_none (Lose backup) = true
-is_for_none Recover = true
+is_for_none (Recover order) = true
 is_for_none _ = false
 
--- What the answer of a line tells, if the script stands at this position, and the position after it.
+-- What the answer of a line tells that goes on with a life, if the script stands at this position in it, and the position
+-- after it.
 abbrev pub Tells : Config → Life → Position → LineValue → Answer → Position → Type 0
 Tells config life at line answer.Silent next = (line ≡ Idle) × (next ≡ at)
 Tells config life at line (answer.Reply reply) next = (at.left ≡ None) × IsReplied life at line reply next
 Tells config life at line (answer.Refused r) next =
     ((at.left ≡ None)
     × (IsRefused config life at line r next ⊎ TellsNoStep config life at line (answer.Refused r) next))
-    ⊎ ((r ≡ refusal.NoMemory) × (shows line ≡ true) × (next ≡ at))
+    ⊎ (((r ≡ refusal.NoMemory) × (shows line ≡ true) × (next ≡ at))
+    ⊎ ((r ≡ refusal.Spent → ⊥) × IsUnadopted config life at line r next))
 Tells config life at line (answer.Head id) next = (at.left ≡ None) × (line ≡ Roll)
     × IsRollAt config (life_to life at.made) (Ok id) × (next ≡ at)
 Tells config life at line (answer.Opening id) next = (at.left ≡ None) × (line ≡ BeginRoll)
@@ -312,6 +360,10 @@ Tells config life at line (answer.Log ids) next = (at.left ≡ None) × (line �
     × IsDigestAt config (life_to life at.made) ids × (next ≡ at)
 Tells config life at line (answer.Room used free) next = (at.left ≡ None) × (line ≡ Room)
     × IsRoomAt config (life_to life at.made) used free × (next ≡ at)
+Tells config life at line (answer.Will parts limits) next = (at.left ≡ None) × (line ≡ Will)
+    × IsWillAt config (life_to life at.made) limits parts × (next ≡ at)
+Tells config life at line (answer.BadLimits limits) next = (at.left ≡ None) × (line ≡ Will)
+    × (are_limits limits.bytes limits.objects ≡ false) × (next ≡ at)
 Tells config life at line (answer.Holdings hs) next = (line ≡ Holdings)
     × AreHeldAt config (life_to life at.made) at.left hs × (next ≡ at)
 Tells config life at line (answer.Hex bytes) next = (at.left ≡ None)
@@ -320,9 +372,10 @@ Tells config life at line (answer.Hex bytes) next = (at.left ≡ None)
 Tells config life at line (answer.NotInLog segment) next = (at.left ≡ None)
     × (line ≡ Hex segment) × IsImageAt config (life_to life at.made) segment None × (next ≡ at)
 Tells config life at line (answer.Stop takes) next = (line ≡ Stop takes) × (next ≡ at)
-Tells config life at line answer.Stopped next = (at.left ≡ None)
+Tells config life at line answer.Stopped next = ((at.left ≡ None)
     × (l : Left) × IsLeftBySpent config (life_to life next.made) l
-    × (IsOut at line (Some l) next ⊎ (IsIn life at line (Some l) next ⊎ IsStepOut at line l next))
+    × (IsOut at line (Some l) next ⊎ (IsIn life at line (Some l) next ⊎ IsStepOut at line l next)))
+    ⊎ IsUnadopted config life at line refusal.Spent next
 Tells config life at line answer.Crashed next = (at.left ≡ None) × (line ≡ Crash)
     × (l : Left) × IsLeftBy config (life_to life at.made) l
     × (next ≡ record { made = at.made; acknowledged = at.acknowledged; left = Some l })
@@ -332,16 +385,13 @@ Tells config life at line (answer.Lost backup) next = (line ≡ Lose backup) × 
       acknowledged = at.acknowledged;
       left = Some (record { picture = l.picture; lost = backup ∷ l.lost });
     })
-Tells config life at line (answer.Recovered r) next = (line ≡ Recover)
-    × (l : Left) × (at.left ≡ Some l) × IsRecoveredAt life at r × IsOfLeft config l r × (next ≡ at)
-Tells config life at line (answer.NotRecovered fault) next = (line ≡ Recover)
+-- a table that was recovered and adopted begins another life
+Tells config life at line (answer.Recovered r) next = ⊥
+Tells config life at line (answer.NotRetired fault) next = ⊥
+Tells config life at line (answer.NotRecovered fault) next = IsRecover line
     × (l : Left) × (at.left ≡ Some l) × IsLossOf config l fault × (next ≡ at)
+Tells config life at line answer.NumbersSpent next = IsRecover line
+    × ((l : Left) × (at.left ≡ Some l)) × (next ≡ at)
 Tells config life at line answer.Down next =
     ((l : Left) × (at.left ≡ Some l)) × (is_for_master line ≡ true) × (next ≡ at)
 Tells config life at line answer.Up next = (at.left ≡ None) × (is_for_none line ≡ true) × (next ≡ at)
-
--- the lines, in order, tell of one life
-abbrev pub AreTelling : Config → Life → Position → List Told → Position → Type 0
-AreTelling config life at [] last = last ≡ at
-AreTelling config life at (t ∷ ts) last =
-    (next : Position) × Tells config life at t.line t.answer next × AreTelling config life next ts last

@@ -10,7 +10,7 @@ use Rattle.script.specs.declared.session.LineFault.{LineFault}
 use Rattle.script.specs.declared.session.LineFault.TheVariants as line_fault
 use Rattle.script.specs.declared.session.Session.{Session}
 use Rattle.script.specs.Runs.{IsOfFleet, IsTakenLine, IsBadLine, RunResult}
-use Rattle.script.specs.Served.{SessionAnswers}
+use Rattle.script.specs.Served.{RunsLine}
 use Rattle.script.specs.Texts.{answer_text}
 
 -- what a reader has left or a writer holds, if that is known
@@ -33,8 +33,8 @@ RefusesLine backups line line_fault.NoMemory = Unit {0}
 pub record RunsText (old : Session) (text : List ℕ) (new : Session) (answer : Answer) : Type 0 where
   pub line : LineValue
   pub says : Says text line
-  pub of_fleet : IsOfFleet old.backups line
-  pub answers : SessionAnswers old line new answer
+  pub of_fleet : IsOfFleet old.options.backups line
+  pub runs : RunsLine old line new answer
 
 -- the line of a text was run, and its answer was written
 abbrev pub AnswersText : Session → List ℕ → Session → Known → Known → Type 0
@@ -50,7 +50,7 @@ IsPrinted held holds answer (Err e) = e ≡ fault.WriteFailed
 abbrev pub PrintsText : Session → Session → List ℕ → ℕ → Known → Known → RunResult → Type 0
 PrintsText old new text number held holds (Ok done) = AnswersText old text new held holds
 PrintsText old new text number held holds (Err (fault.BadLine n)) =
-    (n ≡ number) × ((line : LineValue) → Says text line → IsOfFleet old.backups line → ⊥) × Keeps held holds
+    (n ≡ number) × ((line : LineValue) → Says text line → IsOfFleet old.options.backups line → ⊥) × Keeps held holds
 PrintsText old new text number held holds (Err fault.ReadFailed) = ⊥
 PrintsText old new text number held holds (Err fault.WriteFailed) = (answer : Answer) × RunsText old text new answer
 PrintsText old new text number held holds (Err fault.NoMemory) = Keeps held holds
@@ -66,7 +66,7 @@ TakesTurn old new number had left held holds (Ok false) =
     × AnswersText old text new held holds)
     ⊎ (Consumes had left [] × IsAtEnd left × Keeps held holds)
 TakesTurn old new number had left held holds (Err (fault.BadLine n)) =
-    (n ≡ number) × (bad : List ℕ) × Consumes had left bad × IsBadLine old.backups number bad left × Keeps held holds
+    (n ≡ number) × (bad : List ℕ) × Consumes had left bad × IsBadLine old.options.backups number bad left × Keeps held holds
 TakesTurn old new number had left held holds (Err fault.ReadFailed) =
     (part : List ℕ) × Consumes had left part × IsLineText part × Keeps held holds
 TakesTurn old new number had left held holds (Err fault.WriteFailed) =

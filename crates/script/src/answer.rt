@@ -1,18 +1,22 @@
 //! What a line answers, and its text.
 
-ghost use Rattle.std.specs.Prelude.{◌≤◌, ◌++◌, ◌∷◌, [], length, OnOk};
+ghost use Rattle.std.specs.Prelude.{◌≡◌, ◌≤◌, ◌++◌, ◌∷◌, [], codes, length, OnOk};
 ghost use Rattle.std.specs.Fmt.{decimal};
 ghost use Rattle.std.specs.Io.KnownBytes.{Appends};
-ghost use Rattle.script.specs.Texts.{answer_text, hex_text, object_text, rebuilt_text, reply_text};
+ghost use Rattle.tablet_will.specs.Parts.{partitions_of};
+ghost use Rattle.script.specs.Texts.{answer_text, hex_digits, hex_text, object_text, rebuilt_text, reply_text};
+ghost use Rattle.script.specs.Texts.{part_text, place_text, will_text, take_fault_text};
 ghost use Rattle.script.specs.Texts.{op_text, log_text, room_text, spaced_text, holding_text};
 ghost use Rattle.std.specs.List.{flat_map};
 
+use crate::will::Limits;
 use entry::{Object, Row, Value, Version};
 use itoa::write_digits;
 use master::{Refusal, Reply};
 use recovery::{Rebuilt, RecoveryFault};
-use replica::{Bytes, Holding, Inventory};
+use replica::{Bytes, Holding, Inventory, TakeFault};
 use std::io::{self, Write};
+use tablet_will::Part;
 
 /// What a line of a script answers.
 #[derive(Drop)]
@@ -34,6 +38,10 @@ pub enum Answer {
     Lost(u64),
     Recovered(Rebuilt),
     NotRecovered(RecoveryFault),
+    /// The table was adopted, but the replicas of other masters weren't all freed. The new master was dropped.
+    NotRetired(TakeFault),
+    /// Nothing was recovered: no master can have a greater number.
+    NumbersSpent,
     /// The number of the head, which is open.
     Head(u64),
     /// The number of the next head: a roll to it began.
@@ -64,6 +72,10 @@ pub enum Answer {
     Log(Row<u64>),
     /// How many seglets of memory are counted, and how many are free.
     Room(u64, u64),
+    /// The parts of the will that was made and handed over, and the limits of its partitions.
+    Will(Row<Part>, Limits),
+    /// No will was made: a partition may have no byte, or no object.
+    BadLimits(Limits),
     /// What the backups hold.
     Holdings(Inventory),
     /// The line was refused: there is no master.
@@ -91,6 +103,8 @@ pub fn write_answer<W: Write>(writer: &mut W, answer: &Answer) -> io::Result<()>
         Answer::Lost(backup) => write_number(writer, b"lost ", *backup, b'\n'),
         Answer::Recovered(rebuilt) => write_rebuilt(writer, rebuilt),
         Answer::NotRecovered(fault) => writeln!(writer, "refused {fault}"),
+        Answer::NotRetired(fault) => write_take_fault(writer, *fault),
+        Answer::NumbersSpent => writer.write_all(b"refused NumbersSpent\n"),
         Answer::Head(id) => write_number(writer, b"head ", *id, b'\n'),
         Answer::Opening(id) => write_number(writer, b"opening ", *id, b'\n'),
         Answer::Compacted(segment, len) => write_op(writer, b"compacted ", *segment, *len),
@@ -106,6 +120,8 @@ pub fn write_answer<W: Write>(writer: &mut W, answer: &Answer) -> io::Result<()>
         Answer::Cleaned(survivor, head) => write_op(writer, b"cleaned ", *survivor, *head),
         Answer::Log(ids) => write_log(writer, ids.as_slice()),
         Answer::Room(used, free) => write_room(writer, *used, *free),
+        Answer::Will(parts, _) => write_will(writer, parts.as_slice()),
+        Answer::BadLimits(_) => writer.write_all(b"refused BadLimits\n"),
         Answer::Holdings(inventory) => write_holdings(writer, inventory.as_slice()),
         Answer::Down => writer.write_all(b"refused Down\n"),
         Answer::Up => writer.write_all(b"refused Up\n"),
@@ -122,6 +138,20 @@ fn write_reply<W: Write>(writer: &mut W, reply: &Reply) -> io::Result<()>
         Reply::Ok(version) => write_number(writer, b"ok ", version.get(), b'\n'),
         Reply::Mismatch(None) => writer.write_all(b"mismatch none\n"),
         Reply::Mismatch(Some(version)) => write_number(writer, b"mismatch ", version.get(), b'\n'),
+    }
+}
+
+/// Writes the line of a take's fault.
+#[inline(always)]
+fn write_take_fault<W: Write>(writer: &mut W, fault: TakeFault) -> io::Result<()>
+    ensures { OnOk result (Appends (W.contents writer.old) (W.contents writer.new)
+        (codes "refused " ++ take_fault_text fault ++ 10 ∷ [])) }
+{
+    match fault {
+        TakeFault::NoMemory => writer.write_all(b"refused NoMemory\n"),
+        TakeFault::Wrong => writer.write_all(b"refused Wrong\n"),
+        TakeFault::Fault => writer.write_all(b"refused Fault\n"),
+        TakeFault::Spent => writer.write_all(b"refused Spent\n"),
     }
 }
 
@@ -175,10 +205,56 @@ fn write_short<W: Write>(writer: &mut W, number: u64, value: &[u8]) -> io::Resul
 fn write_hex<W: Write>(writer: &mut W, bytes: &[u8]) -> io::Result<()>
     ensures { OnOk result (Appends (W.contents writer.old) (W.contents writer.new) (hex_text bytes.now)) }
 {
+    write_hex_bytes(writer, bytes)?;
+    writer.write_all(b"\n")
+}
+
+/// Writes two digits for each byte.
+fn write_hex_bytes<W: Write>(writer: &mut W, bytes: &[u8]) -> io::Result<()>
+    ensures { OnOk result (Appends (W.contents writer.old) (W.contents writer.new) (flat_map hex_digits bytes.now)) }
+{
     for byte in bytes {
         write!(writer, "{byte:02x}")?;
     }
-    writer.write_all(b"\n")
+    Ok(())
+}
+
+/// Writes a place as 16 hexadecimal digits, and a space.
+fn write_place<W: Write>(writer: &mut W, place: u64) -> io::Result<()>
+    ensures { OnOk result (Appends (W.contents writer.old) (W.contents writer.new) (place_text place ++ 32 ∷ [])) }
+{
+    write_hex_bytes(writer, &place.to_be_bytes())?;
+    writer.write_all(b" ")
+}
+
+/// Writes the line of a part.
+fn write_part<W: Write>(writer: &mut W, part: &Part) -> io::Result<()>
+    ensures { OnOk result (Appends (W.contents writer.old) (W.contents writer.new) (part_text part.now)) }
+{
+    write_number(writer, b"", part.table, b' ')?;
+    write_place(writer, part.first)?;
+    write_place(writer, part.last)?;
+    write_number(writer, b"", part.partition as u64, b'\n')
+}
+
+/// Writes a line for each part of a will, in order, and a line with the number of partitions.
+fn write_will<W: Write>(writer: &mut W, parts: &[Part]) -> io::Result<()>
+    ensures { OnOk result (Appends (W.contents writer.old) (W.contents writer.new) (will_text parts.now)) }
+{
+    for part in parts {
+        write_part(writer, part)?;
+    }
+    write_number(writer, b"partitions ", count_partitions(parts), b'\n')
+}
+
+/// How many partitions the parts have.
+fn count_partitions(parts: &[Part]) -> u64
+    ensures { result ≡ partitions_of parts.now }
+{
+    match parts {
+        [] => 0,
+        [.., part] => part.partition as u64 + 1,
+    }
 }
 
 /// Writes a line of words and two numbers: those of an op's backup and segment, for example.

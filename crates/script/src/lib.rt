@@ -6,10 +6,12 @@ mod cleaning;
 mod fault;
 mod node;
 mod program;
+mod recovering;
 mod running;
 mod session;
 mod setup;
 mod whole_pass;
+mod will;
 
 pub use answer::{Answer, write_answer};
 pub use backup::{MemoryBackup, MemoryFleet};
@@ -22,3 +24,4 @@ pub use recovery::{
 };
 pub use running::run_script;
 pub use setup::configuration;
+pub use will::Limits;

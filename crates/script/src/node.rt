@@ -18,8 +18,8 @@ ghost use Rattle.script.specs.Told.{is_of_push};
 use crate::answer::Answer;
 use backup::MemoryFleet;
 use entry::NoMemory;
+use lines::ReplayOrder;
 use master::{Command, Look, Master, Refusal, Reply, Shown, Step, StepAnswer};
-use recovery::{PlanFault, RecoveryFault, recover};
 use replica::{Bench, Fleet, Inventory};
 use std::alloc::Global;
 use std::mem::replace;
@@ -119,7 +119,7 @@ fn held(inventory: Result<Inventory, NoMemory>) -> Answer
 }
 
 impl Node {
-    ghost use Rattle.lines.specs.Grammar.{Roll, BeginRoll, Compact, Push, Log, Room, Hex, Stop, Crash, Lose, Recover, Holdings};
+    ghost use Rattle.lines.specs.Grammar.{Roll, BeginRoll, Compact, Push, Log, Room, Hex, Stop, Crash, Lose, Holdings};
 
     /// Applies a command, and pushes until its record is durable. It answers `None`, and does nothing, if the command
     /// has to wait for a roll.
@@ -177,7 +177,7 @@ impl Node {
     }
 
     /// Drops the master of a node that is up. The fleet stays as it is.
-    fn drop_master(&mut self)
+    pub(crate) fn drop_master(&mut self)
         requires { is_up self.old ≡ true }
         ensures left { IsDropped self.old self.new }
         ensures fleet { fleet_of self.new ≡ fleet_of self.old }
@@ -357,21 +357,5 @@ impl Node {
         };
         fleet.lose(backup);
         Answer::Lost(backup)
-    }
-
-    /// Recovers the table of the master with this number.
-    pub fn recover(&self, alloc: Global, master: u64) -> Answer
-        ensures { (config : Config) → config.master ≡ master → AnswersLine self.now config Recover self.now result }
-    {
-        let Node::Down(fleet) = self else {
-            return Answer::Up;
-        };
-        match fleet.inventory(alloc) {
-            Ok(inventory) => match recover(alloc, &inventory, master) {
-                Ok(rebuilt) => Answer::Recovered(rebuilt),
-                Err(fault) => Answer::NotRecovered(fault),
-            },
-            Err(NoMemory) => Answer::NotRecovered(RecoveryFault::Plan(PlanFault::NoMemory)),
-        }
     }
 }

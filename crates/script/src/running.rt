@@ -2,11 +2,11 @@
 
 ghost use Rattle.std.specs.Prelude.{◌≡◌, None};
 ghost use Rattle.master_core.specs.Config.{config_fault};
-ghost use Rattle.master_core.specs.declared.config.Config.{Config};
+ghost use Rattle.command_line.specs.declared.settings.Options.{Options as OptionsValue};
 ghost use Rattle.lines.specs.Reading.{IsLineText};
 ghost use Rattle.script.specs.Configuration.{config_of};
 ghost use Rattle.script.specs.Runs.{RunsScript};
-ghost use Rattle.script.specs.Served.{BeginsSession};
+ghost use Rattle.script.specs.Served.{BeginsSession, Stands};
 ghost use Rattle.script.specs.Turns.{IsNoMore, IsPrinted, PrintsText, TakesTurn};
 
 use crate::answer::{Answer, write_answer};
@@ -25,7 +25,7 @@ pub fn run_script<R: BufRead, W: Write>(
     options: Options,
 ) -> Result<(), ScriptFault>
     requires { config_fault (config_of options 1) ≡ None }
-    // The lines tell of one legal history. Exactly their answers were written. A bad line is named.
+    // The lines tell of one legal life after another. Exactly their answers were written. A bad line is named.
     ensures { RunsScript (config_of options 1) (R.remaining reader.old) (R.remaining reader.new)
         (W.contents writer.old) (W.contents writer.new) result }
 {
@@ -42,8 +42,9 @@ fn run_and_flush<R: BufRead, W: Write>(
     writer: &mut W,
     session: &mut Session,
 ) -> Result<(), ScriptFault>
-    ensures { (config : Config) → BeginsSession config session.old →
-        RunsScript config (R.remaining reader.old) (R.remaining reader.new)
+    requires { (options : OptionsValue) × BeginsSession options session.old }
+    ensures { (options : OptionsValue) → BeginsSession options session.old →
+        RunsScript (config_of options 1) (R.remaining reader.old) (R.remaining reader.new)
         (W.contents writer.old) (W.contents writer.new) result }
 {
     let ran = run_lines(alloc, reader, writer, session);
@@ -61,8 +62,9 @@ fn run_lines<R: BufRead, W: Write>(
     writer: &mut W,
     session: &mut Session,
 ) -> Result<(), ScriptFault>
-    ensures { (config : Config) → BeginsSession config session.old →
-        RunsScript config (R.remaining reader.old) (R.remaining reader.new)
+    requires { (options : OptionsValue) × BeginsSession options session.old }
+    ensures { (options : OptionsValue) → BeginsSession options session.old →
+        RunsScript (config_of options 1) (R.remaining reader.old) (R.remaining reader.new)
         (W.contents writer.old) (W.contents writer.new) result }
 {
     let mut text = Vec::new(alloc);
@@ -84,6 +86,7 @@ fn run_next<R: BufRead, W: Write>(
     session: &mut Session,
     number: u64,
 ) -> Result<bool, ScriptFault>
+    requires { Stands session.old }
     ensures { TakesTurn session.old session.new number (R.remaining reader.old) (R.remaining reader.new)
         (W.contents writer.old) (W.contents writer.new) result }
 {
@@ -110,7 +113,8 @@ fn run_text<W: Write>(
     text: &[u8],
     number: u64,
 ) -> Result<(), ScriptFault>
-    requires { IsLineText text.now }
+    requires text { IsLineText text.now }
+    requires stands { Stands session.old }
     ensures { PrintsText session.old session.new text.now number
         (W.contents writer.old) (W.contents writer.new) result }
 {

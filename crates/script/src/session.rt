@@ -1,26 +1,32 @@
 //! What a script drives: a fleet, and the master over it if there is one.
 
-ghost use Rattle.std.specs.Prelude.{◌≡◌, ◌≤◌, length, None, Some, IfOk, IfErr, IsSome};
-ghost use Rattle.lines.specs.Grammar.{Begin, Clean, IsKeyWord, IsLine, shown_line};
+ghost use Rattle.std.specs.Prelude.{◌≡◌, ◌≤◌, ℕ, List, length, None, Some, IfOk, IfErr, IsSome};
+ghost use Rattle.lines.specs.Grammar.{Begin, Clean, Recover, IsKeyWord, IsLine, shown_line};
+ghost use Rattle.lines.specs.Grammar.{Will as WillLine};
 ghost use Rattle.lines.specs.Numbers.{numbers_of};
 ghost use Rattle.master_core.specs.Config.{config_fault};
-ghost use Rattle.master_core.specs.declared.config.Config.{Config};
+ghost use Rattle.recovery.specs.Orders.{NamesGroups};
+ghost use Rattle.replica.specs.declared.holding.Holding.{Holding as HoldingValue};
 ghost use Rattle.script.specs.Configuration.{config_of};
 ghost use Rattle.script.specs.declared.session.LineFault.TheVariants as line_fault;
 ghost use Rattle.script.specs.Runs.{IsOfFleet};
-ghost use Rattle.script.specs.Served.{AnswersAfterRoll, BeginsSession, SessionAnswers};
+ghost use Rattle.script.specs.Served.{AnswersAfterRoll, BeginsSession, RunsLine, SessionAnswers, SessionRecovers, Stands};
 ghost use Rattle.script.specs.Told.{command_of};
 ghost use Rattle.script.specs.Turns.{HasValue, RefusesLine};
+ghost use Rattle.tablet_will.specs.declared.part.Part.{Part as PartValue};
 
 use crate::answer::Answer;
 use crate::node::{Node, push_all};
-use crate::setup::configuration;
+use crate::setup::{configuration, whole_will};
+use crate::will::Limits;
 use backup::MemoryFleet;
 use command_line::Options;
 use entry::{Key, KeyFault, MAX_VALUE_LEN, NoMemory, Row, Value};
-use lines::{Line, Numbers};
+use lines::{Line, Numbers, ReplayOrder};
 use master::{Command, If, Master, Refusal};
+use recovery::{GroupOrder, PlanFault, RecoveryFault};
 use std::alloc::Global;
+use tablet_will::Will;
 
 /// Why a line was not run.
 #[derive(Clone, Copy)]
@@ -44,10 +50,13 @@ pub(crate) const FIRST_MASTER: u64 = 1;
 #[derive(Drop)]
 pub struct Session {
     alloc: Global,
-    /// How many backups there are.
-    backups: u64,
-    /// The number of the master, which a recovery asks for.
+    options: Options,
+    /// The number of the master that a recovery is for.
     master: u64,
+    /// The greatest number that a master had, or was to have.
+    used: u64,
+    /// The coordinator's will: by which partitions a recovery divides the master's log.
+    will: Will,
     node: Node,
 }
 
@@ -55,10 +64,11 @@ impl Session {
     /// Makes an empty fleet, and a master over it with an open head.
     pub fn start(alloc: Global, options: &Options) -> Result<Session, NoMemory>
         requires { config_fault (config_of options.now 1) ≡ None }
-        ensures { IfOk result (BeginsSession (config_of options.now 1)) }
+        ensures { IfOk result (BeginsSession options.now) }
     {
         let fleet = MemoryFleet::new(alloc, options.backups)?;
         let config = configuration(alloc, options, FIRST_MASTER)?;
+        let will = whole_will(alloc, options)?;
         let mut master = match Master::new(alloc, config, fleet) {
             Ok(master) => master,
             Err((fault, _)) => return Err(fault),
@@ -70,8 +80,10 @@ impl Session {
         master.show_valid();
         Ok(Session {
             alloc,
-            backups: options.backups,
+            options: *options,
             master: FIRST_MASTER,
+            used: FIRST_MASTER,
+            will,
             node: Node::Up(master),
         })
     }
@@ -81,9 +93,10 @@ impl Session {
     pub fn run_line(&mut self, line: Line<'_>) -> Result<Answer, LineFault>
         requires line { IsLine (shown_line line) }
         requires value { HasValue (shown_line line) }
-        ensures ran { IfOk result (λ answer. SessionAnswers self.old (shown_line line.entry) self.new answer) }
-        ensures of_fleet { IfOk result (λ _. IsOfFleet self.old.backups (shown_line line.entry)) }
-        ensures refused { IfErr result (RefusesLine self.old.backups (shown_line line.entry)) }
+        requires stands { Stands self.old }
+        ensures ran { IfOk result (λ answer. RunsLine self.old (shown_line line.entry) self.new answer) }
+        ensures of_fleet { IfOk result (λ _. IsOfFleet self.old.options.backups (shown_line line.entry)) }
+        ensures refused { IfErr result (RefusesLine self.old.options.backups (shown_line line.entry)) }
     {
         match line {
             Line::Idle => Ok(Answer::Silent),
@@ -95,9 +108,10 @@ impl Session {
             Line::Hex { segment } => Ok(self.node.hex(segment)),
             Line::Stop { takes } => Ok(self.node.stop(takes)),
             Line::Crash => Ok(self.node.crash()),
-            Line::Lose { backup } if backup >= self.backups => Err(LineFault::Bad),
+            Line::Lose { backup } if backup >= self.options.backups => Err(LineFault::Bad),
             Line::Lose { backup } => Ok(self.node.lose(backup)),
-            Line::Recover => Ok(self.node.recover(self.alloc, self.master)),
+            Line::Will => Ok(self.run_will()),
+            Line::Recover { order } => Ok(self.run_recover(order)),
             Line::Roll => Ok(self.node.roll()),
             Line::BeginRoll => Ok(self.node.begin_roll()),
             Line::Compact { segment } => Ok(self.node.compact(segment)),
@@ -111,6 +125,47 @@ impl Session {
             Line::Room => Ok(self.node.room()),
             Line::Holdings => Ok(self.node.holdings(self.alloc)),
         }
+    }
+
+    /// Runs the line that makes the coordinator's will anew of the live objects.
+    fn run_will(&mut self) -> Answer
+        ensures { SessionAnswers self.old WillLine self.new result }
+    {
+        let limits = Limits {
+            bytes: self.options.bytes,
+            objects: self.options.objects,
+        };
+        self.node.will(self.alloc, limits, &mut self.will)
+    }
+
+    /// Runs the line that recovers what the master left. From the end of an adoption on, the new master is the one that a
+    /// recovery is for, and the will is one partition again.
+    fn run_recover(&mut self, order: ReplayOrder) -> Answer
+        requires stands { Stands self.old }
+        ensures { SessionRecovers self.old (Recover order) self.new result }
+    {
+        if let Node::Up(_) = self.node {
+            return Answer::Up;
+        }
+        // Once a master has adopted the table, nothing may fail that the session needs.
+        let Ok(whole) = whole_will(self.alloc, &self.options) else {
+            return Answer::NotRecovered(RecoveryFault::Plan(PlanFault::NoMemory));
+        };
+        let groups = groups_in(order);
+        let recovery = self.node.recover(
+            self.alloc,
+            &self.options,
+            self.master,
+            self.used,
+            &self.will,
+            &groups,
+        );
+        self.used = recovery.used;
+        if recovery.master != self.master {
+            self.master = recovery.master;
+            self.will = whole;
+        }
+        recovery.answer
     }
 
     /// Runs the line that begins to clean these segments.
@@ -166,6 +221,16 @@ impl Session {
             Some(answer) => Ok(answer),
             None => Ok(Answer::Refused(Refusal::Rolling)),
         }
+    }
+}
+
+/// The order of the groups that a line asks for. It has each group once.
+fn groups_in(order: ReplayOrder) -> GroupOrder
+    ensures { (hs : List HoldingValue) (master : ℕ) (will : List PartValue) → NamesGroups hs master will result }
+{
+    match order {
+        ReplayOrder::Forward => GroupOrder::Forward,
+        ReplayOrder::Reverse => GroupOrder::Reverse,
     }
 }
 

@@ -1,12 +1,15 @@
 //! From the command line to a master's configuration.
 
-ghost use Rattle.std.specs.Prelude.{◌≡◌, ◌<◌, IfOk, OnErr};
+ghost use Rattle.std.specs.Prelude.{◌≡◌, ◌<◌, None, IfOk, OnErr};
+ghost use Rattle.master_core.specs.Config.{config_fault};
+ghost use Rattle.recovery.specs.Orders.{Covers};
 ghost use Rattle.script.specs.Configuration.{config_of, tables_to};
 
 use command_line::Options;
 use entry::{NoMemory, Tablet, Tablets};
 use master::Config;
 use std::alloc::Global;
+use tablet_will::{Will, WillFault, make_will};
 
 /// The tables from 1 to `count`, each as one whole tablet.
 fn tables(alloc: Global, count: u64) -> Result<Vec<Tablet>, NoMemory>
@@ -41,4 +44,19 @@ pub fn configuration(alloc: Global, options: &Options, master: u64) -> Result<Co
         tablets: Tablets::new(tablets),
         history: options.history,
     })
+}
+
+/// The will that is one partition over all tablets of the options.
+pub(crate) fn whole_will(alloc: Global, options: &Options) -> Result<Will, NoMemory>
+    requires { config_fault (config_of options.now 1) ≡ None }
+    ensures { IfOk result (Covers (tables_to options.now.tables)) }
+{
+    let tablets = tables(alloc, options.tables)?;
+    match make_will(alloc, tablets.as_slice(), &[], u64::MAX, u64::MAX) {
+        Ok(will) => Ok(will),
+        Err(WillFault::NoMemory) => Err(NoMemory),
+        Err(WillFault::BadTablets) => unreachable!(),
+        Err(WillFault::BadLimits) => unreachable!(),
+        Err(WillFault::StraySize) => unreachable!(),
+    }
 }

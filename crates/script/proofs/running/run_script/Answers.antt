@@ -1,4 +1,3 @@
-use Rattle.script.specs.Configuration.{config_of}
 use Rattle.script.proofs.Turning.{begins_not}
 use Rattle.script.proofs.running.run_script.Goals as goal
 
@@ -6,4 +5,4 @@ pub returns-in_default : goal.returns-in_default
 returns-in_default g c = begins_not _ _ _
 
 pub returns : goal.returns
-returns g c = c.run_and_flush.ensures (config_of c.args.options 1) c.in-Ok.ensures
+returns g c = c.run_and_flush.ensures c.args.options c.in-Ok.ensures

@@ -11,7 +11,7 @@ returns-in-Ok g c =
       line = shown_line c.in-Some.line;
       says = c.in-Some.ensures.sound;
       of_fleet = c.in-Ok.ensures.of_fleet;
-      answers = c.in-Ok.ensures.ran;
+      runs = c.in-Ok.ensures.ran;
     })
     c.print.ensures
 

@@ -1,25 +1,65 @@
+use Rattle.std.proofs.Common.{inl, inr, refl, sym, subst, arith}
+use Rattle.std.specs.Prelude.{None}
 use Rattle.lines.specs.Grammar.{Recover}
-use Rattle.recovery.specs.declared.recovery.RecoveryFault.TheVariants as fault
-use Rattle.recovery_plan.specs.declared.fault.PlanFault.TheVariants as plan_fault
-use Rattle.script.specs.declared.answer.Answer.TheVariants as answer
+use Rattle.lines.specs.declared.line.ReplayOrder.TheVariants.{Forward}
+use Rattle.script.specs.declared.node.Node.{Node}
+use Rattle.script.specs.declared.node.Node.TheVariants.{Down}
+use Rattle.script.specs.Configuration.{config_of}
+use Rattle.script.specs.Served.{AnswersLine, IsOf}
+use Rattle.script.proofs.NextLife.{cut_told, declined_told, has_backups, recovered_told}
 use Rattle.script.proofs.Standing.{stays_told}
-use Rattle.script.proofs.WhatIsLeft.{rebuilt_told, loss_told, want_told}
 use Rattle.script.proofs.node.Node.recover.Goals as goal
 
-pub returns-in-Ok-recover : goal.returns-in-Ok-recover
-returns-in-Ok-recover c = λ config number.
-    let r = c.in-Ok-recover in
-    stays_told c.args.self.now config Recover (answer.Recovered r.rebuilt)
-    (λ d at s. rebuilt_told c.args.self.now c.in-Down.fleet config d at c.in-Down.is s c.in-Ok.inventory c.args.master number c.in-Ok.ensures.shown
-    r.rebuilt r.ensures.ok r.ensures.rebuilt)
+pub returns-in-Err-clause-recovers : goal.returns-in-Err-clause-recovers
+returns-in-Err-clause-recovers c = λ order.
+    let old = config_of c.args.options.now c.args.master in
+    inl (
+      refl,
+      subst (λ (n : Node). AnswersLine n old (Recover order) (Down c.in-Down.fleet) c.in-Err.answer) (sym c.in-Down.is)
+          (stays_told (Down c.in-Down.fleet) old (Recover order) c.in-Err.answer (c.in-Err.ensures.none order)),
+    )
 
-pub returns-in-Ok : goal.returns-in-Ok
-returns-in-Ok c = λ config number.
-    let e = c.in-Err-recover in
-    stays_told c.args.self.now config Recover (answer.NotRecovered e.fault)
-    (λ d at s. loss_told c.args.self.now c.in-Down.fleet config d at c.in-Down.is s c.in-Ok.inventory c.args.master number c.in-Ok.ensures.shown
-    e.fault e.ensures.refused)
+pub adopt-requires-clause-fleet : goal.adopt-requires-clause-fleet
+adopt-requires-clause-fleet c =
+    let s = c.requires.stands in
+    let found = c.in-Ok.ensures.found in (
+      c.in-Down.fleet,
+      refl,
+      has_backups c.in-Down.fleet c.args.options.now c.args.master c.in-Ok.found.rebuilt c.in-Ok.found.config found c.args.self.now
+          c.in-Down.is Forward s.0 s.1 s.2,
+      found.unused,
+    )
 
-pub returns : goal.returns
-returns c = λ config number.
-    stays_told c.args.self.now config Recover (answer.NotRecovered (fault.Plan plan_fault.NoMemory)) (λ d at s. want_told c.args.self.now c.in-Down.fleet config d at c.in-Down.is s)
+pub returns-in-Some-clause-recovers : goal.returns-in-Some-clause-recovers
+returns-in-Some-clause-recovers c = λ order.
+    inl (
+      refl,
+      declined_told c.in-Down.fleet c.args.options.now c.args.master c.in-Ok.found.rebuilt c.in-Ok.found.config c.in-Ok.ensures.found
+          c.args.self.now c.in-Down.is order c.adopt.new.self c.in-Some.answer (c.in-Some.ensures c.in-Down.fleet refl),
+    )
+
+pub returns-in-None-clause-recovers : goal.returns-in-None-clause-recovers
+returns-in-None-clause-recovers c = λ order.
+    let a = c.in_default-adopt.ensures c.in-Down.fleet refl in
+    inr (recovered_told c.in-Down.fleet c.args.options.now c.args.master c.in-Ok.found.rebuilt c.in-Ok.found.config c.in-Ok.ensures.found
+    c.args.self.now c.in-Down.is order a.0.knows a.2 c.retire.new.self
+    (c.in-None.ensures a.0.knows (subst (λ (n : Node). IsOf n None a.0.knows) (sym a.1) (refl, refl, a.3))))
+
+pub returns-in-Some-retire-clause-recovers : goal.returns-in-Some-retire-clause-recovers
+returns-in-Some-retire-clause-recovers c = λ order.
+    let a = c.in_default-adopt.ensures c.in-Down.fleet refl in
+    inr (cut_told c.in-Down.fleet c.args.options.now c.args.master c.in-Ok.found.rebuilt c.in-Ok.found.config c.in-Ok.ensures.found
+    c.args.self.now c.in-Down.is order a.0.knows a.2 c.retire.new.self c.in-Some-retire.answer
+    (c.in-Some-retire.ensures a.0.knows (subst (λ (n : Node). IsOf n None a.0.knows) (sym a.1) (refl, refl, a.3))))
+
+pub returns-in-Err-clause-numbers : goal.returns-in-Err-clause-numbers
+returns-in-Err-clause-numbers c = record { rises = omega arith; fresh = inl refl }
+
+pub returns-in-Some-clause-numbers : goal.returns-in-Some-clause-numbers
+returns-in-Some-clause-numbers c = let above = c.in-Ok.ensures.fresh in record { rises = omega arith; fresh = inl refl }
+
+pub returns-in-None-clause-numbers : goal.returns-in-None-clause-numbers
+returns-in-None-clause-numbers c = let above = c.in-Ok.ensures.fresh in record { rises = omega arith; fresh = inr (above, omega arith) }
+
+pub returns-in-Some-retire-clause-numbers : goal.returns-in-Some-retire-clause-numbers
+returns-in-Some-retire-clause-numbers c = let above = c.in-Ok.ensures.fresh in record { rises = omega arith; fresh = inr (above, omega arith) }

@@ -26,7 +26,7 @@ returns-clause-told c = λ config.
       | in-Down w ↦ rw w.self-is (same_told c.args.self.now (Down w.limit-in-Down.new.self) config (Stop c.args.takes) (answer.Stop c.args.takes)
           (λ d left of.
           let was : IsOf (Down w.in-Down.fleet) left d = subst (λ (n : Node). IsOf n left d) w.in-Down.is of in
-          (was.0, was.1, same_picture d was.0 (fleet_state w.in-Down.fleet) (fleet_state w.limit-in-Down.new.self) (ap (λ (f : FleetState). f.picture) w.limit-in-Down.ensures) was.2))
+          (was.0, was.1, same_picture d was.0 (fleet_state w.in-Down.fleet) (fleet_state w.limit-in-Down.new.self) (ap (λ (f : FleetState). f.picture) w.limit-in-Down.ensures) (ap (λ (f : FleetState). f.backups) w.limit-in-Down.ensures) was.2))
           (λ d at s. (refl, refl)))
       | in-Changing w ↦ λ d at s. absurd (subst (λ (n : Node). IsOf n at.left d) w.in-Changing.is s.node_of)
     ]

@@ -8,25 +8,34 @@ use Rattle.script.proofs.session.Session.run_after_roll.Goals as goal
 pub returns-in-Some-clause-ran : goal.returns-in-Some-clause-ran
 returns-in-Some-clause-ran c = record {
   number = refl;
-  backups = refl;
+  options = refl;
+  used = refl;
+  covers = λ all. all;
   answers = λ old config command asks waits. no_room_told old _ _ config (shown_line c.args.line) command c.in-Some.answer asks waits (c.in-Some.ensures.told config);
   lifted = c.in-Some.ensures.lifted;
+  will = refl;
 }
 
 pub returns-in-Some-serve-clause-ran : goal.returns-in-Some-serve-clause-ran
 returns-in-Some-serve-clause-ran c = record {
   number = refl;
-  backups = refl;
+  options = refl;
+  used = refl;
+  covers = λ all. all;
   answers = λ old config command asks waits. room_told old _ _ _ config (shown_line c.args.line) command c.in-Some-serve.answer waits (c.in_default.ensures.told config)
       (c.in-Some-serve.ensures.told config (shown_line c.args.line) c.in_ok-command.ensures);
   lifted = c.in-Some-serve.ensures.lifted;
+  will = refl;
 }
 
 pub returns-in-None-clause-ran : goal.returns-in-None-clause-ran
 returns-in-None-clause-ran c = record {
   number = refl;
-  backups = refl;
+  options = refl;
+  used = refl;
+  covers = λ all. all;
   answers = λ old config command asks waits. room_told old _ _ _ config (shown_line c.args.line) command (Refused Rolling) waits (c.in_default.ensures.told config)
       (rolling_told _ _ config (shown_line c.args.line) c.in_ok-command.command c.in_ok-command.ensures (c.in-None.ensures.told config));
   lifted = tt;
+  will = refl;
 }

@@ -2,14 +2,18 @@ use Rattle.std.proofs.Common.{refl}
 use Rattle.std.proofs.lemmas.Result.{IfOk-weaker}
 use Rattle.lines.specs.Grammar.{shown_line}
 use Rattle.script.proofs.Steps.{command_makes}
+use Rattle.script.proofs.Willed.{command_keeps}
 use Rattle.script.proofs.session.Session.run_command.Goals as goal
 
 pub returns-in-Some-clause-ran : goal.returns-in-Some-clause-ran
 returns-in-Some-clause-ran c = record {
   number = refl;
-  backups = refl;
+  options = refl;
+  used = refl;
+  covers = λ all. all.0;
   answers = λ config number. c.in-Some.ensures.told config (shown_line c.args.line) c.in_ok-command.ensures;
   makes = command_makes _ (shown_line c.args.line) _ c.in-Some.answer c.in-Some.ensures.lifted c.requires.command;
+  wills = command_keeps c.args.self.now (shown_line c.args.line) (record c.args.self.now { node = c.serve.new.self }) c.in-Some.answer refl c.requires.command;
 }
 
 pub returns-in-None-clause-ran : goal.returns-in-None-clause-ran
@@ -17,8 +21,11 @@ returns-in-None-clause-ran c =
     IfOk-weaker c.run_after_roll.result _ _
     (λ answer ran. record {
       number = ran.number;
-      backups = ran.backups;
+      options = ran.options;
+      used = ran.used;
+      covers = λ all. ran.covers all.0;
       answers = λ config number. ran.answers c.args.self.now.node config c.in_ok-command.command c.in_ok-command.ensures (c.in-None.ensures.told config);
       makes = command_makes _ (shown_line c.args.line) _ answer ran.lifted c.requires.command;
+      wills = command_keeps c.args.self.now (shown_line c.args.line) c.run_after_roll.new.self answer ran.will c.requires.command;
     })
     c.run_after_roll.ensures.ran

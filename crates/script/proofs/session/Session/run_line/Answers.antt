@@ -1,53 +1,56 @@
-use Rattle.std.proofs.Common.{refl}
+use Rattle.std.proofs.Common.{inl, inr, refl}
 use Rattle.lines.specs.Grammar.{Idle}
 use Rattle.script.specs.declared.answer.Answer.TheVariants.{Silent}
 use Rattle.script.proofs.Standing.{stays_told}
 use Rattle.script.proofs.session.Session.run_line.Goals as goal
 
 pub returns-in-Idle-clause-ran : goal.returns-in-Idle-clause-ran
-returns-in-Idle-clause-ran c = rw c.in-Idle.is (record { number = refl; backups = refl; answers = λ config number. stays_told c.args.self.now.node config Idle Silent (λ d at s. (refl, refl)); makes = λ some. absurd (cc) })
+returns-in-Idle-clause-ran c = rw c.in-Idle.is (inl (record { number = refl; options = refl; used = refl; covers = λ all. all.0; answers = λ config number. stays_told c.args.self.now.node config Idle Silent (λ d at s. (refl, refl)); makes = λ some. absurd (cc); wills = refl }))
 
 pub returns-in-Hex-clause-ran : goal.returns-in-Hex-clause-ran
-returns-in-Hex-clause-ran c = rw c.in-Hex.is (record { number = refl; backups = refl; answers = λ config number. c.hex.ensures config; makes = λ some. absurd (cc) })
+returns-in-Hex-clause-ran c = rw c.in-Hex.is (inl (record { number = refl; options = refl; used = refl; covers = λ all. all.0; answers = λ config number. c.hex.ensures config; makes = λ some. absurd (cc); wills = refl }))
 
 pub returns-in-Stop-clause-ran : goal.returns-in-Stop-clause-ran
-returns-in-Stop-clause-ran c = rw c.in-Stop.is (record { number = refl; backups = refl; answers = λ config number. c.stop.ensures.told config; makes = λ some. absurd (cc) })
+returns-in-Stop-clause-ran c = rw c.in-Stop.is (inl (record { number = refl; options = refl; used = refl; covers = λ all. all.0; answers = λ config number. c.stop.ensures.told config; makes = λ some. absurd (cc); wills = refl }))
 
 pub returns-in-Crash-clause-ran : goal.returns-in-Crash-clause-ran
-returns-in-Crash-clause-ran c = rw c.in-Crash.is (record { number = refl; backups = refl; answers = λ config number. c.crash.ensures.told config; makes = λ some. absurd (cc) })
+returns-in-Crash-clause-ran c = rw c.in-Crash.is (inl (record { number = refl; options = refl; used = refl; covers = λ all. all.0; answers = λ config number. c.crash.ensures.told config; makes = λ some. absurd (cc); wills = refl }))
 
 pub returns-in-Lose-2-clause-ran : goal.returns-in-Lose-2-clause-ran
-returns-in-Lose-2-clause-ran c = rw c.in-Lose-2.is (record { number = refl; backups = refl; answers = λ config number. c.lose.ensures.told config; makes = λ some. absurd (cc) })
+returns-in-Lose-2-clause-ran c = rw c.in-Lose-2.is (inl (record { number = refl; options = refl; used = refl; covers = λ all. all.0; answers = λ config number. c.lose.ensures.told config; makes = λ some. absurd (cc); wills = refl }))
 
 pub returns-in-Recover-clause-ran : goal.returns-in-Recover-clause-ran
-returns-in-Recover-clause-ran c = rw c.in-Recover.is (record { number = refl; backups = refl; answers = c.recover.ensures; makes = λ some. absurd (cc) })
+returns-in-Recover-clause-ran c = rw c.in-Recover.is (inr c.run_recover.ensures)
 
 pub returns-in-Roll-clause-ran : goal.returns-in-Roll-clause-ran
-returns-in-Roll-clause-ran c = rw c.in-Roll.is (record { number = refl; backups = refl; answers = λ config number. c.roll.ensures.told config; makes = c.roll.ensures.rolled })
+returns-in-Roll-clause-ran c = rw c.in-Roll.is (inl (record { number = refl; options = refl; used = refl; covers = λ all. all.0; answers = λ config number. c.roll.ensures.told config; makes = c.roll.ensures.rolled; wills = refl }))
 
 pub returns-in-BeginRoll-clause-ran : goal.returns-in-BeginRoll-clause-ran
-returns-in-BeginRoll-clause-ran c = rw c.in-BeginRoll.is (record { number = refl; backups = refl; answers = λ config number. c.begin_roll.ensures.told config; makes = c.begin_roll.ensures.stepped })
+returns-in-BeginRoll-clause-ran c = rw c.in-BeginRoll.is (inl (record { number = refl; options = refl; used = refl; covers = λ all. all.0; answers = λ config number. c.begin_roll.ensures.told config; makes = c.begin_roll.ensures.stepped; wills = refl }))
 
 pub returns-in-Compact-clause-ran : goal.returns-in-Compact-clause-ran
-returns-in-Compact-clause-ran c = rw c.in-Compact.is (record { number = refl; backups = refl; answers = λ config number. c.compact.ensures.told config; makes = c.compact.ensures.stepped })
+returns-in-Compact-clause-ran c = rw c.in-Compact.is (inl (record { number = refl; options = refl; used = refl; covers = λ all. all.0; answers = λ config number. c.compact.ensures.told config; makes = c.compact.ensures.stepped; wills = refl }))
 
 pub returns-in-Push-clause-ran : goal.returns-in-Push-clause-ran
-returns-in-Push-clause-ran c = rw c.in-Push.is (record { number = refl; backups = refl; answers = λ config number. c.push.ensures.told config; makes = c.push.ensures.stepped })
+returns-in-Push-clause-ran c = rw c.in-Push.is (inl (record { number = refl; options = refl; used = refl; covers = λ all. all.0; answers = λ config number. c.push.ensures.told config; makes = c.push.ensures.stepped; wills = refl }))
 
 pub returns-in-Log-clause-ran : goal.returns-in-Log-clause-ran
-returns-in-Log-clause-ran c = rw c.in-Log.is (record { number = refl; backups = refl; answers = λ config number. c.log.ensures config; makes = λ some. absurd (cc) })
+returns-in-Log-clause-ran c = rw c.in-Log.is (inl (record { number = refl; options = refl; used = refl; covers = λ all. all.0; answers = λ config number. c.log.ensures config; makes = λ some. absurd (cc); wills = refl }))
 
 pub returns-in-Room-clause-ran : goal.returns-in-Room-clause-ran
-returns-in-Room-clause-ran c = rw c.in-Room.is (record { number = refl; backups = refl; answers = λ config number. c.room.ensures config; makes = λ some. absurd (cc) })
+returns-in-Room-clause-ran c = rw c.in-Room.is (inl (record { number = refl; options = refl; used = refl; covers = λ all. all.0; answers = λ config number. c.room.ensures config; makes = λ some. absurd (cc); wills = refl }))
 
 pub returns-in-Holdings-clause-ran : goal.returns-in-Holdings-clause-ran
-returns-in-Holdings-clause-ran c = rw c.in-Holdings.is (record { number = refl; backups = refl; answers = λ config number. c.holdings.ensures config; makes = λ some. absurd (cc) })
+returns-in-Holdings-clause-ran c = rw c.in-Holdings.is (inl (record { number = refl; options = refl; used = refl; covers = λ all. all.0; answers = λ config number. c.holdings.ensures config; makes = λ some. absurd (cc); wills = refl }))
 
 pub returns-in-Copy-clause-ran : goal.returns-in-Copy-clause-ran
-returns-in-Copy-clause-ran c = rw c.in-Copy.is (record { number = refl; backups = refl; answers = λ config number. c.copy.ensures.told config; makes = c.copy.ensures.stepped })
+returns-in-Copy-clause-ran c = rw c.in-Copy.is (inl (record { number = refl; options = refl; used = refl; covers = λ all. all.0; answers = λ config number. c.copy.ensures.told config; makes = c.copy.ensures.stepped; wills = refl }))
 
 pub returns-in-Seal-clause-ran : goal.returns-in-Seal-clause-ran
-returns-in-Seal-clause-ran c = rw c.in-Seal.is (record { number = refl; backups = refl; answers = λ config number. c.seal.ensures.told config; makes = c.seal.ensures.stepped })
+returns-in-Seal-clause-ran c = rw c.in-Seal.is (inl (record { number = refl; options = refl; used = refl; covers = λ all. all.0; answers = λ config number. c.seal.ensures.told config; makes = c.seal.ensures.stepped; wills = refl }))
 
 pub returns-in-Free-clause-ran : goal.returns-in-Free-clause-ran
-returns-in-Free-clause-ran c = rw c.in-Free.is (record { number = refl; backups = refl; answers = λ config number. c.free.ensures.told config; makes = c.free.ensures.stepped })
+returns-in-Free-clause-ran c = rw c.in-Free.is (inl (record { number = refl; options = refl; used = refl; covers = λ all. all.0; answers = λ config number. c.free.ensures.told config; makes = c.free.ensures.stepped; wills = refl }))
+
+pub returns-in-Will-clause-ran : goal.returns-in-Will-clause-ran
+returns-in-Will-clause-ran c = rw c.in-Will.is (inl c.run_will.ensures)

@@ -1,6 +1,35 @@
-use Rattle.std.proofs.Common.{ap}
+use Rattle.std.proofs.Common.{◌≡◌, true, List, [], ◌++◌, length, refl, sym, ap, ◌∙◌, arith}
+use Rattle.log_head.specs.Head.{is_open}
+use Rattle.master_core.specs.Data.{MasterData}
+use Rattle.versioned_map.specs.declared.command.Record.{Record}
+use Rattle.script.proofs.Standing.{ok_of_no_err}
 use Rattle.replica.specs.Picture.{FleetState}
 use Rattle.script.proofs.session.Session.start.Goals as goal
 
 pub new-requires-2-clause-none : goal.new-requires-2-clause-none
 new-requires-2-clause-none c = λ b s. ap (λ (f : FleetState). f.picture b c.in_ok-config.config.master s) c.in_ok-fleet.ensures
+
+pub returns : goal.returns
+returns c =
+    let m = c.push_all.new.master in
+    let new = c.in-Ok.ensures.made.0 in
+    let on = c.push_all.ensures.goes_on in
+    let config = c.in_ok-config.ensures.config in
+    let open_now : is_open m.knows.head ≡ true =
+    ok_of_no_err c.push_all.result (is_open m.knows.head ≡ true) (sym c.is_err.ensures.value ∙ c.if-is_err.false) c.push_all.ensures.open in
+    record {
+      stands = (
+        m.knows,
+        record {
+          node_of = (refl, refl, c.show_valid.ensures);
+          configured = on.config ∙ ap (λ (d : MasterData). d.config) new ∙ config;
+          made = ap (λ (h : List Record). length h) (sym (on.history ∙ ap (λ (d : MasterData). d.history ++ []) new));
+          acknowledged = omega arith;
+        },
+        open_now,
+        on.origin ∙ ap (λ (d : MasterData). d.origin) new,
+      );
+      number = refl;
+      set = refl;
+      covers = c.in_ok-will.ensures;
+    }

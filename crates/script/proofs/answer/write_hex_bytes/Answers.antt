@@ -2,7 +2,7 @@ use Rattle.std.proofs.Common.{false, rules}
 use Rattle.std.proofs.lemmas.Fmt.{hex_byte}
 use Rattle.script.specs.Texts.{hex_digits}
 use Rattle.script.proofs.Printed.{one_printed}
-use Rattle.script.proofs.answer.write_hex.Goals as goal
+use Rattle.script.proofs.answer.write_hex_bytes.Goals as goal
 
 pub loop-byte-preserved : goal.loop-byte-preserved
 loop-byte-preserved g c =

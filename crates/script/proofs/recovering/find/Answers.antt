@@ -1,0 +1,56 @@
+use Rattle.std.proofs.Common.{◌≡◌, ℕ, suc, max, List, refl, sym, ap, subst, ◌∙◌, arith}
+use Rattle.backup.specs.State.{fleet_state}
+use Rattle.lines.specs.Grammar.{Recover}
+use Rattle.master_core.specs.declared.config.Config.{Config}
+use Rattle.replica.specs.declared.holding.Holding.{Holding}
+use Rattle.script.specs.declared.answer.Answer.{Answer}
+use Rattle.script.specs.declared.node.Node.TheVariants.{Down}
+use Rattle.script.specs.Configuration.{config_of}
+use Rattle.script.specs.Numbers.{greatest_of}
+use Rattle.script.specs.Served.{life_of}
+use Rattle.script.specs.Told.{Tells}
+use Rattle.script.proofs.NextLife.{next_unused}
+use Rattle.script.proofs.WhatIsLeft.{loss_told, table_found, want_told}
+use Rattle.script.proofs.recovering.find.Goals as goal
+
+pub returns-in-Err-clause-none : goal.returns-in-Err-clause-none
+returns-in-Err-clause-none c = λ order d at s.
+    let old = config_of c.args.options.now c.args.master in
+    subst (λ (a : Answer). Tells old (life_of d) at (Recover order) a at) (sym c.want.ensures) (want_told (Down c.args.fleet.now) c.args.fleet.now old d at refl s order)
+
+pub returns-in-Err-recover-clause-none : goal.returns-in-Err-recover-clause-none
+returns-in-Err-recover-clause-none c = λ order d at s.
+    let e = c.in-Err-recover in
+    loss_told (Down c.args.fleet.now) c.args.fleet.now (config_of c.args.options.now c.args.master) d at refl s c.in-Ok.inventory c.args.master refl
+    c.in-Ok.ensures.shown e.fault c.args.will.now c.args.order.now e.ensures.refused c.requires.covers (c.requires.order c.in-Ok.inventory) order
+
+pub returns-in-Ok-configuration-clause-found : goal.returns-in-Ok-configuration-clause-found
+returns-in-Ok-configuration-clause-found c =
+    let r = c.in-Ok-recover in
+    let is = c.in-Ok-configuration.ensures.config in
+    let number : c.in-Ok-configuration.config.master ≡ c.in-Some.number = ap (λ (k : Config). k.master) is in
+    let least : c.max_of.result ≡ max c.args.master c.args.used = c.max_of.ensures in
+    let next : c.in-Some.number ≡ suc (max c.max_of.result (greatest_of c.in-Ok.inventory)) =
+    subst (λ (hs : List Holding). c.in-Some.number ≡ suc (max c.max_of.result (greatest_of hs))) c.as_slice.ensures c.in-Some.ensures.next in
+    record {
+      table = λ d at s. table_found (Down c.args.fleet.now) c.args.fleet.now (config_of c.args.options.now c.args.master) d at refl s c.in-Ok.inventory
+          c.args.master refl c.in-Ok.ensures.shown r.rebuilt r.ensures.ok c.args.will.now c.args.order.now r.ensures.rebuilt;
+      configured = is ∙ ap (λ (n : ℕ). config_of c.args.options.now n) (sym number);
+      greater = omega arith;
+      unused = next_unused c.in-Ok.inventory (fleet_state c.args.fleet.now).picture c.max_of.result c.in-Ok-configuration.config.master c.in-Ok.ensures.shown
+          (number ∙ next);
+    }
+
+pub returns-clause-none : goal.returns-clause-none
+returns-clause-none c = λ order d at s.
+    let old = config_of c.args.options.now c.args.master in
+    subst (λ (a : Answer). Tells old (life_of d) at (Recover order) a at) (sym c.want-in-Err-configuration.ensures)
+    (want_told (Down c.args.fleet.now) c.args.fleet.now old d at refl s order)
+
+pub returns-in-Ok-configuration-clause-fresh : goal.returns-in-Ok-configuration-clause-fresh
+returns-in-Ok-configuration-clause-fresh c =
+    let is = c.in-Ok-configuration.ensures.config in
+    let number : c.in-Ok-configuration.config.master ≡ c.in-Some.number = ap (λ (k : Config). k.master) is in
+    let least : c.max_of.result ≡ max c.args.master c.args.used = c.max_of.ensures in
+    let next = c.in-Some.ensures.next in
+    omega (arith, number, least, next)

@@ -1,0 +1,225 @@
+//! What a master left is recovered into a new master.
+
+ghost use Rattle.std.specs.Prelude.{◌≡◌, ◌≤◌, ◌<◌, ℕ, List, suc, max, false, true, None, Some, IfOk, IfErr, IfSome, ◌^◌, ◌-◌};
+ghost use Rattle.backup.specs.State.{fleet_state};
+ghost use Rattle.backup.specs.declared.fleet.MemoryFleet.{MemoryFleet as FleetValue};
+ghost use Rattle.master_core.specs.Config.{config_fault};
+ghost use Rattle.master_core.specs.Data.{MasterData};
+ghost use Rattle.script.specs.declared.node.Node.TheVariants.{Up, Down};
+ghost use Rattle.recovery.specs.Orders.{Covers, NamesGroups};
+ghost use Rattle.replica.specs.declared.holding.Holding.{Holding as HoldingValue};
+ghost use Rattle.lines.specs.declared.line.ReplayOrder.{ReplayOrder};
+ghost use Rattle.script.specs.Configuration.{config_of, tables_to};
+ghost use Rattle.script.specs.Numbers.{greatest_of, Renumbers};
+ghost use Rattle.script.specs.Served.{Adopts, FindsNone, IsFoundIn, IsNodeAt, IsOf, Recovers, RetiresOthers, is_up};
+ghost use Rattle.script.specs.Told.{Position};
+
+use crate::answer::Answer;
+use crate::node::Node;
+use crate::setup::configuration;
+use backup::MemoryFleet;
+use command_line::Options;
+use entry::NoMemory;
+use master::{Config, Refusal};
+use recovery::{GroupOrder, PlanFault, Rebuilt, RecoveryFault, recover};
+use replay::adopt_list;
+use replica::{Bench, Holding, TakeFault};
+use std::alloc::Global;
+use std::mem::replace;
+use tablet_will::Will;
+
+/// What came of a recovery.
+#[derive(Drop)]
+pub struct Recovery {
+    pub answer: Answer,
+    /// The number of the master that a later recovery is for.
+    pub master: u64,
+    /// The greatest number that a master had, or was to have.
+    pub used: u64,
+}
+
+/// The table of a master, and the configuration of the one that is to adopt it.
+#[derive(Drop)]
+struct Found {
+    rebuilt: Rebuilt,
+    config: Config,
+}
+
+/// The greater of two numbers.
+fn max_of(a: u64, b: u64) -> u64
+    ensures { result ≡ max a b }
+{
+    if a < b { b } else { a }
+}
+
+/// The least number above this one and above those of all masters in the inventory. None if there is none.
+fn next_number(inventory: &[Holding], master: u64) -> Option<u64>
+    ensures next { IfSome result (λ n. n ≡ suc (max master (greatest_of inventory.now))) }
+    ensures spent { result ≡ None → max master (greatest_of inventory.now) ≡ 2 ^ 64 - 1 }
+{
+    let mut greatest = master;
+    for holding in inventory {
+        if greatest < holding.master {
+            greatest = holding.master;
+        }
+    }
+    if greatest == u64::MAX {
+        return None;
+    }
+    Some(greatest + 1)
+}
+
+/// The answer if a recovery lacks memory before it begins.
+fn want() -> Answer
+    ensures { result ≡ Answer.NotRecovered (RecoveryFault.Plan PlanFault.NoMemory) }
+{
+    Answer::NotRecovered(RecoveryFault::Plan(PlanFault::NoMemory))
+}
+
+/// Recovers the table of the master with this number, and chooses the number of the next master, above all that were
+/// used.
+fn find(
+    alloc: Global,
+    fleet: &MemoryFleet,
+    options: &Options,
+    master: u64,
+    used: u64,
+    will: &Will,
+    order: &GroupOrder,
+) -> Result<Found, Answer>
+    requires covers { Covers (tables_to options.now.tables) will.now }
+    requires order { (hs : List HoldingValue) → NamesGroups hs master will.now order.now }
+    ensures found { IfOk result (λ found. IsFoundIn fleet.now options.now master found.rebuilt found.config) }
+    ensures fresh { IfOk result (λ found. used < found.config.master) }
+    ensures none { IfErr result (FindsNone fleet.now (config_of options.now master)) }
+{
+    let inventory = match fleet.inventory(alloc) {
+        Ok(inventory) => inventory,
+        Err(NoMemory) => return Err(want()),
+    };
+    let rebuilt = match recover(alloc, &inventory, master, will, order) {
+        Ok(rebuilt) => rebuilt,
+        Err(fault) => return Err(Answer::NotRecovered(fault)),
+    };
+    let Some(number) = next_number(inventory.as_slice(), max_of(master, used)) else {
+        return Err(Answer::NumbersSpent);
+    };
+    match configuration(alloc, options, number) {
+        Ok(config) => Ok(Found { rebuilt, config }),
+        Err(NoMemory) => Err(want()),
+    }
+}
+
+impl Node {
+    /// Recovers the table of the master with this number, has the next master adopt it, and frees the replicas of all
+    /// others. The will covers the tablets of the options, and the order names each group of a log once.
+    pub fn recover(
+        &mut self,
+        alloc: Global,
+        options: &Options,
+        master: u64,
+        used: u64,
+        will: &Will,
+        order: &GroupOrder,
+    ) -> Recovery
+        requires covers { Covers (tables_to options.now.tables) will.now }
+        requires order { (hs : List HoldingValue) → NamesGroups hs master will.now order.now }
+        requires stands { (d : MasterData) × (at : Position) × IsNodeAt self.old (config_of options.now master) d at }
+        ensures recovers { (asked : ReplayOrder) → Recovers self.old options.now master asked self.new result.answer result.master }
+        ensures numbers { Renumbers master used result.master result.used }
+    {
+        let Node::Down(fleet) = self else {
+            return Recovery {
+                answer: Answer::Up,
+                master,
+                used,
+            };
+        };
+        let Found { rebuilt, config } = match find(
+            alloc, fleet, options, master, used, will, order,
+        ) {
+            Ok(found) => found,
+            Err(answer) => {
+                return Recovery {
+                    answer,
+                    master,
+                    used,
+                };
+            }
+        };
+        let number = config.master;
+        if let Some(answer) = self.adopt(alloc, &rebuilt, config) {
+            return Recovery {
+                answer,
+                master,
+                used: number,
+            };
+        }
+        match self.retire() {
+            None => Recovery {
+                answer: Answer::Recovered(rebuilt),
+                master: number,
+                used: number,
+            },
+            Some(answer) => Recovery {
+                answer,
+                master: number,
+                used: number,
+            },
+        }
+    }
+
+    /// Makes a master of this configuration that begins with the table. If it can't, it answers why; if the fleet took no
+    /// more ops, it lifts the limit.
+    fn adopt(&mut self, alloc: Global, rebuilt: &Rebuilt, config: Config) -> Option<Answer>
+        requires config { config_fault config ≡ None }
+        requires fleet { (fleet : FleetValue) × (self.old ≡ Down fleet)
+            × (config.backups ≤ (fleet_state fleet).backups)
+            × ((b s : ℕ) → (fleet_state fleet).picture b config.master s ≡ None) }
+        ensures { (fleet : FleetValue) → self.old ≡ Down fleet → Adopts fleet rebuilt.now config self.new result }
+    {
+        let Node::Down(fleet) = replace(self, Node::Changing) else {
+            unreachable!();
+        };
+        match adopt_list(alloc, rebuilt, config, fleet) {
+            Ok(master) => {
+                *self = Node::Up(master);
+                None
+            }
+            Err((refusal, left)) => {
+                let mut left = left;
+                match refusal {
+                    Refusal::Spent => {
+                        left.limit(u64::MAX);
+                        *self = Node::Down(left);
+                        Some(Answer::Stopped)
+                    }
+                    _ => {
+                        *self = Node::Down(left);
+                        Some(Answer::Refused(refusal))
+                    }
+                }
+            }
+        }
+    }
+
+    /// Frees the replicas of all other masters. If that is cut short, it drops the master and answers why.
+    fn retire(&mut self) -> Option<Answer>
+        requires { is_up self.old ≡ true }
+        ensures { (d : MasterData) → IsOf self.old None d → RetiresOthers d self.new result }
+    {
+        let Node::Up(up) = self else {
+            unreachable!();
+        };
+        match up.retire() {
+            Ok(()) => None,
+            Err(fault) => match fault {
+                TakeFault::Spent => Some(self.refuse(Refusal::Spent)),
+                _ => {
+                    self.drop_master();
+                    Some(Answer::NotRetired(fault))
+                }
+            },
+        }
+    }
+}
