@@ -14,7 +14,7 @@ const SCRIPTS: &[(&str, &str)] = &[
     // replicas of segment 1 have the object that the tombstone of segment 2 ends
     (
         "put 1 a x\nroll\ndel 1 a\nroll\ncompact 1\ncompact 2\ncrash\nrecover\ncompact 1\n",
-        "ok 1\nhead 2\nok 1\nhead 3\ncompacted 1 40\ncompacted 2 76\ncrashed\nrecovered 0\nrefused Down\n",
+        "ok 1\nhead 2\nok 1\nhead 3\ncompacted 1 40\ncompacted 2 76\ncrashed\nrecovered 0\nrefused IsHead 1\n",
     ),
     // each refusal, also while a roll is under way; then what memory and replicas have
     (

@@ -108,7 +108,7 @@ fn a_master_is_the_plain_map(rt: HostRuntime) -> Result<(), Fail> {
     let want = texts(rt.alloc(), map.objects())?;
     assert_eq!(rt; meant(rt.alloc(), &master)?.as_slice(), want.as_slice());
     push(&mut master, 2 * ASKS.len());
-    let rebuilt = rebuilt(rt.alloc(), &master.crash()).ok_or("nothing recovered")?;
+    let rebuilt = rebuilt(rt.alloc(), &master.crash())?;
     assert_eq!(rt;
         texts(rt.alloc(), rebuilt.objects.as_slice())?.as_slice(),
         want.as_slice()

@@ -20,7 +20,7 @@ const THREE: &str = "01 0000000000000001 0000000000000003 01";
 const IDS: &[u64] = &[1, 2, 3];
 
 /// The key `a` is put twice; `b` is put and deleted.
-const LOG: &[Log<'static>] = &[
+pub const LOG: &[Log<'static>] = &[
     (ONE, &[(1, "a", 1, Some(b'x')), (1, "b", 2, Some(b'y'))]),
     (
         TWO,
@@ -34,7 +34,7 @@ const LOG: &[Log<'static>] = &[
 ];
 
 /// Version 1 of `a` has two values.
-const CLASHING: &[Log<'static>] = &[
+pub const CLASHING: &[Log<'static>] = &[
     (ONE, &[(1, "a", 1, Some(b'x'))]),
     (TWO, &[(1, "a", 1, Some(b'y'))]),
     (THREE, &[(1, "a", 2, Some(b'z'))]),
@@ -52,7 +52,7 @@ const PLACES: &[u64] = &[
 ];
 
 /// The will of a table in which each of these first places has a partition.
-fn will_of(alloc: Global, table: u64, partitions: usize) -> Result<Will, Fail> {
+pub fn will_of(alloc: Global, table: u64, partitions: usize) -> Result<Will, Fail> {
     let tablet = Tablet {
         table,
         first: 0,

@@ -1,11 +1,11 @@
 //! A master's whole life on a small fleet, and its recovery from the backups that are kept.
 
 use crate::asks::{Ask, steps_of};
-use crate::runs::new_master;
+use crate::runs::{new_master, whole_will};
 use backup::MemoryFleet;
 use entry::Object;
 use master::{If, Step};
-use recovery::{Drill, run_drill};
+use recovery::{Drill, GroupOrder, run_drill};
 use std::alloc::{AllocError, Global};
 use std::fmt::Write;
 use std::str;
@@ -39,18 +39,29 @@ fn write_recovered(text: &mut String, drill: &Drill<MemoryFleet>) -> Result<(), 
     }
 }
 
-/// The result of a drill that keeps these backups.
-fn drill(alloc: Global, steps: &[Step], kept: &[u64]) -> Result<Drill<MemoryFleet>, Fail> {
+/// The result of a drill that keeps these backups, and replays groups in this order.
+fn drill(
+    alloc: Global,
+    steps: &[Step],
+    kept: &[u64],
+    order: &GroupOrder,
+) -> Result<Drill<MemoryFleet>, Fail> {
+    let will = whole_will(alloc)?;
     let master = new_master(alloc)?;
-    match run_drill(alloc, master, steps, kept) {
+    match run_drill(alloc, master, steps, kept, &will, order) {
         Ok(drill) => Ok(drill),
         Err(_) => Err("no memory")?,
     }
 }
 
-/// What a drill that keeps these backups recovers.
-fn recovered(alloc: Global, steps: &[Step], kept: &[u64]) -> Result<String, Fail> {
-    let drill = drill(alloc, steps, kept)?;
+/// What a drill that keeps these backups recovers, whose groups are replayed in this order.
+fn recovered(
+    alloc: Global,
+    steps: &[Step],
+    kept: &[u64],
+    order: &GroupOrder,
+) -> Result<String, Fail> {
+    let drill = drill(alloc, steps, kept, order)?;
     let mut text = String::new(alloc);
     write_recovered(&mut text, &drill)?;
     Ok(text)
@@ -67,8 +78,10 @@ const KEPT: &[(&[u64], &str)] = &[
 fn a_drill_recovers_what_is_left(rt: HostRuntime) -> Result<(), Fail> {
     let steps = steps_of(rt.alloc(), ASKS).ok_or("no steps")?;
     for (kept, want) in KEPT {
-        let recovered = recovered(rt.alloc(), steps.as_slice(), kept)?;
-        assert_eq!(rt; recovered.as_str(), *want, "{kept:?}");
+        let forward = recovered(rt.alloc(), steps.as_slice(), kept, &GroupOrder::Forward)?;
+        let reverse = recovered(rt.alloc(), steps.as_slice(), kept, &GroupOrder::Reverse)?;
+        assert_eq!(rt; forward.as_str(), *want, "{kept:?}");
+        assert_eq!(rt; reverse.as_str(), *want, "{kept:?}");
     }
     Ok(())
 }

@@ -1,9 +1,11 @@
 //! The tests of all crates: vectors of entries and of segments, images in memory, the index, compaction, a pass, the
 //! lines of scripts, ops on backups, heads, wills, replicas that are freed, plans and rebuilt logs from replicas that are
-//! made by hand, runs of masters, masters that are restored, turns of a cleaner, drills, comparisons with the plain
-//! programs, and whole scripts.
+//! made by hand, logs that are rebuilt by wills, runs of masters, masters that are restored, turns of a cleaner, drills,
+//! comparisons with the plain programs, and whole scripts.
 #![tactic(auto)]
 
+#[cfg(test)]
+mod any_order;
 #[cfg(test)]
 mod asks;
 #[cfg(test)]
@@ -29,6 +31,8 @@ mod indexes;
 #[cfg(test)]
 mod lines_of_scripts;
 #[cfg(test)]
+mod live_sizes;
+#[cfg(test)]
 mod loadings;
 #[cfg(test)]
 mod options;
@@ -40,6 +44,8 @@ mod plans;
 mod questions;
 #[cfg(test)]
 mod rebuilds;
+#[cfg(test)]
+mod recovered_scripts;
 #[cfg(test)]
 mod retiring;
 #[cfg(test)]
@@ -56,5 +62,7 @@ mod segments;
 mod turns;
 #[cfg(test)]
 mod vectors;
+#[cfg(test)]
+mod willed_scripts;
 #[cfg(test)]
 mod wills;

@@ -88,8 +88,11 @@ fn write_objects(text: &mut String, rebuilt: &Rebuilt) -> Result<(), AllocError>
 }
 
 /// Writes the objects and the safe version that a plan is rebuilt to, or the fault.
-fn write_rebuilt(alloc: Global, plan: &Plan, text: &mut String) -> Result<(), AllocError> {
-    match &rebuild_plain(alloc, plan) {
+pub fn write_outcome(
+    text: &mut String,
+    outcome: &Result<Rebuilt, ReplayFault>,
+) -> Result<(), AllocError> {
+    match outcome {
         Ok(rebuilt) => write_objects(text, rebuilt),
         Err(fault) => write!(text, "{fault}"),
     }
@@ -147,7 +150,7 @@ fn rebuilt(alloc: Global, used: u64, logs: &[Log<'_>]) -> Result<String, Fail> {
     let safe = Version::new(used).ok_or("no version")?.safe_above();
     let segments = segments_of(alloc, logs)?;
     let mut text = String::new(alloc);
-    write_rebuilt(alloc, &Plan { segments, safe }, &mut text)?;
+    write_outcome(&mut text, &rebuild_plain(alloc, &Plan { segments, safe }))?;
     Ok(text)
 }
 

@@ -2,10 +2,12 @@
 
 use crate::asks::{Ask, steps_of};
 use master::{Config, If, Look, Master, Refusal, Shown, Step, StepAnswer};
+use recovery::GroupOrder;
 use replica::Fleet;
 use script::*;
 use std::alloc::Global;
 use std::test::Fail;
+use tablet_will::{Will, make_will};
 
 /// The configuration that the default options stand for.
 pub fn default_config(alloc: Global) -> Result<Config, Fail> {
@@ -21,6 +23,13 @@ pub fn new_master(alloc: Global) -> Result<Master<MemoryFleet>, Fail> {
         Ok(master) => Ok(master),
         Err(_) => Err("no memory")?,
     }
+}
+
+/// The will of one partition that covers the tablets of the default options.
+pub fn whole_will(alloc: Global) -> Result<Will, Fail> {
+    let config = default_config(alloc)?;
+    let tablets = config.tablets.as_slice();
+    Ok(make_will(alloc, tablets, &[], u64::MAX, u64::MAX)?)
 }
 
 /// What a step did, and its two numbers: backup and segment, segment and length, or place in the history and 0.
@@ -68,9 +77,10 @@ const KINDS: &[Kind] = &[
 ];
 
 /// What master 1 is rebuilt to from this fleet.
-pub fn rebuilt(alloc: Global, fleet: &MemoryFleet) -> Option<Rebuilt> {
-    let inventory = fleet.inventory(alloc).ok()?;
-    recover(alloc, &inventory, 1).ok()
+pub fn rebuilt(alloc: Global, fleet: &MemoryFleet) -> Result<Rebuilt, Fail> {
+    let inventory = fleet.inventory(alloc)?;
+    let will = whole_will(alloc)?;
+    Ok(recover(alloc, &inventory, 1, &will, &GroupOrder::Forward)?)
 }
 
 #[test]
@@ -84,7 +94,7 @@ fn a_run_answers_step_by_step(rt: HostRuntime) -> Result<(), Fail> {
     }
     assert_eq!(rt; (master.durable(), master.history().len()), (2, 2));
     assert!(rt; matches!(&master.look(Look::Image(2)), Ok(Shown::Image(None))));
-    let rebuilt = rebuilt(rt.alloc(), &master.crash()).ok_or("nothing recovered")?;
+    let rebuilt = rebuilt(rt.alloc(), &master.crash())?;
     assert_eq!(rt;
         (rebuilt.objects.as_slice().len(), rebuilt.safe.get()),
         (1, 2)

@@ -69,8 +69,8 @@ const SCRIPTS: &[(&[&str], &str, &str)] = &[
     (
         RAMLOG,
         "# a line that does nothing\n\nput 2 b y\nput 1 b y\nput 1 ab z\nput 1 b w\ncrash\nrecover\nrecover\n",
-        "ok 1\nok 2\nok 3\nok 3\ncrashed\n1 ab 3 z\n1 b 3 w\n2 b 1 y\nrecovered 3\n1 ab 3 z\n\
-        1 b 3 w\n2 b 1 y\nrecovered 3\n",
+        "ok 1\nok 2\nok 3\nok 3\ncrashed\n1 ab 3 z\n1 b 3 w\n2 b 1 y\nrecovered 3\n\
+        refused Up\n",
     ),
     (
         RAMLOG,
@@ -131,9 +131,9 @@ const BAD_LINES: &[(&str, &str, u64)] = &[
     ("put 1 a  x\n", "", 1),
     ("put 1 a x\r\n", "", 1),
     ("put 1 \0 x\n", "", 1),
-    ("get 1 a\nwill\n", "none\n", 2),
+    ("get 1 a\nwills\n", "none\n", 2),
     ("crash\nlose 3\n", "crashed\n", 2),
-    ("crash\n\nrecover reverse\n", "crashed\n", 3),
+    ("crash\n\nrecover backwards\n", "crashed\n", 3),
 ];
 
 #[test]
