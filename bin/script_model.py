@@ -4,14 +4,14 @@
 refusal there are more: the step that met it was not done, and what the line did before it stays.
 
 Images and replicas are bytes, in the spelling of section 2. The master answers from a table that it keeps beside them. A
-recovery reads the replicas' bytes, and nothing else.
+recovery reads the replicas' bytes, and nothing else. The wills of `will` change no other answer: the rebuilt list is the same
+however a log is divided, and in whatever order it is replayed. So a recovery of the model is of the whole log at once.
 """
 
 import re
 from collections import deque
 from dataclasses import dataclass, field, fields, replace
 
-MASTER = 1
 NO_LIMIT = 2**64 - 1
 # What a line prints, and what is written to standard error, if memory was refused.
 REFUSED = "refused NoMemory\n"
@@ -84,6 +84,7 @@ LINES = {
     "log": (),
     "room": (),
     "hex": (number_word,),
+    "will": (),
     "stop": (number_word,),
     "crash": (),
     "lose": (number_word,),
@@ -106,6 +107,8 @@ def parse(line, backups):
         return ("idle",)
     name, *words = line.split(b" ")
     name = name.decode("latin-1")
+    if name == "recover" and words == [b"reverse"]:
+        return (name, "reverse")
     readers = LINES.get(name)
     if readers and readers[-1] is ...:
         # One word or more of the kind.
@@ -121,6 +124,10 @@ def parse(line, backups):
     return (name, *parts)
 
 
+# How the last row begins of the answers with many rows.
+LAST_ROWS = {"recover": ("recovered ", "refused ", "stopped"), "will": ("partitions ", "refused ")}
+
+
 def answers_of(lines, output):
     """Each of these parsed lines with the rows that it printed, as far as the output goes."""
     rows = deque(output.splitlines())
@@ -129,8 +136,8 @@ def answers_of(lines, output):
         if line[0] == "holdings":
             while rows and re.fullmatch(r"([0-9]+ ){4}(open|closed)", rows[0]):
                 answer.append(rows.popleft())
-        elif line[0] == "recover":
-            while rows and not (answer and answer[-1].startswith(("recovered ", "refused "))):
+        elif line[0] in LAST_ROWS:
+            while rows and not (answer and answer[-1].startswith(LAST_ROWS[line[0]])):
                 answer.append(rows.popleft())
         elif line[0] != "idle" and rows:
             answer.append(rows.popleft())
@@ -289,8 +296,8 @@ class Fleet:
     holdings: tuple = ()
     left: int = NO_LIMIT
 
-    def replica(self, backup, segment):
-        return next((it for it in self.holdings if it.name() == (backup, MASTER, segment)), None)
+    def replica(self, backup, master, segment):
+        return next((it for it in self.holdings if it.name() == (backup, master, segment)), None)
 
     def took(self, holding):
         """The fleet after an op that leaves this holding."""
@@ -315,14 +322,23 @@ class Segment:
     units: tuple = ()
 
 
+def spelled(entries):
+    return b"".join(entry.spelled() for entry in entries)
+
+
+def is_too_big(it, options):
+    """Whether a key and a value have more bytes than may be put, whether the key is present or not."""
+    return 50 + 2 * len(it.key) + len(it.value) > options.segment // 4
+
+
 def seglets(segment, options):
     """How many seglets the image of a segment fills, the last one perhaps in part."""
     return -(-len(segment.text) // options.seglet)
 
 
-def new_head(ids, safe):
+def new_head(master, ids, safe):
     """A head with the last of these ids, that has nothing but its opening."""
-    return Segment(ids[-1], Header(MASTER, ids[-1], 0).spelled() + Digest(ids).spelled() + Safe(safe).spelled())
+    return Segment(ids[-1], Header(master, ids[-1], 0).spelled() + Digest(ids).spelled() + Safe(safe).spelled())
 
 
 @dataclass(frozen=True)
@@ -360,11 +376,12 @@ class Pass:
 
 @dataclass(frozen=True)
 class Master:
+    number: int
     # By id. The last is the head or, while a roll is under way, the head that is being opened.
-    segments: tuple = (new_head((1,), 1),)
+    segments: tuple
+    safe: int
     is_rolling: bool = True
     records: int = 0
-    safe: int = 1
     # The first id that no segment had yet.
     next: int = 2
     cleaning: Pass = None
@@ -373,6 +390,11 @@ class Master:
     freed: int = 0
     # What is live, by table and key. It follows from the segments.
     live: dict = field(default_factory=dict, compare=False)
+
+    @staticmethod
+    def new(number, safe):
+        """A master without a key, whose first head is being opened."""
+        return Master(number, (new_head(number, (1,), safe),), safe)
 
     def log(self):
         """The segments of the digest in force."""
@@ -399,7 +421,7 @@ class Master:
 
     def refusal(self, command, options):
         """The refusal of a command, apart from NoMemory, or None."""
-        if command.kind == "put" and 50 + 2 * len(command.key) + len(command.value) > options.segment // 4:
+        if command.kind == "put" and is_too_big(command, options):
             return "TooBig"
         if not 1 <= command.table <= options.tables:
             return "NoTablet"
@@ -408,9 +430,12 @@ class Master:
         unit = self.answer(command)[1]
         if not unit:
             return None
-        length = sum(len(entry.spelled()) for entry in unit)
-        fits = len(self.segments[-1].text) + length <= options.segment
-        if not self.is_rolling and not fits and not self.may_roll(options, 3 if command.kind == "put" else 2):
+        return self.unit_refusal(unit, 3 if command.kind == "put" else 2, options)
+
+    def unit_refusal(self, unit, whole_ones, options):
+        """The refusal of a unit, before which a roll has to leave so many whole segments free; or None."""
+        fits = len(self.segments[-1].text) + len(spelled(unit)) <= options.segment
+        if not self.is_rolling and not fits and not self.may_roll(options, whole_ones):
             return "Full"
         return "Rolling" if self.is_rolling or not fits else None
 
@@ -441,8 +466,7 @@ class Master:
     def compacted(self, segment):
         """The master after the compaction of a closed segment: its image has the kept entries alone."""
         entries = (entry for entry in read_segment(segment.text) if self.is_kept(segment.id, entry))
-        text = b"".join(entry.spelled() for entry in entries)
-        segments = tuple(replace(it, text=text) if it is segment else it for it in self.segments)
+        segments = tuple(replace(it, text=spelled(entries)) if it is segment else it for it in self.segments)
         return replace(self, segments=segments)
 
     def used(self, options):
@@ -490,7 +514,7 @@ class Master:
 
     def cleaned(self, ids):
         """The master after the begin of a pass."""
-        survivor = Segment(self.next, Header(MASTER, self.next, 1).spelled())
+        survivor = Segment(self.next, Header(self.number, self.next, 1).spelled())
         return replace(self, next=self.next + 1, cleaning=Pass(ids, survivor, self.rest_of(ids)))
 
     def copied(self):
@@ -529,12 +553,39 @@ class Master:
             live[name] = then
         else:
             live.pop(name, None)
-        head = self.segments[-1]
-        if unit:
-            text = head.text + b"".join(entry.spelled() for entry in unit)
-            head = replace(head, text=text, units=(*head.units, (self.records, len(text))))
-        segments = (*self.segments[:-1], head)
+        segments = self.appended(unit) if unit else self.segments
         return reply, replace(self, segments=segments, records=self.records + 1, safe=safe, live=live)
+
+    def appended(self, unit):
+        """The segments once the head has this unit of the next record."""
+        head = self.segments[-1]
+        text = head.text + spelled(unit)
+        return (*self.segments[:-1], replace(head, text=text, units=(*head.units, (self.records, len(text)))))
+
+    # Loading (section 10).
+
+    def load_refusal(self, loaded, options):
+        """The refusal of a load, apart from NoMemory, or None."""
+        if is_too_big(loaded, options):
+            return "TooBig"
+        if not 1 <= loaded.table <= options.tables:
+            return "NoTablet"
+        return self.unit_refusal([loaded], 2, options)
+
+    def loaded(self, loaded):
+        """The master once this object, with its own version, is in its head."""
+        live = {**self.live, (loaded.table, loaded.key): Live(loaded.version, loaded.value, self.segments[-1].id)}
+        return replace(self, segments=self.appended([loaded]), live=live)
+
+    def finished(self):
+        """The master once all is pushed: its history begins with what was loaded."""
+        return replace(self, segments=tuple(replace(it, units=()) for it in self.segments))
+
+    def sizes(self):
+        """Table, place and bytes of each live object, by table and place."""
+        return sorted(
+            (table, place(key), len(Object(table, live.version, key, live.value).spelled()))
+            for (table, key), live in self.live.items())
 
     def rolling(self, is_ready):
         """The master after the begin of a roll."""
@@ -542,8 +593,37 @@ class Master:
         if cleaning and is_ready:
             ids = sorted({*ids, cleaning.survivor.id}.difference(cleaning.victims))
             cleaning = replace(cleaning, is_committing=True)
-        head = new_head((*ids, self.next), self.safe)
+        head = new_head(self.number, (*ids, self.next), self.safe)
         return replace(self, segments=(*self.segments, head), next=self.next + 1, is_rolling=True, cleaning=cleaning)
+
+
+# Wills (section 10).
+
+LAST_PLACE = 2**64 - 1
+
+
+def place(key):
+    """The first eight bytes of a key as a number."""
+    return int.from_bytes(key[:8].ljust(8, b"\0"), "big")
+
+
+def make_will(tables, sizes, most_bytes, most_objects):
+    """The parts of the tablets, each of which is a whole table, and how many partitions they have."""
+    groups = {}
+    for table, first, size in sizes:
+        groups.setdefault((table, first), []).append(size)
+    parts, partition, bytes_, objects = [], 0, 0, 0
+    for table in tables:
+        begin = 0
+        for (_, at), group in sorted(it for it in groups.items() if it[0][0] == table):
+            is_above = bytes_ + sum(group) > most_bytes or objects + len(group) > most_objects
+            if objects > 0 and partition < 2**32 - 2 and is_above:
+                if at > 0:
+                    parts.append((table, begin, at - 1, partition))
+                begin, partition, bytes_, objects = at, partition + 1, 0, 0
+            bytes_, objects = bytes_ + sum(group), objects + len(group)
+        parts.append((table, begin, LAST_PLACE, partition))
+    return parts, partition + 1
 
 
 # Recovery (section 10).
@@ -553,7 +633,7 @@ class Refusal(Exception):
 
 
 def plan(holdings, master):
-    """The entries of the segments that a recovery reads."""
+    """The entries of the segments that a recovery reads, the head last."""
     read = []
     for holding in holdings:
         if holding.master != master:
@@ -582,15 +662,16 @@ def plan(holdings, master):
 
 
 def rebuilt(segments):
-    """The live objects of these segments, by table and key."""
-    tops, objects = {}, {}
+    """The live objects of these segments, by table and key, and the safe version of a master that goes on from them."""
+    tops, objects, safe = {}, {}, segments[-1][2].version
     for entry in (entry for entries in segments for entry in entries if isinstance(entry, (Object, Tombstone))):
+        safe = max(safe, entry.version + 1)
         name = (entry.table, entry.key)
         if isinstance(entry, Object) and objects.setdefault((name, entry.version), entry.value) != entry.value:
             raise Refusal("Clash")
         if name not in tops or entry.rank() > tops[name].rank():
             tops[name] = entry
-    return [tops[name] for name in sorted(tops) if isinstance(tops[name], Object)]
+    return [tops[name] for name in sorted(tops) if isinstance(tops[name], Object)], safe
 
 
 # The store, line by line (section 11).
@@ -603,11 +684,15 @@ class Store:
     fleet: Fleet
     # None if it is down.
     master: Master
+    # The number of the last master that was whole: the one that is up, or the one that a recovery is for.
+    last: int = 1
+    # The greatest number of a master. Others than `last` didn't come to the end of their loading.
+    greatest: int = 1
 
     @staticmethod
     def new(options):
         """The store at the start of a script: its first head is open."""
-        store = Store(options, Fleet(), Master())
+        store = Store(options, Fleet(), Master.new(1, 1))
         while store.next_op():
             _, store = store.pushed()
         return store
@@ -766,7 +851,7 @@ class Store:
             return None
         yield REFUSED, 1, self
         cleaning = self.master.cleaning
-        holding = Holding(self.next_seal(), MASTER, cleaning.survivor.id, cleaning.survivor.text, False)
+        holding = Holding(self.next_seal(), self.master.number, cleaning.survivor.id, cleaning.survivor.text, False)
         master = replace(self.master, cleaning=replace(cleaning, sealed=cleaning.sealed + 1))
         return replace(self, fleet=self.fleet.took(holding), master=master)
 
@@ -779,7 +864,7 @@ class Store:
             yield self.stopped()
             return None
         first, *others = self.master.waiting
-        fleet, freed = self.fleet.freed(self.fleet.replica(self.next_free(), first)), self.master.freed + 1
+        fleet, freed = self.fleet.freed(self.replica(self.next_free(), first)), self.master.freed + 1
         if freed == self.options.replicas:
             return replace(self, fleet=fleet, master=replace(self.master, waiting=tuple(others), freed=0))
         return replace(self, fleet=fleet, master=replace(self.master, freed=freed))
@@ -817,13 +902,17 @@ class Store:
     def homes(self, segment):
         """The backups of a segment's replicas."""
         options = self.options
-        return [(segment * options.step + place) % options.backups for place in range(options.replicas)]
+        return [(segment * options.step + replica) % options.backups for replica in range(options.replicas)]
+
+    def replica(self, backup, segment):
+        """The master's replica of a segment on this backup, or None."""
+        return self.fleet.replica(backup, self.master.number, segment)
 
     def next_op(self):
         """What the next push hands to which backup: the act, and the replica then. None if nothing waits."""
         log, opening = self.master.log(), self.master.segments[-1]
         head = log[-1]
-        held = [self.fleet.replica(backup, head.id) for backup in self.homes(head.id)]
+        held = [self.replica(backup, head.id) for backup in self.homes(head.id)]
         if head is not opening or not self.master.is_rolling:
             shortest = min(held, key=lambda replica: len(replica.text))
             if len(shortest.text) < len(head.text):
@@ -832,8 +921,8 @@ class Store:
         if not self.master.is_rolling:
             return None
         for backup in self.homes(opening.id):
-            if not self.fleet.replica(backup, opening.id):
-                return "open", Holding(backup, MASTER, opening.id, opening.text, True)
+            if not self.replica(backup, opening.id):
+                return "open", Holding(backup, self.master.number, opening.id, opening.text, True)
         return next(("close", replace(replica, is_open=False)) for replica in held if replica.is_open)
 
     def pushed(self):
@@ -842,8 +931,8 @@ class Store:
         store = replace(self, fleet=self.fleet.took(holding))
         old, new = self.master.log()[-1], self.master.segments[-1]
         if self.master.is_rolling:
-            is_opened = all(store.fleet.replica(backup, new.id) for backup in self.homes(new.id))
-            is_closed = old is new or not any(store.fleet.replica(backup, old.id).is_open for backup in self.homes(old.id))
+            is_opened = all(store.replica(backup, new.id) for backup in self.homes(new.id))
+            is_closed = old is new or not any(store.replica(backup, old.id).is_open for backup in self.homes(old.id))
             if is_opened and is_closed:
                 store = replace(store, master=self.master.rolled())
         return f"{act} {holding.backup} {holding.segment}", store
@@ -851,7 +940,7 @@ class Store:
     def durable(self):
         """How many records each replica of the log has."""
         head = self.master.log()[-1]
-        length = min(len(self.fleet.replica(backup, head.id).text) for backup in self.homes(head.id))
+        length = min(len(self.replica(backup, head.id).text) for backup in self.homes(head.id))
         return next((record for record, end in head.units if end > length), self.master.records)
 
     # Lines that change nothing, and those about what is left.
@@ -873,6 +962,13 @@ class Store:
         yield REFUSED, 1, self
         yield f"{image.text.hex()}\n", 0, self
 
+    def line_will(self):
+        yield REFUSED, 1, self
+        tables = range(1, self.options.tables + 1)
+        parts, count = make_will(tables, self.master.sizes(), self.options.bytes, self.options.objects)
+        lines = [f"{table} {first:016x} {last:016x} {partition}\n" for table, first, last, partition in parts]
+        yield "".join(lines) + f"partitions {count}\n", 0, self
+
     def line_holdings(self):
         yield REFUSED, 1, self
         lines = [
@@ -891,15 +987,64 @@ class Store:
         left = tuple(it for it in self.fleet.holdings if it.backup != backup)
         yield f"lost {backup}\n", 0, replace(self, fleet=replace(self.fleet, holdings=left))
 
-    def line_recover(self):
+    # Recoveries.
+
+    def line_recover(self, _order="forward"):
+        for answer, refused, store in self.recovered():
+            # If the recovery is refused, a master that was begun is dropped.
+            yield answer, refused, replace(store, master=None) if answer.startswith("refused") else store
+
+    def recovered(self):
         yield REFUSED, 1, self
         try:
-            objects = rebuilt(plan(self.fleet.holdings, MASTER))
+            objects, safe = rebuilt(plan(self.fleet.holdings, self.last))
         except Refusal as refusal:
             yield f"refused {refusal}\n", 0, self
             return
-        lines = [f"{it.table} {it.key.decode()} {it.version} {it.value.decode()}\n" for it in objects]
-        yield "".join(lines) + f"recovered {len(lines)}\n", 0, self
+        store = yield from self.adopted(objects, safe)
+        store = store and (yield from store.retired())
+        if store:
+            lines = [f"{it.table} {it.key.decode()} {it.version} {it.value.decode()}\n" for it in objects]
+            yield "".join(lines) + f"recovered {len(lines)}\n", 0, store
+
+    def adopted(self, objects, safe):
+        """Loads these objects into a new master, and pushes them."""
+        number = self.greatest + 1
+        store = replace(self, greatest=number, master=Master.new(number, safe))
+        store = yield from store.all_pushed()
+        for loaded in objects:
+            refusal = store and store.master.load_refusal(loaded, self.options)
+            if refusal == "Rolling":
+                store = yield from store.rolled()
+                refusal = store and store.master.load_refusal(loaded, self.options)
+            if not store:
+                return None
+            if refusal:
+                yield f"refused {refusal}\n", 0, store
+                return None
+            yield REFUSED, 1, store
+            store = replace(store, master=store.master.loaded(loaded))
+        store = store and (yield from store.all_pushed())
+        return store and replace(store, master=store.master.finished(), last=number)
+
+    def all_pushed(self):
+        store = self
+        while store and store.next_op():
+            store = yield from store.one_push()
+        return store
+
+    def retired(self):
+        """Frees the replicas of all other masters."""
+        yield REFUSED, 1, self
+        store = self
+        for holding in self.fleet.holdings:
+            if holding.master == self.master.number:
+                continue
+            if store.fleet.left == 0:
+                yield store.stopped()
+                return None
+            store = replace(store, fleet=store.fleet.freed(holding))
+        return store
 
 
 # Runs.
