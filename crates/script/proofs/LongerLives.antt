@@ -77,7 +77,7 @@ module _ (config : Config) (life : Life) where
   rises at line answer.Crashed next t = let made = ap (λ (p : Position). p.made) t.4 in omega arith
   rises at line (answer.Lost backup) next t = let made = ap (λ (p : Position). p.made) t.3 in omega arith
   rises at line (answer.Recovered r) next t = absurd t
-  rises at line (answer.NotRetired fault) next t = absurd t
+  rises at line (answer.NotRetired why) next t = absurd t
   rises at line answer.NumbersSpent next t = as_before at next t.2
   rises at line (answer.NotRecovered fault) next t = as_before at next t.4
   rises at line answer.Down next t = as_before at next t.2
@@ -219,7 +219,7 @@ module _ (config : Config) (opening : State) (history more : List Record) where
       (t.0, t.1, t.2, subst (λ (l : Life). IsLeftBy config l t.2) (same_front at.made within) t.3, t.4)
   tells_longer at line (answer.Lost backup) next within after t = t
   tells_longer at line (answer.Recovered r) next within after t = absurd t
-  tells_longer at line (answer.NotRetired fault) next within after t = absurd t
+  tells_longer at line (answer.NotRetired why) next within after t = absurd t
   tells_longer at line answer.NumbersSpent next within after t = t
   tells_longer at line (answer.NotRecovered fault) next within after t = t
   tells_longer at line answer.Down next within after t = t

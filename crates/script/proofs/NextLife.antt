@@ -196,7 +196,7 @@ module _ (fleet : MemoryFleet) (options : Options) (master : ℕ) (r : Rebuilt) 
     cut : (f : FleetState) → IsValid e f → (a : Answer) → IsCut f a
         → EndsRecovery (standing_of next e (record { made = 0; acknowledged = 0; left = Some (left_now f) })) r a
     cut f valid answer.Stopped spent = (left_now f, refl, (e, f, lived f valid, refl, spent))
-    cut f valid (answer.NotRetired fault) unspent = (unspent, left_now f, refl, (e, f, lived f valid, refl))
+    cut f valid (answer.NotRetired why) unspent = (unspent, left_now f, refl, (e, f, lived f valid, refl))
     cut f valid a other = absurd other
 
     pub cut_told : (new : Node) (a : Answer) → RetiresOthers e new (Some a) → BeginsNext old (config_of options master) order new next a

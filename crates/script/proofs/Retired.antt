@@ -68,7 +68,7 @@ others_gone old new keep u (spots, others, frees) b m s other = go (old.picture 
 
 -- retiring is cut short as spent by a fleet that is
 pub spent_retire : (old new : FleetState) (keep : ℕ) (fault : TakeFault) → Retires old keep (Err fault) new → fault ≡ take_fault.Spent → IsSpent new
-spent_retire old new keep fault retires is = go (subst (λ (e : TakeFault). Retires old keep (Err e) new) is retires)
+spent_retire old new keep why retires is = go (subst (λ (e : TakeFault). Retires old keep (Err e) new) is retires)
   where
     go : Retires old keep (Err take_fault.Spent) new → IsSpent new
     go (inl (spots, others, ends)) = subst (λ (f : FleetState). IsSpent f) (sym ends.refused.1) ends.refused.0

@@ -31,7 +31,7 @@ goes_longer from next line a more within after g = record {
 ends_longer : (to : Standing) (table : Rebuilt) (a : Answer) (more : List Record) → EndsRecovery to table a → EndsRecovery (with_more to more) table a
 ends_longer to table (answer.Recovered r) more ends = ends
 ends_longer to table answer.Stopped more ends = ends
-ends_longer to table (answer.NotRetired fault) more ends = ends
+ends_longer to table (answer.NotRetired why) more ends = ends
 ends_longer to table a more ends = absurd ends
 
 succeeds_longer : (from next : Standing) (line : LineValue) (a : Answer) (more : List Record) → Succeeds from line a next

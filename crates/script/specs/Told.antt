@@ -387,7 +387,7 @@ Tells config life at line (answer.Lost backup) next = (line ≡ Lose backup) × 
     })
 -- a table that was recovered and adopted begins another life
 Tells config life at line (answer.Recovered r) next = ⊥
-Tells config life at line (answer.NotRetired fault) next = ⊥
+Tells config life at line (answer.NotRetired why) next = ⊥
 Tells config life at line (answer.NotRecovered fault) next = IsRecover line
     × (l : Left) × (at.left ≡ Some l) × IsLossOf config l fault × (next ≡ at)
 Tells config life at line answer.NumbersSpent next = IsRecover line
