@@ -79,15 +79,21 @@ class Log:
         return segment.live * OBJECT + stones * TOMBSTONE
 
     def choose(self, by_share):
-        """Victims, by least kept bytes, or by the least share of their length."""
+        """Victims, by least kept bytes, or by the least share of their length.
+
+        By bytes it is the rule of the master, which ends at the first segment that doesn't fit the survivor. By share it
+        passes over that one, so that the survivor gets fuller.
+        """
         kept = {number: self.kept(segment) for number, segment in self.closed.items()}
         rank = (lambda n: (kept[n] / self.closed[n].length, n)) if by_share else (lambda n: (kept[n], n))
         victims, total = [], 0
-        for number in sorted(kept, key=rank)[:MOST_VICTIMS]:
-            if total + kept[number] > self.size - 18:
+        for number in sorted(kept, key=rank):
+            fits = total + kept[number] <= self.size - 18
+            if len(victims) == MOST_VICTIMS or not (fits or by_share):
                 break
-            victims.append(number)
-            total += kept[number]
+            if fits:
+                victims.append(number)
+                total += kept[number]
         return victims
 
     def clean(self, victims):
