@@ -51,8 +51,37 @@ pub(crate) fn recounted(images: &[Image], segment: usize, seglet: usize) -> u64
     sum
 }
 
-/// Where the image of a segment is in a list by rising id.
+/// Where the image of a segment is in a list by rising id. As long as no segment was cleaned, the ids have no gaps.
+#[inline]
 pub(crate) fn place_of(images: &[Image], id: u64) -> Option<usize>
+    requires { AreRising images.now }
+    ensures found { IfSome result (IsPlaceOf images.now id) }
+    ensures absent { IfNone result (image_of images.now id ≡ None) }
+{
+    match place_without_gaps(images, id) {
+        Some(at) => Some(at),
+        None => place_among(images, id),
+    }
+}
+
+/// Where the image is if the ids from the first one to its own have no gaps.
+#[inline]
+fn place_without_gaps(images: &[Image], id: u64) -> Option<usize>
+    ensures { IfSome result (IsPlaceOf images.now id) }
+{
+    if images.is_empty() || id < images[0].id {
+        return None;
+    }
+    let at = (id - images[0].id) as usize;
+    if at < images.len() && images[at].id == id {
+        Some(at)
+    } else {
+        None
+    }
+}
+
+/// Where the image is, by a binary search.
+fn place_among(images: &[Image], id: u64) -> Option<usize>
     requires { AreRising images.now }
     ensures found { IfSome result (IsPlaceOf images.now id) }
     ensures absent { IfNone result (image_of images.now id ≡ None) }

@@ -175,7 +175,7 @@ impl Images {
         Ok(())
     }
 
-    /// Adds an image as `add` does, where the list has room and the seglets are free. It can't fail, takes no memory,
+    /// Adds an image as `add` does. The list has room, and the seglets are free. It can't fail, takes no memory,
     /// and moves only images with a higher number.
     pub fn add_reserved(&mut self, id: u64, segment: Segment, is_whole: bool)
         requires other { image_of self.old.images id ≡ None }

@@ -1,7 +1,7 @@
 use Rattle.std.proofs.Common.{rules}
 use Rattle.std.proofs.lemmas.List.Sorted.{answers_always}
 use Rattle.images.proofs.Searching.{searched, placed}
-use Rattle.images.proofs.image.place_of.Goals as goal
+use Rattle.images.proofs.image.place_among.Goals as goal
 
 pub returns-clause-found : goal.returns-clause-found
 returns-clause-found c =
