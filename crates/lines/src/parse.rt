@@ -30,6 +30,7 @@ fn is_idle(text: &[u8]) -> bool
 }
 
 /// Parses the words of a line that does something.
+// Of the functions of its arms only `get` is inlined, since each that is has a line of its own to clear.
 fn parse_words(mut words: Words<'_>) -> Option<Line<'_>>
     ensures { ReadsWords words.entry result }
 {
@@ -60,6 +61,7 @@ fn is(word: &[u8], text: &str) -> bool
 
 /// The words behind `put` as a table, a key and a value.
 #[tactic(auto, using(crate::proofs::Spelling::decimal_is_word))]
+#[inline(never)]
 fn put(mut words: Words<'_>) -> Option<Line<'_>>
     ensures { ReadsWords (codes "put" ∷ words.entry) result }
 {
@@ -71,6 +73,7 @@ fn put(mut words: Words<'_>) -> Option<Line<'_>>
 
 /// The words behind `new` as a table, a key and a value.
 #[tactic(auto, using(crate::proofs::Spelling::decimal_is_word))]
+#[inline(never)]
 fn new(mut words: Words<'_>) -> Option<Line<'_>>
     ensures { ReadsWords (codes "new" ∷ words.entry) result }
 {
@@ -82,6 +85,7 @@ fn new(mut words: Words<'_>) -> Option<Line<'_>>
 
 /// The words behind `cas` as a table, a key, a version and a value.
 #[tactic(auto, using(crate::proofs::Spelling::decimal_is_word))]
+#[inline(never)]
 fn cas(mut words: Words<'_>) -> Option<Line<'_>>
     ensures { ReadsWords (codes "cas" ∷ words.entry) result }
 {
@@ -108,6 +112,7 @@ fn get(mut words: Words<'_>) -> Option<Line<'_>>
 }
 
 /// The words behind `del` as a table and a key.
+#[inline(never)]
 fn del(mut words: Words<'_>) -> Option<Line<'_>>
     ensures { ReadsWords (codes "del" ∷ words.entry) result }
 {
@@ -118,6 +123,7 @@ fn del(mut words: Words<'_>) -> Option<Line<'_>>
 
 /// The word behind `hex` as the number of a segment.
 #[tactic(auto, using(crate::proofs::Spelling::decimal_is_word))]
+#[inline(never)]
 fn hex(words: Words<'_>) -> Option<Line<'_>>
     ensures { ReadsWords (codes "hex" ∷ words.entry) result }
 {
@@ -127,6 +133,7 @@ fn hex(words: Words<'_>) -> Option<Line<'_>>
 
 /// The word behind `compact` as the number of a segment.
 #[tactic(auto, using(crate::proofs::Spelling::decimal_is_word))]
+#[inline(never)]
 fn compact(words: Words<'_>) -> Option<Line<'_>>
     ensures { ReadsWords (codes "compact" ∷ words.entry) result }
 {
@@ -136,6 +143,7 @@ fn compact(words: Words<'_>) -> Option<Line<'_>>
 
 /// The word behind `stop` as how many takes are left.
 #[tactic(auto, using(crate::proofs::Spelling::decimal_is_word))]
+#[inline(never)]
 fn stop(words: Words<'_>) -> Option<Line<'_>>
     ensures { ReadsWords (codes "stop" ∷ words.entry) result }
 {
@@ -144,6 +152,7 @@ fn stop(words: Words<'_>) -> Option<Line<'_>>
 }
 
 /// The word behind `lose` as the number of a backup.
+#[inline(never)]
 fn lose(words: Words<'_>) -> Option<Line<'_>>
     ensures { ReadsWords (codes "lose" ∷ words.entry) result }
 {
@@ -152,6 +161,7 @@ fn lose(words: Words<'_>) -> Option<Line<'_>>
 }
 
 /// The words behind `clean` as the numbers of segments.
+#[inline(never)]
 fn clean(words: Words<'_>) -> Option<Line<'_>>
     ensures { ReadsWords (codes "clean" ∷ words.entry) result }
 {
@@ -162,6 +172,7 @@ fn clean(words: Words<'_>) -> Option<Line<'_>>
 }
 
 /// The words behind `begin` as the numbers of segments.
+#[inline(never)]
 fn begin(words: Words<'_>) -> Option<Line<'_>>
     ensures { ReadsWords (codes "begin" ∷ words.entry) result }
 {
@@ -172,6 +183,7 @@ fn begin(words: Words<'_>) -> Option<Line<'_>>
 }
 
 /// The words behind `recover` as the order of the replay.
+#[inline(never)]
 fn recover(words: Words<'_>) -> Option<Line<'_>>
     ensures { ReadsWords (codes "recover" ∷ words.entry) result }
 {
@@ -208,6 +220,7 @@ fn only_number(mut words: Words<'_>) -> Option<u64>
 }
 
 /// The line that has this name and no word behind it.
+#[inline(never)]
 fn only_name<'a>(name: &[u8], words: Words<'a>) -> Option<Line<'a>>
     requires { IsNoLongName name.now }
     ensures { ReadsWords (name.now ∷ words.entry) result }
