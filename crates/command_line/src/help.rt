@@ -9,24 +9,31 @@ pub(crate) const USAGE: &str = "ramlog [OPTIONS] < SCRIPT";
 
 /// The lines of a script, and an example.
 pub(crate) const AFTER_HELP: &str = "Lines of a script:
-  put T K V  Puts the value V at the key K of table T: 'ok VERSION'
-  new T K V  Puts it if the key has no object, else 'mismatch VERSION'
+  put T K V    Puts the value V at the key K of table T: 'ok VERSION'
+  new T K V    Puts it if the key has no object, else 'mismatch VERSION'
   cas T K N V  Puts it if the key is at version N, else 'mismatch VERSION' or 'mismatch none'
-  get T K    Shows the object of a key: 'VERSION VALUE', or 'none'
-  del T K    Deletes the object of a key: 'ok VERSION', or 'none'
-  roll       Opens the next segment of the log: 'head ID'
-  beginroll  Begins that, and 'push' hands one piece of the log to one backup
-  log        Shows the numbers of the log's segments
-  room       Shows how much memory is counted, and how much is free, in seglets
-  compact ID  Drops what segment ID doesn't keep from the master's memory: 'compacted ID LENGTH'
-  hex ID     Shows the bytes of segment ID in the master's memory, in hexadecimal
-  holdings   Shows what the backups hold
-  stop N     Lets the backups take N more pieces of the log, and then no more
-  crash      Drops the master; the backups keep what they hold
-  lose B     Makes backup B lose all that it holds, once the master is gone; backups count from 0
-  will       Cuts the tables into partitions by --bytes and --objects, and shows them
-  recover    Shows the table that is rebuilt from what the backups hold; also 'recover reverse'
-  # TEXT     Does nothing, like an empty line
+  get T K      Shows the object of a key: 'VERSION VALUE', or 'none'
+  del T K      Deletes the object of a key: 'ok VERSION', or 'none'
+  roll         Opens the next segment of the log: 'head ID'
+  beginroll    Begins that: 'opening ID'
+  push         Hands one piece of the log to one backup: 'extend B ID', 'open B ID' or 'close B ID'
+  compact ID   Drops what segment ID doesn't keep from the master's memory: 'compacted ID LENGTH'
+  clean ID ..  Copies what is kept of these segments to a new one, and frees them: 'cleaned ID HEAD'
+  begin ID ..  Begins that: 'begun ID'. Then 'copy' treats one entry, 'seal' and 'free' one replica each
+  log          Shows the numbers of the log's segments: 'log ID ..'
+  room         Shows how many seglets of memory are counted, and how many are free: 'used N free N'
+  hex ID       Shows the bytes of segment ID in the master's memory, in hexadecimal
+  holdings     Shows the replicas that the backups hold
+  will         Cuts the tables into partitions by --bytes and --objects, for the next recovery, and shows the parts
+  stop N       Lets the backups take N more pieces of the log, and then no more
+  crash        Drops the master; the backups keep what they hold
+  lose B       Makes backup B lose all that it holds, once the master is gone; backups count from 0
+  recover      Rebuilds the table from what the backups hold, partition by partition. A new master adopts it, and the
+               replicas of all others are freed. Then it shows the table: 'T K VERSION VALUE' .., 'recovered N'
+  recover reverse  Does the same, and replays in reverse
+  # TEXT       Does nothing, like an empty line
+
+A line that is refused prints 'refused NAME'. If the backups take no more, it prints 'stopped', and the master is gone.
 
 Example:
   printf 'put 1 a x\\nput 1 b y\\ncrash\\nrecover\\n' | ramlog";

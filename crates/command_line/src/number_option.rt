@@ -30,7 +30,7 @@ pub(crate) const REPLICAS: NumberOption = NumberOption {
     least: 1,
     most: 64,
     default: 2,
-    help: "Replicas of each segment: 1 to 64 [default: 2]",
+    help: "Replicas of each segment, at most as many as backups: 1 to 64 [default: 2]",
 };
 
 pub(crate) const STEP: NumberOption = NumberOption {
@@ -46,7 +46,7 @@ pub(crate) const SEGMENT: NumberOption = NumberOption {
     least: 512,
     most: 8388608,
     default: 512,
-    help: "Bytes of a segment: 512 to 8388608 [default: 512]",
+    help: "Bytes of a segment, a multiple of the seglet: 512 to 8388608 [default: 512]",
 };
 
 pub(crate) const SEGLET: NumberOption = NumberOption {
@@ -54,7 +54,7 @@ pub(crate) const SEGLET: NumberOption = NumberOption {
     least: 64,
     most: 65536,
     default: 64,
-    help: "Bytes of a seglet: 64 to 65536 [default: 64]; only checked yet",
+    help: "Bytes of a seglet, the unit in which memory is counted: 64 to 65536 [default: 64]",
 };
 
 pub(crate) const SEGLETS: NumberOption = NumberOption {
@@ -62,7 +62,7 @@ pub(crate) const SEGLETS: NumberOption = NumberOption {
     least: 4,
     most: 4294967296,
     default: 64,
-    help: "Seglets of the master's memory: 4 to 4294967296 [default: 64]; only checked yet",
+    help: "Seglets of the master's memory, at least those of four segments: 4 to 4294967296 [default: 64]",
 };
 
 pub(crate) const TABLES: NumberOption = NumberOption {
@@ -78,7 +78,7 @@ pub(crate) const HISTORY: NumberOption = NumberOption {
     least: 1,
     most: 1048576,
     default: 1048576,
-    help: "Records that the history of calls has room for: 1 to 1048576 [default: 1048576]",
+    help: "Most records of a history, one for each accepted command: 1 to 1048576 [default: 1048576]",
 };
 
 pub(crate) const BYTES: NumberOption = NumberOption {

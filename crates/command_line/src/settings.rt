@@ -11,13 +11,13 @@ pub struct Options {
     pub step: u64,
     /// The length of a segment, in bytes. From 512 to 8388608, 512 by default.
     pub segment: u64,
-    /// The length of a seglet, in bytes. From 64 to 65536, 64 by default.
+    /// The length of a seglet, in bytes: memory is counted in these. From 64 to 65536, 64 by default.
     pub seglet: u64,
     /// The master's memory, in seglets. From 4 to 4294967296, 64 by default.
     pub seglets: u64,
     /// How many tables there are, numbered from 1, each one whole tablet. From 1 to 64, 4 by default.
     pub tables: u64,
-    /// How many records the history of calls has room for. From 1 to 1048576, 1048576 by default.
+    /// The most records of a history, one for each accepted command. From 1 to 1048576, 1048576 by default.
     pub history: u64,
     /// The most bytes of a partition of a will. From 1 to 4294967296, 1048576 by default.
     pub bytes: u64,
