@@ -1,6 +1,6 @@
 //! Memory compaction: the kept entries of a segment, in their order.
 //!
-//! `kept` tells whether an entry is kept, by the index and the log set. `compact` makes the segment of the kept ones,
+//! `kept` answers whether an entry is kept, by the index and the log set. `compact` makes the segment of the kept ones,
 //! and the index then leads to each object where it lies in that segment.
 #![tactic(auto)]
 

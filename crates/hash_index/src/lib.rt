@@ -1,17 +1,17 @@
 //! An index of a log: which place of the log has a key's object.
 //!
-//! It holds no keys: of each place it holds the hash of its key, and who owns the log tells which key stands where
+//! It holds no keys: of each place it holds the hash of its key, and the owner of the log gives the key at each place
 //! (`Resolve`). `Index` is a table of chains of places. The first place of a chain lies in the table itself, the others
 //! in memory of their own. A look-up takes one hash. It walks one chain, of two places on average at most, and the few
-//! places that wait for their chain. A key is read only where the hash agrees.
+//! places that wait for their chain. A key is read only if the hash agrees.
 //!
 //! A key that is set waits in a list, in memory that `reserve` took for it, so `set` can't fail. `settle` puts it into
 //! its chain. It makes twice as many chains or more once there would be more than two keys for each. It puts each place
 //! anew by the hash that is held, so that no key is read. If `settle` is given no memory, keys wait on, and each look-up
 //! walks them.
 //!
-//! `holds` and `relocate` are for who moves objects within the log, and knows the hash and the place of each. They read
-//! no key, and say of the list of places itself what they did.
+//! `holds` and `relocate` are for a caller that moves objects within the log, and knows the hash and the place of each.
+//! They read no key, and their contracts speak of the list of places itself.
 //!
 //! The hash is the same in each run. So whoever picks the keys can make them all fall into one chain, until the hash
 //! has a parameter of its own.

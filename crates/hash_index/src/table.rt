@@ -205,8 +205,7 @@ impl Table {
         Ok(())
     }
 
-    /// Takes in the places that wait, where the chain of each gets memory for it. A place whose chain gets none waits
-    /// on.
+    /// Takes in each place that waits, if its chain gets memory for it. A place whose chain gets none waits on.
     pub(crate) fn take_in(&mut self, waiting: &mut PlainIndex)
         ensures places { IsShuffled (self.old ++ waiting.old.held) (self.new ++ waiting.new.held) }
         ensures room { waiting.old.room ≤ waiting.new.room }

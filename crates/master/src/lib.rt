@@ -1,4 +1,4 @@
-//! One master: a log-structured store in memory whose head is replicated on a fleet of backups.
+//! One master: a log-structured store in memory whose log is replicated on a fleet of backups.
 //!
 //! The layer above calls `Master::step`: one command, the begin of a roll or of a pass, the compaction of a segment,
 //! the copy of one entry, or one op that is handed to one backup.
@@ -7,6 +7,9 @@
 //! with each durable command in it, or the loss is named. A refused step changes nothing, except after a fault of a
 //! backup: then that backup may have taken one op, and the master stays halted. What a master knows is
 //! `master_core`'s, and the fleet is `replica`'s.
+//!
+//! `Loading` is a master that isn't one yet. It loads what a recovery rebuilt, and then its history begins with that
+//! (`specs/Loading.antt`). `Master::retire` frees what other masters left on the backups.
 #![tactic(auto)]
 
 mod cleaning;
