@@ -31,6 +31,7 @@ pub mod CopiedPlaces
 pub mod CopiedCore
 pub mod Ordering
 pub mod SealedCore
+pub mod FreedCore
 pub mod Chosen
 pub mod Rising
 pub mod Leaving

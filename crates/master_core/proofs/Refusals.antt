@@ -135,7 +135,10 @@ pub unit_open : (d : MasterData) (command : Command) → command_refusal d comma
     → is_open d.head ≡ true
 unit_open d command passed some = (unit_room d command passed some).0
 
--- what a head that is open and what one that isn't, with room or without, make of a unit
+-- what is made of a unit: an empty one, then one for a head that isn't open, and one for an open head, without room and with
+pub refused_nothing : (d : MasterData) (k : Command) (u : List Entry) → is_empty u ≡ true → unit_refusal d k u ≡ None
+refused_nothing d k u none = rw none refl
+
 pub refused_closed : (d : MasterData) (k : Command) (u : List Entry) → is_empty u ≡ false → is_open d.head ≡ false
     → unit_refusal d k u ≡ Some Rolling
 refused_closed d k u some closed = rw (some, closed) refl

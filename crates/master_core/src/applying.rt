@@ -183,7 +183,7 @@ impl Core {
     }
 }
 
-/// The reply to a command whose change this is, where the index found this.
+/// The reply to a command with this change, if the index found this for its key.
 fn reply_from(
     alloc: Global,
     command: &Command,

@@ -62,7 +62,7 @@ fn replace(when: &If, dead: Version) -> Result<Change, VersionsSpent>
     }
 }
 
-/// What a command does where its key has this version.
+/// What a command does if its key has this version.
 pub fn change_of(
     command: &Command,
     safe: SafeVersion,
@@ -102,7 +102,7 @@ impl Change {
         }
     }
 
-    /// The reply to the command, where its key has this object.
+    /// The reply to the command, if its key has this object.
     pub fn reply(
         &self,
         alloc: Global,
@@ -121,7 +121,7 @@ impl Change {
     }
 }
 
-/// The reply to a command that changes nothing, where its key has this object.
+/// The reply to a command that changes nothing, if its key has this object.
 fn unchanged_reply(
     alloc: Global,
     command: &Command,

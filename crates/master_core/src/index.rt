@@ -81,7 +81,7 @@ pub fn find<'a>(
     }
 }
 
-/// The same, where another key has the hash, so that more keys are read.
+/// The same if another key has the hash, so that more keys are read.
 #[inline(never)]
 fn find_by_keys<'a>(
     head: &'a Head,
@@ -100,6 +100,7 @@ fn find_by_keys<'a>(
 }
 
 /// Changes the index as the key's object changed. The new object, if there is one, is at this place.
+#[inline(always)]
 pub fn move_object(
     index: &mut Index,
     images: &LogImages<'_>,

@@ -84,7 +84,7 @@ pub fn unit_len(command: &Command, change: &Change) -> usize
     }
 }
 
-/// Appends the unit of a change to the head, where the dead object, if there is one, lies in this segment.
+/// Appends the unit of a change to the head. The dead object, if there is one, lies in this segment.
 fn append_change(
     head: &mut Head,
     command: &Command,

@@ -1,4 +1,4 @@
-use Rattle.std.proofs.Common.{◌≡◌, ℕ, List, ◌++◌, ◌∷◌, [], None, length, rules, refl, sym, ap, subst, ◌∙◌}
+use Rattle.std.proofs.Common.{◌≡◌, ℕ, List, ◌++◌, ◌∷◌, [], None, ◌<◌, length, rules, refl, sym, ap, subst, ◌∙◌}
 use Rattle.versioned_map.specs.declared.command.Command.{Command}
 use Rattle.versioned_map.specs.declared.command.Record.{Record}
 use Rattle.versioned_map.specs.declared.command.Reply.{Reply}
@@ -18,9 +18,11 @@ use Rattle.master_core.specs.Index.{IsMoved}
 use Rattle.master_core.specs.Invariant.{IsCore, IsJudged}
 use Rattle.master_core.specs.Steps.{reply_now, record_now, Applies}
 use Rattle.std.specs.Prelude.{IsSome}
+use Rattle.std.proofs.lemmas.Result.{err_from_is_err_and}
+use Rattle.master_core.proofs.Refusals.{sizes_of}
 use Rattle.master_core.proofs.Adding.{same_appended, added, fits, may, added_core, added_applies}
 use Rattle.master_core.proofs.state.Core.add.Goals as goal
-use Rattle.master_core.proofs.state.Core.add.Goals.{After-push_reserved}
+use Rattle.master_core.proofs.state.Core.add.Goals.{After-push_reserved, Joined-accepted-2}
 
 pub enact-requires-clause-fits : goal.enact-requires-clause-fits
 enact-requires-clause-fits c =
@@ -149,3 +151,32 @@ returns-clause-may c =
 
 pub returns-clause-valid : goal.returns-clause-valid
 returns-clause-valid c = core (goal.at.returns-clause-valid c).After-push_reserved
+
+-- ---- the core as it was, where memory was refused
+
+module _ (c : goal.Joined-accepted-2) where
+  abbrev was : MasterData
+  was = the_view c.self.inside
+
+  unchanged : was ≡ record was { head = c.enact.new.head; index = c.enact.new.index.held; history = c.enact.new.history.items }
+  unchanged =
+      let kept = c.in_err-enact.ensures.err in
+      let history = c.in_err-enact.ensures.history in
+      λ i. record was { head = sym kept.0 i; index = sym kept.1 i; history = sym history i }
+
+pub invariant_of-self : goal.invariant_of-self
+invariant_of-self c = (
+  subst (λ (h : HeadValue). IsSome h.roll → length c.self.inside.closed.images < c.self.inside.closed.room) (sym c.in_err-enact.ensures.err.0)
+      c.self.invariant.0,
+  c.self.invariant.1,
+  subst IsCore (unchanged c) c.self.invariant.2,
+  c.self.invariant.3,
+)
+
+pub returns-in_err-enact-clause-refused : goal.returns-in_err-enact-clause-refused
+returns-in_err-enact-clause-refused c =
+    let failed = err_from_is_err_and c.from_residual.result c.from_residual.ensures.1 in
+    rw failed.1 (sym (unchanged c) ∙ c.self.view_is)
+
+pub enact-requires-clause-limit : goal.enact-requires-clause-limit
+enact-requires-clause-limit c = (sizes_of c.self.inside.config c.self.invariant.2.config).most_segment

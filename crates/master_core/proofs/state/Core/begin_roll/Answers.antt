@@ -1,4 +1,4 @@
-use Rattle.std.proofs.Common.{◌≡◌, ◌+◌, ◌<◌, ◌++◌, ◌∷◌, [], Bool, ℕ, List, length, sym, ap, subst, ◌∙◌, arith}
+use Rattle.std.proofs.Common.{◌≡◌, ◌+◌, ◌*◌, ◌<◌, ◌++◌, ◌∷◌, [], Bool, ℕ, List, length, sym, ap, subst, ◌∙◌, arith}
 use Rattle.std.specs.Prelude.{None, IsSome, if◌then◌else◌}
 use Rattle.std.specs.List.Sorted.{IsStrictlyIncreasing}
 use Rattle.std.specs.Option.{option_to_list}
@@ -15,6 +15,9 @@ use Rattle.master_core.specs.Causes.{roll_refusal}
 use Rattle.master_core.specs.Data.{MasterData}
 use Rattle.master_core.specs.Invariant.{IsCore, AreImagesOf}
 use Rattle.master_core.specs.Steps.{BeginsRoll, MayRollNow, start_now, rolling_data}
+use Rattle.std.proofs.lemmas.Grind.{div_ceil_times}
+use Rattle.std.proofs.lemmas.Result.{err_from_is_err_and}
+use Rattle.master_core.proofs.Refusals.{sizes_of}
 use Rattle.master_core.proofs.RollLaws.{roll_begins, may_roll_now}
 use Rattle.master_core.proofs.RollStarts.{new_ids, pass_now, start_now_is, start_parts, pass_marked, room_marked, new_rise, new_count, rolled_core}
 use Rattle.master_core.proofs.state.Core.begin_roll.Goals as goal
@@ -151,3 +154,36 @@ returns-clause-may c = subst MayRollNow c.self.view_is (may_roll_now (d' c) (cor
 
 pub returns-clause-valid : goal.returns-clause-valid
 returns-clause-valid c = valid_then c
+
+pub overflow_mul-kept : goal.overflow_mul-kept
+overflow_mul-kept c =
+    let sizes = sizes_of c.self.inside.config c.self.invariant.2.config in
+    let least = sizes.least_seglet in
+    let most = sizes.most_seglet in
+    let limit = c.bytes.ensures.limit in
+    let kept : c.div_ceil.result * c.self.inside.config.seglet < length c.bytes.result.now + c.self.inside.config.seglet =
+    rw c.div_ceil.ensures (div_ceil_times (length c.bytes.result.now) c.self.inside.config.seglet (omega arith)).1 in
+    omega arith
+
+-- no memory for one more closed segment: nothing has changed but the room for them
+pub invariant_of-self : goal.invariant_of-self
+invariant_of-self c =
+    let images : c.reserve.new.self.images ≡ c.self.inside.closed.images = ap (λ (v : ImagesValue). v.images) c.reserve.ensures.same in (
+      (λ some.
+          let room = c.self.invariant.0 some in
+          let grown = c.reserve.ensures.grown in
+          let same = ap (λ (xs : List Image). length xs) images in
+          omega arith),
+      subst (AreImagesOf c.self.inside.config) (sym c.reserve.ensures.same) (let own = c.self.invariant.1 in
+          record { segment = own.segment; seglet = own.seglet; seglets = own.seglets }),
+      subst IsCore (λ i. record (the_view c.self.inside) { closed = sym images i }) c.self.invariant.2,
+      c.self.invariant.3,
+    )
+
+pub returns-in_err-reserve-clause-err : goal.returns-in_err-reserve-clause-err
+returns-in_err-reserve-clause-err c =
+    let failed = err_from_is_err_and c.from_residual-in_err-reserve.result c.from_residual-in_err-reserve.ensures.1 in
+    let images : c.reserve.new.self.images ≡ c.self.inside.closed.images = ap (λ (v : ImagesValue). v.images) c.reserve.ensures.same in
+    let same : record (the_view c.self.inside) { closed = c.reserve.new.self.images } ≡ the_view c.self.inside =
+    λ i. record (the_view c.self.inside) { closed = images i } in
+    rw failed.1 (same ∙ c.self.view_is)
