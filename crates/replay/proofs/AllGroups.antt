@@ -30,12 +30,10 @@ use Rattle.replay.specs.Faults.{as_replay_fault}
 use Rattle.replay.specs.declared.fault.ReplayFault.{ReplayFault}
 use Rattle.replay.specs.declared.fault.ReplayFault.TheVariants as fault
 use Rattle.replay.specs.Rebuilds.{header_id, id_of, ids_of, count_of, IsDouble, IsRebuildFault, NamesEach}
-use Rattle.replay.specs.Turns.{all_groups, AreAllCovered, IsGroupsFault, IsSecond, IsOrderFault, IsTurnFault, AreWithin, AreOf, HaveTaken}
-use Rattle.replay.specs.Turns.{groups_taken, fresh, all_fresh}
-use Rattle.replay.specs.Replaying.{Replaying}
-use Rattle.replay.proofs.Members.{flat_among, among_flat, among_filter, filter_among, among_range, range_among, map_at, flat_within}
+use Rattle.replay.specs.Turns.{all_groups, AreAllCovered, IsGroupsFault, IsSecond, IsOrderFault, AreOf}
+use Rattle.replay.proofs.Members.{flat_among, among_flat, among_filter, filter_among, range_among, map_at}
 use Rattle.replay.proofs.MeaningLemmas.{claims_of-among, claims_of-has}
-use Rattle.replay.proofs.Turning.{segment-at, number-at}
+use Rattle.replay.proofs.Carried.{segment-at, number-at}
 
 pub claims_within : (es fs : List Entry) → ((e : Entry) → IsAmong e es → IsAmong e fs) → (c : Claimed)
     → IsAmong c (claims_of es) → IsAmong c (claims_of fs)
@@ -145,16 +143,6 @@ module _ (qs : List Part) where
       all_covered e m =
           let es = among_flat _ segments e m in covered es.0 es.1 e (among_filter is_data es.0 e es.2).0
 
-    pub within_log : AreWithin (ids_of segments) (partitions_of qs) (all_groups qs segments)
-    within_log g m =
-        let es = among_flat (λ (fs : List Entry). groups_of qs (id_of fs) fs) segments g m in
-        let n = among_images (group_in qs (id_of es.0) es.0) (range_with_len 0 (partitions_of qs)) g es.2 in
-        record {
-          listed = subst (λ (h : Grouped). IsAmong h.segment (ids_of segments)) n.2 (among_image id_of segments es.0 es.1);
-          below = subst (λ (h : Grouped). h.partition < partitions_of qs) n.2
-              (let lt = among_range 0 (partitions_of qs) n.0 n.1 in omega (arith, lt));
-        }
-
   -- ---- numbers
 
   row_long : (es : List Entry) → length (groups_of qs (id_of es) es) ≡ partitions_of qs
@@ -260,16 +248,6 @@ module _ (qs : List Part) where
     order_fault fault.Clash h = absurd h
     order_fault (fault.Stray k) h = absurd h
 
-    pub turns_fault : AreParts qs → AreAllCovered qs segments → (f : ReplayFault)
-        → IsTurnFault (all_groups qs segments) order f → IsRebuildFault segments qs order f
-    turns_fault parts covered (fault.Double id) h = double id h
-    turns_fault parts covered fault.Stranger h = absurd h
-    turns_fault parts covered (fault.MissingGroup id) h = absurd h
-    turns_fault parts covered fault.NoMemory h = tt
-    turns_fault parts covered fault.Clash h =
-        λ clean. h (λ o p m n. clean o p (to_log segments (entry.Object o) m) (to_log segments (entry.Object p) n))
-    turns_fault parts covered (fault.Stray k) h = absurd h
-
     pub groups_fault : (f : ReplayFault) → IsGroupsFault qs segments f → IsRebuildFault segments qs order f
     groups_fault (fault.Double id) h = absurd h
     groups_fault fault.Stranger h = absurd h
@@ -287,31 +265,6 @@ module _ (qs : List Part) where
     λ m. (of c).1 (claims_within _ _ (from_log segments parts covered) c m),
   )
 
-  pub within_as : (segments : List (List Entry)) (ids : List ℕ) (n : ℕ) (gs : List Grouped) → ids ≡ ids_of segments
-      → n ≡ partitions_of qs → gs ≡ all_groups qs segments → AreWithin ids n gs
-  within_as segments ids n gs e f g =
-      subst (λ x. AreWithin x n gs) (sym e) (subst (λ x. AreWithin (ids_of segments) x gs) (sym f)
-      (subst (AreWithin (ids_of segments) (partitions_of qs)) (sym g) (within_log segments)))
-
-  pub names_log : (segments : List (List Entry)) (order : List ℕ) (count : ℕ)
-      → count ≡ length (all_groups qs segments) → NamesEach count order → NamesEach (count_of segments qs) order
-  names_log segments order count is h = subst (λ n. NamesEach n order) (is ∙ all_long segments) h
-
--- what the replays took is claimed as all groups are
-pub claims_taken_of : (gs : List Grouped) (rs : List Replaying) (cs : List Claimed) → HaveTaken gs rs
-    → AreOf (bag_of (groups_taken rs)) cs → AreOf (bag_of gs) cs
-claims_taken_of gs rs cs taken of c = (
-  λ m. claims_within _ _ (flat_within (λ (g : Grouped). g.entries) (groups_taken rs) gs (λ g mg. (taken g).0 mg)) c
-      ((of c).0 m),
-  λ m. (of c).1 (claims_within _ _
-      (flat_within (λ (g : Grouped). g.entries) gs (groups_taken rs) (λ g mg. (taken g).1 mg)) c m),
-)
-
-pub fresh_as : (rs new : List Replaying) (ids others : List ℕ) (n : ℕ) → new ≡ rs → rs ≡ all_fresh ids n → ids ≡ others
-    → new ≡ all_fresh others (length new)
-fresh_as rs new ids others n e f g =
-    let long : length new ≡ n = ap length (e ∙ f) ∙ length-map-range_with_len (fresh ids) 0 n in
-    e ∙ f ∙ ap (λ x. all_fresh x n) g ∙ ap (all_fresh others) (sym long)
-
-pub count_as : (rs new : List Replaying) (ids : List ℕ) (n : ℕ) → new ≡ rs → rs ≡ all_fresh ids n → length new ≡ n
-count_as rs new ids n e f = ap length (e ∙ f) ∙ length-map-range_with_len (fresh ids) 0 n
+  pub names_log : (segments : List (List Entry)) (order : List ℕ) (n : ℕ)
+      → n ≡ length (all_groups qs segments) → NamesEach n order → NamesEach (count_of segments qs) order
+  names_log segments order n is h = subst (λ m. NamesEach m order) (is ∙ all_long segments) h

@@ -7,10 +7,11 @@ pub mod ReplayLemmas
 pub mod Listed
 pub mod Settled
 pub mod Members
-pub mod Turning
+pub mod Carried
 pub mod Marks
 pub mod AllGroups
-pub mod Kept
+pub mod Ordered
+pub mod Twins
 pub mod Wholes
 pub mod LoadSteps
 pub mod LoadRoom

@@ -1,6 +1,6 @@
 -- Members of lists that are made of other lists.
-use Rattle.std.proofs.Common.{◌≡◌, ℕ, zero, suc, ◌+◌, ◌<◌, Bool, true, false, cond, List, [], ◌∷◌, map, length}
-use Rattle.std.proofs.Common.{get_or, set, refl, sym, ap, subst, ◌∙◌, ◌⊎◌, inl, inr, arith}
+use Rattle.std.proofs.Common.{◌≡◌, ℕ, zero, suc, ◌+◌, ◌<◌, Bool, true, false, cond, List, [], ◌∷◌, map}
+use Rattle.std.proofs.Common.{get_or, refl, sym, ap, subst, ◌∙◌, inl, inr, arith}
 use Rattle.std.specs.Prelude.{filter}
 use Rattle.std.specs.List.{flat_map, range_with_len}
 use Rattle.entry.specs.Bag.{IsAmong}
@@ -19,11 +19,6 @@ module _ {X Y : Type 0} (f : X → List Y) where
         | inl here ↦ (z, inl refl, here)
         | inr later ↦ let h = among_flat xs y later in (h.0, inr h.1, h.2)
       ]
-
-  -- what is in more lists
-  pub flat_within : (xs zs : List X) → ((x : X) → IsAmong x xs → IsAmong x zs) → (y : Y) → IsAmong y (flat_map f xs)
-      → IsAmong y (flat_map f zs)
-  flat_within xs zs h y m = let at = among_flat xs y m in flat_among zs at.0 y (h at.0 at.1) at.2
 
 module _ {X : Type 0} (p : X → Bool) where
   pub among_filter : (xs : List X) (x : X) → IsAmong x (filter p xs) → IsAmong x xs × (p x ≡ true)
@@ -54,28 +49,6 @@ pub range_among : (a n i m : ℕ) → i < n → a + i ≡ m → IsAmong m (range
 range_among a zero i m lt is = absurd (omega (arith, lt))
 range_among a (suc n) zero m lt is = inl (omega (arith, is))
 range_among a (suc n) (suc i) m lt is = inr (range_among (a + 1) n i m (omega (arith, lt)) (omega (arith, is)))
-
--- ---- one element replaced
-
-module _ {X : Type 0} (x : X) where
-  pub among_set : (xs : List X) (i : ℕ) (y : X) → IsAmong y (set xs i x) → (x ≡ y) ⊎ IsAmong y xs
-  among_set [] i y m = inr m
-  among_set (z ∷ xs) zero y (inl e) = inl e
-  among_set (z ∷ xs) zero y (inr m) = inr (inr m)
-  among_set (z ∷ xs) (suc i) y (inl e) = inr (inl e)
-  among_set (z ∷ xs) (suc i) y (inr m) = elim (among_set xs i y m) [ inl new ↦ inl new | inr old ↦ inr (inr old) ]
-
-  pub set_new : (xs : List X) (i : ℕ) → i < length xs → IsAmong x (set xs i x)
-  set_new [] i lt = absurd (omega (arith, lt))
-  set_new (z ∷ xs) zero lt = inl refl
-  set_new (z ∷ xs) (suc i) lt = inr (set_new xs i (omega (arith, lt)))
-
-  pub set_old : (xs : List X) (i : ℕ) (y : X) → IsAmong y xs → (y ≡ get_or xs i y) ⊎ IsAmong y (set xs i x)
-  set_old [] i y m = absurd m
-  set_old (z ∷ xs) zero y (inl e) = inl (sym e)
-  set_old (z ∷ xs) zero y (inr m) = inr (inr m)
-  set_old (z ∷ xs) (suc i) y (inl e) = inr (inl e)
-  set_old (z ∷ xs) (suc i) y (inr m) = elim (set_old xs i y m) [ inl at ↦ inl at | inr kept ↦ inr (inr kept) ]
 
 pub map_at : {X Y : Type 0} (f : X → Y) (xs : List X) (i : ℕ) (d : X) → get_or (map f xs) i (f d) ≡ f (get_or xs i d)
 map_at f [] i d = refl

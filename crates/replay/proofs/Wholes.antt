@@ -53,7 +53,7 @@ flips a b = by_test (a == b) refl
     by_test false e =
         sym (differ b a (λ same. let on : (a == b) ≡ true = (Decides-eqb a b).1 (sym same) in absurd (cc)))
 
-apart_ways : (i j : ℕ) → i ≢ j → (i < j) ⊎ (j < i)
+pub apart_ways : (i j : ℕ) → i ≢ j → (i < j) ⊎ (j < i)
 apart_ways zero zero ne = absurd (ne refl)
 apart_ways zero (suc j) ne = inl (omega arith)
 apart_ways (suc i) zero ne = inr (omega arith)
@@ -75,6 +75,14 @@ module _ (ns : List ℕ) (distinct : IsDistinct equal ns) where
         | inl low ↦ absurd (twice i j low second same)
         | inr high ↦ absurd (twice j i high first (sym same))
       ])
+
+-- the first number of a row of p is below that of all rows
+pub row_inside : (i m p : ℕ) → 0 < p → i < m → i * p < m * p
+row_inside i m zero some lt = absurd (omega (arith, some))
+row_inside i zero (suc p) some lt = absurd (omega (arith, lt))
+row_inside zero (suc m) (suc p) some lt = omega arith
+row_inside (suc i) (suc m) (suc p) some lt =
+    let less = row_inside i m (suc p) some (omega (arith, lt)) in omega (arith, less)
 
 positive : (n m p : ℕ) → n < m * p → 0 < p
 positive n m zero lt = absurd (omega (arith, lt))

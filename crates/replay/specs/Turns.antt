@@ -1,16 +1,15 @@
--- All groups of a log, and what the replays of its partitions have after some of them.
-use Rattle.std.specs.Prelude.{◌≡◌, ℕ, ◌<◌, ◌≤◌, ◌↔◌, List, [], map, length, slice_index, ⊤}
-use Rattle.std.specs.Prelude.{◌≢◌, Bool, true, false, slice_index_or, slice_set}
-use Rattle.std.specs.List.{flat_map, range_with_len}
+-- All groups of a log, the order in which they come, and what they claim.
+use Rattle.std.specs.Prelude.{◌≡◌, ℕ, ◌<◌, ◌≤◌, ◌↔◌, List, length, slice_index, ⊤}
+use Rattle.std.specs.Prelude.{◌≢◌, Bool, true, false, slice_index_or}
+use Rattle.std.specs.List.{flat_map}
 use Rattle.entry.specs.declared.entry.Entry.{Entry}
 use Rattle.entry.specs.Bag.{IsAmong}
 use Rattle.entry.specs.Meaning.{IsClean, among}
 use Rattle.tablet_will.specs.declared.part.Part.{Part}
-use Rattle.backup.specs.Groups.{Grouped, bag_of, segments_of}
+use Rattle.backup.specs.Groups.{Grouped, segments_of}
 use Rattle.backup.specs.Division.{groups_of, numbers_of, AreCovered, IsStray}
 use Rattle.replay.specs.Bags.{segments_bag}
 use Rattle.replay.specs.Claims.{Claimed, claims_of}
-use Rattle.replay.specs.Replaying.{Replaying, Takes, taken, IsTakeFault}
 use Rattle.replay.specs.Rebuilt.{IsRebuilt, IsRefusal}
 use Rattle.replay.specs.Rebuilds.{id_of}
 use Rattle.replay.specs.declared.rebuilt.Rebuilt.{Rebuilt}
@@ -70,51 +69,25 @@ pub record AreMarked (order : List ℕ) (places : ℕ) (named : List Bool) : Typ
   pub only : (n : ℕ) → slice_index_or named n false ≡ true → (i : ℕ) × (i < places) × (slice_index order i ≡ n)
   pub once : (i j : ℕ) → i < j → j < places → slice_index order i ≢ slice_index order j
 
--- ---- replays
+-- ---- ids
 
--- a replay before its first group
-abbrev pub fresh : List ℕ → ℕ → Replaying
-fresh ids partition = record { partition = partition; ids = ids; groups = [] }
+-- no two segments have one id
+abbrev pub AreApart : List ℕ → Type 0
+AreApart ids = (i j : ℕ) → i < j → j < length ids → slice_index ids i ≢ slice_index ids j
 
--- a replay of each partition, before the first group
-abbrev pub all_fresh : List ℕ → ℕ → List Replaying
-all_fresh ids partitions = map (fresh ids) (range_with_len 0 partitions)
+-- two of the segments have this id
+pub record IsTwin (ids : List ℕ) (id : ℕ) : Type 0 where
+  pub first : ℕ
+  pub second : ℕ
+  pub apart : first < second
+  pub within : second < length ids
+  pub one : slice_index ids first ≡ id
+  pub other : slice_index ids second ≡ id
 
--- the group is of one of the segments and of one of the partitions
-pub record IsWithin (ids : List ℕ) (partitions : ℕ) (g : Grouped) : Type 0 where
-  pub listed : IsAmong g.segment ids
-  pub below : g.partition < partitions
-
-abbrev pub AreWithin : List ℕ → ℕ → List Grouped → Type 0
-AreWithin ids partitions groups = (g : Grouped) → IsAmong g groups → IsWithin ids partitions g
-
--- the group was taken by the replay of its partition
-pub record TakesTurn (old : List Replaying) (g : Grouped) (new : List Replaying) : Type 0 where
-  pub replay : Replaying
-  pub at : replay ≡ slice_index_or old g.partition replay
-  pub takes : Takes replay g
-  pub is : new ≡ slice_set old g.partition (taken replay g)
-
--- why the replay of the group's partition doesn't take it
-pub record IsRefusedTurn (old : List Replaying) (g : Grouped) (f : ReplayFault) : Type 0 where
-  pub replay : Replaying
-  pub at : replay ≡ slice_index_or old g.partition replay
-  pub refused : IsTakeFault replay g f
-
--- what the replays took
-abbrev pub groups_taken : List Replaying → List Grouped
-groups_taken rs = flat_map (λ (r : Replaying). r.groups) rs
-
--- the replays took these groups, and no others
-abbrev pub HaveTaken : List Grouped → List Replaying → Type 0
-HaveTaken groups rs = (g : Grouped) → IsAmong g (groups_taken rs) ↔ IsAmong g groups
-
--- why the replays don't take all groups in this order
-abbrev pub IsTurnFault : List Grouped → List ℕ → ReplayFault → Type 0
-IsTurnFault groups order (fault.Double id) = IsSecond groups order id
-IsTurnFault groups order fault.NoMemory = ⊤
-IsTurnFault groups order fault.Clash = ¬ IsClean (among (bag_of groups))
-IsTurnFault groups order _ = ⊥
+-- why the ids are refused
+abbrev pub IsIdsFault : List ℕ → ReplayFault → Type 0
+IsIdsFault ids (fault.Double id) = IsTwin ids id
+IsIdsFault ids _ = ⊥
 
 -- ---- claims
 

@@ -11,6 +11,21 @@ use crate::winners::is_last;
 use entry::{EntryRef, NoMemory};
 use std::alloc::Global;
 
+/// Puts the claims of the entries behind the others.
+pub fn add_claims<'a>(claims: &mut Vec<Claim<'a>>, entries: &[EntryRef<'a>]) -> Result<(), NoMemory>
+    ensures { OnOk result (
+        map claimed claims.new.items ≡ map claimed claims.old.items ++ claims_of (map shown entries.now)) }
+{
+    for entry in entries {
+        if let Some(claim) = Claim::of(entry) {
+            if claims.push(claim).is_err() {
+                return Err(NoMemory);
+            }
+        }
+    }
+    Ok(())
+}
+
 /// The kept claims and those of the entries.
 fn gathered<'a>(
     alloc: Global,
@@ -26,13 +41,7 @@ fn gathered<'a>(
             return Err(NoMemory);
         }
     }
-    for entry in entries {
-        if let Some(claim) = Claim::of(entry) {
-            if claims.push(claim).is_err() {
-                return Err(NoMemory);
-            }
-        }
-    }
+    add_claims(&mut claims, entries)?;
     Ok(claims)
 }
 

@@ -1,6 +1,7 @@
 //! A log that is rebuilt from its groups, whatever the will and the order in which they come.
 
-ghost use Rattle.std.specs.Prelude.{◌≡◌, ◌++◌, ◌<◌, map, length, IfOk, IfErr, OnOk};
+ghost use Rattle.std.specs.Prelude.{◌≡◌, ◌==◌, ◌++◌, ◌<◌, ℕ, map, length, slice_index, take, IfOk, IfErr, OnOk};
+ghost use Rattle.std.specs.List.{list_any};
 ghost use Rattle.entry.specs.Meaning.{IsClean, among};
 ghost use Rattle.backup.specs.Division.{AreCovered};
 ghost use Rattle.backup.specs.Groups.{grouped, bag_of};
@@ -8,20 +9,19 @@ ghost use Rattle.replay.specs.Bags.{segments_bag};
 ghost use Rattle.replay.specs.Claims.{claimed};
 ghost use Rattle.replay.specs.Rebuilds.{IsRebuildFault, CanBeRebuilt, NamesEach, count_of, ids_of};
 ghost use Rattle.replay.specs.Rebuilt.{IsRebuilt};
-ghost use Rattle.replay.specs.Turns.{all_groups, all_fresh, groups_taken, AreAllCovered, AreMarked, AreOf, AreWithin};
-ghost use Rattle.replay.specs.Turns.{HaveTaken, IsGroupsFault, IsOrderFault, IsRefusedTurn, IsTurnFault, TakesTurn};
+ghost use Rattle.replay.specs.Turns.{all_groups, AreAllCovered, AreApart, AreMarked, AreOf};
+ghost use Rattle.replay.specs.Turns.{IsGroupsFault, IsIdsFault, IsOrderFault};
 
 use crate::claim::Claim;
 use crate::fault::ReplayFault;
+use crate::joining::add_claims;
 use crate::rebuilt::Rebuilt;
-use crate::replay::Replay;
 use crate::settling::settle;
 use backup::{Group, divide};
 use entry::NoMemory;
 use recovery_plan::Plan;
 use segment::Segment;
 use std::alloc::Global;
-use std::mem::replace;
 use tablet_will::Will;
 
 /// The ids of the segments.
@@ -53,12 +53,14 @@ fn groups_in<'a>(
     alloc: Global,
     segments: &'a [Segment],
     will: &Will,
+    partitions: u32,
 ) -> Result<Vec<Group<'a>>, ReplayFault>
     ensures ok { IfOk result (λ groups. map grouped groups.items ≡ all_groups will.now segments.entry.now) }
     ensures covered { OnOk result (AreAllCovered will.now segments.entry.now) }
     ensures fault { IfErr result (IsGroupsFault will.now segments.entry.now) }
 {
-    let mut all = Vec::new(alloc);
+    let count = segments.len().saturating_mul(partitions as usize);
+    let mut all = Vec::with_capacity(alloc, count)?;
     for segment in segments {
         let groups = divide(alloc, segment, will)?;
         append(&mut all, groups)?;
@@ -99,105 +101,59 @@ fn check_order(alloc: Global, groups: &[Group<'_>], order: &[usize]) -> Result<(
     Ok(())
 }
 
-/// A replay of each partition, before its first group.
-fn new_replays<'a>(
-    alloc: Global,
-    partitions: u32,
-    ids: &[u64],
-) -> Result<Vec<Replay<'a>>, ReplayFault>
-    ensures ok { IfOk result (λ replays. replays.items ≡ all_fresh ids.now partitions) }
-    ensures fault { IfErr result (λ fault. fault ≡ ReplayFault.NoMemory) }
+/// Whether the id at this place is one of those before it.
+fn is_repeated(ids: &[u64], at: usize) -> bool
+    requires { at < length ids.now }
+    ensures { result ≡ list_any (λ (id : ℕ). id == slice_index ids.now at) (take at ids.now) }
 {
-    let mut replays = Vec::with_capacity(alloc, partitions as usize)?;
-    for partition in 0..partitions {
-        let replay = Replay::new(alloc, partition, ids)?;
-        replays.push(replay)?;
-    }
-    Ok(replays)
+    let (before, _) = ids.split_at(at);
+    before.contains(&ids[at])
 }
 
-/// Hands a group to the replay of its partition. What stays behind has no entries.
-fn take_turn<'a>(
-    alloc: Global,
-    group: &mut Group<'a>,
-    replays: &mut [Replay<'a>],
-) -> Result<(), ReplayFault>
-    requires { group.old.partition < length replays.old }
-    ensures ok { OnOk result (TakesTurn replays.old (grouped group.old) replays.new) }
-    ensures fault { IfErr result (IsRefusedTurn replays.old (grouped group.old)) }
+/// Tests that no two segments have one id. It looks back only from an id that is not the greatest so far.
+fn check_ids(ids: &[u64]) -> Result<(), ReplayFault>
+    ensures ok { OnOk result (AreApart ids.now) }
+    ensures fault { IfErr result (IsIdsFault ids.now) }
 {
-    let partition = group.partition;
-    let whole = Group {
-        segment: group.segment,
-        partition,
-        entries: replace(&mut group.entries, Vec::new(alloc)),
-    };
-    replays[partition as usize].take(whole)
-}
-
-/// Hands all groups to the replays of their partitions, in this order.
-fn take_all<'a>(
-    alloc: Global,
-    groups: &mut [Group<'a>],
-    replays: &mut [Replay<'a>],
-    ids: &[u64],
-    order: &[usize],
-) -> Result<(), ReplayFault>
-    requires fresh { replays.old ≡ all_fresh ids.now (length replays.old) }
-    requires within { AreWithin ids.now (length replays.old) (map grouped groups.old) }
-    requires order { NamesEach (length groups.old) order.now }
-    ensures ok { OnOk result (HaveTaken (map grouped groups.old) replays.new) }
-    ensures fault { IfErr result (IsTurnFault (map grouped groups.old) order.now) }
-{
-    for n in order {
-        take_turn(alloc, &mut groups[*n], replays)?;
-    }
-    Ok(())
-}
-
-/// Puts copies of claims behind the others.
-fn copy_all<'a>(claims: &mut Vec<Claim<'a>>, kept: &[Claim<'a>]) -> Result<(), NoMemory>
-    ensures { OnOk result (map claimed claims.new.items ≡ map claimed claims.old.items ++ map claimed kept.now) }
-{
-    for claim in kept {
-        if claims.push(claim.copy()).is_err() {
-            return Err(NoMemory);
+    let mut greatest = 0;
+    for at in 0..ids.len() {
+        let id = ids[at];
+        if id > greatest {
+            greatest = id;
+        } else if is_repeated(ids, at) {
+            return Err(ReplayFault::Double(id));
         }
     }
     Ok(())
 }
 
-/// What the replays' groups claim, replay by replay.
-fn claims_kept<'a>(alloc: Global, replays: &[Replay<'a>]) -> Result<Vec<Claim<'a>>, NoMemory>
-    ensures { IfOk result (λ claims. AreOf (bag_of (groups_taken replays.now)) (map claimed claims.items)) }
+/// How many entries the groups have, for room.
+fn count_entries(groups: &[Group<'_>]) -> usize {
+    let mut count: usize = 0;
+    for group in groups {
+        count = count.saturating_add(group.entries.len());
+    }
+    count
+}
+
+/// What the groups claim, group by group in this order.
+fn claims_in_order<'a>(
+    alloc: Global,
+    groups: &[Group<'a>],
+    order: &[usize],
+) -> Result<Vec<Claim<'a>>, NoMemory>
+    requires { NamesEach (length groups.now) order.now }
+    ensures { IfOk result (λ claims. AreOf (bag_of (map grouped groups.now)) (map claimed claims.items)) }
 {
-    let mut claims = Vec::new(alloc);
-    for replay in replays {
-        copy_all(&mut claims, replay.kept())?;
+    let mut claims = Vec::with_capacity(alloc, count_entries(groups))?;
+    for n in order {
+        add_claims(&mut claims, groups[*n].entries.as_slice())?;
     }
     Ok(claims)
 }
 
-/// What all groups claim, once the replays took them in this order.
-fn claims_taken<'a>(
-    alloc: Global,
-    groups: &mut [Group<'a>],
-    replays: &mut [Replay<'a>],
-    ids: &[u64],
-    order: &[usize],
-) -> Result<Vec<Claim<'a>>, ReplayFault>
-    requires fresh { replays.old ≡ all_fresh ids.now (length replays.old) }
-    requires within { AreWithin ids.now (length replays.old) (map grouped groups.old) }
-    requires order { NamesEach (length groups.old) order.now }
-    ensures ok { IfOk result (λ claims. AreOf (bag_of (map grouped groups.old)) (map claimed claims.items)) }
-    ensures fault { IfErr result (IsTurnFault (map grouped groups.old) order.now) }
-{
-    take_all(alloc, groups, replays, ids, order)?;
-    Ok(claims_kept(alloc, replays)?)
-}
-
-/// What the segments claim, as the replays of the partitions keep it.
-fn claims_replayed<'a>(
+/// What the segments claim, divided by the will and gathered in this order.
+fn claims_divided<'a>(
     alloc: Global,
     segments: &'a [Segment],
     will: &Will,
@@ -209,23 +165,17 @@ fn claims_replayed<'a>(
     ensures fault { IfErr result (IsRebuildFault segments.entry.now will.now order.now) }
 {
     let count = will.partitions();
-    let ids = ids_in(alloc, segments)?;
-    let mut groups = groups_in(alloc, segments, will)?;
+    let groups = groups_in(alloc, segments, will, count)?;
     check_order(alloc, groups.as_slice(), order)?;
-    let mut replays = new_replays(alloc, count, ids.as_slice())?;
-    claims_taken(
-        alloc,
-        groups.as_mut_slice(),
-        replays.as_mut_slice(),
-        ids.as_slice(),
-        order,
-    )
+    let ids = ids_in(alloc, segments)?;
+    check_ids(ids.as_slice())?;
+    Ok(claims_in_order(alloc, groups.as_slice(), order)?)
 }
 
-/// The objects that the plan's segments mean, in memory of their own. Each segment is divided by the will, and each
-/// partition is replayed from its groups, which are taken in this order. Groups are counted from 0, segment by segment
-/// and of each segment by partition: group n is of segment n / partitions of the plan, and of partition n % partitions.
-/// With Ok the result is that of `rebuild_plain`, whatever the will and the order.
+/// The objects that the plan's segments mean, in memory of their own. Each segment is divided by the will, and the groups
+/// of all partitions are taken in this order. Groups are counted from 0, segment by segment and of each segment by
+/// partition: group n is of segment n / partitions of the plan, and of partition n % partitions. With Ok the result is
+/// that of `rebuild_plain`, whatever the will and the order.
 ///
 /// A Double names the segment of two groups of one partition that the order names: one group twice, or groups of two
 /// segments that have one id. A Stranger is a number of the order that is not below the count of groups. MissingGroup
@@ -233,7 +183,8 @@ fn claims_replayed<'a>(
 /// Two values of one key and version are a Clash, even if a later version covers them. If the segments' ids differ and
 /// the order names each group once, a clean log whose keys all have partitions fails for memory alone.
 ///
-/// For n entries in s segments and p partitions it takes at most about n log n + s n + s s p steps.
+/// For n entries in s segments and p partitions it takes about n log n + s p steps, and at most s s more if the
+/// segments' ids don't rise.
 pub fn rebuild(
     alloc: Global,
     plan: &Plan,
@@ -248,6 +199,6 @@ pub fn rebuild(
     ensures whole { IfErr result (λ fault.
         CanBeRebuilt plan.now.segments will.now order.now → fault ≡ ReplayFault.NoMemory) }
 {
-    let mut claims = claims_replayed(alloc, plan.segments.as_slice(), will, order)?;
+    let mut claims = claims_divided(alloc, plan.segments.as_slice(), will, order)?;
     settle(alloc, plan.safe, &mut claims)
 }

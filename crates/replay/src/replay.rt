@@ -143,13 +143,6 @@ impl<'a> Replay<'a> {
         Ok(())
     }
 
-    /// What the groups claim, in order.
-    pub(crate) fn kept(&self) -> &[Claim<'a>]
-        ensures { AreKept self.now.groups result.now }
-    {
-        self.claims.as_slice()
-    }
-
     /// What the groups stand for, in memory of its own, once there is one of each segment. MissingGroup names the
     /// lowest segment without one.
     pub fn finish(self) -> Result<Replayed, ReplayFault>

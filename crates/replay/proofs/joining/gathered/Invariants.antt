@@ -1,13 +1,7 @@
 use Rattle.std.proofs.Common.{◌≡◌, ◌++◌, map, drop}
-use Rattle.entry.specs.View.{shown}
-use Rattle.replay.specs.Claims.{claimed, claims_of}
+use Rattle.replay.specs.Claims.{claimed}
 use Rattle.replay.proofs.joining.gathered.Given as goal
 
 abbrev pub invariant-loop-claim : goal.invariant-loop-claim
 invariant-loop-claim l =
     map claimed l.claims.items ++ map claimed (drop l.claim-index l.kept) ≡ map claimed l.kept
-
-abbrev pub invariant-loop-entry : goal.invariant-loop-entry
-invariant-loop-entry l =
-    map claimed l.claims.items ++ claims_of (map shown (drop l.entry-index l.entries))
-    ≡ map claimed l.kept ++ claims_of (map shown l.entries)

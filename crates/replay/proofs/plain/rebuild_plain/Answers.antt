@@ -5,7 +5,7 @@ use Rattle.replay.specs.Claims.{claimed, claims_of}
 use Rattle.replay.specs.Rebuilt.{IsRebuilt, IsRefusal}
 use Rattle.entry.specs.Meaning.{IsClean, among}
 use Rattle.replay.specs.Turns.{AreOf, AreRebuilt, AreCleanClaims, AreRefused}
-use Rattle.replay.proofs.Turning.{claims-of, if_ok, if_err, on_ok}
+use Rattle.replay.proofs.Carried.{claims-of, if_ok, if_err, on_ok}
 use Rattle.replay.proofs.plain.rebuild_plain.Goals.{After-settle}
 use Rattle.replay.proofs.plain.rebuild_plain.Goals as goal
 

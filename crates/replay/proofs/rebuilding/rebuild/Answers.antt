@@ -8,7 +8,7 @@ use Rattle.replay.specs.Claims.{claimed}
 use Rattle.replay.specs.Rebuilt.{IsRebuilt}
 use Rattle.replay.specs.Rebuilds.{IsRebuildFault, CanBeRebuilt}
 use Rattle.replay.specs.Turns.{AreOf, AreRebuilt, AreCleanClaims, AreRefused}
-use Rattle.replay.proofs.Turning.{if_ok, if_err, on_ok}
+use Rattle.replay.proofs.Carried.{if_ok, if_err, on_ok}
 use Rattle.replay.proofs.Wholes.{only_memory, refusal_fault}
 use Rattle.replay.proofs.rebuilding.rebuild.Goals.{After-from_residual, After-settle}
 use Rattle.replay.proofs.rebuilding.rebuild.Goals as goal

@@ -1,8 +1,0 @@
-use Rattle.std.proofs.Common.{◌≡◌, ◌++◌, map, drop}
-use Rattle.replay.specs.Claims.{claimed}
-use Rattle.replay.proofs.rebuilding.copy_all.Given as goal
-
-abbrev pub invariant-loop-claim : goal.invariant-loop-claim
-invariant-loop-claim l =
-    map claimed l.claims.items ++ map claimed (drop l.claim-index l.kept)
-    ≡ map claimed l.initial.claims.items ++ map claimed l.kept
