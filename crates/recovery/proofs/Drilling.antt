@@ -1,5 +1,5 @@
 -- A run keeps the configuration, and so a drill recovers the master that it stopped.
-use Rattle.std.proofs.Common.{◌≡◌, ℕ, List, [], ◌∷◌, sym, ap, subst, ◌∙◌}
+use Rattle.std.proofs.Common.{◌≡◌, ℕ, List, [], ◌∷◌, inl, inr, sym, ap, subst, ◌∙◌}
 use Rattle.std.specs.Prelude.{◌↔◌, Result, Ok, Err, IfOk, IfErr}
 use Rattle.entry.specs.Bag.{IsAmong}
 use Rattle.tablet_will.specs.declared.part.Part.{Part}
@@ -19,9 +19,9 @@ use Rattle.master.specs.World.{World}
 use Rattle.recovery.specs.declared.recovery.RecoveryFault.{RecoveryFault}
 use Rattle.recovery.specs.declared.order.GroupOrder.{GroupOrder}
 use Rattle.recovery.specs.Orders.{Covers, NamesHeld}
-use Rattle.recovery.specs.Drilled.{IsDrill}
+use Rattle.recovery.specs.Drilled.{IsDrill, IsOfHeld}
 use Rattle.recovery.specs.Kept.{is_kept}
-use Rattle.recovery.specs.Recovered.{IsRecovered, IsLossOrMemory, IsWant}
+use Rattle.recovery.specs.Recovered.{IsRecovered, IsLossOrMemory, IsWant, IsRebuiltFrom, IsRefusedFrom}
 use Rattle.recovery.proofs.Recoveries.{IsSomePrefix, IsSomeLoss}
 
 run_keeps : (old new : World) (steps : List Step) (answers : List (Result StepAnswer Refusal))
@@ -48,15 +48,24 @@ module _ (start stop : World) (steps : List Step) (kept : List ℕ) (will : List
   pub drilled : (hs : List Holding) → ((h : Holding) → IsAmong h hs ↔ IsHeld (left_on (is_kept kept) left.picture) h)
       → (r : Result Rebuilt RecoveryFault) → IfOk r (IsSomePrefix hs start.knows.config.master)
       → IfErr r (IsSomeLoss hs start.knows.config.master will order)
+      → IfOk r (IsRebuiltFrom hs start.knows.config.master will order)
+      → IfErr r (IsRefusedFrom hs start.knows.config.master will order)
       → IsDrill start steps kept will order answers r left
-  drilled hs shown r recovered refused = record {
+  drilled hs shown r recovered refused rebuilt fault = record {
     stop = stop;
     run = ran;
     fleet = same;
     valid = valid;
+    asked = asked r rebuilt fault;
     prefix = prefix r recovered;
     loss = λ covers names. loss covers names r refused;
   } where
+    asked : (r : Result Rebuilt RecoveryFault) → IfOk r (IsRebuiltFrom hs start.knows.config.master will order)
+        → IfErr r (IsRefusedFrom hs start.knows.config.master will order)
+        → IsOfHeld (left_on (is_kept kept) left.picture) start.knows.config.master will order r
+    asked (Ok b) is other = (hs, shown, is)
+    asked (Err e) other is = inr (hs, shown, is)
+
     prefix : (r : Result Rebuilt RecoveryFault) → IfOk r (IsSomePrefix hs start.knows.config.master)
         → IfOk r (λ b. (count : ℕ) × IsRecovered (log_of stop.knows) count b)
     prefix (Ok b) is = is (log_of stop.knows) left.picture (is_kept kept) valid.sound of_master (λ h of. shown h)
@@ -81,6 +90,7 @@ module _ (start stop : World) (steps : List Step) (kept : List ℕ) (will : List
     run = ran;
     fleet = same;
     valid = valid;
+    asked = inl want;
     prefix = tt;
     loss = λ covers names. (is, λ both. want);
   }

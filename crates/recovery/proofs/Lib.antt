@@ -6,3 +6,6 @@ pub mod Asked
 pub mod AskedOnce
 pub mod Drilling
 pub mod Lives
+pub mod Outliving
+pub mod Succeeding
+pub mod Following

@@ -1,8 +1,9 @@
 -- A master's steps, its end, and its recovery from what some backups hold.
-use Rattle.std.specs.Prelude.{◌≡◌, ℕ, List, Result, IfOk, IfErr}
+use Rattle.std.specs.Prelude.{◌≡◌, ◌⊎◌, ℕ, List, Result, Ok, Err, IfOk, IfErr}
 use Rattle.tablet_will.specs.declared.part.Part.{Part}
 use Rattle.replay.specs.declared.rebuilt.Rebuilt.{Rebuilt}
-use Rattle.replica.specs.Picture.{FleetState, left_on, shown_by}
+use Rattle.replica.specs.declared.holding.Holding.{Holding}
+use Rattle.replica.specs.Picture.{FleetState, Picture, AreHeld, left_on, shown_by}
 use Rattle.replica.specs.Survival.{BothSurvive}
 use Rattle.log_model.specs.Data.{IsHome}
 use Rattle.master_core.specs.declared.step.Refusal.{Refusal}
@@ -16,7 +17,14 @@ use Rattle.recovery.specs.declared.recovery.RecoveryFault.{RecoveryFault}
 use Rattle.recovery.specs.declared.order.GroupOrder.{GroupOrder}
 use Rattle.recovery.specs.Kept.{is_kept}
 use Rattle.recovery.specs.Orders.{Covers, NamesHeld}
-use Rattle.recovery.specs.Recovered.{IsRecovered, IsLossOrMemory, IsWant}
+use Rattle.recovery.specs.Recovered.{IsRecovered, IsLossOrMemory, IsWant, IsRebuiltFrom, IsRefusedFrom}
+
+-- What comes back, or the fault, follows from what these backups hold, however they list it. Or memory ran out.
+abbrev pub IsOfHeld : Picture → ℕ → List Part → GroupOrder → Result Rebuilt RecoveryFault → Type 0
+IsOfHeld p master will order (Ok r) =
+    (inventory : List Holding) × AreHeld inventory p × IsRebuiltFrom inventory master will order r
+IsOfHeld p master will order (Err e) =
+    IsWant e ⊎ ((inventory : List Holding) × AreHeld inventory p × IsRefusedFrom inventory master will order e)
 
 -- The steps were taken from this start, and left this fleet. Whichever backups are kept, and however segments are
 -- divided and replayed: what is recovered is exactly the map after a prefix that holds each durable command. If the
@@ -29,6 +37,7 @@ pub record IsDrill (start : World) (steps : List Step) (kept : List ℕ) (will :
   pub run : IsRun start steps answers stop
   pub fleet : left ≡ stop.fleet
   pub valid : IsValid stop.knows left
+  pub asked : IsOfHeld (left_on (is_kept kept) left.picture) start.knows.config.master will order recovered
   pub prefix : IfOk recovered (λ r. (count : ℕ) × IsRecovered (log_of stop.knows) count r)
   pub loss : Covers start.knows.config.tablets will
       → NamesHeld (left_on (is_kept kept) left.picture) start.knows.config.master will order

@@ -4,3 +4,4 @@ pub mod Recovered
 pub mod Lives
 pub mod Texts
 pub mod Drilled
+pub mod Succession

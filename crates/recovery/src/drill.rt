@@ -1,6 +1,6 @@
 //! A master's steps, its end, and its recovery from what some backups hold.
 
-ghost use Rattle.std.specs.Prelude.{◌≡◌, IfOk, IfErr};
+ghost use Rattle.std.specs.Prelude.{◌≡◌, ◌≤◌, IfOk, IfErr};
 ghost use Rattle.master.specs.World.{world};
 ghost use Rattle.recovery.specs.Drilled.{IsDrill};
 
@@ -37,6 +37,7 @@ pub fn run_drill<F: Fleet>(
     ensures drill { IfOk result (λ d.
         IsDrill (world F.state master) steps.now kept.now will.now order.now d.answers.items d.recovered
         (F.state d.fleet)) }
+    ensures backups { IfOk result (λ d. master.knows.config.backups ≤ (F.state d.fleet).backups) }
     ensures refused { IfErr result (λ e. world F.state e.1 ≡ world F.state master) }
 {
     let mut master = master;

@@ -1,7 +1,8 @@
 //! Laws about what a recovery gives back.
 
-ghost use Rattle.recovery.specs.Lives.{VersionsRise};
+ghost use Rattle.recovery.specs.Lives.{AcknowledgedOutlive, VersionsRise};
 ghost use Rattle.recovery.specs.Orders.{OrdersNameGroups};
+ghost use Rattle.recovery.specs.Succession.{DrilledAreLives};
 ghost use Rattle.recovery.specs.Recovered.{AcknowledgedAreRecovered};
 
 /// A recovered prefix holds every acknowledged command.
@@ -17,4 +18,14 @@ pub fn orders_name_groups()
 /// Over lives that each begin with what was recovered of the one before, the versions of a key rise.
 pub fn versions_rise()
     ensures { VersionsRise }
+{}
+
+/// What a key has after acknowledged records it has in each later life, unless a put or delete of it comes between.
+pub fn acknowledged_outlive()
+    ensures { AcknowledgedOutlive }
+{}
+
+/// Lives that `run_lives` lived follow one another, so the laws above hold of them.
+pub fn drilled_are_lives()
+    ensures { DrilledAreLives }
 {}

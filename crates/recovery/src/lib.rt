@@ -11,12 +11,17 @@ mod inventory;
 mod laws;
 mod order;
 mod recovery;
+mod succession;
 
 pub use drill::{Drill, run_drill};
 pub use inventory::inventory_of;
-pub use laws::{acknowledged_recovered, orders_name_groups, versions_rise};
+pub use laws::{
+    acknowledged_outlive, acknowledged_recovered, drilled_are_lives, orders_name_groups,
+    versions_rise,
+};
 pub use order::{GroupOrder, numbers};
 pub use recovery::{RecoveryFault, recover};
 pub use recovery_plan::{Plan, PlanFault, plan};
 pub use replay::{Rebuilt, ReplayFault, rebuild, rebuild_plain};
+pub use succession::{Course, Drills, End, Lived, NotAdopted, run_lives};
 pub use tablet_will::{Will, make_will};

@@ -6,6 +6,7 @@ use Rattle.recovery.specs.declared.recovery.RecoveryFault.{RecoveryFault}
 use Rattle.recovery.specs.declared.recovery.RecoveryFault.TheVariants as fault
 use Rattle.recovery_plan.specs.declared.fault.PlanFault.TheVariants as plan_fault
 use Rattle.recovery.specs.Drilled.{IsDrill}
+use Rattle.recovery.specs.Recovered.{IsRebuiltFrom, IsRefusedFrom}
 use Rattle.recovery.proofs.Drilling.{drilled, drilled_without}
 use Rattle.recovery.proofs.Recoveries.{IsSomePrefix, IsSomeLoss}
 use Rattle.recovery.proofs.drill.run_drill.Goals.{in-Ok-inventory_of, in-Err-inventory_of}
@@ -35,7 +36,13 @@ returns-clause-drill g c =
           r.ensures.ok)
           (subst (λ (n : ℕ). IfErr r.result (IsSomeLoss w.in-Ok-inventory_of.inventory n will order))
           c.number-number.ensures
-          r.ensures.refused)))
+          r.ensures.refused)
+          (subst (λ (n : ℕ). IfOk r.result (IsRebuiltFrom w.in-Ok-inventory_of.inventory n will order))
+          c.number-number.ensures
+          r.ensures.rebuilt)
+          (subst (λ (n : ℕ). IfErr r.result (IsRefusedFrom w.in-Ok-inventory_of.inventory n will order))
+          c.number-number.ensures
+          r.ensures.fault)))
       | in-Err-inventory_of w ↦
           subst (λ (x : Result Rebuilt RecoveryFault). IsDrill start c.args.steps.now kept will order answers x left)
           (sym w.recovered-is)

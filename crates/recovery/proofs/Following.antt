@@ -1,0 +1,82 @@
+-- A life that is followed by a next master, and one that isn't.
+use Rattle.std.proofs.Common.{◌≡◌, ℕ, suc, ◌+◌, List, sym, ap, subst, ◌∙◌, arith}
+use Rattle.std.specs.Prelude.{Result}
+use Rattle.replica.specs.declared.op.TakeFault.{TakeFault}
+use Rattle.replica.specs.Picture.{FleetState}
+use Rattle.replica.specs.Retire.{Retires}
+use Rattle.replay.specs.declared.rebuilt.Rebuilt.{Rebuilt}
+use Rattle.replay.specs.Adopting.{IsAdopted, IsAdoptedOn}
+use Rattle.master_core.specs.declared.config.Config.{Config}
+use Rattle.master_core.specs.declared.step.Refusal.{Refusal}
+use Rattle.master_core.specs.declared.step.Step.{Step}
+use Rattle.master_core.specs.declared.step.StepAnswer.{StepAnswer}
+use Rattle.master_core.specs.Data.{MasterData}
+use Rattle.master.specs.Valid.{IsValid}
+use Rattle.master.specs.World.{World, world_of}
+use Rattle.recovery.specs.declared.recovery.RecoveryFault.{RecoveryFault}
+use Rattle.recovery.specs.declared.succession.Course.{Course}
+use Rattle.recovery.specs.declared.succession.NotAdopted.{NotAdopted}
+use Rattle.recovery.specs.Drilled.{IsDrill}
+use Rattle.recovery.specs.Succession.{IsNewest, with_number, IsDrillBy, IsSuccessor, IsNotAdopted}
+use Rattle.recovery.proofs.Succeeding.{run_newest, next_newest}
+
+-- ---- the next master
+
+-- the configuration, under the next number
+pub config_next : (c d : Config) (n m : ℕ) → d ≡ with_number m c → m ≡ n + 1 → d ≡ with_number (suc n) c
+config_next c d n m is next =
+    let same : m ≡ suc n = omega (arith, next) in
+    is ∙ ap (λ (k : ℕ). with_number k c) same
+
+pub is_successor : (c d : Config) (r : Rebuilt) (left taken new : FleetState) (before after : MasterData)
+    (retired : Result Unit TakeFault) → d ≡ c → after ≡ before → IsAdopted d r before → IsAdoptedOn d.master left taken
+    → Retires taken before.config.master retired new → IsValid after new
+    → IsSuccessor c r left retired (world_of after new)
+is_successor c d r left taken new before after retired same kept adopted on retires valid =
+    subst (λ (x : Config). IsSuccessor x r left retired (world_of after new)) same (record {
+      adopted = subst (λ (x : MasterData). IsAdopted d r x) (sym kept) adopted;
+      taken = taken;
+      on = on;
+      retires = subst (λ (n : ℕ). Retires taken n retired new) (ap (λ (x : Config). x.master) adopted.config) retires;
+      valid = valid;
+    })
+
+pub adopted_newest : (n : ℕ) (c d : Config) (r : Rebuilt) (left taken new : FleetState) (before : MasterData)
+    (retired : Result Unit TakeFault) → d ≡ with_number (suc n) c → IsAdopted d r before
+    → IsAdoptedOn d.master left taken → Retires taken before.config.master retired new → IsNewest n left.picture
+    → IsNewest (suc n) new.picture
+adopted_newest n c d r left taken new before retired same adopted on retires newest =
+    let number : d.master ≡ suc n = ap (λ (x : Config). x.master) same in
+    next_newest n left taken new retired newest (subst (λ (m : ℕ). IsAdoptedOn m left taken) number on)
+    (subst (λ (m : ℕ). Retires taken m retired new) (ap (λ (x : Config). x.master) adopted.config ∙ number) retires)
+
+-- ---- the configuration
+
+pub newest_again : (c e : Config) (n : ℕ) (f : FleetState) → e ≡ with_number n c → IsNewest n f.picture
+    → IsNewest e.master f.picture
+newest_again c e n f is newest =
+    subst (λ (m : ℕ). IsNewest m f.picture) (sym (ap (λ (x : Config). x.master) is)) newest
+
+-- ---- the life
+
+pub drill_by : (start : World) (k : Course) (steps : List Step) (kept : List ℕ)
+    (answers : List (Result StepAnswer Refusal)) (recovered : Result Rebuilt RecoveryFault) (left : FleetState)
+    → steps ≡ k.steps.items → kept ≡ k.kept.items
+    → IsDrill start steps kept k.will k.order answers recovered left → IsDrillBy start k answers recovered left
+drill_by start k steps kept answers recovered left same asked is =
+    subst (λ (xs : List Step). IsDrill start xs k.kept.items k.will k.order answers recovered left) same
+    (subst (λ (xs : List ℕ). IsDrill start steps xs k.will k.order answers recovered left) asked is)
+
+pub drill_newest : (start : World) (k : Course) (answers : List (Result StepAnswer Refusal))
+    (recovered : Result Rebuilt RecoveryFault) (left : FleetState) (n : ℕ) → n ≡ start.knows.config.master
+    → IsDrillBy start k answers recovered left → IsNewest start.knows.config.master start.fleet.picture
+    → IsNewest n left.picture
+drill_newest start k answers recovered left n same is newest =
+    subst (λ (m : ℕ). IsNewest m left.picture) (sym same)
+    (run_newest start is.stop k.steps.items answers left is.run is.fleet newest)
+
+pub is_not_adopted : (c d : Config) (n : ℕ) (r : Rebuilt) (left new : FleetState) (why : NotAdopted)
+    → d ≡ with_number d.master c → n ≡ d.master → IsNotAdopted (with_number n c) r left why new
+    → IsNotAdopted d r left why new
+is_not_adopted c d n r left new why like number is =
+    subst (λ (x : Config). IsNotAdopted x r left why new) (ap (λ (m : ℕ). with_number m c) number ∙ sym like) is

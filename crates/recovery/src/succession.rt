@@ -1,0 +1,211 @@
+//! Lives that are drilled one after another.
+
+ghost use Rattle.std.specs.Prelude.{◌≡◌, ◌≤◌, suc, None, IfOk, IfErr};
+ghost use Rattle.master_core.specs.Config.{config_fault};
+ghost use Rattle.master.specs.World.{world};
+ghost use Rattle.recovery.specs.Succession.{IsNewest, with_number, IsSuccessor, IsLived, IsNotAdopted, IsLast, AreDrilled};
+
+use crate::drill::{Drill, run_drill};
+use crate::order::GroupOrder;
+use crate::recovery::RecoveryFault;
+use entry::{NoMemory, Tablets};
+use master::{Config, Master, Refusal, Step, StepAnswer};
+use replay::{Rebuilt, adopt_list};
+use replica::{Bench, Fleet, TakeFault};
+use std::alloc::Global;
+use tablet_will::Will;
+
+/// What a life does, and how it is recovered.
+#[derive(Drop)]
+pub struct Course {
+    pub steps: Vec<Step>,
+    /// The backups that are asked.
+    pub kept: Vec<u64>,
+    pub will: Will,
+    pub order: GroupOrder,
+}
+
+/// What the steps of a life answered, what was recovered and adopted, and how the replicas of the life were freed.
+#[derive(Drop)]
+pub struct Lived {
+    pub answers: Vec<Result<StepAnswer, Refusal>>,
+    pub recovered: Rebuilt,
+    pub retired: Result<(), TakeFault>,
+}
+
+/// Why no master took over what was recovered.
+#[derive(Drop)]
+pub enum NotAdopted {
+    /// There is no greater number than the master's.
+    NumbersSpent,
+    Refused(Refusal),
+}
+
+/// What there is after the last life.
+#[derive(Drop)]
+pub enum End<F: Fleet> {
+    /// Each life was lived, and this master goes on.
+    Up(Master<F>),
+    /// Memory ran out before the first step of the next life. This is its master.
+    NoMemory(Master<F>),
+    /// The recovery of this life was refused.
+    NotRecovered(Drill<F>),
+    /// No master took over what was recovered of this life.
+    NotAdopted(Drill<F>, NotAdopted),
+}
+
+/// The lives that were lived, and what there is after them.
+#[derive(Drop)]
+pub struct Drills<F: Fleet> {
+    pub lived: Vec<Lived>,
+    pub end: End<F>,
+}
+
+/// The configuration, for the master with this number.
+fn numbered(alloc: Global, config: &Config, master: u64) -> Result<Config, NoMemory>
+    ensures { IfOk result (λ c. c ≡ with_number master config.now) }
+{
+    let tablets = Vec::from_slice(alloc, config.tablets.as_slice())?;
+    Ok(Config {
+        master,
+        backups: config.backups,
+        replicas: config.replicas,
+        step: config.step,
+        segment: config.segment,
+        seglet: config.seglet,
+        seglets: config.seglets,
+        tablets: Tablets::new(tablets),
+        history: config.history,
+    })
+}
+
+/// A new master that begins with the list, and frees the replicas of all others. Its number is one more than this.
+fn succeed<F: Bench>(
+    alloc: Global,
+    config: &Config,
+    number: u64,
+    rebuilt: &Rebuilt,
+    fleet: F,
+) -> Result<(Master<F>, Result<(), TakeFault>), (NotAdopted, F)>
+    requires config { config_fault config.now ≡ None }
+    requires backups { config.now.backups ≤ (F.Fleet.state fleet).backups }
+    requires newest { IsNewest number (F.Fleet.state fleet).picture }
+    ensures succeeds { IfOk result (λ r. IsSuccessor (with_number (suc number) config.now) rebuilt.now
+        (F.Fleet.state fleet) r.1 (world F.Fleet.state r.0)) }
+    ensures newest { IfOk result (λ r. IsNewest (suc number) (F.Fleet.state r.0.fleet).picture) }
+    ensures refused { IfErr result (λ e.
+        IsNotAdopted (with_number number config.now) rebuilt.now (F.Fleet.state fleet) e.0 (F.Fleet.state e.1)) }
+{
+    let Some(next) = number.checked_add(1) else {
+        return Err((NotAdopted::NumbersSpent, fleet));
+    };
+    let config = match numbered(alloc, config, next) {
+        Ok(config) => config,
+        Err(NoMemory) => return Err((NotAdopted::Refused(Refusal::NoMemory), fleet)),
+    };
+    let mut master = match adopt_list(alloc, rebuilt, config, fleet) {
+        Ok(master) => master,
+        Err((refusal, fleet)) => return Err((NotAdopted::Refused(refusal), fleet)),
+    };
+    let retired = master.retire();
+    Ok((master, retired))
+}
+
+/// One life, its recovery, and the next master. The configuration is that of the master, but for the number.
+fn live<F: Bench>(
+    alloc: Global,
+    master: Master<F>,
+    config: &Config,
+    course: &Course,
+) -> Result<(Lived, Master<F>), End<F>>
+    requires config { master.knows.config ≡ with_number master.knows.config.master config.now }
+    requires newest { IsNewest master.knows.config.master (F.Fleet.state master.fleet).picture }
+    ensures lived { IfOk result (λ r.
+        IsLived (world F.Fleet.state master) course.now r.0 (world F.Fleet.state r.1)) }
+    ensures newest { IfOk result (λ r. IsNewest r.1.knows.config.master (F.Fleet.state r.1.fleet).picture) }
+    ensures config { IfOk result (λ r. r.1.knows.config ≡ with_number r.1.knows.config.master config.now) }
+    ensures ends { IfErr result (IsLast F.Fleet.state (world F.Fleet.state master) course.now) }
+{
+    let number = master.number();
+    master.show_valid();
+    let Drill {
+        answers,
+        recovered,
+        fleet,
+    } = match run_drill(
+        alloc,
+        master,
+        course.steps.as_slice(),
+        course.kept.as_slice(),
+        &course.will,
+        &course.order,
+    ) {
+        Ok(drill) => drill,
+        Err((NoMemory, master)) => return Err(End::NoMemory(master)),
+    };
+    let recovered = match recovered {
+        Ok(rebuilt) => rebuilt,
+        Err(fault) => {
+            return Err(End::NotRecovered(Drill {
+                answers,
+                recovered: Err(fault),
+                fleet,
+            }));
+        }
+    };
+    match succeed(alloc, config, number, &recovered, fleet) {
+        Ok((master, retired)) => Ok((
+            Lived {
+                answers,
+                recovered,
+                retired,
+            },
+            master,
+        )),
+        Err((why, fleet)) => Err(End::NotAdopted(
+            Drill {
+                answers,
+                recovered: Ok(recovered),
+                fleet,
+            },
+            why,
+        )),
+    }
+}
+
+/// Lives one life after another: its steps, its end, its recovery from what these backups hold, and a new master that
+/// adopts what was recovered and frees the replicas of all others. The new master has the number of the last one and
+/// one more, and is else configured alike. No backup may hold replicas of a greater number than the first one's. It
+/// stops if a recovery or an adoption is refused, or if memory runs out, and hands back what there is. If replicas of
+/// earlier masters stay because their freeing ended in a fault, the next life goes on beside them.
+pub fn run_lives<F: Bench>(
+    alloc: Global,
+    master: Master<F>,
+    config: &Config,
+    courses: &[Course],
+) -> Drills<F>
+    requires config { master.knows.config ≡ config.now }
+    requires newest { IsNewest master.knows.config.master (F.Fleet.state master.fleet).picture }
+    ensures { AreDrilled F.Fleet.state (world F.Fleet.state master) courses.now result.lived.items result.end }
+{
+    let mut up = master;
+    let Ok(mut lived) = Vec::with_capacity(alloc, courses.len()) else {
+        return Drills {
+            lived: Vec::new(alloc),
+            end: End::NoMemory(up),
+        };
+    };
+    for course in courses {
+        match live(alloc, up, config, course) {
+            Ok((life, next)) => {
+                lived.push_reserved(life);
+                up = next;
+            }
+            Err(end) => return Drills { lived, end },
+        }
+    }
+    Drills {
+        lived,
+        end: End::Up(up),
+    }
+}
