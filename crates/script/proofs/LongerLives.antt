@@ -64,7 +64,7 @@ module _ (config : Config) (life : Life) where
   rises at line (answer.Room used free) next t = as_before at next t.3
   rises at line (answer.Will parts limits) next t = as_before at next t.3
   rises at line (answer.BadLimits limits) next t = as_before at next t.3
-  rises at line (answer.Holdings hs) next t = as_before at next t.2
+  rises at line (answer.Holdings hs) next t = as_before at next t.3
   rises at line (answer.Hex bytes) next t = as_before at next t.2
   rises at line (answer.NotInLog segment) next t = as_before at next t.3
   rises at line (answer.Stop takes) next t = as_before at next t.1
@@ -196,7 +196,7 @@ module _ (config : Config) (opening : State) (history more : List Record) where
       (t.0, t.1, subst (λ (l : Life). IsWillAt config l limits parts) (same_front at.made within) t.2, t.3)
   tells_longer at line (answer.BadLimits limits) next within after t = t
   tells_longer at line (answer.Holdings hs) next within after t =
-      (t.0, subst (λ (l : Life). AreHeldAt config l at.left hs) (same_front at.made within) t.1, t.2)
+      (t.0, subst (λ (l : Life). AreHeldAt config l at.left hs) (same_front at.made within) t.1, t.2, t.3)
   tells_longer at line (answer.Hex bytes) next within after t =
       (t.0, (t.1.0, t.1.1, subst (λ (l : Life). IsImageAt config l t.1.0 (Some bytes)) (same_front at.made within) t.1.2), t.2)
   tells_longer at line (answer.NotInLog segment) next within after t =

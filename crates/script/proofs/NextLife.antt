@@ -71,20 +71,25 @@ abbrev fleet_in : MemoryFleet → Node → MemoryFleet
 fleet_in other (Down f) = f
 fleet_in other n = other
 
-pub list_declined : (self : Node) (given left final : MemoryFleet) (r : Rebuilt) (config : Config) (why : Refusal) (a : Answer) → self ≡ Down given
+pub list_declined : (given left final : MemoryFleet) (r : Rebuilt) (config : Config) (why : Refusal) (a : Answer)
     → IsAdoptedOn config.master (fleet_state given) (fleet_state left) → DeclinesList config r (fleet_state given) why (fleet_state left)
     → (fleet_state final).picture ≡ (fleet_state left).picture → (fleet_state final).backups ≡ (fleet_state left).backups → a ≡ refusal_answer why
-    → (fleet : MemoryFleet) → self ≡ Down fleet → Adopts fleet r config (Down final) (Some a)
-list_declined self given left final r config why a down on declines picture backups told fleet is =
-    let same : given ≡ fleet = ap (fleet_in given) (sym down ∙ is) in (
-      final,
-      refl,
-      subst (λ (x : MemoryFleet). SparesOthers (fleet_state x) config.master (fleet_state final)) same (record {
-        backups = backups ∙ on.backups;
-        others = λ b m s other. ap (λ (p : Picture). p b m s) picture ∙ on.others b m s other;
-      }),
-      (why, (fleet_state given, fleet_state left, declines), told),
-    )
+    → Adopts given r config (Down final) (Some a)
+list_declined given left final r config why a on declines picture backups told = (
+  final,
+  refl,
+  record {
+    backups = backups ∙ on.backups;
+    others = λ b m s other. ap (λ (p : Picture). p b m s) picture ∙ on.others b m s other;
+  },
+  (why, (fleet_state given, fleet_state left, declines), told),
+)
+
+-- an adoption from a node that is down is one from its fleet
+pub adopts_down : (self new : Node) (given : MemoryFleet) (r : Rebuilt) (config : Config) (o : Option Answer) → self ≡ Down given
+    → Adopts given r config new o → (fleet : MemoryFleet) → self ≡ Down fleet → Adopts fleet r config new o
+adopts_down self new given r config o down adopts fleet is =
+    subst (λ (x : MemoryFleet). Adopts x r config new o) (ap (fleet_in given) (sym down ∙ is)) adopts
 
 pub cut_spent : (d : MasterData) (m : MasterValue MemoryFleet) (new : Node) (a : Answer) → m.knows ≡ d → IsValid d (fleet_state m.fleet)
     → IsSpent (fleet_state m.fleet) → Refuses (Up m) refusal.Spent new a → RetiresOthers d new (Some a)
@@ -95,6 +100,15 @@ cut_spent d m new a same valid spent (inr (is, why, dropped, lifted)) = (
   dropped d (fleet_state m.fleet) (refl, same, valid) refl,
   subst (λ (x : Answer). IsCut (fleet_state m.fleet) x) (sym is) spent,
 )
+
+-- no refusal is told as spent numbers
+pub not_of_refusal : (r : Refusal) → refusal_answer r ≡ answer.NumbersSpent → ⊥
+not_of_refusal refusal.Spent is = absurd (cc)
+not_of_refusal r is = absurd (cc)
+
+-- and no cut is
+pub not_of_cut : (d : MasterData) (new : Node) (a : Answer) → RetiresOthers d new (Some a) → a ≡ answer.NumbersSpent → ⊥
+not_of_cut d new a told is = subst (IsCut told.0) is told.3
 
 -- ---- a recovery of what is left on this fleet
 

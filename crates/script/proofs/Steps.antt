@@ -1,12 +1,14 @@
 -- Lines of steps that make no record, told of a master's life.
 use Rattle.std.proofs.Common.{◌≡◌, ℕ, true, List, [], refl, sym, ap, subst, inl, inr, ◌∙◌, arith}
 use Rattle.std.proofs.lemmas.List.{append-nil}
-use Rattle.std.specs.Prelude.{Option, Some, None, IsSome}
+use Rattle.std.specs.Prelude.{Option, Some, None, IfSome, IsSome}
 use Rattle.std.specs.Option.{option_map}
-use Rattle.lines.specs.Grammar.{LineValue, Roll, BeginRoll, Compact, Push, Clean, Begin, Copy, Seal, Free, Holdings}
+use Rattle.lines.specs.Grammar.{LineValue, Idle, Roll, BeginRoll, Compact, Push, Clean, Begin, Copy, Seal, Free, Will}
+use Rattle.lines.specs.Grammar.{Hex, Log, Room, Holdings, Stop, Crash, Lose}
 use Rattle.std.specs.Prelude.{Result, Ok, Err, IfOk}
 use Rattle.std.specs.declared.alloc.AllocError.{AllocError}
 use Rattle.replica.specs.declared.holding.Holding.{Holding}
+use Rattle.backup.specs.Inventory.{IsRising}
 use Rattle.replica.specs.Picture.{FleetState, AreHeld}
 use Rattle.replica.specs.Take.{limited, no_limit}
 use Rattle.master_core.specs.declared.config.Config.{Config}
@@ -25,7 +27,7 @@ use Rattle.script.specs.Lives.{Life, life_to, HasLived, Left, IsLeftBySpent}
 use Rattle.script.specs.Cleans.{Cleans}
 use Rattle.script.specs.Rolls.{Rolls}
 use Rattle.script.specs.Served.{LivesOn, IsSpent, IsOf, IsNodeAt, Refuses, fleet_of, life_of, held_answer}
-use Rattle.script.specs.Served.{IsLeftIn, LiftsLimit, MakesLine, refusal_answer, world_of}
+use Rattle.script.specs.Served.{IsLeftIn, LiftsLimit, MakesLine, ShowsFleet, refusal_answer, world_of}
 use Rattle.script.specs.Told.{Position, command_of, pushes, is_for_master, IsStepAt, IsRollAt, IsCleanAt, IsStepRefusal, AreHeldAt, TellsNoStep, Tells}
 use Rattle.script.proofs.Rolls.{no_step_told}
 use Rattle.script.proofs.Standing.{Answered, still_stands, lived, lived_longer}
@@ -128,13 +130,30 @@ command_makes old (Begin victims) new a lifts some = absurd (cc)
 command_makes old Copy new a lifts some = absurd (cc)
 command_makes old Seal new a lifts some = absurd (cc)
 command_makes old Free new a lifts some = absurd (cc)
+command_makes old Idle new a lifts some = absurd (cc)
+command_makes old (Hex segment) new a lifts some = absurd (cc)
+command_makes old Log new a lifts some = absurd (cc)
+command_makes old Room new a lifts some = absurd (cc)
+command_makes old Holdings new a lifts some = absurd (cc)
+command_makes old Will new a lifts some = absurd (cc)
+command_makes old (Stop takes) new a lifts some = absurd (cc)
+command_makes old Crash new a lifts some = absurd (cc)
+command_makes old (Lose backup) new a lifts some = absurd (cc)
 command_makes old line new a lifts some = λ again. lifts
 
 -- ---- what backups hold
 
+-- what is shown is all that the fleet holds
+pub held_shows : (node : Node) (f : FleetState) (result : Result (List Holding) AllocError) → fleet_of node ≡ Some f
+    → IfOk result (λ hs. AreHeld hs f.picture) → ShowsFleet node (held_answer result)
+held_shows node f (Err fault) fleet shown = tt
+held_shows node f (Ok hs) fleet shown =
+    subst (λ (o : Option FleetState). IfSome o (λ (x : FleetState). AreHeld hs x.picture)) (sym fleet) shown
+
 -- what the fleet of a master holds is shown, or memory ran out
 pub held_up : (config : Config) (life : Life) (at : Position) (result : Result (List Holding) AllocError) (d : MasterData) (f : FleetState) → at.left ≡ None
-    → HasLived config (life_to life at.made) d f → IfOk result (λ hs. AreHeld hs f.picture) → Tells config life at Holdings (held_answer result) at
-held_up config life at (Err fault) d f none has shown = inr (inl (refl, refl, refl))
-held_up config life at (Ok hs) d f none has shown =
-    (refl, subst (λ (o : Option Left). AreHeldAt config (life_to life at.made) o hs) (sym none) (d, f, has, shown), refl)
+    → HasLived config (life_to life at.made) d f → IfOk result (λ hs. AreHeld hs f.picture) → IfOk result IsRising
+    → Tells config life at Holdings (held_answer result) at
+held_up config life at (Err fault) d f none has shown rising = inr (inl (refl, refl, refl))
+held_up config life at (Ok hs) d f none has shown rising =
+    (refl, subst (λ (o : Option Left). AreHeldAt config (life_to life at.made) o hs) (sym none) (d, f, has, shown), rising, refl)

@@ -3,6 +3,7 @@ use Rattle.std.proofs.Common.{◌≡◌, ℕ, ◌≤◌, Bool, true, false, cond
 use Rattle.std.specs.declared.alloc.AllocError.{AllocError}
 use Rattle.std.proofs.lemmas.List.{append-nil}
 use Rattle.std.specs.Prelude.{Option, Some, None, not, ◌==◌, ◌||◌, ◌↔◌, Result, Ok, Err, IfOk}
+use Rattle.backup.specs.Inventory.{IsRising}
 use Rattle.backup.specs.State.{fleet_state, lost}
 use Rattle.backup.specs.declared.fleet.MemoryFleet.{MemoryFleet}
 use Rattle.lines.specs.Grammar.{LineValue, Crash, Lose, Recover, Holdings}
@@ -52,10 +53,11 @@ held_of_left config d l f hs same of shown h its =
     subst (λ (r : Option Replica). IsAmong h hs ↔ (r ≡ Some (record { bytes = h.bytes; is_open = h.is_open }))) there (shown h)
 
 pub held_down : (config : Config) (life : Life) (at : Position) (result : Result (List Holding) AllocError) (d : MasterData) (l : Left) (f : FleetState)
-    → d.config ≡ config → at.left ≡ Some l → IsLeftOf d l f → IfOk result (λ hs. AreHeld hs f.picture) → Tells config life at Holdings (held_answer result) at
-held_down config life at (Err fault) d l f same left of shown = inr (inl (refl, refl, refl))
-held_down config life at (Ok hs) d l f same left of shown =
-    (refl, subst (λ (o : Option Left). AreHeldAt config (life_to life at.made) o hs) (sym left) (held_of_left config d l f hs same of shown), refl)
+    → d.config ≡ config → at.left ≡ Some l → IsLeftOf d l f → IfOk result (λ hs. AreHeld hs f.picture) → IfOk result IsRising
+    → Tells config life at Holdings (held_answer result) at
+held_down config life at (Err fault) d l f same left of shown rising = inr (inl (refl, refl, refl))
+held_down config life at (Ok hs) d l f same left of shown rising =
+    (refl, subst (λ (o : Option Left). AreHeldAt config (life_to life at.made) o hs) (sym left) (held_of_left config d l f hs same of shown), rising, refl)
 
 -- ---- crashes and losses
 

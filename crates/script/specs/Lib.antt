@@ -8,6 +8,7 @@ pub mod Cleans
 pub mod Told
 pub mod Succession
 pub mod Served
+pub mod Waits
 pub mod Runs
 pub mod Turns
 pub mod Program

@@ -1,16 +1,17 @@
 -- What a session stands for, and what its lines do to it.
 use Rattle.std.specs.Prelude.{◌≡◌, ◌⊎◌, ℕ, ◌<◌, ◌≤◌, List, [], ◌∷◌, ◌++◌, Bool, true, false, Option, Some, None, length}
-use Rattle.backup.specs.State.{fleet_state}
+use Rattle.backup.specs.State.{fleet_state, lost}
 use Rattle.backup.specs.declared.fleet.MemoryFleet.{MemoryFleet}
 use Rattle.command_line.specs.declared.settings.Options.{Options}
-use Rattle.lines.specs.Grammar.{LineValue, Roll, BeginRoll, Compact, Push, Clean, Begin, Copy, Seal, Free, Will, Recover}
-use Rattle.std.specs.Prelude.{Result, Ok, Err, IsSome}
+use Rattle.lines.specs.Grammar.{LineValue, Idle, Roll, BeginRoll, Compact, Push, Clean, Begin, Copy, Seal, Free, Will, Recover}
+use Rattle.lines.specs.Grammar.{Hex, Log, Room, Stop, Crash, Lose, Holdings as HoldingsLine}
+use Rattle.std.specs.Prelude.{Result, Ok, Err, IfSome, IsSome, max}
 use Rattle.std.specs.Option.{option_map}
 use Rattle.std.specs.declared.alloc.AllocError.{AllocError}
 use Rattle.replay.specs.declared.rebuilt.Rebuilt.{Rebuilt}
 use Rattle.replica.specs.declared.holding.Holding.{Holding}
 use Rattle.replica.specs.declared.op.TakeFault.TheVariants as take_fault
-use Rattle.replica.specs.Picture.{FleetState, left_on}
+use Rattle.replica.specs.Picture.{FleetState, AreHeld, left_on}
 use Rattle.replica.specs.Take.{limited, no_limit}
 use Rattle.versioned_map.specs.declared.command.Command.{Command}
 use Rattle.versioned_map.specs.declared.command.Record.{Record}
@@ -19,7 +20,7 @@ use Rattle.log_head.specs.Head.{is_open}
 use Rattle.log_model.specs.Data.{durable_of}
 use Rattle.master_core.specs.declared.config.Config.{Config}
 use Rattle.master_core.specs.declared.step.Refusal.{Refusal}
-use Rattle.master_core.specs.declared.step.Refusal.TheVariants.{NoMemory, Rolling, Spent}
+use Rattle.master_core.specs.declared.step.Refusal.TheVariants.{NoMemory, Spent}
 use Rattle.master_core.specs.declared.step.Step.{Step}
 use Rattle.master_core.specs.declared.step.Step.TheVariants as step
 use Rattle.master_core.specs.declared.step.StepAnswer.{StepAnswer}
@@ -38,13 +39,13 @@ use Rattle.script.specs.declared.node.Node.{Node}
 use Rattle.script.specs.declared.node.Node.TheVariants.{Up, Down, Changing}
 use Rattle.script.specs.declared.session.Session.{Session}
 use Rattle.script.specs.Configuration.{config_of, tables_to}
-use Rattle.script.specs.Numbers.{Renumbers}
-use Rattle.script.specs.Lives.{Life, life_to, Left, is_left}
+use Rattle.script.specs.Numbers.{AreSpent, IsNextNumber, Renumbers}
+use Rattle.script.specs.Lives.{Life, Left, is_left}
 use Rattle.replay.specs.Adopting.{IsAdopted}
 use Rattle.recovery.specs.Orders.{Covers}
 use Rattle.script.specs.Cleans.{Cleans}
 use Rattle.script.specs.Rolls.{PushesUntil, Rolls}
-use Rattle.script.specs.Told.{Position, at_start, command_of, is_of_push, IsTest, TellsNoStep, Tells, IsFoundAt, IsListDeclined, HasLimits}
+use Rattle.script.specs.Told.{Position, at_start, command_of, is_of_push, Tells, IsFoundAt, IsListDeclined, HasLimits}
 use Rattle.script.specs.Succession.{Standing, Succeeds}
 use Rattle.tablet_will.specs.declared.part.Part.{Part}
 use Rattle.tablet_will.specs.Parts.{Divides}
@@ -80,7 +81,7 @@ pub record IsUnpushed (old : MasterData) (command : Command) (r : Refusal) (new 
   pub pushed : PushesUntil mid r new
   pub waits : is_of_push r ≡ true
 
--- The command was not answered. Either a test or want of memory refused it, and no record was added. Or its record was
+-- The command was not answered. Either a test refused it or memory ran out, and no record was added. Or its record was
 -- added, and a push was refused.
 abbrev pub IsUnserved : MasterData → Command → Refusal → World → Type 0
 IsUnserved old command r new =
@@ -223,8 +224,18 @@ AnswersLine old config line new answer = (d : MasterData) (at : Position) → Is
     (e : MasterData) × (next : Position) × IsNodeAt new config e next
     × LivesLonger d e × Tells config (life_of e) at line answer next
 
--- What a line makes of the node: just its step, its roll or its cleaning. After a command's line a stopped node has no
--- limit.
+-- the backup of a node without a master loses all that it holds, and no other does
+abbrev pub LosesOne : Node → ℕ → Node → Type 0
+LosesOne old backup new =
+    is_up old ≡ false → fleet_of new ≡ option_map (λ (f : FleetState). lost f backup) (fleet_of old)
+
+-- what is shown is what the node's backups hold, of all masters
+abbrev pub ShowsFleet : Node → Answer → Type 0
+ShowsFleet node (Holdings hs) = IfSome (fleet_of node) (λ (f : FleetState). AreHeld hs f.picture)
+ShowsFleet node answer = Unit {0}
+
+-- What a line makes of the node: just its step, its roll or its cleaning. A line that shows something changes nothing. A
+-- limit is the one that the line names, and a crash leaves the fleet. After a command's line a stopped node has no limit.
 abbrev pub MakesLine : Node → LineValue → Node → Answer → Type 0
 MakesLine old Roll new answer = MakesRoll old new answer
 MakesLine old BeginRoll new answer = MakesStep old step.BeginRoll new answer
@@ -235,6 +246,16 @@ MakesLine old (Begin victims) new answer = MakesStep old (step.BeginClean victim
 MakesLine old Copy new answer = MakesStep old step.Copy new answer
 MakesLine old Seal new answer = MakesStep old step.Seal new answer
 MakesLine old Free new answer = MakesStep old step.Free new answer
+MakesLine old Idle new answer = new ≡ old
+MakesLine old (Hex segment) new answer = new ≡ old
+MakesLine old Log new answer = new ≡ old
+MakesLine old Room new answer = new ≡ old
+MakesLine old HoldingsLine new answer = (new ≡ old) × ShowsFleet old answer
+MakesLine old Will new answer = new ≡ old
+MakesLine old (Stop takes) new answer =
+    fleet_of new ≡ option_map (λ (f : FleetState). limited f takes) (fleet_of old)
+MakesLine old Crash new answer = fleet_of new ≡ fleet_of old
+MakesLine old (Lose backup) new answer = LosesOne old backup new
 MakesLine old line new answer = IsSome (command_of line) → LiftsLimit new answer
 
 -- ---- recovery
@@ -354,6 +375,10 @@ pub record SessionRecovers (old : Session) (line : LineValue) (new : Session) (a
   pub covers : Stands old → IsCovered new
   pub numbers : Renumbers old.master old.used new.master new.used
   pub recovers : Recovers old.node old.options old.master order new.node answer new.master
+  pub least : (new.used ≡ old.used)
+      ⊎ IfSome (fleet_of old.node) (λ (f : FleetState). IsNextNumber (max old.master old.used) f.picture new.used)
+  pub spent : answer ≡ answers.NumbersSpent
+      → IfSome (fleet_of old.node) (λ (f : FleetState). AreSpent (max old.master old.used) f.picture)
 
 -- what a line makes of a session
 abbrev pub RunsLine : Session → LineValue → Session → Answer → Type 0
@@ -364,6 +389,7 @@ pub record BeginsSession (options : Options) (s : Session) : Type 0 where
   pub stands : (d : MasterData) × IsNodeAt s.node (config_of options 1) d at_start × (is_open d.head ≡ true)
       × (d.origin ≡ no_origin)
   pub number : s.master ≡ 1
+  pub used : s.used ≡ 1
   pub set : s.options ≡ options
   pub covers : IsCovered s
 
@@ -371,45 +397,3 @@ pub record BeginsSession (options : Options) (s : Session) : Type 0 where
 abbrev pub held_answer : Result (List Holding) AllocError → Answer
 held_answer (Ok hs) = Holdings hs
 held_answer (Err fault) = Refused NoMemory
-
--- ---- commands and rolls
-
--- the same life, with the same records
-abbrev pub LivesSame : MasterData → MasterData → Type 0
-LivesSame d e = (e.origin ≡ d.origin) × (e.history ≡ d.history)
-
--- the node stands at this position, with the same records
-abbrev pub StaysAt : Node → Config → MasterData → Position → MasterData → Type 0
-StaysAt node config d at e = IsNodeAt node config e at × LivesSame d e
-
--- a roll is due or under way, so a test refuses the command, and nothing was done
-abbrev pub WaitsForRoll : Node → Config → Command → Node → Type 0
-WaitsForRoll old config command new = (d : MasterData) (at : Position) → IsNodeAt old config d at →
-    (e : MasterData) × StaysAt new config d at e
-    × (at.left ≡ None) × IsTest config (life_to (life_of e) at.made) command Rolling
-
--- a command is served: its line is answered, or it waits for a roll
-abbrev pub Serves : Node → Command → Node → Option Answer → Type 0
-Serves old command new (Some answer) =
-    (config : Config) (line : LineValue) → command_of line ≡ Some command → AnswersLine old config line new answer
-Serves old command new None = (config : Config) → WaitsForRoll old config command new
-
--- Either a roll was made and the head is open, or the answer tells why not. No record was made.
-abbrev pub MakesRoom : Node → Config → Node → Option Answer → Type 0
-MakesRoom old config new (Some answer) = (d : MasterData) (at : Position) → IsNodeAt old config d at →
-    (e : MasterData) × (next : Position) × IsNodeAt new config e next × LivesSame d e
-    × TellsNoStep config (life_of e) at Roll answer next
-MakesRoom old config new None = (d : MasterData) (at : Position) → IsNodeAt old config d at →
-    (e : MasterData) × StaysAt new config d at e × (is_open e.head ≡ true)
-
--- The answer of a line whose command waited for a roll. It is told of what the node stood for before the command had to
--- wait.
-pub record AnswersAfterRoll (mid : Session) (line : LineValue) (new : Session) (answer : Answer) : Type 0 where
-  pub number : new.master ≡ mid.master
-  pub options : new.options ≡ mid.options
-  pub used : new.used ≡ mid.used
-  pub covers : IsCovered mid → IsCovered new
-  pub answers : (old : Node) (config : Config) (command : Command) → command_of line ≡ Some command
-      → WaitsForRoll old config command mid.node → AnswersLine old config line new.node answer
-  pub lifted : LiftsLimit new.node answer
-  pub will : new.will ≡ mid.will

@@ -9,6 +9,7 @@ use Rattle.entry.specs.Text.{text_of}
 use Rattle.lines.specs.Grammar.{LineValue, Idle, Put, New, Cas, Get, Del, Compact, Roll, BeginRoll, Push, Log, Room, Hex, Stop, Crash}
 use Rattle.lines.specs.Grammar.{Lose, Will, Recover, Holdings, Clean, Begin, Copy, Seal, Free}
 use Rattle.lines.specs.declared.line.ReplayOrder.{ReplayOrder}
+use Rattle.backup.specs.Inventory.{IsRising}
 use Rattle.replica.specs.Choice.{Choice, IsShownChoice, bag_of}
 use Rattle.entry.specs.Bag.{IsAmong}
 use Rattle.replica.specs.declared.holding.Holding.{Holding}
@@ -365,7 +366,7 @@ Tells config life at line (answer.Will parts limits) next = (at.left ≡ None) �
 Tells config life at line (answer.BadLimits limits) next = (at.left ≡ None) × (line ≡ Will)
     × (are_limits limits.bytes limits.objects ≡ false) × (next ≡ at)
 Tells config life at line (answer.Holdings hs) next = (line ≡ Holdings)
-    × AreHeldAt config (life_to life at.made) at.left hs × (next ≡ at)
+    × AreHeldAt config (life_to life at.made) at.left hs × IsRising hs × (next ≡ at)
 Tells config life at line (answer.Hex bytes) next = (at.left ≡ None)
     × ((segment : ℕ) × (line ≡ Hex segment) × IsImageAt config (life_to life at.made) segment (Some bytes))
     × (next ≡ at)

@@ -84,7 +84,8 @@ pub enum Answer {
     Up,
 }
 
-// An `io::Result` is large. So each function that hands one on is inlined, up to the one that drops its error.
+// An `io::Result` is large. So each function that hands one on is inlined, up to the one that drops its error. Those of long
+// answers are not, since a reply would clear their results too.
 
 /// Writes the lines of an answer, each with its line feed.
 #[inline(always)]
@@ -202,6 +203,7 @@ fn write_short<W: Write>(writer: &mut W, number: u64, value: &[u8]) -> io::Resul
     writer.write_all(&line[start..end + 1])
 }
 
+#[inline(never)]
 fn write_hex<W: Write>(writer: &mut W, bytes: &[u8]) -> io::Result<()>
     ensures { OnOk result (Appends (W.contents writer.old) (W.contents writer.new) (hex_text bytes.now)) }
 {
@@ -238,6 +240,7 @@ fn write_part<W: Write>(writer: &mut W, part: &Part) -> io::Result<()>
 }
 
 /// Writes a line for each part of a will, in order, and a line with the number of partitions.
+#[inline(never)]
 fn write_will<W: Write>(writer: &mut W, parts: &[Part]) -> io::Result<()>
     ensures { OnOk result (Appends (W.contents writer.old) (W.contents writer.new) (will_text parts.now)) }
 {
@@ -258,6 +261,7 @@ fn count_partitions(parts: &[Part]) -> u64
 }
 
 /// Writes a line of words and two numbers: those of an op's backup and segment, for example.
+#[inline(never)]
 fn write_op<W: Write>(writer: &mut W, words: &[u8], first: u64, second: u64) -> io::Result<()>
     requires { length words.now ≤ 20 }
     ensures { OnOk result (Appends (W.contents writer.old) (W.contents writer.new)
@@ -268,6 +272,7 @@ fn write_op<W: Write>(writer: &mut W, words: &[u8], first: u64, second: u64) -> 
 }
 
 /// Writes the line of the seglets that are counted, and free.
+#[inline(never)]
 fn write_room<W: Write>(writer: &mut W, used: u64, free: u64) -> io::Result<()>
     ensures { OnOk result (Appends (W.contents writer.old) (W.contents writer.new) (room_text used free)) }
 {
@@ -276,6 +281,7 @@ fn write_room<W: Write>(writer: &mut W, used: u64, free: u64) -> io::Result<()>
 }
 
 /// Writes the line of a digest.
+#[inline(never)]
 fn write_log<W: Write>(writer: &mut W, ids: &[u64]) -> io::Result<()>
     ensures { OnOk result (Appends (W.contents writer.old) (W.contents writer.new) (log_text ids.now)) }
 {
@@ -310,6 +316,7 @@ fn write_holding<W: Write>(writer: &mut W, holding: &Holding) -> io::Result<()>
 }
 
 /// Writes a line for each replica, in order.
+#[inline(never)]
 fn write_holdings<W: Write>(writer: &mut W, holdings: &[Holding]) -> io::Result<()>
     ensures { OnOk result (Appends (W.contents writer.old) (W.contents writer.new)
         (flat_map holding_text holdings.now)) }
@@ -331,6 +338,7 @@ fn write_object<W: Write>(writer: &mut W, object: &Object) -> io::Result<()>
 }
 
 /// Writes a line for each object, in order, and a line with their number.
+#[inline(never)]
 fn write_rebuilt<W: Write>(writer: &mut W, rebuilt: &Rebuilt) -> io::Result<()>
     ensures { OnOk result (Appends (W.contents writer.old) (W.contents writer.new) (rebuilt_text rebuilt.now)) }
 {

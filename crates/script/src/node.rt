@@ -11,9 +11,10 @@ ghost use Rattle.replica.specs.Take.{limited};
 ghost use Rattle.master.specs.World.{world};
 ghost use Rattle.script.specs.Rolls.{PushesUntil, IsRolled, IsNotRolled};
 ghost use Rattle.script.specs.Served.{LivesOn, IsServed, IsUnserved, IsSpent, IsDropped, fleet_of, is_up};
-ghost use Rattle.script.specs.Served.{AnswersLine, LiftsLimit, MakesStep, MakesRoll, Refuses, Serves, MakesRoom};
-ghost use Rattle.script.specs.Served.{held_answer};
+ghost use Rattle.script.specs.Served.{AnswersLine, LiftsLimit, MakesStep, MakesRoll, Refuses};
+ghost use Rattle.script.specs.Served.{ShowsFleet, held_answer};
 ghost use Rattle.script.specs.Told.{is_of_push};
+ghost use Rattle.script.specs.Waits.{Serves, MakesRoom};
 
 use crate::answer::Answer;
 use backup::MemoryFleet;
@@ -275,7 +276,8 @@ impl Node {
 
     /// What the backups hold.
     pub fn holdings(&self, alloc: Global) -> Answer
-        ensures { (config : Config) → AnswersLine self.now config Holdings self.now result }
+        ensures told { (config : Config) → AnswersLine self.now config Holdings self.now result }
+        ensures shown { ShowsFleet self.now result }
     {
         match self {
             Node::Up(up) => {

@@ -1,6 +1,6 @@
 //! What a master left is recovered into a new master.
 
-ghost use Rattle.std.specs.Prelude.{◌≡◌, ◌≤◌, ◌<◌, ℕ, List, suc, max, false, true, None, Some, IfOk, IfErr, IfSome, ◌^◌, ◌-◌};
+ghost use Rattle.std.specs.Prelude.{◌≡◌, ◌⊎◌, ◌≤◌, ◌<◌, ℕ, List, suc, max, false, true, None, Some, IfOk, IfErr, IfSome, ◌^◌, ◌-◌};
 ghost use Rattle.backup.specs.State.{fleet_state};
 ghost use Rattle.backup.specs.declared.fleet.MemoryFleet.{MemoryFleet as FleetValue};
 ghost use Rattle.master_core.specs.Config.{config_fault};
@@ -10,8 +10,9 @@ ghost use Rattle.recovery.specs.Orders.{Covers, NamesGroups};
 ghost use Rattle.replica.specs.declared.holding.Holding.{Holding as HoldingValue};
 ghost use Rattle.lines.specs.declared.line.ReplayOrder.{ReplayOrder};
 ghost use Rattle.script.specs.Configuration.{config_of, tables_to};
-ghost use Rattle.script.specs.Numbers.{greatest_of, Renumbers};
-ghost use Rattle.script.specs.Served.{Adopts, FindsNone, IsFoundIn, IsNodeAt, IsOf, Recovers, RetiresOthers, is_up};
+ghost use Rattle.script.specs.Numbers.{greatest_of, AreSpent, IsNextNumber, Renumbers};
+ghost use Rattle.script.specs.Served.{Adopts, FindsNone, IsFoundIn, IsNodeAt, IsOf, Recovers, RetiresOthers};
+ghost use Rattle.script.specs.Served.{fleet_of, is_up};
 ghost use Rattle.script.specs.Told.{Position};
 
 use crate::answer::Answer;
@@ -91,7 +92,11 @@ fn find(
     requires order { (hs : List HoldingValue) → NamesGroups hs master will.now order.now }
     ensures found { IfOk result (λ found. IsFoundIn fleet.now options.now master found.rebuilt found.config) }
     ensures fresh { IfOk result (λ found. used < found.config.master) }
+    ensures least { IfOk result (λ found.
+        IsNextNumber (max master used) (fleet_state fleet.now).picture found.config.master) }
     ensures none { IfErr result (FindsNone fleet.now (config_of options.now master)) }
+    ensures spent { IfErr result (λ a.
+        a ≡ Answer.NumbersSpent → AreSpent (max master used) (fleet_state fleet.now).picture) }
 {
     let inventory = match fleet.inventory(alloc) {
         Ok(inventory) => inventory,
@@ -127,6 +132,10 @@ impl Node {
         requires stands { (d : MasterData) × (at : Position) × IsNodeAt self.old (config_of options.now master) d at }
         ensures recovers { (asked : ReplayOrder) → Recovers self.old options.now master asked self.new result.answer result.master }
         ensures numbers { Renumbers master used result.master result.used }
+        ensures least { (result.used ≡ used)
+            ⊎ IfSome (fleet_of self.old) (λ f. IsNextNumber (max master used) f.picture result.used) }
+        ensures spent { result.answer ≡ Answer.NumbersSpent →
+            IfSome (fleet_of self.old) (λ f. AreSpent (max master used) f.picture) }
     {
         let Node::Down(fleet) = self else {
             return Recovery {
@@ -181,26 +190,16 @@ impl Node {
         let Node::Down(fleet) = replace(self, Node::Changing) else {
             unreachable!();
         };
-        match adopt_list(alloc, rebuilt, config, fleet) {
-            Ok(master) => {
-                *self = Node::Up(master);
-                None
-            }
-            Err((refusal, left)) => {
-                let mut left = left;
-                match refusal {
-                    Refusal::Spent => {
-                        left.limit(u64::MAX);
-                        *self = Node::Down(left);
-                        Some(Answer::Stopped)
-                    }
-                    _ => {
-                        *self = Node::Down(left);
-                        Some(Answer::Refused(refusal))
-                    }
-                }
-            }
-        }
+        let (node, answer) = adopted(alloc, rebuilt, config, fleet);
+        self.set(node);
+        answer
+    }
+
+    /// Puts a node in the place of this one.
+    fn set(&mut self, node: Node)
+        ensures { self.new ≡ node }
+    {
+        *self = node;
     }
 
     /// Frees the replicas of all other masters. If that is cut short, it drops the master and answers why.
@@ -220,6 +219,34 @@ impl Node {
                     Some(Answer::NotRetired(fault))
                 }
             },
+        }
+    }
+}
+
+/// The node that an adoption leaves, and why it has no master if it has none. If the fleet took no more ops, the limit is
+/// lifted.
+fn adopted(
+    alloc: Global,
+    rebuilt: &Rebuilt,
+    config: Config,
+    fleet: MemoryFleet,
+) -> (Node, Option<Answer>)
+    requires config { config_fault config ≡ None }
+    requires backups { config.backups ≤ (fleet_state fleet).backups }
+    requires none { (b s : ℕ) → (fleet_state fleet).picture b config.master s ≡ None }
+    ensures { Adopts fleet rebuilt.now config result.0 result.1 }
+{
+    match adopt_list(alloc, rebuilt, config, fleet) {
+        Ok(master) => (Node::Up(master), None),
+        Err((refusal, left)) => {
+            let mut left = left;
+            match refusal {
+                Refusal::Spent => {
+                    left.limit(u64::MAX);
+                    (Node::Down(left), Some(Answer::Stopped))
+                }
+                _ => (Node::Down(left), Some(Answer::Refused(refusal))),
+            }
         }
     }
 }

@@ -10,9 +10,10 @@ ghost use Rattle.replica.specs.declared.holding.Holding.{Holding as HoldingValue
 ghost use Rattle.script.specs.Configuration.{config_of};
 ghost use Rattle.script.specs.declared.session.LineFault.TheVariants as line_fault;
 ghost use Rattle.script.specs.Runs.{IsOfFleet};
-ghost use Rattle.script.specs.Served.{AnswersAfterRoll, BeginsSession, RunsLine, SessionAnswers, SessionRecovers, Stands};
+ghost use Rattle.script.specs.Served.{BeginsSession, RunsLine, SessionAnswers, SessionRecovers, Stands};
 ghost use Rattle.script.specs.Told.{command_of};
 ghost use Rattle.script.specs.Turns.{HasValue, RefusesLine};
+ghost use Rattle.script.specs.Waits.{AnswersAfterRoll};
 ghost use Rattle.tablet_will.specs.declared.part.Part.{Part as PartValue};
 
 use crate::answer::Answer;
@@ -73,7 +74,7 @@ impl Session {
             Ok(master) => master,
             Err((fault, _)) => return Err(fault),
         };
-        // A new fleet has no limit and no fault, so only want of memory refuses a push.
+        // A new fleet has no limit and no fault, so a push is refused only if memory runs out.
         if push_all(&mut master).is_err() {
             return Err(NoMemory);
         }

@@ -54,3 +54,12 @@ returns-in-Ok-configuration-clause-fresh c =
     let least : c.max_of.result ≡ max c.args.master c.args.used = c.max_of.ensures in
     let next = c.in-Some.ensures.next in
     omega (arith, number, least, next)
+
+pub returns-in-Ok-configuration-clause-least : goal.returns-in-Ok-configuration-clause-least
+returns-in-Ok-configuration-clause-least c =
+    let is = c.in-Ok-configuration.ensures.config in
+    let hs = c.in-Ok.inventory in
+    let number : c.in-Ok-configuration.config.master ≡ c.in-Some.number = ap (λ (k : Config). k.master) is in
+    let next : c.in-Some.number ≡ suc (max c.max_of.result (greatest_of hs)) =
+    subst (λ (xs : List Holding). c.in-Some.number ≡ suc (max c.max_of.result (greatest_of xs))) c.as_slice.ensures c.in-Some.ensures.next in
+    (hs, c.in-Ok.ensures.shown, number ∙ next ∙ ap (λ (m : ℕ). suc (max m (greatest_of hs))) c.max_of.ensures)

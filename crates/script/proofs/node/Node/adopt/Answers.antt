@@ -1,20 +1,8 @@
-use Rattle.std.proofs.Common.{refl, sym, ap, ◌∙◌}
-use Rattle.replica.specs.Picture.{FleetState}
-use Rattle.script.specs.declared.answer.Answer.TheVariants as answer
-use Rattle.script.specs.Served.{refusal_answer}
-use Rattle.script.proofs.NextLife.{list_declined}
-use Rattle.script.proofs.Steps.{unspent_answer}
+use Rattle.std.proofs.Common.{sym, ◌∙◌}
+use Rattle.script.proofs.NextLife.{adopts_down}
 use Rattle.script.proofs.node.Node.adopt.Goals as goal
 
-pub returns-in-Spent : goal.returns-in-Spent
-returns-in-Spent c =
-    let e = c.in-Err in
-    list_declined c.args.self.now c.in-Down.fleet e.left c.limit.new.self c.args.rebuilt.now c.args.config e.refusal answer.Stopped
-    (sym c.replace.ensures.value ∙ c.in-Down.is) e.ensures.left e.ensures.refused
-    (ap (λ (f : FleetState). f.picture) c.limit.ensures) (ap (λ (f : FleetState). f.backups) c.limit.ensures) (ap refusal_answer (sym c.in-Spent.is))
-
-pub returns-in_default-refusal : goal.returns-in_default-refusal
-returns-in_default-refusal c =
-    let e = c.in-Err in
-    list_declined c.args.self.now c.in-Down.fleet e.left e.left c.args.rebuilt.now c.args.config e.refusal (answer.Refused e.refusal)
-    (sym c.replace.ensures.value ∙ c.in-Down.is) e.ensures.left e.ensures.refused refl refl (sym (unspent_answer e.refusal c.in_default-refusal.not-Spent))
+pub returns : goal.returns
+returns c =
+    rw c.set.ensures (adopts_down c.args.self.now c.adopted-node.result.0 c.in-Down.fleet c.args.rebuilt.now c.args.config c.adopted-node.result.1
+    (sym c.replace.ensures.value ∙ c.in-Down.is) c.adopted-node.ensures)

@@ -1,12 +1,14 @@
-use Rattle.std.proofs.Common.{inl, inr, refl, sym, subst, arith}
-use Rattle.std.specs.Prelude.{None}
+use Rattle.std.proofs.Common.{inl, inr, refl, sym, subst, max, ◌∙◌, arith}
+use Rattle.std.specs.Prelude.{None, IfSome}
 use Rattle.lines.specs.Grammar.{Recover}
 use Rattle.lines.specs.declared.line.ReplayOrder.TheVariants.{Forward}
+use Rattle.replica.specs.Picture.{FleetState}
 use Rattle.script.specs.declared.node.Node.{Node}
 use Rattle.script.specs.declared.node.Node.TheVariants.{Down}
 use Rattle.script.specs.Configuration.{config_of}
-use Rattle.script.specs.Served.{AnswersLine, IsOf}
-use Rattle.script.proofs.NextLife.{cut_told, declined_told, has_backups, recovered_told}
+use Rattle.script.specs.Numbers.{AreSpent, IsNextNumber}
+use Rattle.script.specs.Served.{AnswersLine, IsOf, fleet_of}
+use Rattle.script.proofs.NextLife.{cut_told, declined_told, has_backups, not_of_cut, not_of_refusal, recovered_told}
 use Rattle.script.proofs.Standing.{stays_told}
 use Rattle.script.proofs.node.Node.recover.Goals as goal
 
@@ -59,7 +61,44 @@ pub returns-in-Some-clause-numbers : goal.returns-in-Some-clause-numbers
 returns-in-Some-clause-numbers c = let above = c.in-Ok.ensures.fresh in record { rises = omega arith; fresh = inl refl }
 
 pub returns-in-None-clause-numbers : goal.returns-in-None-clause-numbers
-returns-in-None-clause-numbers c = let above = c.in-Ok.ensures.fresh in record { rises = omega arith; fresh = inr (above, omega arith) }
+returns-in-None-clause-numbers c = let above = c.in-Ok.ensures.fresh in record { rises = omega arith; fresh = inr (above, refl) }
 
 pub returns-in-Some-retire-clause-numbers : goal.returns-in-Some-retire-clause-numbers
-returns-in-Some-retire-clause-numbers c = let above = c.in-Ok.ensures.fresh in record { rises = omega arith; fresh = inr (above, omega arith) }
+returns-in-Some-retire-clause-numbers c = let above = c.in-Ok.ensures.fresh in record { rises = omega arith; fresh = inr (above, refl) }
+
+pub returns-in-Err-clause-spent : goal.returns-in-Err-clause-spent
+returns-in-Err-clause-spent c = λ is.
+    subst (λ (n : Node). IfSome (fleet_of n) (λ (f : FleetState). AreSpent (max c.args.master c.args.used) f.picture)) (sym c.in-Down.is)
+    (c.in-Err.ensures.spent is)
+
+pub returns-in-Some-clause-spent : goal.returns-in-Some-clause-spent
+returns-in-Some-clause-spent c = λ is.
+    let why = (c.in-Some.ensures c.in-Down.fleet refl).3 in
+    absurd (not_of_refusal why.0 (sym why.2 ∙ is))
+
+pub returns-in-None-clause-spent : goal.returns-in-None-clause-spent
+returns-in-None-clause-spent c = λ is. absurd (cc)
+
+pub returns-in-Some-retire-clause-spent : goal.returns-in-Some-retire-clause-spent
+returns-in-Some-retire-clause-spent c = λ is.
+    let a = c.in_default-adopt.ensures c.in-Down.fleet refl in
+    absurd (not_of_cut a.0.knows c.retire.new.self c.in-Some-retire.answer
+    (c.in-Some-retire.ensures a.0.knows (subst (λ (n : Node). IsOf n None a.0.knows) (sym a.1) (refl, refl, a.3))) is)
+
+pub returns-in-Err-clause-least : goal.returns-in-Err-clause-least
+returns-in-Err-clause-least c = inl refl
+
+pub returns-in-Some-clause-least : goal.returns-in-Some-clause-least
+returns-in-Some-clause-least c = inr
+    (subst (λ (n : Node). IfSome (fleet_of n) (λ (f : FleetState). IsNextNumber (max c.args.master c.args.used) f.picture c.in-Ok.found.config.master))
+    (sym c.in-Down.is) c.in-Ok.ensures.least)
+
+pub returns-in-None-clause-least : goal.returns-in-None-clause-least
+returns-in-None-clause-least c = inr
+    (subst (λ (n : Node). IfSome (fleet_of n) (λ (f : FleetState). IsNextNumber (max c.args.master c.args.used) f.picture c.in-Ok.found.config.master))
+    (sym c.in-Down.is) c.in-Ok.ensures.least)
+
+pub returns-in-Some-retire-clause-least : goal.returns-in-Some-retire-clause-least
+returns-in-Some-retire-clause-least c = inr
+    (subst (λ (n : Node). IfSome (fleet_of n) (λ (f : FleetState). IsNextNumber (max c.args.master c.args.used) f.picture c.in-Ok.found.config.master))
+    (sym c.in-Down.is) c.in-Ok.ensures.least)

@@ -5,19 +5,19 @@ use Rattle.script.proofs.Standing.{stays_told}
 use Rattle.script.proofs.session.Session.run_line.Goals as goal
 
 pub returns-in-Idle-clause-ran : goal.returns-in-Idle-clause-ran
-returns-in-Idle-clause-ran c = rw c.in-Idle.is (inl (record { number = refl; options = refl; used = refl; covers = λ all. all.0; answers = λ config number. stays_told c.args.self.now.node config Idle Silent (λ d at s. (refl, refl)); makes = λ some. absurd (cc); wills = refl }))
+returns-in-Idle-clause-ran c = rw c.in-Idle.is (inl (record { number = refl; options = refl; used = refl; covers = λ all. all.0; answers = λ config number. stays_told c.args.self.now.node config Idle Silent (λ d at s. (refl, refl)); makes = refl; wills = refl }))
 
 pub returns-in-Hex-clause-ran : goal.returns-in-Hex-clause-ran
-returns-in-Hex-clause-ran c = rw c.in-Hex.is (inl (record { number = refl; options = refl; used = refl; covers = λ all. all.0; answers = λ config number. c.hex.ensures config; makes = λ some. absurd (cc); wills = refl }))
+returns-in-Hex-clause-ran c = rw c.in-Hex.is (inl (record { number = refl; options = refl; used = refl; covers = λ all. all.0; answers = λ config number. c.hex.ensures config; makes = refl; wills = refl }))
 
 pub returns-in-Stop-clause-ran : goal.returns-in-Stop-clause-ran
-returns-in-Stop-clause-ran c = rw c.in-Stop.is (inl (record { number = refl; options = refl; used = refl; covers = λ all. all.0; answers = λ config number. c.stop.ensures.told config; makes = λ some. absurd (cc); wills = refl }))
+returns-in-Stop-clause-ran c = rw c.in-Stop.is (inl (record { number = refl; options = refl; used = refl; covers = λ all. all.0; answers = λ config number. c.stop.ensures.told config; makes = c.stop.ensures.limited; wills = refl }))
 
 pub returns-in-Crash-clause-ran : goal.returns-in-Crash-clause-ran
-returns-in-Crash-clause-ran c = rw c.in-Crash.is (inl (record { number = refl; options = refl; used = refl; covers = λ all. all.0; answers = λ config number. c.crash.ensures.told config; makes = λ some. absurd (cc); wills = refl }))
+returns-in-Crash-clause-ran c = rw c.in-Crash.is (inl (record { number = refl; options = refl; used = refl; covers = λ all. all.0; answers = λ config number. c.crash.ensures.told config; makes = c.crash.ensures.fleet; wills = refl }))
 
 pub returns-in-Lose-2-clause-ran : goal.returns-in-Lose-2-clause-ran
-returns-in-Lose-2-clause-ran c = rw c.in-Lose-2.is (inl (record { number = refl; options = refl; used = refl; covers = λ all. all.0; answers = λ config number. c.lose.ensures.told config; makes = λ some. absurd (cc); wills = refl }))
+returns-in-Lose-2-clause-ran c = rw c.in-Lose-2.is (inl (record { number = refl; options = refl; used = refl; covers = λ all. all.0; answers = λ config number. c.lose.ensures.told config; makes = c.lose.ensures.lost; wills = refl }))
 
 pub returns-in-Recover-clause-ran : goal.returns-in-Recover-clause-ran
 returns-in-Recover-clause-ran c = rw c.in-Recover.is (inr c.run_recover.ensures)
@@ -35,13 +35,13 @@ pub returns-in-Push-clause-ran : goal.returns-in-Push-clause-ran
 returns-in-Push-clause-ran c = rw c.in-Push.is (inl (record { number = refl; options = refl; used = refl; covers = λ all. all.0; answers = λ config number. c.push.ensures.told config; makes = c.push.ensures.stepped; wills = refl }))
 
 pub returns-in-Log-clause-ran : goal.returns-in-Log-clause-ran
-returns-in-Log-clause-ran c = rw c.in-Log.is (inl (record { number = refl; options = refl; used = refl; covers = λ all. all.0; answers = λ config number. c.log.ensures config; makes = λ some. absurd (cc); wills = refl }))
+returns-in-Log-clause-ran c = rw c.in-Log.is (inl (record { number = refl; options = refl; used = refl; covers = λ all. all.0; answers = λ config number. c.log.ensures config; makes = refl; wills = refl }))
 
 pub returns-in-Room-clause-ran : goal.returns-in-Room-clause-ran
-returns-in-Room-clause-ran c = rw c.in-Room.is (inl (record { number = refl; options = refl; used = refl; covers = λ all. all.0; answers = λ config number. c.room.ensures config; makes = λ some. absurd (cc); wills = refl }))
+returns-in-Room-clause-ran c = rw c.in-Room.is (inl (record { number = refl; options = refl; used = refl; covers = λ all. all.0; answers = λ config number. c.room.ensures config; makes = refl; wills = refl }))
 
 pub returns-in-Holdings-clause-ran : goal.returns-in-Holdings-clause-ran
-returns-in-Holdings-clause-ran c = rw c.in-Holdings.is (inl (record { number = refl; options = refl; used = refl; covers = λ all. all.0; answers = λ config number. c.holdings.ensures config; makes = λ some. absurd (cc); wills = refl }))
+returns-in-Holdings-clause-ran c = rw c.in-Holdings.is (inl (record { number = refl; options = refl; used = refl; covers = λ all. all.0; answers = λ config number. c.holdings.ensures.told config; makes = (refl, c.holdings.ensures.shown); wills = refl }))
 
 pub returns-in-Copy-clause-ran : goal.returns-in-Copy-clause-ran
 returns-in-Copy-clause-ran c = rw c.in-Copy.is (inl (record { number = refl; options = refl; used = refl; covers = λ all. all.0; answers = λ config number. c.copy.ensures.told config; makes = c.copy.ensures.stepped; wills = refl }))

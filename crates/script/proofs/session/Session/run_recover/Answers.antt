@@ -15,6 +15,8 @@ returns-in_default-whole_will c =
       covers = λ all. all.0;
       numbers = record { rises = omega arith; fresh = inl refl };
       recovers = inl (refl, want_at s.node (config_of s.options s.master) c.args.order (not_up s.node c.in_default.not-Up));
+      least = inl refl;
+      spent = λ is. absurd (cc);
     }
 
 pub returns-else-recovery-self : goal.returns-else-recovery-self
@@ -28,6 +30,8 @@ returns-else-recovery-self c =
       covers = λ all. all.0;
       numbers = subst (λ (n : ℕ). Renumbers s.master s.used n r.result.used) c.if-recovery-self.false r.ensures.numbers;
       recovers = subst (λ (n : ℕ). Recovers s.node s.options s.master c.args.order r.new.self r.result.answer n) c.if-recovery-self.false (r.ensures.recovers c.args.order);
+      least = r.ensures.least;
+      spent = r.ensures.spent;
     }
 
 pub returns-then-recovery-self : goal.returns-then-recovery-self
@@ -40,6 +44,8 @@ returns-then-recovery-self c =
       covers = λ all. c.in-Ok.ensures;
       numbers = r.ensures.numbers;
       recovers = r.ensures.recovers c.args.order;
+      least = r.ensures.least;
+      spent = r.ensures.spent;
     }
 
 pub recover-recovery-requires-clause-order : goal.recover-recovery-requires-clause-order

@@ -9,6 +9,6 @@ returns c = record {
   used = refl;
   covers = covered_anew c.args.self.now c.will.new.will c.will.ensures.divides;
   answers = λ config number. c.will.ensures.told config;
-  makes = λ some. absurd (cc);
+  makes = refl;
   wills = (c.will.ensures.handed, c.will.ensures.limits);
 }

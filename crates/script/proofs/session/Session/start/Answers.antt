@@ -30,6 +30,7 @@ returns c =
         on.origin ∙ ap (λ (d : MasterData). d.origin) new,
       );
       number = refl;
+      used = refl;
       set = refl;
       covers = c.in_ok-will.ensures;
     }

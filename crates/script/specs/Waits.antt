@@ -1,0 +1,54 @@
+-- Commands that wait for a roll, and the roll that they wait for.
+use Rattle.std.specs.Prelude.{◌≡◌, true, Option, Some, None}
+use Rattle.lines.specs.Grammar.{LineValue, Roll}
+use Rattle.versioned_map.specs.declared.command.Command.{Command}
+use Rattle.log_head.specs.Head.{is_open}
+use Rattle.master_core.specs.declared.config.Config.{Config}
+use Rattle.master_core.specs.declared.step.Refusal.TheVariants.{Rolling}
+use Rattle.master_core.specs.Data.{MasterData}
+use Rattle.script.specs.declared.answer.Answer.{Answer}
+use Rattle.script.specs.declared.node.Node.{Node}
+use Rattle.script.specs.declared.session.Session.{Session}
+use Rattle.script.specs.Lives.{life_to}
+use Rattle.script.specs.Served.{AnswersLine, IsCovered, IsNodeAt, LiftsLimit, life_of}
+use Rattle.script.specs.Told.{Position, command_of, IsTest, TellsNoStep}
+
+-- the same life, with the same records
+abbrev pub LivesSame : MasterData → MasterData → Type 0
+LivesSame d e = (e.origin ≡ d.origin) × (e.history ≡ d.history)
+
+-- the node stands at this position, with the same records
+abbrev pub StaysAt : Node → Config → MasterData → Position → MasterData → Type 0
+StaysAt node config d at e = IsNodeAt node config e at × LivesSame d e
+
+-- a roll is due or under way, so a test refuses the command, and nothing was done
+abbrev pub WaitsForRoll : Node → Config → Command → Node → Type 0
+WaitsForRoll old config command new = (d : MasterData) (at : Position) → IsNodeAt old config d at →
+    (e : MasterData) × StaysAt new config d at e
+    × (at.left ≡ None) × IsTest config (life_to (life_of e) at.made) command Rolling
+
+-- a command is served: its line is answered, or it waits for a roll
+abbrev pub Serves : Node → Command → Node → Option Answer → Type 0
+Serves old command new (Some answer) =
+    (config : Config) (line : LineValue) → command_of line ≡ Some command → AnswersLine old config line new answer
+Serves old command new None = (config : Config) → WaitsForRoll old config command new
+
+-- Either a roll was made and the head is open, or the answer tells why not. No record was made.
+abbrev pub MakesRoom : Node → Config → Node → Option Answer → Type 0
+MakesRoom old config new (Some answer) = (d : MasterData) (at : Position) → IsNodeAt old config d at →
+    (e : MasterData) × (next : Position) × IsNodeAt new config e next × LivesSame d e
+    × TellsNoStep config (life_of e) at Roll answer next
+MakesRoom old config new None = (d : MasterData) (at : Position) → IsNodeAt old config d at →
+    (e : MasterData) × StaysAt new config d at e × (is_open e.head ≡ true)
+
+-- The answer of a line whose command waited for a roll. It is told of what the node stood for before the command had to
+-- wait.
+pub record AnswersAfterRoll (mid : Session) (line : LineValue) (new : Session) (answer : Answer) : Type 0 where
+  pub number : new.master ≡ mid.master
+  pub options : new.options ≡ mid.options
+  pub used : new.used ≡ mid.used
+  pub covers : IsCovered mid → IsCovered new
+  pub answers : (old : Node) (config : Config) (command : Command) → command_of line ≡ Some command
+      → WaitsForRoll old config command mid.node → AnswersLine old config line new.node answer
+  pub lifted : LiftsLimit new.node answer
+  pub will : new.will ≡ mid.will
