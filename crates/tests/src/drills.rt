@@ -23,7 +23,7 @@ const ASKS: &[Ask] = &[
 ];
 
 /// Writes the keys and their versions.
-fn write_keys(text: &mut String, objects: &[Object]) -> Result<(), AllocError> {
+pub fn write_keys(text: &mut String, objects: &[Object]) -> Result<(), AllocError> {
     for object in objects {
         let key = str::from_utf8(object.key.bytes.as_slice()).unwrap_or("?");
         write!(text, "{key} {} ", object.version.get())?;

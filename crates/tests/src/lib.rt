@@ -1,9 +1,12 @@
 //! The tests of all crates: vectors of entries and of segments, images in memory, the index, compaction, a pass, the
 //! lines of scripts, ops on backups, heads, wills, replicas that are freed, plans and rebuilt logs from replicas that are
-//! made by hand, logs that are rebuilt by wills, runs of masters, masters that are restored, turns of a cleaner, drills,
-//! comparisons with the plain programs, and whole scripts.
+//! made by hand, logs that are rebuilt by wills, runs of masters, masters that are restored or adopt a list, turns of a
+//! cleaner, drills, lives that follow one another, recoveries in given orders, comparisons with the plain programs, and
+//! whole scripts.
 #![tactic(auto)]
 
+#[cfg(test)]
+mod adoptions;
 #[cfg(test)]
 mod any_order;
 #[cfg(test)]
@@ -25,6 +28,8 @@ mod drills;
 #[cfg(test)]
 mod entries;
 #[cfg(test)]
+mod given_orders;
+#[cfg(test)]
 mod heads;
 #[cfg(test)]
 mod indexes;
@@ -32,6 +37,8 @@ mod indexes;
 mod lines_of_scripts;
 #[cfg(test)]
 mod live_sizes;
+#[cfg(test)]
+mod lives;
 #[cfg(test)]
 mod loadings;
 #[cfg(test)]

@@ -8,7 +8,8 @@ use std::alloc::{AllocError, Global};
 use std::fmt::Write;
 use std::test::Fail;
 
-fn write_reply(text: &mut String, reply: &Reply) -> Result<(), AllocError> {
+/// Writes a reply, and its version.
+pub fn write_reply(text: &mut String, reply: &Reply) -> Result<(), AllocError> {
     match reply {
         Reply::None => write!(text, "none"),
         Reply::Found(version, _) => write!(text, "found {}", version.get()),

@@ -80,7 +80,8 @@ pub fn write_object(text: &mut String, object: &Object) -> Result<(), AllocError
     write!(text, "{table} {key} {version} {value}, ")
 }
 
-fn write_objects(text: &mut String, rebuilt: &Rebuilt) -> Result<(), AllocError> {
+/// Writes the objects and the safe version.
+pub fn write_objects(text: &mut String, rebuilt: &Rebuilt) -> Result<(), AllocError> {
     for object in rebuilt.objects.as_slice() {
         write_object(text, object)?;
     }

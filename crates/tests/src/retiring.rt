@@ -47,7 +47,7 @@ fn write_places(text: &mut String, holdings: &[Holding]) -> Result<(), AllocErro
 }
 
 /// The text of where all replicas are.
-fn places(alloc: Global, fleet: &MemoryFleet) -> Result<String, Fail> {
+pub fn places(alloc: Global, fleet: &MemoryFleet) -> Result<String, Fail> {
     let mut text = String::new(alloc);
     write_places(&mut text, fleet.inventory(alloc)?.as_slice())?;
     Ok(text)

@@ -1,7 +1,7 @@
 //! Wills: how tablets are cut by objects and by bytes, where keys go, and which fault comes first.
 
 use entry::Key;
-use std::alloc::Global;
+use std::alloc::{AllocError, Global};
 use std::test::Fail;
 use tablet_will::{Size, Tablet, Will, WillFault, make_will};
 
@@ -143,20 +143,23 @@ fn will_of(alloc: Global, row: &Row) -> Result<Result<Will, WillFault>, Fail> {
     ))
 }
 
+/// Writes the parts of a will, one a line, and how many partitions there are.
+pub fn write_will(text: &mut String, will: &Will) -> Result<(), AllocError> {
+    for part in will.parts() {
+        write!(
+            text,
+            "{} {:016x} {:016x} {}\n",
+            part.table, part.first, part.last, part.partition
+        )?;
+    }
+    write!(text, "partitions {}", will.partitions())
+}
+
 /// The parts of the will, one a line, and how many partitions there are; or the fault.
 fn told(alloc: Global, row: &Row) -> Result<String, Fail> {
     let mut text = String::new(alloc);
     match will_of(alloc, row)? {
-        Ok(will) => {
-            for part in will.parts() {
-                write!(
-                    text,
-                    "{} {:016x} {:016x} {}\n",
-                    part.table, part.first, part.last, part.partition
-                )?;
-            }
-            write!(text, "partitions {}", will.partitions())?;
-        }
+        Ok(will) => write_will(&mut text, &will)?,
         Err(fault) => write!(text, "{fault}")?,
     }
     Ok(text)
