@@ -28,7 +28,7 @@ pub(crate) const AFTER_HELP: &str = "Lines of a script:
   stop N       Lets the backups take N more pieces of the log, and then no more
   crash        Drops the master; the backups keep what they hold
   lose B       Makes backup B lose all that it holds, once the master is gone; backups count from 0
-  recover      Rebuilds the table from what the backups hold, partition by partition. A new master adopts it, and the
+  recover      Rebuilds the table from what the backups hold, divided by the will. A new master adopts it, and the
                replicas of all others are freed. Then it shows the table: 'T K VERSION VALUE' .., 'recovered N'
   recover reverse  Does the same, and replays in reverse
   # TEXT       Does nothing, like an empty line
