@@ -8,6 +8,7 @@ ghost use Rattle.entry.specs.Key.{IsKeyBytes, place_of};
 ghost use Rattle.entry.specs.Order.{key_cmp, key_cmp_total, key_eq_ties};
 
 use crate::fault::{KeyFault, NoMemory};
+use crate::short_bytes::ShortBytes;
 use crate::view::KeyRef;
 use std::alloc::Global;
 use std::cmp::Ordering;
@@ -19,7 +20,7 @@ pub const MAX_KEY_LEN: usize = 1024;
 /// The bytes of a key: 1 to 1,024 of them. A contract sees them as a list.
 #[derive(Clone, Debug, Drop)]
 pub struct KeyBytes {
-    bytes: Vec<u8>,
+    bytes: ShortBytes,
 }
 
 impl Model for KeyBytes {
@@ -28,9 +29,9 @@ impl Model for KeyBytes {
 
     ghost Value = { List ℕ };
 
-    ghost view = { λ k. k.bytes.items };
+    ghost view = { λ k. k.bytes };
 
-    ghost invariant = { λ k. IsKeyBytes k.bytes.items };
+    ghost invariant = { λ k. IsKeyBytes k.bytes };
 }
 
 impl KeyBytes {
@@ -40,7 +41,7 @@ impl KeyBytes {
         requires limit { length bytes.now ≤ MAX_KEY_LEN }
         ensures { IfOk result (λ copy. copy ≡ bytes.now) }
     {
-        let bytes = Vec::from_slice(alloc, bytes)?;
+        let bytes = ShortBytes::from_slice(alloc, bytes)?;
         Ok(KeyBytes { bytes })
     }
 
@@ -109,7 +110,7 @@ impl PartialEq for KeyBytes {
     ghost laws = { partial_equiv_from_equiv nat_list_eq_equiv };
 
     fn eq(&self, other: &KeyBytes) -> bool {
-        self.bytes == other.bytes
+        self.as_slice() == other.as_slice()
     }
 }
 

@@ -10,6 +10,7 @@ mod limits;
 mod owning;
 mod reading;
 mod row;
+mod short_bytes;
 mod tablet;
 mod view;
 mod writing;

@@ -31,7 +31,7 @@ impl<'a> ObjectRef<'a> {
         ensures { IfOk result (λ object. object ≡ shown_object self.now) }
     {
         let key = self.key.to_key(alloc)?;
-        let value = Value::new(Vec::from_slice(alloc, self.value)?);
+        let value = Value::from_slice(alloc, self.value)?;
         Ok(Object {
             key,
             version: self.version,

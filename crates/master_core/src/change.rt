@@ -134,7 +134,7 @@ fn unchanged_reply(
         Command::Get(_) => match present {
             None => Ok(Reply::None),
             Some(object) => {
-                let value = Value::new(Vec::from_slice(alloc, object.value)?);
+                let value = Value::from_slice(alloc, object.value)?;
                 Ok(Reply::Found(object.version, value))
             }
         },

@@ -13,7 +13,7 @@ ghost use Rattle.recovery_plan.specs.Looked.{lent};
 use crate::chosen::Segments;
 use entry::{DigestRef, SafeVersion};
 use replica::Holding;
-use segment::SegmentRef;
+use segment::{Segment, SegmentRef};
 use std::alloc::{AllocError, Global};
 
 /// The segment of a replica, if the replica is well.
@@ -62,17 +62,15 @@ pub(crate) fn opening<'a>(head: &'a Holding) -> (DigestRef<'a>, SafeVersion)
     (digest, safe)
 }
 
-/// Copies of the segments of replicas that are well.
+/// Copies of the segments of replicas that are well. They aren't read again.
 pub(crate) fn copies(alloc: Global, chosen: &[&Holding]) -> Result<Segments, AllocError>
     requires { AllByRecursion IsGood (lent chosen.now) }
     ensures { IfOk result (λ segments. segments ≡ map (λ (h : Holding). entries_in h.bytes) (lent chosen.now)) }
 {
     let mut segments = Vec::new(alloc);
     for holding in chosen {
-        let Some(segment) = segment_in(holding) else {
-            unreachable!()
-        };
-        segments.push(segment.to_segment(alloc)?)?;
+        let bytes = Vec::from_slice(alloc, holding.bytes.as_slice())?;
+        segments.push(Segment::of_text(bytes))?;
     }
     Ok(Segments::new(segments))
 }

@@ -290,6 +290,6 @@ fn put_command(
         command ≡ Command.Put (record { table = table; bytes = key.now }) value.now when) }
 {
     let key = make_key(alloc, table, key)?;
-    let value = Vec::from_slice(alloc, value)?;
-    Ok(Command::Put(key, Value::new(value), when))
+    let value = Value::from_slice(alloc, value)?;
+    Ok(Command::Put(key, value, when))
 }

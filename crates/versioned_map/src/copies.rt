@@ -14,7 +14,7 @@ pub fn copy_key(alloc: Global, key: &Key) -> Result<Key, AllocError>
 pub fn copy_value(alloc: Global, value: &Value) -> Result<Value, AllocError>
     ensures { IfOk result (λ copy. copy ≡ value.now) }
 {
-    Ok(Value::new(Vec::from_slice(alloc, value.as_slice())?))
+    Value::from_slice(alloc, value.as_slice())
 }
 
 pub fn copy_object(alloc: Global, object: &Object) -> Result<Object, AllocError>

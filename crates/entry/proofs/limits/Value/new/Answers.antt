@@ -1,5 +1,4 @@
-use Rattle.std.proofs.Common.{refl}
 use Rattle.entry.proofs.limits.Value.new.Goals as goal
 
 pub returns : goal.returns
-returns c = refl
+returns c = c.of_vec.ensures

@@ -1,0 +1,76 @@
+//! Bytes that take memory of their own only if they are many.
+
+ghost use Rattle.std.specs.Prelude.{◌≡◌, length, IfOk};
+
+use std::alloc::{AllocError, Global};
+use std::fmt;
+use std::marker::Model;
+
+/// So many bytes lie in the value itself.
+const INLINE_LEN: usize = 15;
+
+/// Bytes in a row. A few lie in the value itself, and more in memory of their own. A contract sees a list.
+#[derive(Clone, Drop)]
+pub(crate) struct ShortBytes {
+    /// How many bytes lie in the value; 0 if there are others.
+    len: u8,
+    inline: [u8; INLINE_LEN],
+    heap: Vec<u8>,
+}
+
+impl Model for ShortBytes {
+    ghost use Rattle.std.specs.Prelude.{◌≡◌, ◌≤◌, ◌++◌, ◌⊎◌, [], ℕ, List, take};
+
+    ghost Value = { List ℕ };
+
+    ghost view = { λ b. take b.len b.inline ++ b.heap.items };
+
+    ghost invariant = { λ b. (b.len ≤ 15) × ((b.len ≡ 0) ⊎ (b.heap.items ≡ [])) };
+}
+
+impl ShortBytes {
+    /// These bytes. It takes no memory.
+    pub(crate) fn of_vec(bytes: Vec<u8>) -> ShortBytes
+        ensures { result ≡ bytes.items }
+    {
+        ShortBytes {
+            len: 0,
+            inline: [0; INLINE_LEN],
+            heap: bytes,
+        }
+    }
+
+    /// A copy of these bytes. A few take no memory.
+    pub(crate) fn from_slice(alloc: Global, bytes: &[u8]) -> Result<ShortBytes, AllocError>
+        ensures copy { IfOk result (λ copy. copy ≡ bytes.now) }
+    {
+        let len = bytes.len();
+        if len > INLINE_LEN {
+            return Ok(ShortBytes::of_vec(Vec::from_slice(alloc, bytes)?));
+        }
+        let mut inline = [0; INLINE_LEN];
+        inline[..len].copy_from_slice(bytes);
+        Ok(ShortBytes {
+            len: len as u8,
+            inline,
+            heap: Vec::new(alloc),
+        })
+    }
+
+    #[inline]
+    pub(crate) fn as_slice(&self) -> &[u8]
+        ensures { result.now ≡ self.now }
+    {
+        if self.len > 0 {
+            &self.inline[..self.len as usize]
+        } else {
+            self.heap.as_slice()
+        }
+    }
+}
+
+impl fmt::Debug for ShortBytes {
+    fn fmt<W: fmt::Write>(&self, f: &mut fmt::Formatter<W>) -> fmt::Result {
+        f.debug_list().entries(self.as_slice()).finish()
+    }
+}
