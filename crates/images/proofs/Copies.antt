@@ -1,16 +1,18 @@
 -- An entry copied from one image to a later one.
-use Rattle.std.proofs.Common.{◌≡◌, ℕ, zero, suc, ◌+◌, ◌<◌, ◌≤◌, ◌↔◌, Bool, true, false, List, [], ◌∷◌, ◌++◌, length, get_or, take, drop, refl, sym, ap, subst, ◌∙◌, arith, append-nil, get_or-take, get_or-drop, add-zero}
+use Rattle.std.proofs.Common.{◌≡◌, ℕ, zero, suc, ◌+◌, ◌<◌, ◌≤◌, ◌↔◌, Bool, true, false, List, [], ◌∷◌, ◌++◌, length, get_or, take, drop, refl, sym, ap, subst, ◌∙◌, arith, append-nil, get_or-take, get_or-drop, add-zero, ◌-◌}
 use Rattle.std.proofs.Math.ListN.{set}
-use Rattle.std.specs.Prelude.{◌==◌, Option, Some, None, Result, Ok, Err, IfSome, OnOk, OnErr, IsErrOf, IsSomeAnd, sum_by}
+use Rattle.std.specs.Prelude.{◌==◌, ◌&&◌, Option, Some, None, Result, Ok, Err, IfSome, OnOk, OnErr, IsErrOf, IsSomeAnd, sum_by}
+use Rattle.std.specs.List.{AllByRecursion}
 use Rattle.std.specs.Option.{option_map, option_map_or, option_and_then}
 use Rattle.std.proofs.lemmas.Bool.{eqb-true}
-use Rattle.std.proofs.lemmas.List.{take_all, drop_all}
+use Rattle.std.proofs.lemmas.List.{take_all, take_rest, drop_all}
 use Rattle.entry.specs.declared.entry.Entry.{Entry}
-use Rattle.entry.specs.Format.{spelling}
-use Rattle.entry.specs.Text.{text_of, is_data}
+use Rattle.entry.specs.Format.{spelling, front_of, IsEntry, Begins}
+use Rattle.entry.specs.Text.{text_of, entries_in, is_data, are_data}
+use Rattle.entry.proofs.TextLemmas.{entries_in-text}
 use Rattle.segment.specs.declared.fault.AppendFault.{AppendFault}
 use Rattle.segment.specs.declared.fault.AppendFault.TheVariants.{Full}
-use Rattle.segment.specs.Bytes.{standing_at}
+use Rattle.segment.specs.Bytes.{IsDataText, standing_at}
 use Rattle.images.specs.declared.image.Image.{Image}
 use Rattle.images.specs.Images.{ImagesValue, IsImages, count_of, used_seglets}
 use Rattle.images.specs.Sorted.{AreRising, IsWhole, image_of, changed}
@@ -99,6 +101,46 @@ grown v id unit valid whole fits = go (image_of v.images id) refl whole
 
 pub text_one : (e : Entry) → length (text_of (e ∷ [])) ≡ length (spelling e)
 text_one e = ap (λ (bytes : List ℕ). length bytes) (append-nil (spelling e))
+
+-- ---- the text of one entry
+
+one_entry : (e : Entry) (bytes : List ℕ) → IsEntry e → bytes ≡ spelling e → entries_in bytes ≡ e ∷ []
+one_entry e bytes valid is = ap entries_in (is ∙ sym (append-nil (spelling e))) ∙ entries_in-text (e ∷ []) (valid, tt)
+
+-- an entry is read at an offset
+module _ (text : List ℕ) (at n : ℕ) (e : Entry) (begins : Begins (take (length text - at) (drop at text)) e n) where
+  part_is : take (at + n - at) (drop at text) ≡ spelling e
+  part_is =
+      let size : at + n - at ≡ n = omega arith in
+      ap (λ (k : ℕ). take k (drop at text)) size ∙ ap (λ (l : List ℕ). take n l) (sym (take_rest text at)) ∙ begins.text
+
+  pub part_entry : entries_in (take (at + n - at) (drop at text)) ≡ e ∷ []
+  part_entry = one_entry e (take (at + n - at) (drop at text)) begins.entry part_is
+
+  pub part_data : is_data e ≡ true → IsDataText (take (at + n - at) (drop at text))
+  part_data own = record {
+    each = subst (λ (es : List Entry). AllByRecursion IsEntry es) (sym part_entry) (begins.entry, tt);
+    order = ap are_data part_entry ∙ ap (λ (b : Bool). b && true) own;
+    text = part_is ∙ sym (append-nil (spelling e)) ∙ ap text_of (sym part_entry);
+  }
+
+  pub standing_is : front_of (take (length text - at) (drop at text)) ≡ Some (e, n) → standing_at at text ≡ Some e
+  standing_is front =
+      ap (option_map (λ (f : Entry × ℕ). f.0)) (ap front_of (sym (take_rest text at)) ∙ front)
+
+-- it is appended
+pub one_more : (o : Option Entry) (r : Result ℕ AppendFault) (old new more : List Entry) → IfSome o (λ (e : Entry). more ≡ e ∷ [])
+    → OnOk r (new ≡ old ++ more) → OnOk r (IfSome o (λ (e : Entry). new ≡ old ++ e ∷ []))
+one_more None (Ok n) old new more one ok = tt
+one_more (Some e) (Ok n) old new more one ok = ok ∙ ap (λ (es : List Entry). old ++ es) one
+one_more o (Err fault) old new more one ok = tt
+
+pub one_fits : (o : Option Entry) (r : Result ℕ AppendFault) (limit len : ℕ) (bytes : List ℕ) → IsDataText bytes
+    → IfSome o (λ (e : Entry). entries_in bytes ≡ e ∷ []) → IsErrOf r Full ↔ (limit < len + length bytes)
+    → IfSome o (λ (e : Entry). IsErrOf r Full ↔ (limit < len + length (spelling e)))
+one_fits None r limit len bytes unit one full = tt
+one_fits (Some e) r limit len bytes unit one full =
+    subst (λ (n : ℕ). IsErrOf r Full ↔ (limit < len + n)) (ap length (unit.text ∙ ap text_of one) ∙ text_one e) full
 
 -- ---- the copy of an entry
 

@@ -3,13 +3,27 @@
 ghost use Rattle.std.specs.Prelude.{◌≡◌, ◌+◌, ◌<◌, ◌≤◌, ◌↔◌, ◌++◌, ◌∷◌, [], true, length};
 ghost use Rattle.std.specs.Prelude.{IfSome, IfOk, OnOk, OnErr, IsErrOf, IsSome, IsSomeAnd};
 ghost use Rattle.entry.specs.Format.{spelling};
-ghost use Rattle.entry.specs.Text.{text_of, is_data};
-ghost use Rattle.segment.specs.Bytes.{standing_at};
+ghost use Rattle.entry.specs.Text.{text_of, entries_in, is_data};
+ghost use Rattle.segment.specs.Bytes.{IsDataText, standing_at};
 ghost use Rattle.images.specs.Sorted.{AreRising, image_of, changed};
 ghost use Rattle.images.specs.Steps.{with_unit, len_at, entry_at};
 
 use crate::image::{Image, place_of};
+use entry::EntryRef;
 use segment::{AppendFault, Segment};
+
+/// The text of the object or tombstone at an offset of a segment.
+fn text_at(source: &Segment, at: usize) -> &[u8]
+    requires { IsSomeAnd (standing_at at (text_of source.now)) (λ e. is_data e ≡ true) }
+    ensures data { IsDataText result.now }
+    ensures entry { IfSome (standing_at at (text_of source.entry.now)) (λ e. entries_in result.now ≡ e ∷ []) }
+{
+    let text = source.bytes();
+    let Ok((_, len)) = EntryRef::read(&text[at..]) else {
+        unreachable!()
+    };
+    &text[at..at + len]
+}
 
 /// Appends a copy of the object or tombstone at an offset of one segment to another, if that then has at most `limit`
 /// bytes.
@@ -27,10 +41,7 @@ fn append_copy(
         (limit < length (text_of target.old) + length (spelling e))) }
     ensures err { OnErr result (target.new ≡ target.old) }
 {
-    let Some(entry) = source.entry_at(at) else {
-        unreachable!()
-    };
-    target.append(&[entry], limit)
+    target.append_text(text_at(source, at), limit)
 }
 
 /// In a list by rising id, appends a copy of the object or tombstone at an offset of one image to a later image, if

@@ -17,7 +17,7 @@ use Rattle.entry.specs.Text.{text_of, is_data, are_data, ends_with, IsTextOf, en
 use Rattle.entry.specs.View.{shown}
 use Rattle.entry.proofs.ListLemmas.{all_append}
 use Rattle.entry.proofs.SpellingLemmas.{length-header, length-digest, length-safe}
-use Rattle.segment.specs.Bytes.{IsSegmentBytes}
+use Rattle.segment.specs.Bytes.{IsSegmentBytes, IsDataText}
 use Rattle.segment.proofs.RowLemmas.{text_of-append}
 use Rattle.segment.proofs.OrderLemmas.{is_whole-append}
 
@@ -105,6 +105,13 @@ IsTextOf-append bytes new unit is each d longer = record {
   };
   text = longer ∙ ap (λ (l : List ℕ). l ++ text_of unit) is.text.text ∙ sym (text_of-append (entries_in bytes) unit);
 }
+
+-- the same of a unit's text
+pub IsTextOf-more : (bytes new text : List ℕ) → IsSegmentBytes bytes → IsDataText text → new ≡ bytes ++ text
+    → IsTextOf new (entries_in bytes ++ entries_in text)
+IsTextOf-more bytes new text is unit longer =
+    IsTextOf-append bytes new (entries_in text) is unit.each unit.order
+    (longer ∙ ap (λ (l : List ℕ). bytes ++ l) unit.text)
 
 -- ---- the opening entries of a head
 

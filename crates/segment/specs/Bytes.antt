@@ -1,13 +1,20 @@
 -- What the bytes of a segment are, and which entry is at an offset.
-use Rattle.std.specs.Prelude.{ℕ, ◌≤◌, List, length, drop, Option}
+use Rattle.std.specs.Prelude.{◌≡◌, ℕ, ◌≤◌, List, length, drop, Option, true}
+use Rattle.std.specs.List.{AllByRecursion}
 use Rattle.std.specs.Option.{option_map}
 use Rattle.entry.specs.declared.entry.Entry.{Entry}
-use Rattle.entry.specs.Format.{front_of}
-use Rattle.entry.specs.Text.{IsTextOf, entries_in}
+use Rattle.entry.specs.Format.{front_of, IsEntry}
+use Rattle.entry.specs.Text.{text_of, are_data, IsTextOf, entries_in}
 
 pub record IsSegmentBytes (bytes : List ℕ) : Type 0 where
   pub text : IsTextOf bytes (entries_in bytes)
   pub limit : length bytes ≤ 8388608
+
+-- the bytes are the text of objects and tombstones
+pub record IsDataText (bytes : List ℕ) : Type 0 where
+  pub each : AllByRecursion IsEntry (entries_in bytes)
+  pub order : are_data (entries_in bytes) ≡ true
+  pub text : bytes ≡ text_of (entries_in bytes)
 
 -- the entry at an offset
 abbrev pub standing_at : ℕ → List ℕ → Option Entry

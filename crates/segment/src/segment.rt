@@ -7,7 +7,7 @@ ghost use Rattle.entry.specs.Format.{spelling, IsEntry};
 ghost use Rattle.entry.specs.Text.{text_of, entries_in, IsSegment, ends_with, are_data};
 ghost use Rattle.entry.specs.View.{shown};
 ghost use Rattle.std.specs.Option.{option_map};
-ghost use Rattle.segment.specs.Bytes.{IsSegmentBytes, standing_at};
+ghost use Rattle.segment.specs.Bytes.{IsSegmentBytes, IsDataText, standing_at};
 
 use crate::entries::Entries;
 use crate::fault::AppendFault;
@@ -127,6 +127,25 @@ impl Segment {
         };
         self.bytes.reserve(len)?;
         write_all(unit, &mut self.bytes);
+        Ok(at)
+    }
+
+    /// Appends the objects and tombstones whose text this is, all or none of them, if the segment then has at most
+    /// `limit` bytes. The answer is the offset of the first.
+    pub fn append_text(&mut self, text: &[u8], limit: usize) -> Result<usize, AppendFault>
+        requires data { IsDataText text.now }
+        requires limit { limit ≤ MAX_SEGMENT_LEN }
+        ensures ok { OnOk result (self.new ≡ self.old ++ entries_in text.now) }
+        ensures place { IfOk result (λ at. at ≡ length (text_of self.old)) }
+        // A text that doesn't fit is reported as such, even if memory is short.
+        ensures full { IsErrOf result AppendFault.Full ↔ (limit < length (text_of self.old) + length text.now) }
+        ensures err { OnErr result (self.new ≡ self.old) }
+    {
+        let at = self.bytes.len();
+        if at + text.len() > limit {
+            return Err(AppendFault::Full);
+        }
+        self.bytes.extend_from_slice(text)?;
         Ok(at)
     }
 
