@@ -117,7 +117,7 @@ class Log:
         self.roll(None)
 
     def is_short(self):
-        return self.seglets - self.used - (self.whole - self.count(self.head.length)) < SPARE * self.whole
+        return self.seglets - self.used < SPARE * self.whole
 
 
 def fill(log, keys):

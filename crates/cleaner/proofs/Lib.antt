@@ -2,6 +2,7 @@ pub mod Places
 pub mod Images
 pub mod Cursors
 pub mod Keeping
+pub mod Bounding
 pub mod Seeing
 pub mod Ends
 pub mod Leaving

@@ -51,7 +51,8 @@ pub(crate) fn recounted(images: &[Image], segment: usize, seglet: usize) -> u64
     sum
 }
 
-/// Where the image of a segment is in a list by rising id. As long as no segment was cleaned, the ids have no gaps.
+/// Where the image of a segment is in a list by rising id. As long as no segment was cleaned, the ids have no gaps. A
+/// survivor is mostly the last.
 #[inline]
 pub(crate) fn place_of(images: &[Image], id: u64) -> Option<usize>
     requires { AreRising images.now }
@@ -60,8 +61,23 @@ pub(crate) fn place_of(images: &[Image], id: u64) -> Option<usize>
 {
     match place_without_gaps(images, id) {
         Some(at) => Some(at),
-        None => place_among(images, id),
+        None => match place_at_end(images, id) {
+            Some(at) => Some(at),
+            None => place_among(images, id),
+        },
     }
+}
+
+/// Where the image is if it is the last.
+#[inline]
+fn place_at_end(images: &[Image], id: u64) -> Option<usize>
+    ensures { IfSome result (IsPlaceOf images.now id) }
+{
+    if images.is_empty() {
+        return None;
+    }
+    let at = images.len() - 1;
+    if images[at].id == id { Some(at) } else { None }
 }
 
 /// Where the image is if the ids from the first one to its own have no gaps.
