@@ -18,15 +18,16 @@ use Rattle.images.specs.Steps.{entry_at, with_unit, len_at}
 use Rattle.compactor.specs.Kept.{kept}
 use Rattle.cleaner.specs.declared.pass.Copied.{Copied}
 use Rattle.cleaner.specs.declared.pass.Copied.TheVariants as copied
+use Rattle.cleaner.specs.declared.treating.Extent.{Extent}
 use Rattle.cleaner.specs.declared.treating.Found.TheVariants as found
 use Rattle.cleaner.specs.Passes.{images_in, kept_len, copied_as, copy_place, images_with, held_with}
 use Rattle.cleaner.specs.Walks.{found_as, IsSeen, Treats}
 use Rattle.cleaner.proofs.Keeping.{stands, len_stands}
 
 -- the entry that is seen is read
-pub seen_at : (images : List Image) (p : Place) (n : ℕ) (e : Entry) → IsSome (segment_of images p.segment)
-    → IsSeen (images_in images) p n e → entry_at images p.segment p.at ≡ Some e
-seen_at images p n e there seen = go (segment_of images p.segment) refl there
+pub seen_at : (images : List Image) (p : Place) (x : Extent) (e : Entry) → IsSome (segment_of images p.segment)
+    → IsSeen (images_in images) p x e → entry_at images p.segment p.at ≡ Some e
+seen_at images p x e there seen = go (segment_of images p.segment) refl there
   where
     go : (o : Option (List Entry)) → segment_of images p.segment ≡ o → IsSome o
         → option_and_then (λ (es : List Entry). standing_at p.at (text_of es)) o ≡ Some e
@@ -92,15 +93,15 @@ pub others_are : (new old : ImagesValue) (xs : List Image) → new ≡ record ol
 others_are new old xs is =
     is ∙ ap (λ (ys : List Image). record old { images = ys }) (sym (ap (λ (v : ImagesValue). v.images) is))
 
-module _ (images : List Image) (p : Place) (n : ℕ) (e : Entry) where
-  module _ (there : IsSome (segment_of images p.segment)) (seen : IsSeen (images_in images) p n e) where
+module _ (images : List Image) (p : Place) (extent : Extent) (e : Entry) where
+  module _ (there : IsSome (segment_of images p.segment)) (seen : IsSeen (images_in images) p extent e) where
     abbrev Read : Option Entry
     Read = entry_at images p.segment p.at
 
     pub copy_data : IsSomeAnd Read (λ (x : Entry). is_data x ≡ true)
     copy_data =
         subst (λ (o : Option Entry). IsSomeAnd o (λ (x : Entry). is_data x ≡ true))
-        (sym (seen_at images p n e there seen)) seen.of_data
+        (sym (seen_at images p extent e there seen)) seen.of_data
 
     pub copy_room : (ids : List ℕ) (held : List Held) (survivor segment : ℕ) → kept ids held p e ≡ true
         → len_at images survivor + kept_len ids held (images_in images) p ≤ segment
@@ -110,7 +111,7 @@ module _ (images : List Image) (p : Place) (n : ℕ) (e : Entry) where
         len_stands ids held (images_in images) p e seen.valid seen.stands
         ∙ ap (λ (b : Bool). cond b (length (spelling e)) 0) keeps in
         subst (λ (o : Option Entry). IfSome o (λ (x : Entry). len_at images survivor + length (spelling x) ≤ segment))
-        (sym (seen_at images p n e there seen)) (omega (arith, room, len))
+        (sym (seen_at images p extent e there seen)) (omega (arith, room, len))
 
     -- what is appended is the entry
     pub copied_is : (survivor : ℕ) (new old : ImagesValue) → IfSome Read (λ (x : Entry). new ≡
@@ -118,11 +119,11 @@ module _ (images : List Image) (p : Place) (n : ℕ) (e : Entry) where
         → new ≡ record old { images = changed images survivor (with_unit (e ∷ [])) }
     copied_is survivor new old is =
         subst (λ (o : Option Entry). IfSome o (λ (x : Entry). new ≡
-        record old { images = changed images survivor (with_unit (x ∷ [])) })) (seen_at images p n e there seen) is
+        record old { images = changed images survivor (with_unit (x ∷ [])) })) (seen_at images p extent e there seen) is
 
-  pub treats : (seen : IsSeen (images_in images) p n e) (ids : List ℕ) (held : List Held) (survivor : ℕ)
+  pub treats : (seen : IsSeen (images_in images) p extent e) (ids : List ℕ) (held : List Held) (survivor : ℕ)
       (copied : Copied) (after : List Image) (later : List Held)
       → Does p survivor images held (kept ids held p e) e copied after later
-      → Treats ids images held p survivor copied n after later
+      → Treats ids images held p survivor copied extent after later
   treats seen ids held survivor copied after later does =
       record { entry = e; seen = seen; told = does.0; grown = does.1; index = does.2 }

@@ -1,7 +1,7 @@
 -- How the cursor of a pass goes on.
-use Rattle.std.proofs.Common.{◌≡◌, ℕ, ◌+◌, ◌<◌, ◌≤◌, true, false, List, [], ◌∷◌, ◌++◌, length, drop, refl, sym, ap, subst, ◌∙◌, arith}
+use Rattle.std.proofs.Common.{◌≡◌, ℕ, ◌+◌, ◌<◌, ◌≤◌, true, false, List, [], ◌∷◌, ◌++◌, length, drop, get_or, refl, sym, ap, subst, ◌∙◌, arith}
 use Rattle.std.specs.Prelude.{Some, None}
-use Rattle.std.proofs.lemmas.List.{drop_all}
+use Rattle.std.proofs.lemmas.List.{append-nil, drop_all, drop_more}
 use Rattle.entry.specs.declared.entry.Entry.{Entry}
 use Rattle.entry.specs.Format.{spelling}
 use Rattle.entry.specs.Text.{text_of, is_data}
@@ -11,7 +11,7 @@ use Rattle.compactor.proofs.Cutting.{IsCut, cut_next, cut_end}
 use Rattle.compactor.proofs.Walking.{IsHere}
 use Rattle.cleaner.specs.declared.pass.Cursor.{Cursor}
 use Rattle.cleaner.specs.Passes.{places_from, places_past, places_of, places_on, IsCursorAt}
-use Rattle.cleaner.specs.Walks.{IsBetween, IsCursorBetween, FindsData, GoesOn}
+use Rattle.cleaner.specs.Walks.{IsBetween, IsCursorBetween, FindsData, EndsOn, GoesOn}
 use Rattle.cleaner.proofs.Places.{from_data, past_cut, on_start}
 
 -- ---- in a segment
@@ -77,6 +77,11 @@ module _ (es : List Entry) (from : ℕ) where
 
 -- ---- in the victims
 
+-- at the start of the first
+pub starts : (images : ℕ → List Entry) (ids : List ℕ) → IsCursorBetween images ids 0
+starts images [] = tt
+starts images (s ∷ ids) = between_start (images s)
+
 module _ (images : ℕ → List Entry) (victims : List ℕ) (from : Cursor) where
   -- no object or tombstone lies between the two cursors
   pub record IsGoing (now : Cursor) : Type 0 where
@@ -86,10 +91,6 @@ module _ (images : ℕ → List Entry) (victims : List ℕ) (from : Cursor) wher
 
   pub going_start : from.victim ≤ length victims → IsCursorBetween images (drop from.victim victims) from.at → IsGoing from
   going_start within between = record { within = within; between = between; rest = refl }
-
-  starts : (ids : List ℕ) → IsCursorBetween images ids 0
-  starts [] = tt
-  starts (s ∷ ids) = between_start (images s)
 
   pub going_end : (now : Cursor) → IsGoing now → length victims ≤ now.victim → GoesOn images victims from now
   going_end now g past =
@@ -126,7 +127,7 @@ module _ (images : ℕ → List Entry) (victims : List ℕ) (from : Cursor) wher
         → IsGoing (record { victim = now.victim + 1; at = 0 })
     going_next finds lt later = record {
       within = omega (arith, lt);
-      between = starts (drop (now.victim + 1) victims);
+      between = starts images (drop (now.victim + 1) victims);
       rest =
           on_start images (drop (now.victim + 1) victims)
           ∙ ap (places_of images) (sym later)
@@ -135,3 +136,38 @@ module _ (images : ℕ → List Entry) (victims : List ℕ) (from : Cursor) wher
           ∙ ap (λ (ds : List ℕ). places_on images ds now.at) (sym split)
           ∙ g.rest;
     }
+
+-- ---- behind an object or tombstone
+
+-- none begins at the end of a segment
+none_at_end : (es : List Entry) (at : ℕ) → at ≡ length (text_of es) → FindsData es at None
+none_at_end es at end = λ s. past_cut s at es es [] (sym (append-nil es)) end
+
+module _ (images : ℕ → List Entry) (victims : List ℕ) (from : Cursor) (lt : from.victim < length victims) where
+  pub behind_next : EndsOn images (drop from.victim victims) from.at false → GoesOn images victims from from
+  behind_next ends = record { within = omega (arith, lt); rest = refl; cursor = at_next (drop from.victim victims) ends }
+    where
+      at_next : (ids : List ℕ) → EndsOn images ids from.at false → IsCursorAt images ids from.at
+      at_next [] is = tt
+      at_next (s ∷ ids) is = is
+
+  abbrev Next : Cursor
+  Next = record { victim = from.victim + 1; at = 0 }
+
+  pub behind_last : EndsOn images (drop from.victim victims) from.at true → (to : Cursor) → GoesOn images victims Next to
+      → GoesOn images victims from to
+  behind_last ends to goes =
+      let s = get_or victims from.victim 0 in
+      let ids = drop Next.victim victims in
+      let split : drop from.victim victims ≡ s ∷ ids = drop_more victims from.victim 0 lt in
+      let end : from.at ≡ length (text_of (images s)) =
+      subst (λ (ds : List ℕ). EndsOn images ds from.at true) split ends in
+      record {
+        within = goes.within;
+        rest =
+            goes.rest
+            ∙ on_start images ids
+            ∙ ap (λ (ps : List Place). ps ++ places_of images ids) (sym (none_at_end (images s) from.at end s))
+            ∙ ap (λ (ds : List ℕ). places_on images ds from.at) (sym split);
+        cursor = goes.cursor;
+      }

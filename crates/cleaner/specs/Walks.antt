@@ -12,6 +12,7 @@ use Rattle.compactor.specs.Kept.{kept}
 use Rattle.compactor.specs.Places.{IsAtPlace}
 use Rattle.cleaner.specs.declared.pass.Cursor.{Cursor}
 use Rattle.cleaner.specs.declared.pass.Copied.{Copied}
+use Rattle.cleaner.specs.declared.treating.Extent.{Extent}
 use Rattle.cleaner.specs.declared.treating.Found.{Found}
 use Rattle.cleaner.specs.declared.treating.Found.TheVariants as found
 use Rattle.cleaner.specs.Passes.{images_in, places_past, places_on, IsAtData, IsCursorAt}
@@ -43,6 +44,17 @@ pub record GoesOn (images : ℕ → List Entry) (victims : List ℕ) (from to : 
   pub rest : places_on images (drop to.victim victims) to.at ≡ places_on images (drop from.victim victims) from.at
   pub cursor : IsCursorAt images (drop to.victim victims) to.at
 
+-- What is at the offset behind an object or a tombstone: the end of the segment if that was the last entry, else another
+-- object or tombstone.
+abbrev pub EndsAt : List Entry → ℕ → Bool → Type 0
+EndsAt es at true = at ≡ length (text_of es)
+EndsAt es at false = IsAtData es at
+
+-- the same of the first of these segments, if there is one
+abbrev pub EndsOn : (ℕ → List Entry) → List ℕ → ℕ → Bool → Type 0
+EndsOn images [] at is_last = Unit {0}
+EndsOn images (s ∷ ids) at is_last = EndsAt (images s) at is_last
+
 -- ---- the entry
 
 -- what is found at a place, by whether the entry is kept
@@ -54,23 +66,25 @@ found_as true p (entry.Safe version) = found.Tombstone
 found_as true p (entry.Object o) = found.Object (record { hash = hash_of o.key; place = p })
 found_as true p (entry.Tombstone t) = found.Tombstone
 
--- An object or tombstone stands at the place, of this many bytes.
-pub record IsSeen (images : ℕ → List Entry) (p : Place) (len : ℕ) (e : Entry) : Type 0 where
+-- An object or tombstone stands at the place, and goes so far.
+pub record IsSeen (images : ℕ → List Entry) (p : Place) (extent : Extent) (e : Entry) : Type 0 where
   pub stands : IsAtPlace images p e
   pub valid : IsEntry e
   pub of_data : is_data e ≡ true
-  pub size : len ≡ length (spelling e)
-  pub limit : p.at + len ≤ 8388608
+  pub size : extent.len ≡ length (spelling e)
+  pub limit : p.at + extent.len ≤ 8388608
+  pub behind : EndsAt (images p.segment) (p.at + extent.len) extent.is_last
 
 -- the object or tombstone at the place is found
-abbrev pub Finds : List ℕ → List Held → (ℕ → List Entry) → Place → Found → ℕ → Type 0
-Finds ids held images p f len = (e : Entry) × IsSeen images p len e × (f ≡ found_as (kept ids held p e) p e)
+abbrev pub Finds : List ℕ → List Held → (ℕ → List Entry) → Place → Found → Extent → Type 0
+Finds ids held images p f extent =
+    (e : Entry) × IsSeen images p extent e × (f ≡ found_as (kept ids held p e) p e)
 
 -- The object or tombstone at the place is treated.
 pub record Treats (ids : List ℕ) (images : List Image) (held : List Held) (p : Place) (survivor : ℕ) (copied : Copied)
-    (len : ℕ) (images_after : List Image) (held_after : List Held) : Type 0 where
+    (extent : Extent) (images_after : List Image) (held_after : List Held) : Type 0 where
   pub entry : Entry
-  pub seen : IsSeen (images_in images) p len entry
+  pub seen : IsSeen (images_in images) p extent entry
   pub told : copied ≡ copied_as (kept ids held p entry) entry
   pub grown : images_after ≡ images_with (kept ids held p entry) survivor entry images
   pub index : held_after ≡ held_with (kept ids held p entry) p (copy_place survivor images) entry held

@@ -5,7 +5,7 @@ ghost use Rattle.cleaner.specs.Passes.{images_in, ids_in, AreVictims, places_of,
 ghost use Rattle.cleaner.specs.Passes.{IsCursorAt, IsPass, HasRoom, CopiesOne};
 
 use crate::treating::treat;
-use crate::walking::next_cursor;
+use crate::walking::{cursor_behind, next_cursor};
 use entry::{NoMemory, Row};
 use hash_index::{Index, Place};
 use images::Images;
@@ -121,12 +121,12 @@ impl Pass {
             segment: victims[self.cursor.victim],
             at: self.cursor.at,
         };
-        let (copied, len) = treat(place, self.survivor, images, index, head, new)?;
+        let (copied, extent) = treat(place, self.survivor, images, index, head, new)?;
         let behind = Cursor {
             victim: self.cursor.victim,
-            at: place.at + len,
+            at: place.at + extent.len,
         };
-        self.cursor = next_cursor(victims, images, behind);
+        self.cursor = cursor_behind(victims, images, behind, extent.is_last);
         Ok(copied)
     }
 }

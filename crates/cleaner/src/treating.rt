@@ -31,6 +31,15 @@ pub(crate) enum Found {
     Dead,
 }
 
+/// How far an object or tombstone goes.
+#[derive(Clone, Copy)]
+pub(crate) struct Extent {
+    /// How many bytes it has.
+    pub len: usize,
+    /// Whether it is the last entry of its segment.
+    pub is_last: bool,
+}
+
 /// Whether the object or tombstone at a place is kept, and how the index holds it.
 fn look_at(entry: &EntryRef<'_>, place: Place, index: &Index, log: &LogSet<'_>) -> Found
     requires { is_data (shown entry.now) ≡ true }
@@ -58,8 +67,14 @@ fn look_at(entry: &EntryRef<'_>, place: Place, index: &Index, log: &LogSet<'_>) 
     }
 }
 
-/// What stands at a place, and how many bytes it has.
-fn find(place: Place, images: &Images, index: &Index, head: u64, new: Option<u64>) -> (Found, usize)
+/// What stands at a place, and how far it goes.
+fn find(
+    place: Place,
+    images: &Images,
+    index: &Index,
+    head: u64,
+    new: Option<u64>,
+) -> (Found, Extent)
     requires there { IsSome (segment_of images.now.images place.segment) }
     requires at { IsAtData (images_in images.now.images place.segment) place.at }
     ensures { Finds (ids_in images.now.images head new) index.now.held (images_in images.now.images) place
@@ -69,7 +84,8 @@ fn find(place: Place, images: &Images, index: &Index, head: u64, new: Option<u64
         unreachable!()
     };
     let text = segment.bytes();
-    let Ok((entry, len)) = EntryRef::read(&text[place.at..]) else {
+    let rest = &text[place.at..];
+    let Ok((entry, len)) = EntryRef::read(rest) else {
         unreachable!()
     };
     let log = LogSet {
@@ -77,7 +93,11 @@ fn find(place: Place, images: &Images, index: &Index, head: u64, new: Option<u64
         head,
         new,
     };
-    (look_at(&entry, place, index, &log), len)
+    let extent = Extent {
+        len,
+        is_last: len == rest.len(),
+    };
+    (look_at(&entry, place, index, &log), extent)
 }
 
 /// Copies the object or tombstone at a place to the end of the survivor's image, which has room for it. The answer is
@@ -103,7 +123,7 @@ fn copy(images: &mut Images, place: Place, survivor: u64) -> Result<Place, NoMem
     }
 }
 
-/// Treats the object or tombstone at a place. The answer is what became of it, and how many bytes it has.
+/// Treats the object or tombstone at a place. The answer is what became of it, and how far it goes.
 pub(crate) fn treat(
     place: Place,
     survivor: u64,
@@ -111,7 +131,7 @@ pub(crate) fn treat(
     index: &mut Index,
     head: u64,
     new: Option<u64>,
-) -> Result<(Copied, usize), NoMemory>
+) -> Result<(Copied, Extent), NoMemory>
     requires order { place.segment < survivor }
     requires there { IsSome (segment_of images.old.images place.segment) }
     requires whole { IsWhole images.old.images survivor }
@@ -124,17 +144,17 @@ pub(crate) fn treat(
     ensures room { index.new.room ≡ index.old.room }
     ensures err { OnErr result ((images.new ≡ images.old) × (index.new ≡ index.old)) }
 {
-    let (found, len) = find(place, images, index, head, new);
+    let (found, extent) = find(place, images, index, head, new);
     match found {
         Found::Object(held) => {
             let to = copy(images, place, survivor)?;
             index.relocate(held, to);
-            Ok((Copied::Moved, len))
+            Ok((Copied::Moved, extent))
         }
         Found::Tombstone => {
             copy(images, place, survivor)?;
-            Ok((Copied::Carried, len))
+            Ok((Copied::Carried, extent))
         }
-        Found::Dead => Ok((Copied::Dropped, len)),
+        Found::Dead => Ok((Copied::Dropped, extent)),
     }
 }

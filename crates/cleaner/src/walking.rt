@@ -1,12 +1,12 @@
 //! How a cursor goes on.
 
-ghost use Rattle.std.specs.Prelude.{◌≡◌, ◌≤◌, length, drop, IsSome};
+ghost use Rattle.std.specs.Prelude.{◌≡◌, ◌+◌, ◌<◌, ◌≤◌, length, drop, IsSome};
 ghost use Rattle.std.specs.List.{AllByRecursion};
 ghost use Rattle.entry.specs.Text.{is_data};
 ghost use Rattle.entry.specs.View.{shown};
 ghost use Rattle.images.specs.Sorted.{segment_of};
 ghost use Rattle.cleaner.specs.Passes.{images_in};
-ghost use Rattle.cleaner.specs.Walks.{IsBetween, IsCursorBetween, FindsData, GoesOn};
+ghost use Rattle.cleaner.specs.Walks.{IsBetween, IsCursorBetween, FindsData, EndsOn, GoesOn};
 
 use crate::pass::Cursor;
 use entry::EntryRef;
@@ -63,4 +63,23 @@ pub(crate) fn next_cursor(victims: &[u64], images: &Images, from: Cursor) -> Cur
         };
     }
     cursor
+}
+
+/// Goes on behind an object or tombstone, of which it is known whether it is the last entry of its segment. If it
+/// isn't, the next one begins right there, and nothing is read.
+pub(crate) fn cursor_behind(victims: &[u64], images: &Images, from: Cursor, is_last: bool) -> Cursor
+    requires there { AllByRecursion (λ s. IsSome (segment_of images.now.images s)) victims.now }
+    requires within { from.victim < length victims.now }
+    requires ends { EndsOn (images_in images.now.images) (drop from.victim victims.now) from.at is_last }
+    ensures { GoesOn (images_in images.now.images) victims.now from result }
+{
+    if is_last {
+        let next = Cursor {
+            victim: from.victim + 1,
+            at: 0,
+        };
+        next_cursor(victims, images, next)
+    } else {
+        from
+    }
 }
