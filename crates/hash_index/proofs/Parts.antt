@@ -7,7 +7,7 @@ use Rattle.hash_index.specs.declared.place.Place.{Place}
 use Rattle.hash_index.specs.declared.place.Held.{Held}
 use Rattle.hash_index.specs.Relocation.{holds, relocated}
 use Rattle.hash_index.specs.Steps.{BringsNoHash, Moves, Removes, IsShuffled}
-use Rattle.hash_index.proofs.Joining.{kept_right, shuffled_itself, shuffled_then, shuffled_left, shuffled_turned}
+use Rattle.hash_index.proofs.Joining.{kept_right, shuffled_itself, shuffled_then, shuffled_left, shuffled_right, shuffled_turned}
 use Rattle.hash_index.proofs.Relocating.{relocated_first, relocated_right, relocated_none}
 use Rattle.hash_index.proofs.Whole.{table_had, table_set, table_removed, table_gone, waiting_set, other_had, other_gone, other_removed}
 
@@ -74,17 +74,32 @@ module _ (h : Held) (to : Place) (xs ys : List Held) where
 -- ---- one place more
 
 module _ (h : Held) (xs ys new : List Held) where
-  -- the first place, where there was none
+  -- a first place, where there was none
   module _ (empty : xs ≡ []) (filled : new ≡ h ∷ []) where
-    pub filled_shuffled : IsShuffled ((xs ++ ys) ++ h ∷ []) (new ++ ys)
-    filled_shuffled =
+    pub first_shuffled : IsShuffled ((xs ++ ys) ++ h ∷ []) (new ++ ys)
+    first_shuffled =
         subst (λ (zs : List Held). IsShuffled ((zs ++ ys) ++ h ∷ []) (new ++ ys)) (sym empty)
         (subst (λ (zs : List Held). IsShuffled (ys ++ h ∷ []) (zs ++ ys)) (sym filled) (shuffled_turned ys (h ∷ [])))
 
-    pub filled_brings : BringsNoHash ((xs ++ ys) ++ h ∷ []) (new ++ ys)
-    filled_brings =
+    pub first_brings : BringsNoHash ((xs ++ ys) ++ h ∷ []) (new ++ ys)
+    first_brings =
         subst (λ (zs : List Held). BringsNoHash ((zs ++ ys) ++ h ∷ []) (new ++ ys)) (sym empty)
         (subst (λ (zs : List Held). BringsNoHash (ys ++ h ∷ []) (zs ++ ys)) (sym filled) (brings_turned ys (h ∷ [])))
+
+  -- one of those in front
+  pub filled_shuffled : IsShuffled (xs ++ h ∷ []) new → IsShuffled ((xs ++ ys) ++ h ∷ []) (new ++ ys)
+  filled_shuffled filled =
+      let turned = shuffled_right xs (ys ++ h ∷ []) (h ∷ ys) (shuffled_turned ys (h ∷ [])) in
+      let start = subst (λ (zs : List Held). IsShuffled zs (xs ++ h ∷ ys)) (sym (append_assoc xs ys (h ∷ []))) turned in
+      let whole = subst (λ (zs : List Held). IsShuffled zs (new ++ ys)) (append_assoc xs (h ∷ []) ys) (shuffled_left (xs ++ h ∷ []) new ys filled) in
+      shuffled_then ((xs ++ ys) ++ h ∷ []) (xs ++ h ∷ ys) (new ++ ys) start whole
+
+  pub filled_brings : BringsNoHash (xs ++ h ∷ []) new → BringsNoHash ((xs ++ ys) ++ h ∷ []) (new ++ ys)
+  filled_brings filled p all =
+      let P = λ (y : Held). p y.hash ≡ true in
+      let parts = all_split P (xs ++ ys) (h ∷ []) all in
+      let old = all_split P xs ys parts.0 in
+      all_append P new ys (filled p (all_append P xs (h ∷ []) old.0 parts.1)) old.1
 
   -- one of the others
   pushed_is : (others : List Held) → new ≡ xs → others ≡ ys ++ h ∷ [] → (xs ++ ys) ++ h ∷ [] ≡ new ++ others
@@ -102,6 +117,21 @@ module _ (h : Held) (xs ys new : List Held) where
   pushed_brings others (Ok u) same pushed =
       subst (λ (zs : List Held). BringsNoHash ((xs ++ ys) ++ h ∷ []) zs) (pushed_is others same pushed) (λ p all. all)
   pushed_brings others (Err e) same pushed = pushed
+
+  -- a second place, where there was none
+  module _ (others : List Held) (same : new ≡ xs) (empty : ys ≡ []) (filled : others ≡ h ∷ []) where
+    second_is : others ≡ ys ++ h ∷ []
+    second_is = filled ∙ ap (λ (zs : List Held). zs ++ h ∷ []) (sym empty)
+
+    pub second_shuffled : IsShuffled ((xs ++ ys) ++ h ∷ []) (new ++ others)
+    second_shuffled =
+        subst (λ (zs : List Held). IsShuffled ((xs ++ ys) ++ h ∷ []) zs) (pushed_is others same second_is)
+        (shuffled_itself ((xs ++ ys) ++ h ∷ []))
+
+    pub second_brings : BringsNoHash ((xs ++ ys) ++ h ∷ []) (new ++ others)
+    second_brings =
+        subst (λ (zs : List Held). BringsNoHash ((xs ++ ys) ++ h ∷ []) zs) (pushed_is others same second_is)
+        (λ p all. all)
 
 -- ---- all places of a chain, one part after the other
 

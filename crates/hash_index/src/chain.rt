@@ -8,7 +8,7 @@ ghost use Rattle.hash_index.specs.Map.{found, hash_of, AreKept, IsCandidate};
 ghost use Rattle.hash_index.specs.Relocation.{holds, relocated};
 ghost use Rattle.hash_index.specs.Steps.{Moves, Removes, BringsNoHash, IsShuffled};
 
-use crate::first::First;
+use crate::front::Front;
 use crate::place::{Held, Place};
 use crate::plain::PlainIndex;
 use crate::resolve::Resolve;
@@ -16,11 +16,11 @@ use entry::{KeyRef, NoMemory};
 use std::alloc::Global;
 use std::marker::Model;
 
-/// The places of some hashes: the first lies in the table itself, and the others in memory of their own. If the first
-/// is taken out, the next place that is pushed becomes the first.
+/// The places of some hashes: the first two lie in the table itself, and the others in memory of their own. If one of the
+/// two is taken out, the next place that is pushed takes its room.
 #[derive(Drop)]
 pub(crate) struct Chain {
-    first: First,
+    front: Front,
     more: PlainIndex,
 }
 
@@ -30,7 +30,7 @@ impl Model for Chain {
 
     ghost Value = { IndexValue };
 
-    ghost view = { λ c. record { held = c.first ++ c.more.held; room = c.more.room } };
+    ghost view = { λ c. record { held = c.front ++ c.more.held; room = c.more.room } };
 }
 
 impl Chain {
@@ -39,17 +39,17 @@ impl Chain {
         ensures { result ≡ record { held = []; room = 0 } }
     {
         Chain {
-            first: First::new(),
+            front: Front::new(),
             more: PlainIndex::new(alloc),
         }
     }
 
-    /// The first place, if there is one, and the others.
+    /// The first two places, and the others.
     #[inline]
-    pub(crate) fn parts(&self) -> (&[Held], &[Held])
+    pub(crate) fn parts(&self) -> (&Front, &[Held])
         ensures { result.0.now ++ result.1.now ≡ self.now.held }
     {
-        (self.first.as_slice(), self.more.as_slice())
+        (&self.front, self.more.as_slice())
     }
 
     /// The place of a key of this hash.
@@ -64,7 +64,7 @@ impl Chain {
         ensures { AreKept (R.keys resolver.now) self.now.held
             → result ≡ found (R.keys resolver.now) (shown_key key.now) self.now.held }
     {
-        match self.first.get(hash, resolver, key) {
+        match self.front.get(hash, resolver, key) {
             Some(place) => Some(place),
             None => self.more.get_hashed(hash, resolver, key),
         }
@@ -76,7 +76,7 @@ impl Chain {
         ensures { (keys : PlaceValue → Option Key) (k : Key) → hash ≡ hash_of k → AreKept keys self.now.held
             → IsCandidate keys k self.now.held result }
     {
-        match self.first.candidate(hash) {
+        match self.front.candidate(hash) {
             Some(place) => Some(place),
             None => self.more.candidate(hash),
         }
@@ -93,7 +93,7 @@ impl Chain {
         requires { hash ≡ hash_of (shown_key key.now) }
         ensures { Moves (R.keys resolver.now) (shown_key key.now) place self.old.held result self.new.held }
     {
-        if self.first.move_to(hash, resolver, key, place) {
+        if self.front.move_to(hash, resolver, key, place) {
             return true;
         }
         self.more.move_hashed(hash, resolver, key, place)
@@ -109,7 +109,7 @@ impl Chain {
         requires { hash ≡ hash_of (shown_key key.now) }
         ensures { Removes (R.keys resolver.now) (shown_key key.now) self.old.held result self.new.held }
     {
-        match self.first.remove(hash, resolver, key) {
+        match self.front.remove(hash, resolver, key) {
             Some(place) => Some(place),
             None => self.more.remove_hashed(hash, resolver, key),
         }
@@ -120,7 +120,7 @@ impl Chain {
     pub(crate) fn holds(&self, held: Held) -> bool
         ensures { result ≡ holds self.now.held held }
     {
-        self.first.holds(held) || self.more.holds(held)
+        self.front.holds(held) || self.more.holds(held)
     }
 
     /// A place that it holds under this hash becomes another place. Whether it was there.
@@ -128,17 +128,17 @@ impl Chain {
         ensures had { result ≡ holds self.old.held held }
         ensures moved { self.new.held ≡ relocated held to self.old.held }
     {
-        self.first.relocate(held, to) || self.more.relocate(held, to)
+        self.front.relocate(held, to) || self.more.relocate(held, to)
     }
 
-    /// One more place: the first if there is none, or else in memory for just as many.
+    /// One more place: in the table if the chain has room there, or else in memory for just as many.
     #[inline]
     pub(crate) fn push(&mut self, held: Held) -> Result<(), NoMemory>
         ensures ok { OnOk result (IsShuffled (self.old.held ++ held ∷ []) self.new.held) }
         ensures hashes { OnOk result (BringsNoHash (self.old.held ++ held ∷ []) self.new.held) }
         ensures err { OnErr result (self.new ≡ self.old) }
     {
-        if self.first.fill(held) {
+        if self.front.fill(held) {
             return Ok(());
         }
         self.more.push_exact(held)

@@ -1,4 +1,4 @@
-//! The first place of a chain, which lies in the table itself.
+//! A place that lies in the table itself.
 
 ghost use Rattle.std.specs.Prelude.{◌≡◌, ◌∷◌, [], Option, true, false};
 ghost use Rattle.entry.specs.declared.key.Key.{Key};

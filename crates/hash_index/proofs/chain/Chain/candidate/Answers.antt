@@ -8,19 +8,19 @@ use Rattle.hash_index.proofs.chain.Chain.candidate.Goals as goal
 
 pub returns-in-Some : goal.returns-in-Some
 returns-in-Some c = λ keys k of.
-    let first = c.self.inside.first in
+    let front = c.self.inside.front in
     let more = c.self.inside.more.held in
     let p = c.in-Some.place in
     subst (λ (v : IndexValue). AreKept keys v.held → IsCandidate keys k v.held (Some p)) c.self.view_is
-    (λ all there. found_table keys k first more p (c.in-Some.ensures keys k of (kept_left keys first more all) there))
+    (λ all there. found_table keys k front more p (c.in-Some.ensures keys k of (kept_left keys front more all) there))
 
 pub returns-in-None : goal.returns-in-None
 returns-in-None c = λ keys k of.
-    let first = c.self.inside.first in
+    let front = c.self.inside.front in
     let more = c.self.inside.more.held in
     let o = c.candidate-in-None.result in
     subst (λ (v : IndexValue). AreKept keys v.held → IsCandidate keys k v.held o) c.self.view_is
     (λ all.
-    candidate_same keys k c.args.hash more (first ++ more) o
-    (found_waiting keys k first more (c.in-None.ensures keys k of (kept_left keys first more all)))
-    (c.candidate-in-None.ensures keys k of (kept_right keys first more all)))
+    candidate_same keys k c.args.hash more (front ++ more) o
+    (found_waiting keys k front more (c.in-None.ensures keys k of (kept_left keys front more all)))
+    (c.candidate-in-None.ensures keys k of (kept_right keys front more all)))

@@ -10,18 +10,18 @@ pub returns-in-Some : goal.returns-in-Some
 returns-in-Some g c =
     let keys = g.R.Resolve.keys c.args.resolver.now in
     let k = shown_key c.args.key.now in
-    let first = c.self.inside.first in
+    let front = c.self.inside.front in
     let more = c.self.inside.more.held in
     subst (λ (v : IndexValue). AreKept keys v.held → Some c.in-Some.place ≡ found keys k v.held) c.self.view_is
-    (λ all. sym (found_table keys k first more c.in-Some.place (sym (c.in-Some.ensures (kept_left keys first more all)))))
+    (λ all. sym (found_table keys k front more c.in-Some.place (sym (c.in-Some.ensures (kept_left keys front more all)))))
 
 pub returns-in-None : goal.returns-in-None
 returns-in-None g c =
     let keys = g.R.Resolve.keys c.args.resolver.now in
     let k = shown_key c.args.key.now in
-    let first = c.self.inside.first in
+    let front = c.self.inside.front in
     let more = c.self.inside.more.held in
     subst (λ (v : IndexValue). AreKept keys v.held → c.get_hashed.result ≡ found keys k v.held) c.self.view_is
     (λ all.
-    c.get_hashed.ensures (kept_right keys first more all)
-    ∙ sym (found_waiting keys k first more (sym (c.in-None.ensures (kept_left keys first more all)))))
+    c.get_hashed.ensures (kept_right keys front more all)
+    ∙ sym (found_waiting keys k front more (sym (c.in-None.ensures (kept_left keys front more all)))))

@@ -8,39 +8,39 @@ use Rattle.hash_index.proofs.chain.Chain.push.Goals as goal
 pub returns-then-fill-clause-ok : goal.returns-then-fill-clause-ok
 returns-then-fill-clause-ok c =
     let h = c.args.held in
-    let first = c.self.inside.first in
+    let front = c.self.inside.front in
     let more = c.self.inside.more.held in
     let new = c.fill.new.self in
     subst (λ (v : IndexValue). IsShuffled (v.held ++ h ∷ []) (new ++ more)) c.self.view_is
-    (filled_shuffled h first more new (c.if-fill.ensures.empty refl) (c.if-fill.ensures.filled refl))
+    (filled_shuffled h front more new (c.if-fill.ensures.filled refl))
 
 pub returns-then-fill-clause-hashes : goal.returns-then-fill-clause-hashes
 returns-then-fill-clause-hashes c =
     let h = c.args.held in
-    let first = c.self.inside.first in
+    let front = c.self.inside.front in
     let more = c.self.inside.more.held in
     let new = c.fill.new.self in
     subst (λ (v : IndexValue). BringsNoHash (v.held ++ h ∷ []) (new ++ more)) c.self.view_is
-    (filled_brings h first more new (c.if-fill.ensures.empty refl) (c.if-fill.ensures.filled refl))
+    (filled_brings h front more new (c.if-fill.ensures.hashes refl))
 
 pub returns-clause-ok : goal.returns-clause-ok
 returns-clause-ok c =
     let h = c.args.held in
-    let first = c.self.inside.first in
+    let front = c.self.inside.front in
     let more = c.self.inside.more.held in
     let new = c.fill.new.self in
     let others = c.push_exact.new.self.held in
     let r = c.push_exact.result in
     subst (λ (v : IndexValue). OnOk r (IsShuffled (v.held ++ h ∷ []) (new ++ others))) c.self.view_is
-    (pushed_shuffled h first more new others r (c.if-fill.ensures.same refl) c.push_exact.ensures.ok)
+    (pushed_shuffled h front more new others r (c.if-fill.ensures.same refl) c.push_exact.ensures.ok)
 
 pub returns-clause-hashes : goal.returns-clause-hashes
 returns-clause-hashes c =
     let h = c.args.held in
-    let first = c.self.inside.first in
+    let front = c.self.inside.front in
     let more = c.self.inside.more.held in
     let new = c.fill.new.self in
     let others = c.push_exact.new.self.held in
     let r = c.push_exact.result in
     subst (λ (v : IndexValue). OnOk r (BringsNoHash (v.held ++ h ∷ []) (new ++ others))) c.self.view_is
-    (pushed_brings h first more new others r (c.if-fill.ensures.same refl) c.push_exact.ensures.ok)
+    (pushed_brings h front more new others r (c.if-fill.ensures.same refl) c.push_exact.ensures.ok)

@@ -8,20 +8,20 @@ pub returns-then-relocate-clause-moved : goal.returns-then-relocate-clause-moved
 returns-then-relocate-clause-moved c =
     let h = c.args.held in
     let to = c.args.to in
-    let first = c.self.inside.first in
+    let front = c.self.inside.front in
     let more = c.self.inside.more.held in
     let new = c.relocate.new.self in
     subst (λ (v : IndexValue). new ++ more ≡ relocated h to v.held) c.self.view_is
-    (relocated_in_first h to first more new (sym c.relocate.ensures.had ∙ c.if-relocate.true) c.relocate.ensures.moved)
+    (relocated_in_first h to front more new (sym c.relocate.ensures.had ∙ c.if-relocate.true) c.relocate.ensures.moved)
 
 pub returns-else-relocate-clause-moved : goal.returns-else-relocate-clause-moved
 returns-else-relocate-clause-moved c =
     let h = c.args.held in
     let to = c.args.to in
-    let first = c.self.inside.first in
+    let front = c.self.inside.front in
     let more = c.self.inside.more.held in
     let new = c.relocate.new.self in
     let others = c.relocate-else-relocate.new.self.held in
     let isnt = sym c.relocate.ensures.had ∙ c.if-relocate.false in
     subst (λ (v : IndexValue). new ++ others ≡ relocated h to v.held) c.self.view_is
-    (relocated_in_other h to first more new others isnt c.relocate.ensures.moved c.relocate-else-relocate.ensures.moved)
+    (relocated_in_other h to front more new others isnt c.relocate.ensures.moved c.relocate-else-relocate.ensures.moved)

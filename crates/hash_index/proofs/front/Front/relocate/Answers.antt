@@ -1,0 +1,27 @@
+use Rattle.std.proofs.Common.{List, ◌≡◌, ◌++◌, sym, subst, ◌∙◌}
+use Rattle.hash_index.specs.Relocation.{relocated}
+use Rattle.hash_index.specs.declared.place.Held.{Held}
+use Rattle.hash_index.proofs.Parts.{relocated_in_first, relocated_in_other}
+use Rattle.hash_index.proofs.front.Front.relocate.Goals as goal
+
+pub returns-then-relocate-clause-moved : goal.returns-then-relocate-clause-moved
+returns-then-relocate-clause-moved c =
+    let h = c.args.held in
+    let to = c.args.to in
+    let first = c.self.inside.first in
+    let more = c.self.inside.second in
+    let new = c.relocate.new.self in
+    subst (λ (v : List Held). new ++ more ≡ relocated h to v) c.self.view_is
+    (relocated_in_first h to first more new (sym c.relocate.ensures.had ∙ c.if-relocate.true) c.relocate.ensures.moved)
+
+pub returns-else-relocate-clause-moved : goal.returns-else-relocate-clause-moved
+returns-else-relocate-clause-moved c =
+    let h = c.args.held in
+    let to = c.args.to in
+    let first = c.self.inside.first in
+    let more = c.self.inside.second in
+    let new = c.relocate.new.self in
+    let others = c.relocate-else-relocate.new.self in
+    let isnt = sym c.relocate.ensures.had ∙ c.if-relocate.false in
+    subst (λ (v : List Held). new ++ others ≡ relocated h to v) c.self.view_is
+    (relocated_in_other h to first more new others isnt c.relocate.ensures.moved c.relocate-else-relocate.ensures.moved)
