@@ -1,6 +1,6 @@
 //! A segment's entries, sent to the partitions of a will.
 
-ghost use Rattle.std.specs.Prelude.{◌≡◌, map, Err, IfOk, IfErr, OnOk};
+ghost use Rattle.std.specs.Prelude.{◌≡◌, ◌<◌, map, Err, IfOk, IfErr, OnOk, vec_len, vec_capacity};
 ghost use Rattle.std.specs.List.{range_with_len};
 ghost use Rattle.entry.specs.View.{shown, shown_key};
 ghost use Rattle.tablet_will.specs.Parts.{partitions_of};
@@ -62,6 +62,18 @@ fn empty_groups<'a>(
     Ok(empty)
 }
 
+/// Takes memory for one more entry if there is none: for as many as there are. The first gets memory for itself alone,
+/// since with many partitions most groups of a segment have an entry or two.
+fn make_room(entries: &mut Vec<EntryRef<'_>>) -> Result<(), NoMemory>
+    ensures items { entries.new.items ≡ entries.old.items }
+    ensures room { OnOk result (vec_len entries.new < vec_capacity entries.new) }
+{
+    if entries.len() < entries.capacity() {
+        return Ok(());
+    }
+    entries.reserve_exact(entries.len().max(1))
+}
+
 /// The segment's groups: for each partition of the will, in order, the objects and tombstones whose keys are in it. A
 /// group may be empty. The entries stay in the segment's bytes. A key that is in no partition is named by Stray.
 pub fn divide<'a>(
@@ -78,7 +90,7 @@ pub fn divide<'a>(
     for entry in segment.entries() {
         if let Some(partition) = sought(alloc, &entry, will)? {
             let group = &mut groups[partition as usize];
-            group.entries.reserve(1)?;
+            make_room(&mut group.entries)?;
             group.entries.push_reserved(entry);
         }
     }

@@ -68,7 +68,7 @@ loop-entry-preserved-in-Some-2 c =
     c.index_mut-group.ensures.value
     (grouped_more old new c.in-Some.entry refl refl
     (c.push_reserved.ensures.items ∙ ap (λ (xs : List EntryRef). xs ++ c.in-Some.entry ∷ [])
-    c.in_ok-reserve.ensures.items)))
+    c.in_ok-make_room.ensures.items)))
     c.in_ok-partition.ensures.1
 
 pub loop-entry-preserved : goal.loop-entry-preserved
