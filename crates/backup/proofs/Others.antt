@@ -1,16 +1,15 @@
 -- The replicas of other masters among those that backups show.
-use Rattle.std.proofs.Common.{◌≡◌, ℕ, suc, ◌+◌, ◌<◌, inl, inr, List, [], ◌∷◌, ◌++◌, map, length, drop, get_or, Bool, true, false, cond}
-use Rattle.std.proofs.Common.{refl, sym, ap, subst, ◌∙◌, ◌↔◌, arith}
+use Rattle.std.proofs.Common.{◌≡◌, ℕ, inl, inr, List, [], ◌∷◌, ◌++◌, map, true}
+use Rattle.std.proofs.Common.{refl, sym, ap, subst, ◌∙◌}
 use Rattle.std.specs.Prelude.{filter, not, ◌==◌, Option, Some, None, IsSome}
 use Rattle.std.specs.List.{AllByRecursion}
 use Rattle.std.specs.List.Sorted.{IsStrictlySortedBy}
 use Rattle.std.specs.declared.cmp.Ordering.TheVariants.{Less}
-use Rattle.std.proofs.lemmas.Bool.{cases_eq, ne_eqb, eqb-true}
+use Rattle.std.proofs.lemmas.Bool.{cases_eq, ne_eqb}
 use Rattle.std.proofs.lemmas.Bool.Decides.{Decides-eqb}
-use Rattle.std.proofs.lemmas.List.{append_assoc}
 use Rattle.std.proofs.lemmas.List.Elements.{filter-append}
 use Rattle.entry.specs.Bag.{IsAmong}
-use Rattle.replica.specs.Picture.{Replica, Picture, AreHeld, IsHeld}
+use Rattle.replica.specs.Picture.{Replica, Picture, AreHeld}
 use Rattle.replica.specs.Retire.{AreOthers, HoldsOther, spot_cmp}
 use Rattle.replica.specs.declared.holding.Holding.{Holding}
 use Rattle.replica.specs.declared.spot.Spot.{Spot}

@@ -1,6 +1,5 @@
 use Rattle.std.proofs.Common.{ℕ, List, length, get_or, ap, arith}
 use Rattle.std.proofs.lemmas.List.{drop_more}
-use Rattle.hash_index.specs.declared.place.Held.{Held}
 use Rattle.cleaner.specs.Passes.{images_in}
 use Rattle.cleaner.proofs.Images.{image_is}
 use Rattle.cleaner.proofs.Bounding.{bounded_start, bounded_next, bounded_end}
