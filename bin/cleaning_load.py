@@ -11,9 +11,9 @@ from dataclasses import dataclass, field
 
 KEY, VALUE = 9, 100
 OBJECT, TOMBSTONE = 23 + KEY + VALUE, 27 + KEY
-# A pass is begun after a roll while fewer segments than this are free.
-SPARE = 6
 MOST_VICTIMS = 8
+# So many segments are free if a put's roll may begin however full the head is: three, and one for the head that it closes.
+LEAST_SPARE = 4
 
 
 @dataclass(eq=False)
@@ -116,8 +116,9 @@ class Log:
         self.used += self.count(survivor.length)
         self.roll(None)
 
-    def is_short(self):
-        return self.seglets - self.used < SPARE * self.whole
+    def is_short(self, spare):
+        """Whether fewer segments than this are free."""
+        return self.seglets - self.used < spare * self.whole
 
 
 def fill(log, keys):
@@ -125,9 +126,12 @@ def fill(log, keys):
     return [f"put 1 key{key:06} {key:0{VALUE}}\n" for key in range(keys) if log.put(key) is not None]
 
 
-def overwrites(log, keys, puts, by_share=False, dice=None):
-    """Puts of keys at random with passes after rolls; how many puts were made before the log was full."""
-    dice = dice or random.Random(1)
+def overwrites(log, keys, puts, by_share=True, spare=LEAST_SPARE):
+    """Puts of keys at random, with passes after rolls while fewer segments than `spare` are free.
+
+    It also says how many puts were made before the log was full.
+    """
+    dice = random.Random(1)
     lines, made = [], 0
     for _ in range(puts):
         key = dice.randrange(keys)
@@ -137,7 +141,7 @@ def overwrites(log, keys, puts, by_share=False, dice=None):
             break
         lines.append(f"put 1 key{key:06} {made:0{VALUE}}\n")
         made += 1
-        while rolled and log.is_short():
+        while rolled and log.is_short(spare):
             victims, before = log.choose(by_share), log.used
             if not victims or log.seglets - log.used < 2 * log.whole:
                 break
