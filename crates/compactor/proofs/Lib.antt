@@ -6,4 +6,5 @@ pub mod Walking
 pub mod Ids
 pub mod FollowPlaces
 pub mod FollowLaw
+pub mod Asking
 pub mod Counting

@@ -4,3 +4,4 @@ pub mod Log
 pub mod Moved
 pub mod Piece
 pub mod Laws
+pub mod Asked

@@ -1,16 +1,48 @@
 //! Which entries are kept.
 
-ghost use Rattle.std.specs.Prelude.{◌≡◌, ◌≤◌, ◌&&◌, length, filter};
+ghost use Rattle.std.specs.Prelude.{◌≡◌, ◌+◌, ◌≤◌, ◌&&◌, length, filter, if◌then◌else◌};
 ghost use Rattle.entry.specs.Text.{text_of, is_data, IsSegment};
 ghost use Rattle.entry.specs.View.{shown};
+ghost use Rattle.hash_index.specs.Relocation.{holds};
+ghost use Rattle.compactor.specs.Asked.{asked_of, asked_bytes, held_bytes};
 ghost use Rattle.compactor.specs.Kept.{kept, kept_of};
 ghost use Rattle.compactor.specs.Log.{ids_of_log};
 ghost use Rattle.compactor.specs.Moved.{moved_one};
 
 use crate::log_set::LogSet;
+use arrayvec::ArrayVec;
 use entry::EntryRef;
 use hash_index::{Held, Index, Place, hash_key};
 use segment::Segment;
+
+/// How many objects are looked up side by side.
+const SIDE_BY_SIDE: usize = 8;
+
+/// An object of a segment whose place waits for the index.
+#[derive(Clone, Copy, Default)]
+struct Asked {
+    /// The hash of its key.
+    hash: u64,
+    /// Its offset in the segment.
+    at: usize,
+    /// Its bytes.
+    len: usize,
+}
+
+impl Asked {
+    /// What the index is asked for.
+    fn held(self, id: u64) -> Held
+        ensures { result ≡ asked_of id self }
+    {
+        Held {
+            hash: self.hash,
+            place: Place {
+                segment: id,
+                at: self.at,
+            },
+        }
+    }
+}
 
 /// Whether the entry at this place is kept.
 pub fn kept(entry: &EntryRef<'_>, place: Place, index: &Index, log: &LogSet<'_>) -> bool
@@ -26,15 +58,66 @@ pub fn kept(entry: &EntryRef<'_>, place: Place, index: &Index, log: &LogSet<'_>)
     }
 }
 
-/// Whether the entry at this place is an object or a tombstone that is kept.
-fn is_kept_data(entry: &EntryRef<'_>, place: Place, index: &Index, log: &LogSet<'_>) -> bool
-    ensures { result ≡ (is_data (shown entry.now)
-        && kept (ids_of_log log.now) index.now.held place (shown entry.now)) }
+/// How many bytes those of the objects of a segment have that the index holds. It asks for the first place of each chain on
+/// the way down, where no question waits for an answer, and for the rest of a chain on the way up.
+fn held_bytes(asked: &[Asked], id: u64, index: &Index) -> usize
+    requires { asked_bytes asked.now ≤ 8388608 }
+    ensures sum { result ≡ held_bytes index.now.held id asked.now }
+    ensures limit { result ≤ asked_bytes asked.now }
+{
+    let Some((one, others)) = asked.split_first() else {
+        return 0;
+    };
+    let held = one.held(id);
+    let is_first = index.holds_first(held);
+    let len = held_bytes(others, id, index);
+    if is_first || index.holds(held) {
+        len + one.len
+    } else {
+        len
+    }
+}
+
+/// One more object of a segment waits for the index. How many bytes the kept ones had of those that made room for it.
+fn ask(one: Asked, asked: &mut ArrayVec<Asked, SIDE_BY_SIDE>, id: u64, index: &Index) -> usize
+    requires { asked_bytes asked.old.items ≤ 8388608 }
+    ensures sum { result + held_bytes index.now.held id asked.new.items
+        ≡ held_bytes index.now.held id asked.old.items
+        + (if holds index.now.held (asked_of id one) then one.len else 0) }
+    ensures limit { result + asked_bytes asked.new.items ≤ asked_bytes asked.old.items + one.len }
+{
+    let mut len = 0;
+    if asked.is_full() {
+        len = held_bytes(asked.as_slice(), id, index);
+        asked.clear();
+    }
+    asked.push(one);
+    len
+}
+
+/// One more entry of a segment is counted, or waits for the index if it is an object. How many bytes were counted.
+fn count(
+    entry: &EntryRef<'_>,
+    place: Place,
+    len: usize,
+    asked: &mut ArrayVec<Asked, SIDE_BY_SIDE>,
+    index: &Index,
+    log: &LogSet<'_>,
+) -> usize
+    requires { asked_bytes asked.old.items + len ≤ 8388608 }
+    ensures sum { result + held_bytes index.now.held place.segment asked.new.items
+        ≡ held_bytes index.now.held place.segment asked.old.items
+        + (if is_data (shown entry.now) && kept (ids_of_log log.now) index.now.held place (shown entry.now) then len else 0) }
+    ensures limit { result + asked_bytes asked.new.items ≤ asked_bytes asked.old.items + len }
 {
     match entry {
-        EntryRef::Object(_) => kept(entry, place, index, log),
-        EntryRef::Tombstone(_) => kept(entry, place, index, log),
-        _ => false,
+        EntryRef::Object(object) => {
+            let hash = hash_key(&object.key);
+            let at = place.at;
+            ask(Asked { hash, at, len }, asked, place.segment, index)
+        }
+        EntryRef::Tombstone(tombstone) => { if log.has(tombstone.segment) { len } else { 0 } }
+        _ => 0,
     }
 }
 
@@ -46,6 +129,7 @@ pub fn kept_bytes(id: u64, segment: &Segment, index: &Index, log: &LogSet<'_>) -
     ensures limit { result ≤ 8388608 }
 {
     let text = segment.bytes();
+    let mut asked = ArrayVec::new();
     let mut len = 0;
     let mut at = 0;
     while at < text.len() {
@@ -53,12 +137,10 @@ pub fn kept_bytes(id: u64, segment: &Segment, index: &Index, log: &LogSet<'_>) -
             unreachable!()
         };
         let place = Place { segment: id, at };
-        if is_kept_data(&entry, place, index, log) {
-            len += taken;
-        }
+        len += count(&entry, place, taken, &mut asked, index, log);
         at += taken;
     }
-    len
+    len + held_bytes(asked.as_slice(), id, index)
 }
 
 /// Whether the entry at this place is kept. If it is an object, the index has it at the new place from then on.

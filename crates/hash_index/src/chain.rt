@@ -1,6 +1,6 @@
 //! A chain of places.
 
-ghost use Rattle.std.specs.Prelude.{◌≡◌, ◌∷◌, ◌++◌, [], Option, OnOk, OnErr};
+ghost use Rattle.std.specs.Prelude.{◌≡◌, ◌∷◌, ◌++◌, [], Option, true, OnOk, OnErr};
 ghost use Rattle.entry.specs.declared.key.Key.{Key};
 ghost use Rattle.entry.specs.View.{shown_key};
 ghost use Rattle.hash_index.specs.declared.place.Place.{Place as PlaceValue};
@@ -121,6 +121,14 @@ impl Chain {
         ensures { result ≡ holds self.now.held held }
     {
         self.front.holds(held) || self.more.holds(held)
+    }
+
+    /// Whether its first place is this one under this hash.
+    #[inline]
+    pub(crate) fn holds_first(&self, held: Held) -> bool
+        ensures { result ≡ true → holds self.now.held held ≡ true }
+    {
+        self.front.holds_first(held)
     }
 
     /// A place that it holds under this hash becomes another place. Whether it was there.

@@ -117,6 +117,14 @@ impl Front {
         self.first.holds(held) || self.second.holds(held)
     }
 
+    /// Whether its first place is this one under this hash.
+    #[inline]
+    pub(crate) fn holds_first(&self, held: Held) -> bool
+        ensures { result ≡ true → holds self.now held ≡ true }
+    {
+        self.first.holds(held)
+    }
+
     /// A place that it holds under this hash becomes another place. Whether it was there.
     #[inline]
     pub(crate) fn relocate(&mut self, held: Held, to: Place) -> bool

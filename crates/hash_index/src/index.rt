@@ -1,6 +1,6 @@
 //! The index.
 
-ghost use Rattle.std.specs.Prelude.{◌≡◌, ◌+◌, ◌<◌, ◌≤◌, [], ℕ, Option, Some, None, is_some, length, OnOk, OnErr, if◌then◌else◌};
+ghost use Rattle.std.specs.Prelude.{◌≡◌, ◌+◌, ◌<◌, ◌≤◌, [], ℕ, Option, Some, None, is_some, true, length, OnOk, OnErr, if◌then◌else◌};
 ghost use Rattle.entry.specs.declared.key.Key.{Key};
 ghost use Rattle.entry.specs.View.{shown_key};
 ghost use Rattle.hash_index.specs.declared.place.Place.{Place as PlaceValue};
@@ -186,6 +186,15 @@ impl Index {
         ensures { result ≡ holds self.now.held held }
     {
         self.table.holds(held) || self.waiting.holds(held)
+    }
+
+    /// Whether the first place of the hash's chain is this one under this hash. If not, `holds` tells. Of several such
+    /// questions, one after another, none waits for the memory that another one reads.
+    #[inline]
+    pub fn holds_first(&self, held: Held) -> bool
+        ensures { result ≡ true → holds self.now.held held ≡ true }
+    {
+        self.table.holds_first(held)
     }
 
     /// A place that it holds under this hash becomes another place, in the same chain. Whether it was there. It takes

@@ -1,6 +1,6 @@
 //! The table: chains of places, by their hash.
 
-ghost use Rattle.std.specs.Prelude.{◌≡◌, ◌+◌, ◌<◌, ◌≤◌, ◌∷◌, ◌++◌, [], Option, Some, None, length, IfOk, OnOk, OnErr};
+ghost use Rattle.std.specs.Prelude.{◌≡◌, ◌+◌, ◌<◌, ◌≤◌, ◌∷◌, ◌++◌, [], Option, Some, None, true, length, IfOk, OnOk, OnErr};
 ghost use Rattle.entry.specs.declared.key.Key.{Key};
 ghost use Rattle.entry.specs.View.{shown_key};
 ghost use Rattle.hash_index.specs.Map.{found, hash_of, AreKept, IsCandidate};
@@ -149,6 +149,19 @@ impl Table {
         let at = chain_at(self.chains.len(), held.hash);
         let chain = &self.chains[at];
         chain.holds(held)
+    }
+
+    /// Whether the first place of the hash's chain is this one under this hash.
+    #[inline]
+    pub(crate) fn holds_first(&self, held: Held) -> bool
+        ensures { result ≡ true → holds self.now held ≡ true }
+    {
+        if self.chains.is_empty() {
+            return false;
+        }
+        let at = chain_at(self.chains.len(), held.hash);
+        let chain = &self.chains[at];
+        chain.holds_first(held)
     }
 
     /// A place that it holds under this hash becomes another place, in the same chain. Whether it was there.

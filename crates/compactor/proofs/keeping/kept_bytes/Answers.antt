@@ -1,18 +1,25 @@
-use Rattle.std.proofs.Common.{◌≤◌, ◌+◌, ◌++◌, ◌∷◌, [], length, sym, ap, add-zero, arith}
+use Rattle.std.proofs.Common.{◌≡◌, ◌+◌, ◌++◌, ◌∷◌, ◌&&◌, [], length, cond, sym, ap, subst, refl, arith}
+use Rattle.entry.specs.Text.{is_data}
 use Rattle.entry.specs.View.{shown}
+use Rattle.compactor.specs.Asked.{asked_bytes, held_bytes}
+use Rattle.compactor.specs.Kept.{kept}
 use Rattle.compactor.specs.Log.{ids_of_log}
 use Rattle.compactor.proofs.Cutting.{cut_length}
 use Rattle.compactor.proofs.Counting.{IsCounted, IsCounted-start, IsCounted-next, IsCounted-end}
 use Rattle.compactor.proofs.Walking.{here_of, not_unread, cut_behind}
-use Rattle.compactor.proofs.keeping.kept_bytes.Goals.{then-is_kept_data, else-is_kept_data}
 use Rattle.compactor.proofs.keeping.kept_bytes.Goals as goal
 
 pub loop-at-init : goal.loop-at-init
-loop-at-init c = record {
-  counted = IsCounted-start (ids_of_log c.args.log.now) c.args.index.now.held c.args.id c.args.segment.now;
-  low = omega arith;
-  within = omega arith;
-}
+loop-at-init c =
+    let ids = ids_of_log c.args.log.now in
+    let held = c.args.index.now.held in
+    let id = c.args.id in
+    record {
+      counted = subst (λ xs. IsCounted ids held id c.args.segment.now 0 (0 + held_bytes held id xs)) (sym c.new-asked.ensures)
+          (IsCounted-start ids held id c.args.segment.now);
+      low = omega (arith, ap asked_bytes c.new-asked.ensures);
+      within = omega arith;
+    }
 
 pub unreachable-requires : goal.unreachable-requires
 unreachable-requires c =
@@ -25,7 +32,6 @@ loop-at-preserved c =
     let i = c.loop-at.invariant in
     let s = i.counted in
     let at = c.loop-at.at in
-    let len = c.loop-at.len in
     let n = c.in-Ok.taken in
     let e = shown c.in-Ok.entry in
     let ids = ids_of_log c.args.log.now in
@@ -36,41 +42,29 @@ loop-at-preserved c =
     let here =
     here_of es text c.bytes-text.ensures.text c.bytes-text.ensures.valid.each s.before s.rest at s.cut
     c.loop-at-test.true e n c.in-Ok.ensures.complete in
-    let below : at + n ≤ length text =
-    omega (
-      arith,
-      cut_length es (s.before ++ e ∷ []) here.later (at + n)
-          (cut_behind ids held id es s.before here.later e at n here.cut here.size),
-      ap length c.bytes-text.ensures.text,
-    ) in
-    let next =
-    IsCounted-next ids held id es at len s e n here c.is_kept_data.result (sym c.is_kept_data.ensures) in
-    elim c.if-is_kept_data.branch as (λ _. record {
-      counted : IsCounted ids held id es (at + n) c.if-is_kept_data.len;
-      low : c.if-is_kept_data.len ≤ at + n;
-      within : at + n ≤ length text;
-    }) [
-      | then-is_kept_data w ↦ rw w.len-is (record {
-        counted = rw w.if-is_kept_data.true at next;
-        low = omega (arith, i.low);
-        within = below;
-      })
-      | else-is_kept_data w ↦ rw w.len-is (record {
-        counted = rw (w.if-is_kept_data.false, add-zero) at next;
-        low = omega (arith, i.low);
-        within = below;
-      })
-    ]
+    let b = is_data e && kept ids held (record { segment = id; at = at }) e in
+    let sum = c.loop-at.len + held_bytes held id c.loop-at.asked.items in
+    let next : IsCounted ids held id es (at + n) (sum + cond b n 0) = IsCounted-next ids held id es at sum s e n here b refl in
+    let same : sum + cond b n 0 ≡ c.loop-at.len + c.count-len.result + held_bytes held id c.count-len.new.asked.items =
+    omega (arith, c.count-len.ensures.sum) in
+    record {
+      counted = subst (λ m. IsCounted ids held id es (at + n) m) same next;
+      low = omega (arith, i.low, c.count-len.ensures.limit);
+      within = omega (
+        arith,
+        cut_length es (s.before ++ e ∷ []) here.later (at + n)
+            (cut_behind ids held id es s.before here.later e at n here.cut here.size),
+        ap length c.bytes-text.ensures.text,
+      );
+    }
 
 pub returns-clause-kept : goal.returns-clause-kept
 returns-clause-kept c =
-    IsCounted-end (ids_of_log c.args.log.now) c.args.index.now.held c.args.id c.args.segment.now c.loop-at.at c.loop-at.len
-    c.loop-at.invariant.counted (rw (← c.bytes-text.ensures.text) (omega (arith, c.loop-at-test.false)))
-
-pub returns-clause-limit : goal.returns-clause-limit
-returns-clause-limit c = omega (
-  arith,
-  c.loop-at.invariant.low,
-  c.loop-at.invariant.within,
-  c.bytes-text.ensures.limit,
-)
+    let ids = ids_of_log c.args.log.now in
+    let held = c.args.index.now.held in
+    let id = c.args.id in
+    let s = c.loop-at.invariant.counted in
+    let end =
+    IsCounted-end ids held id c.args.segment.now c.loop-at.at (c.loop-at.len + held_bytes held id c.loop-at.asked.items) s
+    (rw (← c.bytes-text.ensures.text) (omega (arith, c.loop-at-test.false))) in
+    omega (arith, end, c.held_bytes.ensures.sum, ap (held_bytes held id) c.as_slice.ensures.value)

@@ -1,4 +1,5 @@
-use Rattle.std.proofs.Common.{length, ◌-◌, ◌≤◌}
+use Rattle.std.proofs.Common.{length, ◌+◌, ◌-◌, ◌≤◌}
+use Rattle.compactor.specs.Asked.{asked_bytes, held_bytes}
 use Rattle.compactor.specs.Log.{ids_of_log}
 use Rattle.compactor.proofs.Counting.{IsCounted}
 use Rattle.compactor.proofs.keeping.kept_bytes.Given as goal
@@ -6,8 +7,9 @@ use Rattle.compactor.proofs.keeping.kept_bytes.Given as goal
 abbrev pub invariant-loop-at : goal.invariant-loop-at
 invariant-loop-at l =
     record {
-      counted : IsCounted (ids_of_log l.log) l.index.held l.id l.segment l.at l.len;
-      low : l.len ≤ l.at;
+      counted : IsCounted (ids_of_log l.log) l.index.held l.id l.segment l.at
+          (l.len + held_bytes l.index.held l.id l.asked.items);
+      low : l.len + asked_bytes l.asked.items ≤ l.at;
       within : l.at ≤ length l.text;
     }
 

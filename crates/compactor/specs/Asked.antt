@@ -1,0 +1,19 @@
+-- Objects of a segment whose places an index is asked for.
+use Rattle.std.specs.Prelude.{ℕ, ◌+◌, List, [], ◌∷◌, if◌then◌else◌}
+use Rattle.hash_index.specs.declared.place.Held.{Held}
+use Rattle.hash_index.specs.Relocation.{holds}
+use Rattle.compactor.specs.declared.keeping.Asked.{Asked}
+
+-- what the index is asked for
+abbrev pub asked_of : ℕ → Asked → Held
+asked_of id a = record { hash = a.hash; place = record { segment = id; at = a.at } }
+
+-- the bytes of these objects
+abbrev pub asked_bytes : List Asked → ℕ
+asked_bytes [] = 0
+asked_bytes (a ∷ others) = a.len + asked_bytes others
+
+-- the bytes of those that the index holds
+abbrev pub held_bytes : List Held → ℕ → List Asked → ℕ
+held_bytes held id [] = 0
+held_bytes held id (a ∷ others) = (if holds held (asked_of id a) then a.len else 0) + held_bytes held id others
