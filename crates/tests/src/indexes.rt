@@ -86,7 +86,7 @@ fn set(
 
 /// Whether both tell alike that they hold the place.
 fn holds(index: &Index, plain: &PlainIndex, held: Held) -> bool {
-    index.holds(held) == plain.holds(held)
+    index.holds(held) == plain.holds(held) && (plain.holds(held) || !index.holds_first(held))
 }
 
 /// Asks both for the place of a key and for another one, and moves the key's place in both.
@@ -162,6 +162,7 @@ fn each_call(alloc: Global, keys: &Keys, key: &KeyRef<'_>) -> Option<String> {
         place: Place { segment: 2, at: 9 },
     };
     let holds = index.holds(held);
+    let leads = index.holds_first(held);
     let relocated = index.relocate(held, Place { segment: 3, at: 5 });
     let still = index.holds(held);
     let len = index.len();
@@ -169,7 +170,7 @@ fn each_call(alloc: Global, keys: &Keys, key: &KeyRef<'_>) -> Option<String> {
     let absent = index.get(keys, key).is_none();
     let (segment, at) = (gone.segment, gone.at);
     format!(in alloc;
-        "{} {} {moved} {holds} {relocated} {still} {len} {segment} {at} {absent}",
+        "{} {} {moved} {holds} {leads} {relocated} {still} {len} {segment} {at} {absent}",
         first.segment, first.at
     )
     .ok()
@@ -188,6 +189,6 @@ fn each_call_of_an_index(rt: HostRuntime) -> Result<(), Fail> {
     let place = Place { segment: 1, at: 0 };
     let key = keys.key_at(place).ok_or("no key")?;
     let text = each_call(rt.alloc(), &keys, &key).ok_or("failed")?;
-    assert_eq!(rt; text.as_str(), "1 7 true true true false 1 3 5 true");
+    assert_eq!(rt; text.as_str(), "1 7 true true true true false 1 3 5 true");
     Ok(())
 }
