@@ -108,7 +108,7 @@ module _ (images : ℕ → List Entry) (victims : List ℕ) (from : Cursor) wher
         subst (λ (xs : List Entry). IsBetween xs now.at) (sym is)
         (subst (λ (ds : List ℕ). IsCursorBetween images ds now.at) split g.between)
 
-    pub going_found : (at : ℕ) → FindsData es now.at (Some at) → GoesOn images victims from (record { victim = now.victim; at = at })
+    pub going_found : (at : ℕ) → FindsData es now.at (Some at) → GoesOn images victims from (record now { at = at })
     going_found at finds = record {
       within = g.within;
       rest =
@@ -124,7 +124,7 @@ module _ (images : ℕ → List Entry) (victims : List ℕ) (from : Cursor) wher
     }
 
     pub going_next : FindsData es now.at None → now.victim < length victims → ids ≡ drop (now.victim + 1) victims
-        → IsGoing (record { victim = now.victim + 1; at = 0 })
+        → IsGoing (record now { victim = now.victim + 1; at = 0 })
     going_next finds lt later = record {
       within = omega (arith, lt);
       between = starts images (drop (now.victim + 1) victims);
@@ -152,7 +152,7 @@ module _ (images : ℕ → List Entry) (victims : List ℕ) (from : Cursor) (lt 
       at_next (s ∷ ids) is = is
 
   abbrev Next : Cursor
-  Next = record { victim = from.victim + 1; at = 0 }
+  Next = record from { victim = from.victim + 1; at = 0 }
 
   pub behind_last : EndsOn images (drop from.victim victims) from.at true → (to : Cursor) → GoesOn images victims Next to
       → GoesOn images victims from to

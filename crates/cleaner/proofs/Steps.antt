@@ -13,6 +13,7 @@ use Rattle.images.specs.declared.image.Image.{Image}
 use Rattle.images.specs.Sorted.{IsWhole, segment_of}
 use Rattle.images.specs.Steps.{len_at}
 use Rattle.compactor.specs.Kept.{kept}
+use Rattle.cleaner.specs.declared.ahead.Ahead.{Ahead}
 use Rattle.cleaner.specs.declared.pass.Cursor.{Cursor}
 use Rattle.cleaner.specs.declared.pass.Pass.{Pass}
 use Rattle.cleaner.specs.declared.pass.Copied.{Copied}
@@ -110,8 +111,9 @@ module _ (p : Pass) (images : List Image) (pass : IsPass images p) (more : is_at
         ∙ ap (λ (xs : List ℕ). places_on (images_in images) xs (p.cursor.at + x.len)) split
         ∙ ap Behind t.seen.size
 
-    module _ (cursor : Cursor)
-        (goes : GoesOn (images_in after) p.victims (record { victim = p.cursor.victim; at = p.cursor.at + x.len }) cursor) where
+    module _ (cursor : Cursor) (ahead : Ahead)
+        (goes : GoesOn (images_in after) p.victims
+        (record { victim = p.cursor.victim; at = p.cursor.at + x.len; ahead = ahead }) cursor) where
       pub copies : CopiesOne ids p images held copied (record p { cursor = cursor }) after later
       copies = record {
         place = Here;

@@ -4,6 +4,7 @@
 //! step does to the images and the index. Why a pass is refused is `PassFault`.
 #![tactic(auto)]
 
+mod ahead;
 mod fault;
 mod fitting;
 mod laws;
@@ -11,6 +12,7 @@ mod pass;
 mod treating;
 mod walking;
 
+pub use ahead::Ahead;
 pub use fault::PassFault;
 pub use fitting::fit;
 pub use laws::{rest_fits, rests_agree};

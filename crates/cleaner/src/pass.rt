@@ -4,6 +4,7 @@ ghost use Rattle.std.specs.Prelude.{◌≡◌, ◌+◌, ◌<◌, ◌≤◌, fals
 ghost use Rattle.cleaner.specs.Passes.{images_in, ids_in, AreVictims, places_of, rest_of, is_at_end, is_ready};
 ghost use Rattle.cleaner.specs.Passes.{IsCursorAt, IsPass, HasRoom, CopiesOne};
 
+use crate::ahead::{Ahead, look_ahead};
 use crate::treating::treat;
 use crate::walking::{cursor_behind, next_cursor};
 use entry::{NoMemory, Row};
@@ -17,6 +18,8 @@ pub struct Cursor {
     pub victim: usize,
     /// The offset in its image, in bytes.
     pub at: usize,
+    /// How far the pass looked ahead.
+    pub ahead: Ahead,
 }
 
 /// What became of an entry.
@@ -45,6 +48,17 @@ pub struct Pass {
     pub is_committing: bool,
 }
 
+/// Looks ahead, if the cursor is where an earlier look ended.
+fn ahead_of(cursor: Cursor, place: Place, images: &Images, index: &Index) -> Ahead {
+    if cursor.victim == cursor.ahead.victim && cursor.at < cursor.ahead.end {
+        return cursor.ahead;
+    }
+    match images.get(place.segment) {
+        Some(segment) => look_ahead(cursor.victim, segment, place, index),
+        None => cursor.ahead,
+    }
+}
+
 impl Pass {
     /// A pass over some segments, of which nothing is copied yet. It takes no memory.
     pub fn begin(victims: Row<u64>, survivor: u64, images: &Images) -> Pass
@@ -61,7 +75,15 @@ impl Pass {
         ensures cursor { IsCursorAt (images_in images.now.images) (drop result.cursor.victim victims)
             result.cursor.at }
     {
-        let start = Cursor { victim: 0, at: 0 };
+        let start = Cursor {
+            victim: 0,
+            at: 0,
+            ahead: Ahead {
+                victim: 0,
+                end: 0,
+                is_any_first: false,
+            },
+        };
         let cursor = next_cursor(victims.as_slice(), images, start);
         Pass {
             victims,
@@ -121,10 +143,12 @@ impl Pass {
             segment: victims[self.cursor.victim],
             at: self.cursor.at,
         };
+        let ahead = ahead_of(self.cursor, place, images, index);
         let (copied, extent) = treat(place, self.survivor, images, index, head, new)?;
         let behind = Cursor {
             victim: self.cursor.victim,
             at: place.at + extent.len,
+            ahead,
         };
         self.cursor = cursor_behind(victims, images, behind, extent.is_last);
         Ok(copied)

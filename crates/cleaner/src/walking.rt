@@ -52,14 +52,12 @@ pub(crate) fn next_cursor(victims: &[u64], images: &Images, from: Cursor) -> Cur
             unreachable!()
         };
         if let Some(at) = next_data(segment, cursor.at) {
-            return Cursor {
-                victim: cursor.victim,
-                at,
-            };
+            return Cursor { at, ..cursor };
         }
         cursor = Cursor {
             victim: cursor.victim + 1,
             at: 0,
+            ..cursor
         };
     }
     cursor
@@ -77,6 +75,7 @@ pub(crate) fn cursor_behind(victims: &[u64], images: &Images, from: Cursor, is_l
         let next = Cursor {
             victim: from.victim + 1,
             at: 0,
+            ..from
         };
         next_cursor(victims, images, next)
     } else {

@@ -1,10 +1,10 @@
 //! Which entries are kept.
 
-ghost use Rattle.std.specs.Prelude.{◌≡◌, ◌+◌, ◌≤◌, ◌&&◌, length, filter, if◌then◌else◌};
+ghost use Rattle.std.specs.Prelude.{◌≡◌, ◌+◌, ◌≤◌, length, filter, if◌then◌else◌};
 ghost use Rattle.entry.specs.Text.{text_of, is_data, IsSegment};
 ghost use Rattle.entry.specs.View.{shown};
 ghost use Rattle.hash_index.specs.Relocation.{holds};
-ghost use Rattle.compactor.specs.Asked.{asked_of, asked_bytes, held_bytes};
+ghost use Rattle.compactor.specs.Asked.{asked_of, asked_bytes, counted, held_bytes};
 ghost use Rattle.compactor.specs.Kept.{kept, kept_of};
 ghost use Rattle.compactor.specs.Log.{ids_of_log};
 ghost use Rattle.compactor.specs.Moved.{moved_one};
@@ -58,8 +58,8 @@ pub fn kept(entry: &EntryRef<'_>, place: Place, index: &Index, log: &LogSet<'_>)
     }
 }
 
-/// How many bytes those of the objects of a segment have that the index holds. It asks for the first place of each chain on
-/// the way down, where no question waits for an answer, and for the rest of a chain on the way up.
+/// How many bytes those of the objects of a segment have that the index holds. It asks for the first place of each chain
+/// on the way down, where no question waits for an answer, and for the rest of a chain on the way up.
 fn held_bytes(asked: &[Asked], id: u64, index: &Index) -> usize
     requires { asked_bytes asked.now ≤ 8388608 }
     ensures sum { result ≡ held_bytes index.now.held id asked.now }
@@ -107,7 +107,7 @@ fn count(
     requires { asked_bytes asked.old.items + len ≤ 8388608 }
     ensures sum { result + held_bytes index.now.held place.segment asked.new.items
         ≡ held_bytes index.now.held place.segment asked.old.items
-        + (if is_data (shown entry.now) && kept (ids_of_log log.now) index.now.held place (shown entry.now) then len else 0) }
+        + counted (ids_of_log log.now) index.now.held place (shown entry.now) len }
     ensures limit { result + asked_bytes asked.new.items ≤ asked_bytes asked.old.items + len }
 {
     match entry {

@@ -18,7 +18,7 @@ pub(crate) fn is_place_of<R: Resolve>(one: &Held, hash: u64, resolver: &R, key: 
     one.hash == hash && stands(resolver, key, one.place)
 }
 
-/// Whether this is the same place under the same hash. It waits for no part before it compares the next.
+/// Whether this is the same place under the same hash.
 #[inline]
 pub(crate) fn is_same_held(one: &Held, sought: Held) -> bool
     ensures { result ≡ is_same sought one.now }

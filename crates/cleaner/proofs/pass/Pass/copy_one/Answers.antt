@@ -1,4 +1,5 @@
 use Rattle.std.proofs.Common.{ℕ, ◌+◌, List, get_or, subst}
+use Rattle.cleaner.specs.declared.pass.Cursor.{Cursor}
 use Rattle.cleaner.specs.Passes.{images_in, ids_in}
 use Rattle.cleaner.specs.Walks.{GoesOn, Treats}
 use Rattle.cleaner.proofs.Places.{place_at}
@@ -28,15 +29,20 @@ treated c =
     (place_at (get_or vs p.cursor.victim 0) p.cursor.at) p.survivor c.in_ok-copied.copied c.in_ok-copied.extent
     c.treat.new.images.images c.treat.new.index.held) c.as_slice-victims.ensures c.in_ok-copied.ensures.treated
 
+-- the place behind it
+abbrev behind : After-cursor_behind-self → Cursor
+behind c = record {
+  victim = c.args.self.now.cursor.victim;
+  at = c.args.self.now.cursor.at + c.in_ok-copied.extent.len;
+  ahead = c.ahead_of-ahead.result;
+}
+
 -- and the cursor goes on behind it
 gone : (c : After-cursor_behind-self)
     → GoesOn (images_in c.treat.new.images.images) c.args.self.now.victims
-    (record { victim = c.args.self.now.cursor.victim; at = c.args.self.now.cursor.at + c.in_ok-copied.extent.len })
-    c.cursor_behind-self.result
+    (behind c) c.cursor_behind-self.result
 gone c =
-    let cursor = c.args.self.now.cursor in
-    subst (λ (vs : List ℕ). GoesOn (images_in c.treat.new.images.images) vs
-    (record { victim = cursor.victim; at = cursor.at + c.in_ok-copied.extent.len }) c.cursor_behind-self.result)
+    subst (λ (vs : List ℕ). GoesOn (images_in c.treat.new.images.images) vs (behind c) c.cursor_behind-self.result)
     c.as_slice-victims.ensures c.cursor_behind-self.ensures
 
 pub cursor_behind-self-requires-clause-there : goal.cursor_behind-self-requires-clause-there
@@ -60,7 +66,7 @@ returns-clause-copied c =
     let images = c.args.images.now.images in
     copies c.args.self.now images c.requires.pass c.requires.more (ids_in images c.args.head c.args.new)
     c.args.index.now.held c.in_ok-copied.copied c.in_ok-copied.extent c.treat.new.images.images c.treat.new.index.held
-    (treated (goal.at.returns-clause-copied c).In_ok-copied) c.cursor_behind-self.result
+    (treated (goal.at.returns-clause-copied c).In_ok-copied) c.cursor_behind-self.result c.ahead_of-ahead.result
     (gone (goal.at.returns-clause-copied c).After-cursor_behind-self)
 
 pub returns-clause-pass : goal.returns-clause-pass
@@ -68,5 +74,5 @@ returns-clause-pass c =
     let images = c.args.images.now.images in
     stays_pass c.args.self.now images c.requires.pass c.requires.more (ids_in images c.args.head c.args.new)
     c.args.index.now.held c.in_ok-copied.copied c.in_ok-copied.extent c.treat.new.images.images c.treat.new.index.held
-    (treated (goal.at.returns-clause-pass c).In_ok-copied) c.cursor_behind-self.result
+    (treated (goal.at.returns-clause-pass c).In_ok-copied) c.cursor_behind-self.result c.ahead_of-ahead.result
     (gone (goal.at.returns-clause-pass c).After-cursor_behind-self)
