@@ -1,3 +1,4 @@
+pub mod KeyPlaces
 pub mod ClaimOrder
 pub mod ScanLemmas
 pub mod MeaningLemmas

@@ -10,8 +10,8 @@ use Rattle.entry.specs.declared.entry.Object.{Object}
 use Rattle.entry.specs.declared.entry.Entry.{Entry}
 use Rattle.entry.specs.declared.entry.Entry.TheVariants as entry
 use Rattle.entry.specs.Order.{key_cmp, key_eq}
-use Rattle.entry.specs.View.{shown_key}
 use Rattle.replay.specs.declared.claim.Claim.{Claim}
+use Rattle.replay.specs.Placed.{placed_key}
 use Rattle.replay.specs.declared.fault.ReplayFault.{ReplayFault}
 use Rattle.replay.specs.declared.fault.ReplayFault.TheVariants as fault
 
@@ -24,7 +24,7 @@ pub record Claimed : Type 0 where
 
 -- a claim in the program's memory, by its values
 abbrev pub claimed : Claim → Claimed
-claimed c = record { key = shown_key c.key; version = c.version; dead = c.dead; value = c.value.now }
+claimed c = record { key = placed_key c.key; version = c.version; dead = c.dead; value = c.value.now }
 
 -- what an entry claims, if it is an object or a tombstone
 abbrev pub claim_of : Entry → Option Claimed

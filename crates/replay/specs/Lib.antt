@@ -1,3 +1,4 @@
+pub mod Placed
 pub mod Claims
 pub mod Bags
 pub mod Listed

@@ -6,14 +6,15 @@ ghost use Rattle.entry.specs.Format.{IsObject};
 ghost use Rattle.entry.specs.Limits.{IsValue};
 ghost use Rattle.entry.specs.View.{shown};
 
-use entry::{EntryRef, KeyRef, NoMemory, Object, ObjectRef, Version};
+use crate::placed::PlacedKey;
+use entry::{EntryRef, NoMemory, Object, ObjectRef, Version};
 use std::alloc::Global;
 
 /// A key's value as of a version, or its end. Claims are ordered by key, then by version, and of one version the
 /// tombstone's is last.
 #[derive(Clone, Copy, PartialEq, Eq, PartialOrd, Ord)]
 pub struct Claim<'a> {
-    pub key: KeyRef<'a>,
+    pub key: PlacedKey<'a>,
     pub version: Version,
     pub dead: bool,
     /// The value of the object; of a tombstone no bytes.
@@ -30,13 +31,13 @@ impl<'a> Claim<'a> {
     {
         match entry {
             EntryRef::Object(object) => Some(Claim {
-                key: object.key,
+                key: PlacedKey::of(object.key),
                 version: object.version,
                 dead: false,
                 value: object.value,
             }),
             EntryRef::Tombstone(tombstone) => Some(Claim {
-                key: tombstone.key,
+                key: PlacedKey::of(tombstone.key),
                 version: tombstone.version,
                 dead: true,
                 value: &[],
@@ -72,10 +73,9 @@ impl<'a> Claim<'a> {
         ensures object { IfOk result (λ object. object ≡ object_of (claimed self.now)) }
         ensures valid { IsObject (object_of (claimed self.now)) }
     {
-        let _table = self.key.table;
         self.version.get();
         let object = ObjectRef {
-            key: self.key,
+            key: self.key.key(),
             version: self.version,
             value: self.value,
         };

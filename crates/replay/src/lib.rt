@@ -9,6 +9,7 @@ mod claim;
 mod fault;
 mod gathering;
 mod joining;
+mod placed;
 mod plain;
 mod rebuilding;
 mod rebuilt;
