@@ -1,10 +1,12 @@
 //! Questions to the index ahead of the copies.
 
-ghost use Rattle.std.specs.Prelude.{◌≡◌, []};
+ghost use Rattle.std.specs.Prelude.{◌≡◌, ◌≤◌, [], length};
+ghost use Rattle.compactor.specs.Asked.{asked_bytes};
 
 use arrayvec::ArrayVec;
+use compactor::{Asked, held_bytes};
 use entry::EntryRef;
-use hash_index::{Held, Index, Place, hash_key};
+use hash_index::{Index, hash_key};
 use segment::Segment;
 
 /// How many entries a pass looks ahead.
@@ -18,53 +20,44 @@ pub struct Ahead {
     pub victim: usize,
     /// The offset in its image behind the last entry that was looked at, in bytes.
     pub end: usize,
-    /// Whether the index held one of those entries first in its chain. Without an answer that is kept, the compiler leaves
-    /// out the questions.
-    pub is_any_first: bool,
+    /// How many bytes the objects had that the index held. Without an answer that is kept, the compiler leaves out the
+    /// questions.
+    pub held: usize,
 }
 
-/// Puts the objects among the next entries of a segment behind the others. The answer is the offset behind these entries.
-fn gather(text: &[u8], id: u64, from: usize, objects: &mut ArrayVec<Held, LOOK_AHEAD>) -> usize
-    requires { objects.old.items ≡ [] }
+/// Puts the objects among the next entries of a segment into an empty list. The answer is the offset behind these entries.
+fn gather(text: &[u8], from: usize, objects: &mut ArrayVec<Asked, LOOK_AHEAD>) -> usize
+    requires empty { objects.old.items ≡ [] }
+    requires limit { length text.now ≤ 8388608 }
+    ensures { asked_bytes objects.new.items ≤ 8388608 }
 {
     let mut end = from;
     for _ in 0..LOOK_AHEAD {
         let Some(rest) = text.get(end..) else {
             return end;
         };
-        let Ok((entry, taken)) = EntryRef::read(rest) else {
+        let Ok((entry, len)) = EntryRef::read(rest) else {
             return end;
         };
         if let EntryRef::Object(object) = entry {
             let hash = hash_key(&object.key);
-            let place = Place {
-                segment: id,
-                at: end,
-            };
-            objects.push(Held { hash, place });
+            objects.push(Asked { hash, at: end, len });
         }
-        end += taken;
+        end += len;
     }
     end
 }
 
-/// Whether the index holds one of these objects first in its chain.
-fn is_any_first(objects: &[Held], index: &Index) -> bool {
-    let mut is_any = false;
-    for held in objects {
-        is_any |= index.holds_first(*held);
-    }
-    is_any
-}
-
 /// Looks ahead in a victim's image from this offset on.
-pub(crate) fn look_ahead(victim: usize, segment: &Segment, from: Place, index: &Index) -> Ahead {
+pub(crate) fn look_ahead(
+    victim: usize,
+    segment: &Segment,
+    id: u64,
+    from: usize,
+    index: &Index,
+) -> Ahead {
     let mut objects = ArrayVec::new();
-    let end = gather(segment.bytes(), from.segment, from.at, &mut objects);
-    let is_any_first = is_any_first(objects.as_slice(), index);
-    Ahead {
-        victim,
-        end,
-        is_any_first,
-    }
+    let end = gather(segment.bytes(), from, &mut objects);
+    let held = held_bytes(objects.as_slice(), id, index);
+    Ahead { victim, end, held }
 }

@@ -48,13 +48,13 @@ pub struct Pass {
     pub is_committing: bool,
 }
 
-/// Looks ahead, if the cursor is where an earlier look ended.
+/// How far the pass has looked ahead of a cursor at this place. It looks on, if the cursor is where the last look ended.
 fn ahead_of(cursor: Cursor, place: Place, images: &Images, index: &Index) -> Ahead {
     if cursor.victim == cursor.ahead.victim && cursor.at < cursor.ahead.end {
         return cursor.ahead;
     }
     match images.get(place.segment) {
-        Some(segment) => look_ahead(cursor.victim, segment, place, index),
+        Some(segment) => look_ahead(cursor.victim, segment, place.segment, place.at, index),
         None => cursor.ahead,
     }
 }
@@ -81,7 +81,7 @@ impl Pass {
             ahead: Ahead {
                 victim: 0,
                 end: 0,
-                is_any_first: false,
+                held: 0,
             },
         };
         let cursor = next_cursor(victims.as_slice(), images, start);

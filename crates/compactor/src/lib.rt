@@ -1,7 +1,8 @@
 //! Memory compaction: the kept entries of a segment, in their order.
 //!
-//! `kept` answers whether an entry is kept, by the index and the log set. `compact` makes the segment of the kept ones,
-//! and the index then leads to each object where it lies in that segment.
+//! `kept` answers whether an entry is kept, by the index and the log set; `held_bytes` asks the index for many objects at
+//! once. `compact` makes the segment of the kept ones, and the index then leads to each object where it lies in that
+//! segment.
 #![tactic(auto)]
 
 mod compacting;
@@ -10,6 +11,6 @@ mod laws;
 mod log_set;
 
 pub use compacting::compact;
-pub use keeping::{kept, kept_bytes};
+pub use keeping::{Asked, held_bytes, kept, kept_bytes};
 pub use laws::index_follows;
 pub use log_set::LogSet;

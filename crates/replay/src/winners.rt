@@ -38,6 +38,19 @@ pub fn is_last(claim: &Claim<'_>, later: &[Claim<'_>]) -> Result<bool, ReplayFau
     }
 }
 
+/// How many objects are left, for room.
+fn count_winners(claims: &[Claim<'_>]) -> usize {
+    let mut count: usize = 0;
+    let mut left = claims;
+    while let [claim, rest @ ..] = left {
+        if !claim.dead && matches!(is_last(claim, rest), Ok(true)) {
+            count = count.saturating_add(1);
+        }
+        left = rest;
+    }
+    count
+}
+
 /// The objects of the last claims of their keys, if no two neighbours clash.
 pub fn winners(alloc: Global, claims: &[Claim<'_>]) -> Result<Vec<Object>, ReplayFault>
     ensures objects { IfOk result (λ objects. objects.items ≡ objects_in (tops (map claimed claims.now))) }
@@ -45,7 +58,7 @@ pub fn winners(alloc: Global, claims: &[Claim<'_>]) -> Result<Vec<Object>, Repla
     ensures clean { OnOk result (has_clash (map claimed claims.now) ≡ false) }
     ensures err { IfErr result (IsRefusedFor (has_clash (map claimed claims.now))) }
 {
-    let mut objects = Vec::new(alloc);
+    let mut objects = Vec::with_capacity(alloc, count_winners(claims))?;
     let mut left = claims;
     while let [claim, rest @ ..] = left {
         let last = is_last(claim, rest)?;

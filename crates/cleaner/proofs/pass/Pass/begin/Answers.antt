@@ -1,4 +1,4 @@
-use Rattle.std.proofs.Common.{false, ℕ, List, subst, ◌∙◌}
+use Rattle.std.proofs.Common.{ℕ, List, subst, ◌∙◌}
 use Rattle.cleaner.specs.declared.pass.Cursor.{Cursor}
 use Rattle.cleaner.specs.Passes.{images_in}
 use Rattle.cleaner.specs.Walks.{GoesOn}
@@ -6,7 +6,7 @@ use Rattle.cleaner.proofs.Places.{on_start}
 use Rattle.cleaner.proofs.pass.Pass.begin.Goals as goal
 
 abbrev start : Cursor
-start = record { victim = 0; at = 0; ahead = record { victim = 0; end = 0; is_any_first = false } }
+start = record { victim = 0; at = 0; ahead = record { victim = 0; end = 0; held = 0 } }
 
 pub returns-clause-rest : goal.returns-clause-rest
 returns-clause-rest c =
