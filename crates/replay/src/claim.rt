@@ -64,8 +64,11 @@ impl<'a> Claim<'a> {
     {
         let same_key = self.key == other.key;
         let same_version = self.version == other.version;
+        if !same_key || !same_version {
+            return false;
+        }
         let same_value = self.value == other.value;
-        same_key && same_version && !self.dead && !other.dead && !same_value
+        !self.dead && !other.dead && !same_value
     }
 
     /// The object of a claim that is not a tombstone's.

@@ -25,6 +25,7 @@ pub fn safe_above(safe: SafeVersion, claims: &[Claim<'_>]) -> SafeVersion
 }
 
 /// Whether the first of these later claims, if there is one, is of another key.
+#[inline]
 pub fn is_last(claim: &Claim<'_>, later: &[Claim<'_>]) -> Result<bool, ReplayFault>
     ensures last { IfOk result (λ last. last ≡ is_last (claimed claim.now) (map claimed later.now)) }
     ensures clean { OnOk result (next_clashes (claimed claim.now) (map claimed later.now) ≡ false) }
@@ -43,7 +44,11 @@ fn count_winners(claims: &[Claim<'_>]) -> usize {
     let mut count: usize = 0;
     let mut left = claims;
     while let [claim, rest @ ..] = left {
-        if !claim.dead && matches!(is_last(claim, rest), Ok(true)) {
+        let is_last = match rest.first() {
+            Some(next) => claim.key != next.key,
+            None => true,
+        };
+        if is_last && !claim.dead {
             count = count.saturating_add(1);
         }
         left = rest;
