@@ -1,6 +1,6 @@
 -- What a loop over a list's own elements has had.
-use Rattle.std.proofs.Common.{◌≡◌, List, [], ◌∷◌, ◌++◌, length, refl, sym, ap, ◌∙◌, arith}
-use Rattle.std.proofs.lemmas.List.{append-nil}
+use Rattle.std.proofs.Common.{◌≡◌, List, [], ◌∷◌, ◌++◌, sym, ap, ◌∙◌}
+use Rattle.std.proofs.lemmas.List.{append-nil, nil_from_length}
 use Rattle.std.specs.Iterator.{Yields}
 use Rattle.std.specs.Vec.Iter.{into_iter_items, into_iter_len, into_iter_steps}
 use Rattle.std.specs.declared.vec.IntoIter.{IntoIter}
@@ -11,14 +11,10 @@ pub taken_front : {X A : Type 0} (s : IntoIter X A) (xs : List X) (t : IntoIter 
 taken_front s [] t y = ap into_iter_items y
 taken_front s (x ∷ xs) t y = y.1.0 ∙ ap (λ ys. x ∷ ys) (taken_front y.0 xs t y.2)
 
-nothing_left : {X : Type 0} (xs : List X) → length xs ≡ 0 → xs ≡ []
-nothing_left [] none = refl
-nothing_left (x ∷ xs) none = absurd (omega (arith, none))
-
 -- at its end it had all
 pub taken_all : {X A : Type 0} (s : IntoIter X A) (xs : List X) (t : IntoIter X A) → Yields into_iter_steps s xs t
     → into_iter_len t ≡ 0 → into_iter_items s ≡ xs
 taken_all s xs t y none =
     taken_front s xs t y
-    ∙ ap (λ ys. xs ++ ys) (nothing_left (into_iter_items t) (sym t.rest.ok.0 ∙ none))
+    ∙ ap (λ ys. xs ++ ys) (nil_from_length (into_iter_items t) (sym t.rest.ok.0 ∙ none))
     ∙ append-nil xs

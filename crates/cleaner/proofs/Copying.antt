@@ -14,7 +14,7 @@ use Rattle.hash_index.specs.Relocation.{relocated}
 use Rattle.images.specs.declared.image.Image.{Image}
 use Rattle.images.specs.Sorted.{segment_of, changed}
 use Rattle.images.specs.Images.{ImagesValue}
-use Rattle.images.specs.Steps.{entry_at, with_unit, len_at}
+use Rattle.images.specs.Steps.{entry_at, with_unit, len_at, StandsData, HasData}
 use Rattle.compactor.specs.Kept.{kept}
 use Rattle.cleaner.specs.declared.pass.Copied.{Copied}
 use Rattle.cleaner.specs.declared.pass.Copied.TheVariants as copied
@@ -22,7 +22,7 @@ use Rattle.cleaner.specs.declared.treating.Extent.{Extent}
 use Rattle.cleaner.specs.declared.treating.Found.TheVariants as found
 use Rattle.cleaner.specs.Passes.{images_in, kept_len, copied_as, copy_place, images_with, held_with}
 use Rattle.cleaner.specs.Walks.{found_as, IsSeen, Treats}
-use Rattle.cleaner.proofs.Keeping.{stands, len_stands}
+use Rattle.cleaner.proofs.Keeping.{stands, stands_data, len_stands}
 
 -- the entry that is seen is read
 pub seen_at : (images : List Image) (p : Place) (x : Extent) (e : Entry) → IsSome (segment_of images p.segment)
@@ -98,10 +98,16 @@ module _ (images : List Image) (p : Place) (extent : Extent) (e : Entry) where
     abbrev Read : Option Entry
     Read = entry_at images p.segment p.at
 
-    pub copy_data : IsSomeAnd Read (λ (x : Entry). is_data x ≡ true)
-    copy_data =
-        subst (λ (o : Option Entry). IsSomeAnd o (λ (x : Entry). is_data x ≡ true))
-        (sym (seen_at images p extent e there seen)) seen.of_data
+    pub copy_data : HasData images p.segment p.at extent.len
+    copy_data = go (segment_of images p.segment) refl there
+      where
+        go : (o : Option (List Entry)) → segment_of images p.segment ≡ o → IsSome o
+            → IsSomeAnd o (λ (es : List Entry). StandsData (text_of es) p.at extent.len)
+        go None is none = absurd (cc)
+        go (Some es) is some =
+            let own : images_in images p.segment ≡ es = ap (λ (x : Option (List Entry)). unwrap_or x []) is in
+            subst (λ (xs : List Entry). StandsData (text_of xs) p.at extent.len) own
+            (stands_data (images_in images p.segment) p.at extent.len e seen.valid seen.of_data seen.size seen.stands)
 
     pub copy_room : (ids : List ℕ) (held : List Held) (survivor segment : ℕ) → kept ids held p e ≡ true
         → len_at images survivor + kept_len ids held (images_in images) p ≤ segment

@@ -1,12 +1,12 @@
 //! What a pass does with one entry.
 
 ghost use Rattle.std.specs.Prelude.{◌≡◌, ◌+◌, ◌<◌, ◌≤◌, ◌∷◌, [], true, length};
-ghost use Rattle.std.specs.Prelude.{IfOk, IfSome, OnOk, OnErr, IsSome, IsSomeAnd};
+ghost use Rattle.std.specs.Prelude.{IfOk, IfSome, OnOk, OnErr, IsSome};
 ghost use Rattle.entry.specs.Format.{spelling};
 ghost use Rattle.entry.specs.Text.{is_data};
 ghost use Rattle.entry.specs.View.{shown};
 ghost use Rattle.images.specs.Sorted.{IsWhole, segment_of, changed};
-ghost use Rattle.images.specs.Steps.{entry_at, with_unit, len_at};
+ghost use Rattle.images.specs.Steps.{entry_at, with_unit, len_at, HasData};
 ghost use Rattle.compactor.specs.Kept.{kept};
 ghost use Rattle.compactor.specs.Log.{ids_of_log};
 ghost use Rattle.cleaner.specs.Passes.{images_in, ids_in, kept_len, copy_place, IsAtData};
@@ -100,12 +100,12 @@ fn find(
     (look_at(&entry, place, index, &log), extent)
 }
 
-/// Copies the object or tombstone at a place to the end of the survivor's image, which has room for it. The answer is
-/// the place of the copy.
-fn copy(images: &mut Images, place: Place, survivor: u64) -> Result<Place, NoMemory>
+/// Copies the object or tombstone at a place, of this length, to the end of the survivor's image, which has room for it.
+/// The answer is the place of the copy.
+fn copy(images: &mut Images, place: Place, len: usize, survivor: u64) -> Result<Place, NoMemory>
     requires order { place.segment < survivor }
     requires whole { IsWhole images.old.images survivor }
-    requires of_data { IsSomeAnd (entry_at images.old.images place.segment place.at) (λ e. is_data e ≡ true) }
+    requires of_data { HasData images.old.images place.segment place.at len }
     requires room { IfSome (entry_at images.old.images place.segment place.at)
         (λ e. len_at images.old.images survivor + length (spelling e) ≤ images.old.segment) }
     ensures ok { OnOk result (IfSome (entry_at images.old.images place.segment place.at) (λ e. images.new ≡
@@ -113,7 +113,7 @@ fn copy(images: &mut Images, place: Place, survivor: u64) -> Result<Place, NoMem
     ensures place { IfOk result (λ to. to ≡ copy_place survivor images.old.images) }
     ensures err { OnErr result (images.new ≡ images.old) }
 {
-    match images.copy_entry(place.segment, place.at, survivor) {
+    match images.copy_entry(place.segment, place.at, len, survivor) {
         Ok(at) => Ok(Place {
             segment: survivor,
             at,
@@ -147,12 +147,12 @@ pub(crate) fn treat(
     let (found, extent) = find(place, images, index, head, new);
     match found {
         Found::Object(held) => {
-            let to = copy(images, place, survivor)?;
+            let to = copy(images, place, extent.len, survivor)?;
             index.relocate(held, to);
             Ok((Copied::Moved, extent))
         }
         Found::Tombstone => {
-            copy(images, place, survivor)?;
+            copy(images, place, extent.len, survivor)?;
             Ok((Copied::Carried, extent))
         }
         Found::Dead => Ok((Copied::Dropped, extent)),

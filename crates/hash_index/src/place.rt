@@ -1,7 +1,7 @@
 //! Places of a log, and what an index holds of each.
 
 /// Where an entry lies.
-#[derive(Clone, Copy, Default)]
+#[derive(Clone, Copy)]
 pub struct Place {
     /// The segment's number.
     pub segment: u64,
@@ -10,7 +10,7 @@ pub struct Place {
 }
 
 /// A place, with the hash of the key that stands there.
-#[derive(Clone, Copy, Default)]
+#[derive(Clone, Copy)]
 pub struct Held {
     /// As `hash_key` gives it.
     pub hash: u64,

@@ -5,19 +5,19 @@ use Rattle.std.specs.Prelude.{◌==◌, ◌&&◌, Option, Some, None, Result, Ok
 use Rattle.std.specs.List.{AllByRecursion}
 use Rattle.std.specs.Option.{option_map, option_map_or, option_and_then}
 use Rattle.std.proofs.lemmas.Bool.{eqb-true}
-use Rattle.std.proofs.lemmas.List.{take_all, take_rest, drop_all}
+use Rattle.std.proofs.lemmas.List.{take_all, drop_all, length-take, length-drop}
 use Rattle.entry.specs.declared.entry.Entry.{Entry}
-use Rattle.entry.specs.Format.{spelling, front_of, IsEntry, Begins}
+use Rattle.entry.specs.Format.{spelling, IsEntry, Begins}
 use Rattle.entry.specs.Text.{text_of, entries_in, is_data, are_data}
-use Rattle.entry.proofs.TextLemmas.{entries_in-text}
+use Rattle.entry.proofs.TextLemmas.{entries_in-text, spelling-some}
 use Rattle.segment.specs.declared.fault.AppendFault.{AppendFault}
 use Rattle.segment.specs.declared.fault.AppendFault.TheVariants.{Full}
 use Rattle.segment.specs.Bytes.{IsDataText, standing_at}
 use Rattle.images.specs.declared.image.Image.{Image}
 use Rattle.images.specs.Images.{ImagesValue, IsImages, count_of, used_seglets}
-use Rattle.images.specs.Sorted.{AreRising, IsWhole, image_of, changed}
+use Rattle.images.specs.Sorted.{AreRising, IsWhole, image_of, segment_of, changed}
 use Rattle.images.specs.Place.{IsPlaceOf}
-use Rattle.images.specs.Steps.{with_unit, len_at, entry_at}
+use Rattle.images.specs.Steps.{with_unit, len_at, entry_at, StandsData, HasData}
 use Rattle.images.proofs.Adding.{ids_rise}
 use Rattle.images.proofs.Listing.{image_at, changed_at}
 use Rattle.images.proofs.Counts.{count_whole, not_full, text_more, set_valid, changed_is, read_count, len_is}
@@ -107,12 +107,12 @@ text_one e = ap (λ (bytes : List ℕ). length bytes) (append-nil (spelling e))
 one_entry : (e : Entry) (bytes : List ℕ) → IsEntry e → bytes ≡ spelling e → entries_in bytes ≡ e ∷ []
 one_entry e bytes valid is = ap entries_in (is ∙ sym (append-nil (spelling e))) ∙ entries_in-text (e ∷ []) (valid, tt)
 
--- an entry is read at an offset
-module _ (text : List ℕ) (at n : ℕ) (e : Entry) (begins : Begins (take (length text - at) (drop at text)) e n) where
+-- an entry stands at an offset
+module _ (text : List ℕ) (at n : ℕ) (e : Entry) (begins : Begins (drop at text) e n) where
   part_is : take (at + n - at) (drop at text) ≡ spelling e
   part_is =
       let size : at + n - at ≡ n = omega arith in
-      ap (λ (k : ℕ). take k (drop at text)) size ∙ ap (λ (l : List ℕ). take n l) (sym (take_rest text at)) ∙ begins.text
+      ap (λ (k : ℕ). take k (drop at text)) size ∙ begins.text
 
   pub part_entry : entries_in (take (at + n - at) (drop at text)) ≡ e ∷ []
   part_entry = one_entry e (take (at + n - at) (drop at text)) begins.entry part_is
@@ -124,9 +124,33 @@ module _ (text : List ℕ) (at n : ℕ) (e : Entry) (begins : Begins (take (leng
     text = part_is ∙ sym (append-nil (spelling e)) ∙ ap text_of (sym part_entry);
   }
 
-  pub standing_is : front_of (take (length text - at) (drop at text)) ≡ Some (e, n) → standing_at at text ≡ Some e
-  standing_is front =
-      ap (option_map (λ (f : Entry × ℕ). f.0)) (ap front_of (sym (take_rest text at)) ∙ front)
+  pub ends_within : at + n ≤ length text
+  ends_within =
+      let len : n ≡ length (spelling e) =
+      (let within = begins.within in omega (arith, length-take n (drop at text), ap length begins.text)) in
+      omega (arith, begins.within, len, spelling-some e, length-drop at text)
+
+-- an object or tombstone stands at an offset
+pub stood : (text : List ℕ) (at n : ℕ) → StandsData text at n
+    → (e : Entry) × (standing_at at text ≡ Some e) × (is_data e ≡ true) × Begins (drop at text) e n
+stood text at n there = go (standing_at at text) refl there
+  where
+    go : (o : Option Entry) → standing_at at text ≡ o
+        → IsSomeAnd o (λ (e : Entry). (is_data e ≡ true) × Begins (drop at text) e n)
+        → (e : Entry) × (standing_at at text ≡ Some e) × (is_data e ≡ true) × Begins (drop at text) e n
+    go None is none = absurd none
+    go (Some e) is some = (e, is, some.0, some.1)
+
+-- the entry of an image
+pub data_of : (xs : List Image) (from at n : ℕ) → HasData xs from at n → IsSomeAnd (entry_at xs from at) (λ (e : Entry). is_data e ≡ true)
+data_of xs from at n there = go (segment_of xs from) there
+  where
+    go : (o : Option (List Entry)) → IsSomeAnd o (λ (es : List Entry). StandsData (text_of es) at n)
+        → IsSomeAnd (option_and_then (λ (es : List Entry). standing_at at (text_of es)) o) (λ (e : Entry). is_data e ≡ true)
+    go None none = absurd none
+    go (Some es) some =
+        let s = stood (text_of es) at n some in
+        subst (λ (o : Option Entry). IsSomeAnd o (λ (e : Entry). is_data e ≡ true)) (sym s.1) s.2
 
 -- it is appended
 pub one_more : (o : Option Entry) (r : Result ℕ AppendFault) (old new more : List Entry) → IfSome o (λ (e : Entry). more ≡ e ∷ [])
@@ -149,13 +173,19 @@ module _ (xs : List Image) (from to source target : ℕ) (rising : AreRising xs)
   pub source_below : from < to → source < target
   source_below order = places_rise xs from to source target rising first second order
 
-  pub entry_is : (at : ℕ) → from < to → entry_at xs from at ≡ standing_at at (text_of (get_or front source x).segment)
-  entry_is at order =
+  source_is : from < to → segment_of xs from ≡ Some (get_or front source x).segment
+  source_is order =
       let below = source_below order in
       let found : image_of xs from ≡ Some (get_or xs source x) = image_at xs from source x rising first.within (first.is x) in
       let same : get_or front source x ≡ get_or xs source x = ap (λ (zs : List Image). get_or zs source x) is_front ∙ get_or-take target xs source x below in
-      ap (λ (o : Option Image). option_and_then (λ (es : List Entry). standing_at at (text_of es)) (option_map (λ (z : Image). z.segment) o)) found
-      ∙ ap (λ (z : Image). standing_at at (text_of z.segment)) (sym same)
+      ap (λ (o : Option Image). option_map (λ (z : Image). z.segment) o) found ∙ ap (λ (z : Image). Some z.segment) (sym same)
+
+  pub entry_is : (at : ℕ) → from < to → entry_at xs from at ≡ standing_at at (text_of (get_or front source x).segment)
+  entry_is at order = ap (λ (o : Option (List Entry)). option_and_then (λ (es : List Entry). standing_at at (text_of es)) o) (source_is order)
+
+  pub data_is : (at n : ℕ) → from < to → HasData xs from at n → StandsData (text_of (get_or front source x).segment) at n
+  data_is at n order there =
+      subst (λ (o : Option (List Entry)). IsSomeAnd o (λ (es : List Entry). StandsData (text_of es) at n)) (source_is order) there
 
   target_is : get_or back 0 y ≡ get_or xs target y
   target_is = ap (λ (zs : List Image). get_or zs 0 y) is_back ∙ get_or-drop target xs 0 y ∙ ap (λ (n : ℕ). get_or xs n y) (add-zero target)

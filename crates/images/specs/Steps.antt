@@ -1,8 +1,9 @@
 -- What steps make of an image.
-use Rattle.std.specs.Prelude.{ℕ, List, ◌++◌, length, false, Option}
+use Rattle.std.specs.Prelude.{◌≡◌, ℕ, List, ◌++◌, drop, length, true, false, Option, IsSomeAnd}
 use Rattle.std.specs.Option.{option_map_or, option_and_then}
 use Rattle.entry.specs.declared.entry.Entry.{Entry}
-use Rattle.entry.specs.Text.{text_of}
+use Rattle.entry.specs.Format.{Begins}
+use Rattle.entry.specs.Text.{text_of, is_data}
 use Rattle.segment.specs.Bytes.{standing_at}
 use Rattle.images.specs.declared.image.Image.{Image}
 use Rattle.images.specs.Sorted.{segment_of}
@@ -26,3 +27,12 @@ len_at images id = option_map_or (λ (es : List Entry). length (text_of es)) (se
 -- the entry at an offset of the image of this id
 abbrev pub entry_at : List Image → ℕ → ℕ → Option Entry
 entry_at images from at = option_and_then (λ (es : List Entry). standing_at at (text_of es)) (segment_of images from)
+
+-- At an offset of these bytes stands an object or tombstone of this length.
+abbrev pub StandsData : List ℕ → ℕ → ℕ → Type 0
+StandsData bytes at len =
+    IsSomeAnd (standing_at at bytes) (λ (e : Entry). (is_data e ≡ true) × Begins (drop at bytes) e len)
+
+-- the same of the image of this id
+abbrev pub HasData : List Image → ℕ → ℕ → ℕ → Type 0
+HasData images from at len = IsSomeAnd (segment_of images from) (λ (es : List Entry). StandsData (text_of es) at len)

@@ -1,39 +1,35 @@
 //! Copies of an entry from one image to another.
 
-ghost use Rattle.std.specs.Prelude.{◌≡◌, ◌+◌, ◌<◌, ◌≤◌, ◌↔◌, ◌++◌, ◌∷◌, [], true, length};
-ghost use Rattle.std.specs.Prelude.{IfSome, IfOk, OnOk, OnErr, IsErrOf, IsSome, IsSomeAnd};
+ghost use Rattle.std.specs.Prelude.{◌≡◌, ◌+◌, ◌<◌, ◌≤◌, ◌↔◌, ◌++◌, ◌∷◌, [], length};
+ghost use Rattle.std.specs.Prelude.{IfSome, IfOk, OnOk, OnErr, IsErrOf, IsSome};
 ghost use Rattle.entry.specs.Format.{spelling};
-ghost use Rattle.entry.specs.Text.{text_of, entries_in, is_data};
+ghost use Rattle.entry.specs.Text.{text_of, entries_in};
 ghost use Rattle.segment.specs.Bytes.{IsDataText, standing_at};
 ghost use Rattle.images.specs.Sorted.{AreRising, image_of, changed};
-ghost use Rattle.images.specs.Steps.{with_unit, len_at, entry_at};
+ghost use Rattle.images.specs.Steps.{with_unit, len_at, entry_at, StandsData, HasData};
 
 use crate::image::{Image, place_of};
-use entry::EntryRef;
 use segment::{AppendFault, Segment};
 
-/// The text of the object or tombstone at an offset of a segment.
-fn text_at(source: &Segment, at: usize) -> &[u8]
-    requires { IsSomeAnd (standing_at at (text_of source.now)) (λ e. is_data e ≡ true) }
+/// The text of the object or tombstone at an offset of a segment, of this length.
+fn text_at(source: &Segment, at: usize, len: usize) -> &[u8]
+    requires { StandsData (text_of source.now) at len }
     ensures data { IsDataText result.now }
     ensures entry { IfSome (standing_at at (text_of source.entry.now)) (λ e. entries_in result.now ≡ e ∷ []) }
 {
-    let text = source.bytes();
-    let Ok((_, len)) = EntryRef::read(&text[at..]) else {
-        unreachable!()
-    };
-    &text[at..at + len]
+    &source.bytes()[at..at + len]
 }
 
-/// Appends a copy of the object or tombstone at an offset of one segment to another, if that then has at most `limit`
-/// bytes.
+/// Appends a copy of the object or tombstone of this length at an offset of one segment to another, if that then has at
+/// most `limit` bytes.
 fn append_copy(
     source: &Segment,
     at: usize,
+    len: usize,
     target: &mut Segment,
     limit: usize,
 ) -> Result<usize, AppendFault>
-    requires data { IsSomeAnd (standing_at at (text_of source.now)) (λ e. is_data e ≡ true) }
+    requires data { StandsData (text_of source.now) at len }
     requires limit { limit ≤ 8388608 }
     ensures ok { OnOk result (IfSome (standing_at at (text_of source.now)) (λ e. target.new ≡ target.old ++ e ∷ [])) }
     ensures place { IfOk result (λ at. at ≡ length (text_of target.old)) }
@@ -41,22 +37,23 @@ fn append_copy(
         (limit < length (text_of target.old) + length (spelling e))) }
     ensures err { OnErr result (target.new ≡ target.old) }
 {
-    target.append_text(text_at(source, at), limit)
+    target.append_text(text_at(source, at, len), limit)
 }
 
-/// In a list by rising id, appends a copy of the object or tombstone at an offset of one image to a later image, if
-/// that then has at most `limit` bytes.
+/// In a list by rising id, appends a copy of the object or tombstone of this length at an offset of one image to a later
+/// image, if that then has at most `limit` bytes.
 pub(crate) fn copy_entry(
     images: &mut [Image],
     from: u64,
     at: usize,
+    len: usize,
     to: u64,
     limit: usize,
 ) -> Result<usize, AppendFault>
     requires rising { AreRising images.old }
     requires order { from < to }
     requires there { IsSome (image_of images.old to) }
-    requires data { IsSomeAnd (entry_at images.old from at) (λ e. is_data e ≡ true) }
+    requires data { HasData images.old from at len }
     requires limit { limit ≤ 8388608 }
     ensures ok { OnOk result (IfSome (entry_at images.old from at)
         (λ e. images.new ≡ changed images.old to (with_unit (e ∷ [])))) }
@@ -73,5 +70,11 @@ pub(crate) fn copy_entry(
         unreachable!()
     };
     let (earlier, later) = images.split_at_mut(target);
-    append_copy(&earlier[source].segment, at, &mut later[0].segment, limit)
+    append_copy(
+        &earlier[source].segment,
+        at,
+        len,
+        &mut later[0].segment,
+        limit,
+    )
 }

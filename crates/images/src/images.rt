@@ -1,11 +1,11 @@
 //! Images in memory, with the sum of what they count.
 
 ghost use Rattle.std.specs.Prelude.{◌≡◌, ◌+◌, ◌<◌, ◌≤◌, ◌↔◌, ◌∷◌, [], true, None, length, map, sum_by};
-ghost use Rattle.std.specs.Prelude.{IfOk, IfErr, OnOk, OnErr, IsErrAnd, IsErrOf, IsErr, IsSome, IsSomeAnd, IfSome};
+ghost use Rattle.std.specs.Prelude.{IfOk, IfErr, OnOk, OnErr, IsErrAnd, IsErrOf, IsErr, IsSome, IfSome};
 ghost use Rattle.std.specs.Int.{div_ceil};
 ghost use Rattle.std.specs.Option.{option_copied};
 ghost use Rattle.entry.specs.Format.{spelling};
-ghost use Rattle.entry.specs.Text.{text_of, is_data, are_data};
+ghost use Rattle.entry.specs.Text.{text_of, are_data};
 ghost use Rattle.entry.specs.View.{shown};
 
 use crate::copying::copy_entry;
@@ -58,7 +58,7 @@ impl Images {
     ghost use Rattle.images.specs.Images.{ImagesValue, IsImages, AreSizes};
     ghost use Rattle.images.specs.Images.{count_of, count_at, used_seglets, free_seglets};
     ghost use Rattle.images.specs.Sorted.{IsWhole, image_of, segment_of, added, changed, without};
-    ghost use Rattle.images.specs.Steps.{with_unit, trimmed, replaced_by, len_at, entry_at};
+    ghost use Rattle.images.specs.Steps.{with_unit, trimmed, replaced_by, len_at, entry_at, HasData};
 
     /// No images yet: segments of at most `segment` bytes, in `seglets` seglets of `seglet` bytes each.
     pub fn new(alloc: Global, segment: usize, seglet: usize, seglets: u64) -> Images
@@ -216,13 +216,19 @@ impl Images {
         self.images[at].segment.append(unit, self.segment)
     }
 
-    /// Appends a copy of the object or tombstone at an offset of one image to a later image, which is whole. The answer
-    /// is its offset there. `Full` comes exactly if the segment would have too many bytes. No memory is taken if the
-    /// image's was taken whole. A refusal changes nothing.
-    pub fn copy_entry(&mut self, from: u64, at: usize, to: u64) -> Result<usize, AppendFault>
+    /// Appends a copy of the object or tombstone of this length at an offset of one image to a later image, which is
+    /// whole. The answer is its offset there. `Full` comes exactly if the segment would have too many bytes. No memory
+    /// is taken if the image's was taken whole. A refusal changes nothing.
+    pub fn copy_entry(
+        &mut self,
+        from: u64,
+        at: usize,
+        len: usize,
+        to: u64,
+    ) -> Result<usize, AppendFault>
         requires order { from < to }
         requires whole { IsWhole self.old.images to }
-        requires data { IsSomeAnd (entry_at self.old.images from at) (λ e. is_data e ≡ true) }
+        requires data { HasData self.old.images from at len }
         ensures ok { OnOk result (IfSome (entry_at self.old.images from at)
             (λ e. self.new ≡ record self.old { images = changed self.old.images to (with_unit (e ∷ [])) })) }
         ensures place { IfOk result (λ at. at ≡ len_at self.old.images to) }
@@ -230,7 +236,7 @@ impl Images {
             (self.old.segment < len_at self.old.images to + length (spelling e))) }
         ensures err { OnErr result (self.new ≡ self.old) }
     {
-        copy_entry(self.images.as_mut_slice(), from, at, to, self.segment)
+        copy_entry(self.images.as_mut_slice(), from, at, len, to, self.segment)
     }
 
     /// Makes a whole image one that counts its length, and gives back the memory beyond its seglets. It changes nothing

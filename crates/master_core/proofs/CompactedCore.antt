@@ -4,7 +4,7 @@ use Rattle.std.specs.Borrow.{Bor}
 use Rattle.std.specs.Prelude.{Option, Some, None, IfSome, IsSome, is_some, unwrap_or, not, ◌==◌, ◌||◌, if◌then◌else◌}
 use Rattle.std.specs.List.{AllByRecursion}
 use Rattle.std.specs.Option.{option_copied, option_map_or}
-use Rattle.std.proofs.lemmas.Bool.{eqb-true, not-false}
+use Rattle.std.proofs.lemmas.Bool.{eqb-true, not-false, or_parts}
 use Rattle.std.proofs.Math.Bool.{or-false}
 use Rattle.cleaner.specs.declared.pass.Pass.{Pass as OpenPass}
 use Rattle.entry.specs.declared.entry.Entry.{Entry}
@@ -60,10 +60,6 @@ admitted d id e =
     let v = passes (has_id (victims_of d.pass) id) (Pass PassOpen) None l.1 in
     record { running = a.0; older = h.0; listed = not-false _ l.0; spared = v.0 }
 
-neither : (a b : Bool) → (a || b) ≡ false → (a ≡ false) × (b ≡ false)
-neither true b is = absurd (cc)
-neither false b is = (refl, is)
-
 closed_listed : (cs : List Image) (s : ℕ) → has (ids_in cs) s ≡ is_some (segment_of cs s)
 closed_listed [] s = refl
 closed_listed (c ∷ cs) s = go (c.id == s) refl (closed_listed cs s) where
@@ -76,7 +72,7 @@ others_have : (o : Option OpenPass) (ids : List ℕ) (id : ℕ) → has_id (surv
     → has (all_inserted (survivors_of o) ids) id ≡ has ids id
 others_have None ids id away = refl
 others_have (Some p) ids id away =
-    has_put p.survivor ids id ∙ ap (λ (b : Bool). b || has ids id) (neither (p.survivor == id) false away).0
+    has_put p.survivor ids id ∙ ap (λ (b : Bool). b || has ids id) (or_parts (p.survivor == id) false away).0
 
 -- whether a segment is listed
 module _ (d : MasterData) (core : IsCore d) (id : ℕ) where
@@ -104,7 +100,7 @@ module _ (d : MasterData) (core : IsCore d) (id : ℕ) where
     listed_by : has_id (digest_of d.head.image) id ≡ is_some (segment_of d.closed id)
     listed_by =
         let own = ap (λ (z : ℕ). z == id) core.image.id
-        ∙ (neither (d.head.id == id) (option_map_or (λ (r : Roll). r.id == id) d.head.roll false) older).0 in
+        ∙ (or_parts (d.head.id == id) (option_map_or (λ (r : Roll). r.id == id) d.head.roll false) older).0 in
         listed_in ∙ has_more (head_of d.head).start.others (head_of d.head).start.id id
         ∙ ap (λ (b : Bool). has (head_of d.head).start.others id || b) own
         ∙ or-false (has (head_of d.head).start.others id)
@@ -145,10 +141,10 @@ module _ (d : MasterData) (core : IsCore d) (id : ℕ) (is : IsAdmitted d id) wh
 
   -- neither head has the id
   not_head : (d.head.id == id) ≡ false
-  not_head = (neither (d.head.id == id) (option_map_or (λ (r : Roll). r.id == id) d.head.roll false) is.older).0
+  not_head = (or_parts (d.head.id == id) (option_map_or (λ (r : Roll). r.id == id) d.head.roll false) is.older).0
 
   not_new : option_map_or (λ (r : Roll). r.id == id) d.head.roll false ≡ false
-  not_new = (neither (d.head.id == id) (option_map_or (λ (r : Roll). r.id == id) d.head.roll false) is.older).1
+  not_new = (or_parts (d.head.id == id) (option_map_or (λ (r : Roll). r.id == id) d.head.roll false) is.older).1
 
   -- what is found of this id is a closed segment
   new_image : (o : Option Roll) (other : Option (List Entry)) → option_map_or (λ (r : Roll). r.id == id) o false ≡ false

@@ -3,7 +3,7 @@ use Rattle.std.proofs.Common.{◌≡◌, ℕ, take, drop, get_or, add-one, drop-
 use Rattle.std.specs.Prelude.{Option, Some, None, is_some, not, nat_lt, ◌==◌, ◌||◌, ◌^◌}
 use Rattle.std.specs.List.{AllByRecursion}
 use Rattle.std.specs.Option.{option_map_or}
-use Rattle.std.proofs.lemmas.Bool.{eqb-true, not-false, ltb-false}
+use Rattle.std.proofs.lemmas.Bool.{eqb-true, not-false, ltb-false, or_right}
 use Rattle.std.proofs.lemmas.Bool.Decides.{nat_tests}
 use Rattle.std.proofs.lemmas.List.{take_more}
 use Rattle.std.proofs.lemmas.List.Folds.{list_any-append}
@@ -27,10 +27,6 @@ use Rattle.master_core.proofs.Refusals.{passes}
 pub has_id_is : (ids : List ℕ) (s : ℕ) → has_id ids s ≡ has ids s
 has_id_is [] s = refl
 has_id_is (z ∷ ids) s = ap (λ (b : Bool). (z == s) || b) (has_id_is ids s)
-
-right_true : (b c : Bool) → c ≡ true → (b || c) ≡ true
-right_true true c is = refl
-right_true false c is = is
 
 -- one more id in front, or at the end
 pub front_or_end : (ids : List ℕ) (id z : ℕ) → has_id (id ∷ ids) z ≡ has_id (ids ++ id ∷ []) z
@@ -114,7 +110,7 @@ module _ (d : MasterData) where
       let t = passes (has_id before id) (Twice id) _ ok in
       let h = passes (head_test id) (IsHead id) _ t.1 in
       let l = passes (log_test id) (NotInLog id) _ h.1 in
-      go t.0 (id == z) refl (none_again (id ∷ before) ids z l.1 (right_true (id == z) (has_id before z) earlier))
+      go t.0 (id == z) refl (none_again (id ∷ before) ids z l.1 (or_right (id == z) (has_id before z) earlier))
     where
       go : has_id before id ≡ false → (b : Bool) → (id == z) ≡ b → has ids z ≡ false → ((id == z) || has ids z) ≡ false
       go not_before true same later =

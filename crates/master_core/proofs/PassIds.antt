@@ -5,6 +5,7 @@ use Rattle.std.specs.List.{AllByRecursion}
 use Rattle.std.specs.Borrow.{Bor}
 use Rattle.std.specs.Option.{option_map_or, option_copied}
 use Rattle.std.proofs.lemmas.List.{length-append}
+use Rattle.std.proofs.lemmas.Bool.{or_parts}
 use Rattle.entry.specs.declared.entry.Entry.{Entry}
 use Rattle.entry.specs.Bag.{IsAmong}
 use Rattle.entry.proofs.BagLemmas.{among_push}
@@ -31,10 +32,6 @@ use Rattle.master_core.proofs.Imaging.{ids_in, same_id, other_id}
 use Rattle.master_core.proofs.FreeVictims.{has_id_is, IsOlder, AreFree}
 
 -- ---- ids
-
-neither : (a b : Bool) → (a || b) ≡ false → (a ≡ false) × (b ≡ false)
-neither true b is = absurd (cc)
-neither false b is = (refl, is)
 
 -- an id above all of them is not among them
 pub not_has : (ids : List ℕ) (n : ℕ) → AllByRecursion (λ (id : ℕ). id < n) ids → has ids n ≡ false
@@ -85,7 +82,7 @@ not_new (Some r) s is = is
 
 pub head_parts : (d : MasterData) (s : ℕ) → is_head d.head s ≡ false → ((d.head.id == s) ≡ false) × IsNotNew d.head.roll s
 head_parts d s is =
-    let parts = neither (d.head.id == s) (option_map_or (λ (r : Roll). r.id == s) d.head.roll false) is in
+    let parts = or_parts (d.head.id == s) (option_map_or (λ (r : Roll). r.id == s) d.head.roll false) is in
     (parts.0, not_new d.head.roll s parts.1)
 
 module _ (d : MasterData) (s : ℕ) (away : (d.head.id == s) ≡ false) (not_opening : IsNotNew d.head.roll s) where
@@ -117,7 +114,7 @@ module _ (d : MasterData) (core : IsCore d) where
         | inr own ↦ (
             let own_test = same_id s in
             let test : (d.head.id == s) ≡ true = ap (λ (z : ℕ). z == s) (sym core.image.id ∙ own) ∙ own_test in
-            let away = (neither (d.head.id == s) (option_map_or (λ (r : Roll). r.id == s) d.head.roll false) not_head).0 in
+            let away = (or_parts (d.head.id == s) (option_map_or (λ (r : Roll). r.id == s) d.head.roll false) not_head).0 in
             absurd (cc))
       ]
 
@@ -167,7 +164,7 @@ module _ (d : MasterData) (core : IsCore d) where
       where
         away : ((head_of d.head).start.id == s) ≡ false
         away = ap (λ (z : ℕ). z == s) core.image.id
-            ∙ (neither (d.head.id == s) (option_map_or (λ (r : Roll). r.id == s) d.head.roll false) not_head).0
+            ∙ (or_parts (d.head.id == s) (option_map_or (λ (r : Roll). r.id == s) d.head.roll false) not_head).0
 
         front : (ids : List ℕ) → has_id (ids ++ (head_of d.head).start.id ∷ []) s ≡ has_id ids s
         front [] = rw away refl

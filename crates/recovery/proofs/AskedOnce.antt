@@ -1,10 +1,11 @@
 -- Backups that are asked once each show each replica once.
-use Rattle.std.proofs.Common.{◌≡◌, ℕ, ◌+◌, ◌<◌, ◌≤◌, inl, inr, Bool, true, false, refl, sym, subst, ap, ◌∙◌, arith}
+use Rattle.std.proofs.Common.{◌≡◌, ℕ, ◌+◌, ◌<◌, ◌≤◌, inl, inr, true, false, refl, sym, subst, ap, ◌∙◌, arith}
 use Rattle.std.proofs.Common.{List, [], ◌∷◌, ◌++◌, take, get_or, length}
-use Rattle.std.specs.Prelude.{◌↔◌, ◌==◌, ◌||◌}
+use Rattle.std.specs.Prelude.{◌↔◌, ◌==◌}
 use Rattle.std.proofs.lemmas.Bool.Decides.{nat_tests}
 use Rattle.std.proofs.lemmas.Grind.{take_at_read}
 use Rattle.std.proofs.lemmas.List.{take_all}
+use Rattle.std.proofs.lemmas.Bool.{or_parts, or_from}
 use Rattle.entry.specs.Bag.{IsAmong}
 use Rattle.replica.specs.declared.holding.Holding.{Holding}
 use Rattle.replica.specs.Picture.{Picture, IsHeld, IsOnce}
@@ -22,13 +23,6 @@ pub all-asked : (p : Picture) (asked : List ℕ) (i : ℕ) (hs : List Holding) �
     → IsAsked p (take i asked) hs → IsAsked p asked hs
 all-asked p asked i hs over is = subst (λ (l : List ℕ). IsAsked p l hs) (take_all i asked over) is
 
-neither : (x y : Bool) → (x || y) ≡ false → (x ≡ false) × (y ≡ false)
-neither true y e = absurd (cc)
-neither false y e = (refl, e)
-
-or_false : (x y : Bool) → x ≡ false → y ≡ false → (x || y) ≡ false
-or_false x y e f = rw (e, f) refl
-
 other_way : (a b : ℕ) → (a == b) ≡ false → (b == a) ≡ false
 other_way a b e = grind (arith, nat_tests)
 
@@ -36,8 +30,8 @@ different-push : (ks : List ℕ) (k : ℕ) → AreDifferent (ks ++ k ∷ []) →
 different-push [] k d = (refl, tt)
 different-push (j ∷ ks) k d =
     let later = different-push ks k d.1 in
-    let both = neither (is_kept ks j) (k == j) (sym (kept-push ks k j) ∙ d.0) in
-    (or_false (j == k) (is_kept ks k) (other_way k j both.1) later.0, (both.0, later.1))
+    let both = or_parts (is_kept ks j) (k == j) (sym (kept-push ks k j) ∙ d.0) in
+    (or_from (j == k) (is_kept ks k) (other_way k j both.1) later.0, (both.0, later.1))
 
 once-append : (xs ys : List Holding) → IsOnce xs → IsOnce ys → ((h : Holding) → IsAmong h xs → IsAmong h ys → ⊥)
     → IsOnce (xs ++ ys)

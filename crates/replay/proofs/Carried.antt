@@ -1,6 +1,7 @@
 -- What calls promised, carried on, and numbers of groups.
 use Rattle.std.proofs.Common.{◌≡◌, ℕ, zero, suc, ◌<◌, List, [], ◌∷◌, length, get_or, ap, subst, sym, arith}
 use Rattle.std.specs.Prelude.{slice_index, Result, Ok, Err, IfOk, IfErr, OnOk}
+use Rattle.std.proofs.lemmas.List.{get_or_default}
 use Rattle.entry.specs.declared.entry.Entry.{Entry}
 use Rattle.entry.specs.Bag.{IsAmong}
 use Rattle.entry.proofs.BagLemmas.{among_at}
@@ -9,7 +10,6 @@ use Rattle.backup.specs.Division.{numbers_of}
 use Rattle.replay.specs.Claims.{Claimed, claims_of}
 use Rattle.replay.specs.Rebuilds.{NamesEach}
 use Rattle.replay.specs.Turns.{AreOf}
-use Rattle.replay.proofs.Marks.{at_default}
 
 -- ---- what calls promised, carried on
 
@@ -56,4 +56,4 @@ pub number_inside : (count k : ℕ) (order : List ℕ) → NamesEach count order
     → slice_index order k < count
 number_inside count k order names low =
     names.below (slice_index order k) (among_at order k (slice_index order k) low
-    (at_default order k 0 (slice_index order k) low))
+    (get_or_default order k 0 (slice_index order k) low))

@@ -1,6 +1,7 @@
 -- When a master that is loaded pushes, and when it begins a roll.
 use Rattle.std.proofs.Common.{◌≡◌, ◌<◌, Bool, true, false, [], refl, sym, ap, subst, inl, inr, ◌∙◌, arith}
 use Rattle.std.specs.Prelude.{Some, None, if◌then◌else◌, not, ◌&&◌, ◌⊎◌, Result, Ok, Err, IfOk, IfErr, OnOk}
+use Rattle.std.proofs.lemmas.Bool.{and_left}
 use Rattle.log_head.specs.Head.{is_open}
 use Rattle.master_core.specs.declared.step.Refusal.{Refusal}
 use Rattle.master_core.specs.declared.step.Refusal.TheVariants as refusal
@@ -91,13 +92,9 @@ and_false : (b : Bool) → (b && false) ≡ false
 and_false true = refl
 and_false false = refl
 
-shut_waits : (opened rest : Bool) → opened ≡ false → (opened && rest) ≡ false
-shut_waits true rest e = absurd (cc)
-shut_waits false rest e = refl
-
 -- a head that a roll leaves is not open, and so something waits
 pub rolling_waits : (old new : World) (a : StepAnswer) → Accepts old BeginRoll a new → is_pushed new.knows.head ≡ false
-rolling_waits old new a h = shut_waits (is_open new.knows.head) _ (ap (λ (d : MasterData). is_open d.head) h.0.rest ∙ and_false _)
+rolling_waits old new a h = and_left (is_open new.knows.head) _ (ap (λ (d : MasterData). is_open d.head) h.0.rest ∙ and_false _)
 
 pub shut_head : (old new : World) (r : Refusal) → Declines old BeginRoll r new → r ≡ refusal.Rolling
     → (new ≡ old) × (is_pushed new.knows.head ≡ false)
@@ -115,7 +112,7 @@ shut_head old new r h is = go (subst (λ (x : Refusal). Declines old BeginRoll x
     go (same, inl test) = (
       same,
       ap (λ (w : World). is_pushed w.knows.head) same
-          ∙ shut_waits (is_open old.knows.head) _ (tested old.knows.is_halted (is_open old.knows.head) _ _ test),
+          ∙ and_left (is_open old.knows.head) _ (tested old.knows.is_halted (is_open old.knows.head) _ _ test),
     )
     go (same, inr memory) = let none = memory.1 in absurd (cc)
 

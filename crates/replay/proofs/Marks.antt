@@ -3,7 +3,7 @@ use Rattle.std.proofs.Common.{◌≡◌, ◌≢◌, ℕ, zero, suc, ◌+◌, ◌
 use Rattle.std.proofs.Common.{refl, sym, ap, subst, ◌∙◌, arith, below_more, get_or-set_same, get_or-set_other}
 use Rattle.std.specs.Prelude.{◌==◌, slice_index}
 use Rattle.std.proofs.lemmas.Bool.Decides.{Decides-eqb}
-use Rattle.std.proofs.lemmas.List.{length-map}
+use Rattle.std.proofs.lemmas.List.{length-map, get_or_default}
 use Rattle.entry.specs.Bag.{IsAmong}
 use Rattle.entry.proofs.BagLemmas.{among_at, among_place}
 use Rattle.backup.specs.declared.group.Group.{Group}
@@ -21,11 +21,6 @@ segment_at (h ∷ gs) zero g lt is = ap (λ (x : Group). x.segment) (sym is)
 segment_at (h ∷ gs) (suc n) g lt is = segment_at gs n g (omega arith) is
 
 -- ---- marks
-
-pub at_default : {X : Type 0} (xs : List X) (i : ℕ) (d e : X) → i < length xs → get_or xs i d ≡ get_or xs i e
-at_default [] i d e lt = absurd (omega (arith, lt))
-at_default (x ∷ xs) zero d e lt = refl
-at_default (x ∷ xs) (suc i) d e lt = at_default xs i d e (omega (arith, lt))
 
 past_end : (named : List Bool) (n : ℕ) → get_or named n false ≡ true → n < length named
 past_end [] n on = absurd (cc)
@@ -104,12 +99,12 @@ module _ (order : List ℕ) (named : List Bool) (k : ℕ) (h : AreMarked order k
 module _ (order : List ℕ) (named : List Bool) (h : AreMarked order (length order) named) where
   among_marked : (n : ℕ) → get_or named n false ≡ true → IsAmong n order
   among_marked n on =
-      let at = h.only n on in among_at order at.0 n at.1 (sym at.2 ∙ at_default order at.0 0 n at.1)
+      let at = h.only n on in among_at order at.0 n at.1 (sym at.2 ∙ get_or_default order at.0 0 n at.1)
 
   marked_among : (n : ℕ) → IsAmong n order → get_or named n false ≡ true
   marked_among n m =
       let at = among_place n order m in
-      subst (λ p. get_or named p false ≡ true) (at_default order at.0 0 n at.1 ∙ at.2) (h.marked at.0 at.1)
+      subst (λ p. get_or named p false ≡ true) (get_or_default order at.0 0 n at.1 ∙ at.2) (h.marked at.0 at.1)
 
   pub names_each : (count : ℕ) → length named ≡ count → ((n : ℕ) → n < count → get_or named n false ≡ true)
       → NamesEach count order

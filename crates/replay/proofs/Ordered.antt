@@ -3,7 +3,7 @@ use Rattle.std.proofs.Common.{◌≡◌, ℕ, ◌+◌, ◌<◌, List, [], ◌∷
 use Rattle.std.specs.Prelude.{slice_index}
 use Rattle.std.specs.List.{flat_map}
 use Rattle.std.proofs.lemmas.Grind.{flat_map-append}
-use Rattle.std.proofs.lemmas.List.{append-nil, take_more, length-map}
+use Rattle.std.proofs.lemmas.List.{append-nil, take_more, length-map, get_or_default}
 use Rattle.entry.specs.declared.entry.Entry.{Entry}
 use Rattle.entry.specs.Bag.{IsAmong}
 use Rattle.entry.specs.View.{shown}
@@ -15,7 +15,6 @@ use Rattle.replay.specs.Rebuilds.{NamesEach}
 use Rattle.replay.specs.Turns.{AreOf}
 use Rattle.replay.proofs.AllGroups.{claims_within}
 use Rattle.replay.proofs.GatheringLemmas.{claims_of-append}
-use Rattle.replay.proofs.Marks.{at_default}
 use Rattle.replay.proofs.Members.{flat_among, among_flat, map_at}
 
 abbrev none : Grouped
@@ -40,7 +39,7 @@ named_more gs order k g was new lt inside at added held =
     let within : n < length hs = (let long = length-map gs grouped in omega (arith, long, inside)) in
     let here : entries_at hs n ≡ map shown g.entries.items =
     ap (λ (h : Grouped). h.entries)
-    (at_default hs n none (grouped g) within ∙ map_at grouped gs n g ∙ ap grouped (sym at)) in
+    (get_or_default hs n none (grouped g) within ∙ map_at grouped gs n g ∙ ap grouped (sym at)) in
     let more : flat_map (entries_at hs) (take (k + 1) order) ≡ flat_map (entries_at hs) front ++ map shown g.entries.items =
     ap (flat_map (entries_at hs)) (take_more order k 0 lt) ∙ flat_map-append (entries_at hs) front (n ∷ [])
     ∙ ap (λ (es : List Entry). flat_map (entries_at hs) front ++ es) (append-nil (entries_at hs n) ∙ here) in
@@ -53,13 +52,13 @@ module _ (gs : List Grouped) (order : List ℕ) (names : NamesEach (length gs) o
       let n = among_flat (entries_at gs) order e m in
       let inside = names.below n.0 n.1 in
       flat_among (λ (g : Grouped). g.entries) gs (get_or gs n.0 none) e
-      (among_at gs n.0 (get_or gs n.0 none) inside (at_default gs n.0 none (get_or gs n.0 none) inside)) n.2
+      (among_at gs n.0 (get_or gs n.0 none) inside (get_or_default gs n.0 none (get_or gs n.0 none) inside)) n.2
 
   from_bag : (e : Entry) → IsAmong e (bag_of gs) → IsAmong e (flat_map (entries_at gs) order)
   from_bag e m =
       let g = among_flat (λ (h : Grouped). h.entries) gs e m in
       let at = among_place g.0 gs g.1 in
-      let is : g.0 ≡ get_or gs at.0 none = sym (at_default gs at.0 none g.0 at.1 ∙ at.2) in
+      let is : g.0 ≡ get_or gs at.0 none = sym (get_or_default gs at.0 none g.0 at.1 ∙ at.2) in
       flat_among (entries_at gs) order at.0 e (names.each at.0 at.1)
       (subst (λ (h : Grouped). IsAmong e h.entries) is g.2)
 

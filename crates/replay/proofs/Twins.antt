@@ -3,7 +3,7 @@ use Rattle.std.proofs.Common.{◌≡◌, ◌≢◌, ℕ, ◌+◌, ◌*◌, ◌/�
 use Rattle.std.proofs.Common.{◌∙◌, inl, inr, arith}
 use Rattle.std.specs.Prelude.{◌==◌, Bool, true, false, slice_index}
 use Rattle.std.specs.List.{list_any}
-use Rattle.std.proofs.lemmas.List.{length-map, length-take-le, get_or-take}
+use Rattle.std.proofs.lemmas.List.{length-map, length-take-le, get_or-take, get_or_default}
 use Rattle.std.proofs.Math.Nat.{mul-div_cancel, mul-mod_left}
 use Rattle.entry.specs.declared.entry.Entry.{Entry}
 use Rattle.entry.proofs.BagLemmas.{among_at, among_place}
@@ -13,7 +13,7 @@ use Rattle.replay.specs.declared.fault.ReplayFault.{ReplayFault}
 use Rattle.replay.specs.declared.fault.ReplayFault.TheVariants as fault
 use Rattle.replay.specs.Rebuilds.{id_of, ids_of, count_of, IsDouble, IsGroup, IsRebuildFault, NamesEach}
 use Rattle.replay.specs.Turns.{AreApart, IsIdsFault, IsTwin}
-use Rattle.replay.proofs.Marks.{at_default, same_or_not}
+use Rattle.replay.proofs.Marks.{same_or_not}
 use Rattle.replay.proofs.ReplayLemmas.{id_no, id_yes}
 use Rattle.replay.proofs.Wholes.{apart_ways, row_inside}
 
@@ -42,7 +42,7 @@ pub not_before : (ids : List ℕ) (at : ℕ) → is_before ids at ≡ false → 
 not_before ids at off lt i low same =
     id_no (take at ids) (slice_index ids at) off
     (among_at (take at ids) i (slice_index ids at) (let long = length-take-le at ids (omega (arith, lt)) in omega (arith, long, low))
-    (sym same ∙ at_default ids i 0 (slice_index ids at) (omega (arith, lt, low)) ∙ sym (get_or-take at ids i (slice_index ids at) low)))
+    (sym same ∙ get_or_default ids i 0 (slice_index ids at) (omega (arith, lt, low)) ∙ sym (get_or-take at ids i (slice_index ids at) low)))
 
 pub twin_at : (ids : List ℕ) (at : ℕ) → is_before ids at ≡ true → at < length ids → IsTwin ids (slice_index ids at)
 twin_at ids at on lt =
@@ -55,7 +55,7 @@ twin_at ids at on lt =
       second = at;
       apart = low;
       within = lt;
-      one = at_default ids place.0 0 (slice_index ids at) (omega (arith, low, lt))
+      one = get_or_default ids place.0 0 (slice_index ids at) (omega (arith, low, lt))
           ∙ sym (get_or-take at ids place.0 (slice_index ids at) low) ∙ place.2;
       other = refl;
     }
@@ -98,7 +98,7 @@ module _ (segments : List (List Entry)) (qs : List Part) (order : List ℕ) (som
   named i lt =
       let at = among_place (i * partitions_of qs) order
       (names.each (i * partitions_of qs) (row_inside i (length segments) (partitions_of qs) some lt)) in
-      (at.0, at.1, at_default order at.0 0 (i * partitions_of qs) at.1 ∙ at.2)
+      (at.0, at.1, get_or_default order at.0 0 (i * partitions_of qs) at.1 ∙ at.2)
 
   group_of : (i id n : ℕ) → i < length segments → slice_index (ids_of segments) i ≡ id → n ≡ i * partitions_of qs
       → IsGroup segments qs n id 0

@@ -1,10 +1,10 @@
 //! Images in memory: each call once, an image added between two others, and a run of heads whose sum is counted anew
 //! after each step.
 
-ghost use Rattle.std.specs.Prelude.{◌≡◌, ◌+◌, ◌<◌, ◌≤◌, ℕ, true, length, OnOk, IfOk, IsSomeAnd};
-ghost use Rattle.entry.specs.Text.{text_of, is_data};
+ghost use Rattle.std.specs.Prelude.{◌≡◌, ◌+◌, ◌<◌, ◌≤◌, ℕ, true, length, OnOk, IfOk, IfSome};
+ghost use Rattle.entry.specs.Text.{text_of};
 ghost use Rattle.images.specs.Sorted.{AreBelow, IsWhole};
-ghost use Rattle.images.specs.Steps.{entry_at};
+ghost use Rattle.images.specs.Steps.{HasData};
 
 use crate::vectors::{OBJECT, bytes_of};
 use entry::{EntryRef, Ids, SafeVersion};
@@ -159,16 +159,15 @@ fn add(images: &mut Images, id: u64, head: Segment) -> bool
     }
 }
 
-/// Whether an object is at an offset of an image.
-fn has_object(images: &Images, id: u64, at: usize) -> bool
-    ensures { result ≡ true → IsSomeAnd (entry_at images.now.images id at) (λ e. is_data e ≡ true) }
+/// How many bytes the object at an offset of an image has, if there is one.
+fn object_len(images: &Images, id: u64, at: usize) -> Option<usize>
+    ensures { IfSome result (HasData images.now.images id at) }
 {
-    let Some(segment) = images.get(id) else {
-        return false;
-    };
-    match segment.entry_at(at) {
-        Some(EntryRef::Object(_)) => true,
-        _ => false,
+    let segment = images.get(id)?;
+    let rest = segment.bytes().get(at..)?;
+    match EntryRef::read(rest) {
+        Ok((EntryRef::Object(_), len)) => Some(len),
+        _ => None,
     }
 }
 
@@ -178,10 +177,8 @@ fn copy(images: &mut Images, from: u64, at: usize, to: u64) -> Option<usize>
     requires whole { IsWhole images.old.images to }
     ensures segment { images.new.segment ≡ images.old.segment }
 {
-    if !has_object(images, from, at) {
-        return None;
-    }
-    match images.copy_entry(from, at, to) {
+    let len = object_len(images, from, at)?;
+    match images.copy_entry(from, at, len, to) {
         Ok(at) => Some(at),
         Err(_) => None,
     }
@@ -204,7 +201,7 @@ fn copies(alloc: Global, images: &mut Images, object: &[u8]) -> Result<(), Fail>
     if !add(images, 3, new_head(alloc, 3)?) {
         Err("no room")?;
     }
-    if copy(images, 1, 65, 3) != Some(40) || !has_object(images, 3, 40) {
+    if copy(images, 1, 65, 3) != Some(40) || object_len(images, 3, 40).is_none() {
         Err("no copy")?;
     }
     if !add(images, 2, new_head(alloc, 2)?) || !are(images, 1, 2, 3) {

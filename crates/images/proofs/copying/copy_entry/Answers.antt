@@ -1,9 +1,7 @@
-use Rattle.std.proofs.Common.{◌≡◌, ℕ, true, subst, sym, rules}
-use Rattle.std.specs.Prelude.{Option, IfOk, IsSomeAnd}
+use Rattle.std.proofs.Common.{◌≡◌, ℕ, subst, sym, rules}
+use Rattle.std.specs.Prelude.{IfOk}
 use Rattle.std.proofs.Math.Seq.{of_parts}
-use Rattle.entry.specs.declared.entry.Entry.{Entry}
-use Rattle.entry.specs.Text.{is_data}
-use Rattle.images.proofs.Copies.{places_rise, entry_is, len_here, copied_is, set_part}
+use Rattle.images.proofs.Copies.{places_rise, entry_is, data_is, len_here, copied_is, set_part}
 use Rattle.images.proofs.copying.copy_entry.Goals as goal
 
 pub bounds-earlier-source : goal.bounds-earlier-source
@@ -15,10 +13,9 @@ bounds-earlier-source c =
 pub append_copy-requires-clause-data : goal.append_copy-requires-clause-data
 append_copy-requires-clause-data c =
     let cut = c.split_at_mut-earlier in
-    let entry = entry_is c.args.images.now c.args.from c.args.to c.in-Some.source c.in-Some-place_of.target c.requires.rising
+    data_is c.args.images.now c.args.from c.args.to c.in-Some.source c.in-Some-place_of.target c.requires.rising
     c.in-Some.ensures.found c.in-Some-place_of.ensures.found cut.result.0.now cut.result.1.now cut.ensures.front cut.ensures.back
-    c.index-earlier-source.result c.index-later-0.result c.args.at c.requires.order in
-    subst (λ (o : Option Entry). IsSomeAnd o (λ (e : Entry). is_data e ≡ true)) entry c.requires.data
+    c.index-earlier-source.result c.index-later-0.result c.args.at c.args.len c.requires.order c.requires.data
 
 pub returns-clause-place : goal.returns-clause-place
 returns-clause-place c =

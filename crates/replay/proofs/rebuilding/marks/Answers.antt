@@ -1,11 +1,11 @@
 use Rattle.std.proofs.Common.{◌≡◌, ◌<◌, length, map, subst, sym, get_or, ◌∙◌, true, false, ap, arith, Bool, List}
 use Rattle.std.specs.Prelude.{slice_index}
-use Rattle.std.proofs.lemmas.List.{length-map, length-set}
+use Rattle.std.proofs.lemmas.List.{length-map, length-set, get_or_default}
 use Rattle.entry.proofs.BagLemmas.{among_at}
 use Rattle.backup.specs.declared.group.Group.{Group}
 use Rattle.backup.specs.Groups.{grouped}
 use Rattle.replay.specs.Turns.{IsSecond, AreMarked}
-use Rattle.replay.proofs.Marks.{at_default, second_named, marked_first, marked_more, unmarked, length-unmarked}
+use Rattle.replay.proofs.Marks.{second_named, marked_first, marked_more, unmarked, length-unmarked}
 use Rattle.replay.proofs.rebuilding.marks.Goals as goal
 
 pub loop-n-init : goal.loop-n-init
@@ -22,7 +22,7 @@ returns-then-n-groups-clause-fault c =
     let order = c.args.order.now in
     let k = c.loop-n.n-index in
     let n = slice_index order k in
-    (n, among_at order k n c.loop-n-test.true (at_default order k 0 n c.loop-n-test.true), rw length-map c.if-n-groups.true)
+    (n, among_at order k n c.loop-n-test.true (get_or_default order k 0 n c.loop-n-test.true), rw length-map c.if-n-groups.true)
 
 pub returns-then-index-clause-fault : goal.returns-then-index-clause-fault
 returns-then-index-clause-fault c =
@@ -31,7 +31,7 @@ returns-then-index-clause-fault c =
     let n = slice_index order c.loop-n.n-index in
     let lt : n < length named = subst (λ m. n < m) (sym c.loop-n.invariant.long) c.if-n-groups.false in
     let on : get_or named n false ≡ true =
-    at_default named n false c.index.result.now lt ∙ sym c.index.ensures ∙ c.if-index.true in
+    get_or_default named n false c.index.result.now lt ∙ sym c.index.ensures ∙ c.if-index.true in
     subst (λ (g : Group). IsSecond (map grouped c.args.groups.now) order g.segment) c.index-groups-n.is
     (second_named order named c.loop-n.n-index c.loop-n.invariant.marks c.args.groups.now
     c.index-groups-n.result c.loop-n.invariant.long c.loop-n-test.true c.if-n-groups.false on c.index-groups-n.is)
@@ -43,7 +43,7 @@ loop-n-preserved c =
     let n = slice_index order c.loop-n.n-index in
     let lt : n < length named = subst (λ m. n < m) (sym c.loop-n.invariant.long) c.if-n-groups.false in
     let off : get_or named n false ≡ false =
-    at_default named n false c.index.result.now lt ∙ sym c.index.ensures ∙ c.if-index.false in
+    get_or_default named n false c.index.result.now lt ∙ sym c.index.ensures ∙ c.if-index.false in
     record {
       long = length-set named n true ∙ c.loop-n.invariant.long;
       marks = marked_more order named c.loop-n.n-index c.loop-n.invariant.marks lt off;

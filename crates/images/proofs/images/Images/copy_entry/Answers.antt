@@ -1,15 +1,14 @@
-use Rattle.std.proofs.Common.{◌≡◌, ◌+◌, ◌<◌, ◌↔◌, [], ◌∷◌, List, length, true, subst, sym}
-use Rattle.std.specs.Prelude.{IfSome, OnOk, OnErr, IsErrOf, IsSomeAnd}
+use Rattle.std.proofs.Common.{◌≡◌, ◌+◌, ◌<◌, ◌↔◌, [], ◌∷◌, List, length, subst, sym}
+use Rattle.std.specs.Prelude.{IfSome, OnOk, OnErr, IsErrOf}
 use Rattle.entry.specs.declared.entry.Entry.{Entry}
 use Rattle.entry.specs.Format.{spelling}
-use Rattle.entry.specs.Text.{is_data}
 use Rattle.segment.specs.declared.fault.AppendFault.TheVariants.{Full}
 use Rattle.images.specs.contracts.images.Images.{the_view}
 use Rattle.images.specs.declared.image.Image.{Image}
 use Rattle.images.specs.Images.{ImagesValue}
 use Rattle.images.specs.Sorted.{IsWhole, changed}
-use Rattle.images.specs.Steps.{with_unit, len_at, entry_at}
-use Rattle.images.proofs.Copies.{all_back, copied_valid}
+use Rattle.images.specs.Steps.{with_unit, len_at, entry_at, HasData}
+use Rattle.images.proofs.Copies.{all_back, copied_valid, data_of}
 use Rattle.images.proofs.images.Images.copy_entry.Goals as goal
 
 pub invariant_of-self : goal.invariant_of-self
@@ -20,7 +19,8 @@ invariant_of-self c =
     let r = c.copy_entry.result in
     let is = c.as_mut_slice.ensures.value in
     let whole = subst (λ (w : ImagesValue). IsWhole w.images c.args.to) (sym c.self.view_is) c.requires.whole in
-    let some = subst (λ (w : ImagesValue). IsSomeAnd (entry_at w.images c.args.from c.args.at) (λ (e : Entry). is_data e ≡ true)) (sym c.self.view_is) c.requires.data in
+    let there = subst (λ (w : ImagesValue). HasData w.images c.args.from c.args.at c.args.len) (sym c.self.view_is) c.requires.data in
+    let some = data_of v.images c.args.from c.args.at c.args.len there in
     let ok = subst (λ (xs : List Image). OnOk r (IfSome (entry_at xs c.args.from c.args.at) (λ (e : Entry). new ≡ changed xs c.args.to (with_unit (e ∷ [])))))
     is c.copy_entry.ensures.ok in
     let full = subst (λ (xs : List Image). IfSome (entry_at xs c.args.from c.args.at)
