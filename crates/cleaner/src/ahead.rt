@@ -7,15 +7,22 @@ use arrayvec::ArrayVec;
 use compactor::{Asked, held_bytes};
 use entry::EntryRef;
 use hash_index::{Index, hash_key};
+use images::Images;
 use segment::Segment;
 
 /// How many entries a pass looks ahead.
 const LOOK_AHEAD: usize = 16;
 
+/// About so many bytes of victims are still in the processor's cache, with what the index holds of them, if they have
+/// just been read.
+const NEAR: usize = 1048576;
+
 /// How far a pass looked ahead. It decides nothing: each copy asks the index again. But what it reads then is in the
 /// processor's cache, since the questions that were asked ahead didn't wait for each other's answers.
 #[derive(Clone, Copy)]
 pub struct Ahead {
+    /// Whether the pass looks ahead at all. It needn't if all was read to see whether it fits, and is still near.
+    pub is_needed: bool,
     /// In which victim, in the order in which they were given.
     pub victim: usize,
     /// The offset in its image behind the last entry that was looked at, in bytes.
@@ -48,6 +55,22 @@ fn gather(text: &[u8], from: usize, objects: &mut ArrayVec<Asked, LOOK_AHEAD>) -
     end
 }
 
+/// Nothing was looked at yet.
+pub(crate) fn unseen(victims: &[u64], images: &Images) -> Ahead {
+    let mut len: usize = 0;
+    for id in victims {
+        if let Some(victim) = images.get(*id) {
+            len = len.saturating_add(victim.bytes().len());
+        }
+    }
+    Ahead {
+        is_needed: len <= images.segment_len() || len > NEAR,
+        victim: 0,
+        end: 0,
+        held: 0,
+    }
+}
+
 /// Looks ahead in a victim's image from this offset on.
 pub(crate) fn look_ahead(
     victim: usize,
@@ -59,5 +82,10 @@ pub(crate) fn look_ahead(
     let mut objects = ArrayVec::new();
     let end = gather(segment.bytes(), from, &mut objects);
     let held = held_bytes(objects.as_slice(), id, index);
-    Ahead { victim, end, held }
+    Ahead {
+        is_needed: true,
+        victim,
+        end,
+        held,
+    }
 }

@@ -4,7 +4,7 @@ ghost use Rattle.std.specs.Prelude.{◌≡◌, ◌+◌, ◌<◌, ◌≤◌, fals
 ghost use Rattle.cleaner.specs.Passes.{images_in, ids_in, AreVictims, places_of, rest_of, is_at_end, is_ready};
 ghost use Rattle.cleaner.specs.Passes.{IsCursorAt, IsPass, HasRoom, CopiesOne};
 
-use crate::ahead::{Ahead, look_ahead};
+use crate::ahead::{self, Ahead, look_ahead};
 use crate::treating::treat;
 use crate::walking::{cursor_behind, next_cursor};
 use entry::{NoMemory, Row};
@@ -50,7 +50,8 @@ pub struct Pass {
 
 /// How far the pass has looked ahead of a cursor at this place. It looks on, if the cursor is where the last look ended.
 fn ahead_of(cursor: Cursor, place: Place, images: &Images, index: &Index) -> Ahead {
-    if cursor.victim == cursor.ahead.victim && cursor.at < cursor.ahead.end {
+    let is_seen = cursor.victim == cursor.ahead.victim && cursor.at < cursor.ahead.end;
+    if is_seen || !cursor.ahead.is_needed {
         return cursor.ahead;
     }
     match images.get(place.segment) {
@@ -78,11 +79,7 @@ impl Pass {
         let start = Cursor {
             victim: 0,
             at: 0,
-            ahead: Ahead {
-                victim: 0,
-                end: 0,
-                held: 0,
-            },
+            ahead: ahead::unseen(victims.as_slice(), images),
         };
         let cursor = next_cursor(victims.as_slice(), images, start);
         Pass {

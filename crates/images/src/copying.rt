@@ -41,7 +41,7 @@ fn append_copy(
 }
 
 /// In a list by rising id, appends a copy of the object or tombstone of this length at an offset of one image to a later
-/// image, if that then has at most `limit` bytes.
+/// image, if that then has at most `limit` bytes. The guess is where the first image may be in the list.
 pub(crate) fn copy_entry(
     images: &mut [Image],
     from: u64,
@@ -49,6 +49,7 @@ pub(crate) fn copy_entry(
     len: usize,
     to: u64,
     limit: usize,
+    guess: usize,
 ) -> Result<usize, AppendFault>
     requires rising { AreRising images.old }
     requires order { from < to }
@@ -63,10 +64,10 @@ pub(crate) fn copy_entry(
     ensures err { OnErr result (images.new ≡ images.old) }
     ensures len { length images.new ≡ length images.old }
 {
-    let Some(source) = place_of(images, from) else {
+    let Some(source) = place_of(images, from, guess) else {
         unreachable!()
     };
-    let Some(target) = place_of(images, to) else {
+    let Some(target) = place_of(images, to, guess) else {
         unreachable!()
     };
     let (earlier, later) = images.split_at_mut(target);

@@ -52,18 +52,29 @@ pub(crate) fn recounted(images: &[Image], segment: usize, seglet: usize) -> u64
 }
 
 /// Where the image of a segment is in a list by rising id. As long as no segment was cleaned, the ids have no gaps. A
-/// survivor is mostly the last.
+/// survivor is mostly the last. Where neither holds, the image may be where it is guessed, and else it is searched for.
 #[inline]
-pub(crate) fn place_of(images: &[Image], id: u64) -> Option<usize>
+pub(crate) fn place_of(images: &[Image], id: u64, guess: usize) -> Option<usize>
     requires { AreRising images.now }
     ensures found { IfSome result (IsPlaceOf images.now id) }
     ensures absent { IfNone result (image_of images.now id ≡ None) }
+{
+    match quick_place(images, id, guess) {
+        Some(at) => Some(at),
+        None => place_among(images, id),
+    }
+}
+
+/// Where the image is, if that is found without a search.
+#[inline]
+fn quick_place(images: &[Image], id: u64, guess: usize) -> Option<usize>
+    ensures { IfSome result (IsPlaceOf images.now id) }
 {
     match place_without_gaps(images, id) {
         Some(at) => Some(at),
         None => match place_at_end(images, id) {
             Some(at) => Some(at),
-            None => place_among(images, id),
+            None => place_at(images, id, guess),
         },
     }
 }
@@ -76,8 +87,19 @@ fn place_at_end(images: &[Image], id: u64) -> Option<usize>
     if images.is_empty() {
         return None;
     }
-    let at = images.len() - 1;
-    if images[at].id == id { Some(at) } else { None }
+    place_at(images, id, images.len() - 1)
+}
+
+/// This place, if the image is there.
+#[inline]
+fn place_at(images: &[Image], id: u64, at: usize) -> Option<usize>
+    ensures { IfSome result (IsPlaceOf images.now id) }
+{
+    if at < images.len() && images[at].id == id {
+        Some(at)
+    } else {
+        None
+    }
 }
 
 /// Where the image is if the ids from the first one to its own have no gaps.
@@ -88,12 +110,7 @@ fn place_without_gaps(images: &[Image], id: u64) -> Option<usize>
     if images.is_empty() || id < images[0].id {
         return None;
     }
-    let at = (id - images[0].id) as usize;
-    if at < images.len() && images[at].id == id {
-        Some(at)
-    } else {
-        None
-    }
+    place_at(images, id, (id - images[0].id) as usize)
 }
 
 /// Where the image is, by a binary search.

@@ -28,6 +28,8 @@ pub struct Images {
     images: Vec<Image>,
     /// How many seglets are counted.
     used: u64,
+    /// Where in the list the image was from which an entry was copied last. It only spares searches.
+    guess: usize,
 }
 
 impl Model for Images {
@@ -71,6 +73,7 @@ impl Images {
             seglets,
             images: Vec::new(alloc),
             used: 0,
+            guess: 0,
         }
     }
 
@@ -79,6 +82,13 @@ impl Images {
         ensures { IsImages self.now }
     {
         let _used = self.used;
+    }
+
+    /// The most bytes of a segment.
+    pub fn segment_len(&self) -> usize
+        ensures { result ≡ self.now.segment }
+    {
+        self.segment
     }
 
     /// How many seglets are counted.
@@ -123,7 +133,7 @@ impl Images {
     pub fn get(&self, id: u64) -> Option<&Segment>
         ensures { option_copied result ≡ segment_of self.entry.now.images id }
     {
-        let at = place_of(self.images.as_slice(), id)?;
+        let at = place_of(self.images.as_slice(), id, self.guess)?;
         Some(&self.images[at].segment)
     }
 
@@ -210,7 +220,7 @@ impl Images {
             (self.old.segment < len_at self.old.images id + length (text_of (map shown unit.now))) }
         ensures err { OnErr result (self.new ≡ self.old) }
     {
-        let Some(at) = place_of(self.images.as_slice(), id) else {
+        let Some(at) = place_of(self.images.as_slice(), id, self.guess) else {
             unreachable!()
         };
         self.images[at].segment.append(unit, self.segment)
@@ -236,7 +246,16 @@ impl Images {
             (self.old.segment < len_at self.old.images to + length (spelling e))) }
         ensures err { OnErr result (self.new ≡ self.old) }
     {
-        copy_entry(self.images.as_mut_slice(), from, at, len, to, self.segment)
+        self.guess = place_of(self.images.as_slice(), from, self.guess).unwrap_or(0);
+        copy_entry(
+            self.images.as_mut_slice(),
+            from,
+            at,
+            len,
+            to,
+            self.segment,
+            self.guess,
+        )
     }
 
     /// Makes a whole image one that counts its length, and gives back the memory beyond its seglets. It changes nothing
@@ -244,7 +263,7 @@ impl Images {
     pub fn trim(&mut self, id: u64)
         ensures { self.new ≡ record self.old { images = changed self.old.images id trimmed } }
     {
-        let Some(at) = place_of(self.images.as_slice(), id) else {
+        let Some(at) = place_of(self.images.as_slice(), id, self.guess) else {
             return;
         };
         let image = &mut self.images[at];
@@ -268,7 +287,7 @@ impl Images {
             div_ceil (length (text_of segment)) self.old.seglet) }
         ensures back { IfErr result (λ e. (e.0 ≡ ImagesFault.NoRoom) × (e.1 ≡ segment)) }
     {
-        let Some(at) = place_of(self.images.as_slice(), id) else {
+        let Some(at) = place_of(self.images.as_slice(), id, self.guess) else {
             unreachable!()
         };
         let image = &mut self.images[at];
@@ -287,7 +306,7 @@ impl Images {
     pub fn drop_segment(&mut self, id: u64)
         ensures { self.new ≡ record self.old { images = without self.old.images id } }
     {
-        if let Some(at) = place_of(self.images.as_slice(), id) {
+        if let Some(at) = place_of(self.images.as_slice(), id, self.guess) {
             let image = self.images.remove(at);
             self.used -= count_of(&image, self.segment, self.seglet);
         }
