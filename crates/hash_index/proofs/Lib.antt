@@ -9,3 +9,4 @@ pub mod Whole
 pub mod Each
 pub mod Relocating
 pub mod Parts
+pub mod Fronts

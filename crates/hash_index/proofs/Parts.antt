@@ -17,13 +17,6 @@ brings_both xs new ys others first second p all =
     let parts = all_split P xs ys all in
     all_append P new others (first p parts.0) (second p parts.1)
 
--- a list that is turned round
-pub brings_turned : (xs ys : List Held) → BringsNoHash (xs ++ ys) (ys ++ xs)
-brings_turned xs ys p all =
-    let P = λ (y : Held). p y.hash ≡ true in
-    let parts = all_split P xs ys all in
-    all_append P ys xs parts.1 parts.0
-
 module _ (keys : Place → Option Key) (k : Key) (xs ys : List Held) where
   pub moved_first : (p : Place) (new : List Held) → Moves keys k p xs true new → Moves keys k p (xs ++ ys) true (new ++ ys)
   moved_first p new m = record {
@@ -73,19 +66,16 @@ module _ (h : Held) (to : Place) (xs ys : List Held) where
 
 -- ---- one place more
 
+module _ (h : Held) (xs new : List Held) where
+  -- a place behind those in front
+  module _ (filled : new ≡ xs ++ h ∷ []) where
+    pub filled_itself : IsShuffled (xs ++ h ∷ []) new
+    filled_itself = subst (λ (zs : List Held). IsShuffled (xs ++ h ∷ []) zs) (sym filled) (shuffled_itself (xs ++ h ∷ []))
+
+    pub filled_same : BringsNoHash (xs ++ h ∷ []) new
+    filled_same = subst (λ (zs : List Held). BringsNoHash (xs ++ h ∷ []) zs) (sym filled) (λ p all. all)
+
 module _ (h : Held) (xs ys new : List Held) where
-  -- a first place, where there was none
-  module _ (empty : xs ≡ []) (filled : new ≡ h ∷ []) where
-    pub first_shuffled : IsShuffled ((xs ++ ys) ++ h ∷ []) (new ++ ys)
-    first_shuffled =
-        subst (λ (zs : List Held). IsShuffled ((zs ++ ys) ++ h ∷ []) (new ++ ys)) (sym empty)
-        (subst (λ (zs : List Held). IsShuffled (ys ++ h ∷ []) (zs ++ ys)) (sym filled) (shuffled_turned ys (h ∷ [])))
-
-    pub first_brings : BringsNoHash ((xs ++ ys) ++ h ∷ []) (new ++ ys)
-    first_brings =
-        subst (λ (zs : List Held). BringsNoHash ((zs ++ ys) ++ h ∷ []) (new ++ ys)) (sym empty)
-        (subst (λ (zs : List Held). BringsNoHash (ys ++ h ∷ []) (zs ++ ys)) (sym filled) (brings_turned ys (h ∷ [])))
-
   -- one of those in front
   pub filled_shuffled : IsShuffled (xs ++ h ∷ []) new → IsShuffled ((xs ++ ys) ++ h ∷ []) (new ++ ys)
   filled_shuffled filled =
@@ -117,21 +107,6 @@ module _ (h : Held) (xs ys new : List Held) where
   pushed_brings others (Ok u) same pushed =
       subst (λ (zs : List Held). BringsNoHash ((xs ++ ys) ++ h ∷ []) zs) (pushed_is others same pushed) (λ p all. all)
   pushed_brings others (Err e) same pushed = pushed
-
-  -- a second place, where there was none
-  module _ (others : List Held) (same : new ≡ xs) (empty : ys ≡ []) (filled : others ≡ h ∷ []) where
-    second_is : others ≡ ys ++ h ∷ []
-    second_is = filled ∙ ap (λ (zs : List Held). zs ++ h ∷ []) (sym empty)
-
-    pub second_shuffled : IsShuffled ((xs ++ ys) ++ h ∷ []) (new ++ others)
-    second_shuffled =
-        subst (λ (zs : List Held). IsShuffled ((xs ++ ys) ++ h ∷ []) zs) (pushed_is others same second_is)
-        (shuffled_itself ((xs ++ ys) ++ h ∷ []))
-
-    pub second_brings : BringsNoHash ((xs ++ ys) ++ h ∷ []) (new ++ others)
-    second_brings =
-        subst (λ (zs : List Held). BringsNoHash ((xs ++ ys) ++ h ∷ []) zs) (pushed_is others same second_is)
-        (λ p all. all)
 
 -- ---- all places of a chain, one part after the other
 

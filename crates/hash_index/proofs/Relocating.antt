@@ -140,11 +140,14 @@ module _ (h : Held) (to : Place) where
           ap (λ (b : Bool). cond (not b) (1 + position_or_len (is_same h) gs) 0) other in
           ap (λ (xs : List Held). g ∷ xs) (rest m (omega arith) (omega arith)) ∙ sym (later g gs other)
 
+  pub slot_relocated : (hs : List Held) (i : ℕ) (d : Held) → position (is_same h) hs ≡ Some i
+      → set hs i (record { hash = (get_or hs i d).hash; place = to }) ≡ relocated h to hs
+  slot_relocated hs i d some = slot_moves hs i d (position_is (is_same h) hs i some) (position-Some (is_same h) hs i d some).0
+
   pub slot_relocates : (hs : List Held) (i : ℕ) (x : Held) → position (is_same h) hs ≡ Some i → x ≡ get_or hs i x
       → set hs i (record { hash = x.hash; place = to }) ≡ relocated h to hs
   slot_relocates hs i x some at =
-      ap (λ (y : Held). set hs i (record { hash = y.hash; place = to })) at
-      ∙ slot_moves hs i x (position_is (is_same h) hs i some) (position-Some (is_same h) hs i x some).0
+      ap (λ (y : Held). set hs i (record { hash = y.hash; place = to })) at ∙ slot_relocated hs i x some
 
 module _ (h : Held) where
   pub slot_holds : (hs : List Held) (i : ℕ) → position (is_same h) hs ≡ Some i → holds hs h ≡ true

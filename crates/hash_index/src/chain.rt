@@ -16,8 +16,8 @@ use entry::{KeyRef, NoMemory};
 use std::alloc::Global;
 use std::marker::Model;
 
-/// The places of some hashes: the first two lie in the table itself, and the others in memory of their own. If one of the
-/// two is taken out, the next place that is pushed takes its room.
+/// The places of some hashes: the first few lie in the table itself, and the others in memory of their own. If one of the
+/// first is taken out, the next place that is pushed takes its room.
 #[derive(Drop)]
 pub(crate) struct Chain {
     front: Front,
@@ -44,12 +44,12 @@ impl Chain {
         }
     }
 
-    /// The first two places, and the others.
+    /// The first places, and the others.
     #[inline]
-    pub(crate) fn parts(&self) -> (&Front, &[Held])
+    pub(crate) fn parts(&self) -> (&[Held], &[Held])
         ensures { result.0.now ++ result.1.now ≡ self.now.held }
     {
-        (&self.front, self.more.as_slice())
+        (self.front.as_slice(), self.more.as_slice())
     }
 
     /// The place of a key of this hash.

@@ -1,4 +1,4 @@
-//! The first two places of a chain, which lie in the table itself.
+//! The first places of a chain, which lie in the table itself.
 
 ghost use Rattle.std.specs.Prelude.{◌≡◌, ◌∷◌, ◌++◌, [], Option, true, false};
 ghost use Rattle.entry.specs.declared.key.Key.{Key};
@@ -6,28 +6,31 @@ ghost use Rattle.entry.specs.View.{shown_key};
 ghost use Rattle.hash_index.specs.declared.place.Place.{Place as PlaceValue};
 ghost use Rattle.hash_index.specs.Map.{found, hash_of, AreKept, IsCandidate};
 ghost use Rattle.hash_index.specs.Relocation.{holds, relocated};
-ghost use Rattle.hash_index.specs.Steps.{Moves, Removes, BringsNoHash, IsShuffled};
+ghost use Rattle.hash_index.specs.Steps.{Moves, Removes};
 
-use crate::first::First;
 use crate::place::{Held, Place};
 use crate::resolve::Resolve;
+use crate::walk::{first_slot, is_same_held, slot_at, slot_of};
+use arrayvec::ArrayVec;
 use entry::KeyRef;
 use std::marker::Model;
 
-/// Two places at most, in no memory of their own. A contract sees them as a list.
+/// How many places of a chain lie in the table itself.
+const IN_FRONT: usize = 3;
+
+/// A few places, in no memory of their own. A contract sees them as a list.
 #[derive(Drop)]
 pub(crate) struct Front {
-    first: First,
-    second: First,
+    held: ArrayVec<Held, IN_FRONT>,
 }
 
 impl Model for Front {
-    ghost use Rattle.std.specs.Prelude.{List, ◌++◌};
+    ghost use Rattle.std.specs.Prelude.{List};
     ghost use Rattle.hash_index.specs.declared.place.Held.{Held};
 
     ghost Value = { List Held };
 
-    ghost view = { λ f. f.first ++ f.second };
+    ghost view = { λ f. f.held.items };
 }
 
 impl Front {
@@ -36,17 +39,16 @@ impl Front {
         ensures { result ≡ [] }
     {
         Front {
-            first: First::new(),
-            second: First::new(),
+            held: ArrayVec::new(),
         }
     }
 
-    /// The first place and the second, each as a list.
+    /// The places that it holds.
     #[inline]
-    pub(crate) fn parts(&self) -> (&[Held], &[Held])
-        ensures { result.0.now ++ result.1.now ≡ self.now }
+    pub(crate) fn as_slice(&self) -> &[Held]
+        ensures { result.now ≡ self.now }
     {
-        (self.first.as_slice(), self.second.as_slice())
+        self.held.as_slice()
     }
 
     /// The place of a key of this hash.
@@ -56,10 +58,8 @@ impl Front {
         ensures { AreKept (R.keys resolver.now) self.now
             → result ≡ found (R.keys resolver.now) (shown_key key.now) self.now }
     {
-        match self.first.get(hash, resolver, key) {
-            Some(place) => Some(place),
-            None => self.second.get(hash, resolver, key),
-        }
+        let slot = slot_of(&self.held, hash, resolver, key)?;
+        Some(self.held[slot].place)
     }
 
     /// The first place that is held with this hash.
@@ -68,10 +68,8 @@ impl Front {
         ensures { (keys : PlaceValue → Option Key) (k : Key) → hash ≡ hash_of k → AreKept keys self.now
             → IsCandidate keys k self.now result }
     {
-        match self.first.candidate(hash) {
-            Some(place) => Some(place),
-            None => self.second.candidate(hash),
-        }
+        let slot = first_slot(&self.held, hash)?;
+        Some(self.held[slot].place)
     }
 
     /// The place of a key of this hash that has one becomes this one. Whether it has one.
@@ -86,10 +84,13 @@ impl Front {
         requires { hash ≡ hash_of (shown_key key.now) }
         ensures { Moves (R.keys resolver.now) (shown_key key.now) place self.old result self.new }
     {
-        if self.first.move_to(hash, resolver, key, place) {
-            return true;
+        match slot_of(&self.held, hash, resolver, key) {
+            Some(slot) => {
+                self.held[slot] = Held { hash, place };
+                true
+            }
+            None => false,
         }
-        self.second.move_to(hash, resolver, key, place)
     }
 
     /// The key of this hash has no place any more. The place that it had.
@@ -103,10 +104,8 @@ impl Front {
         requires { hash ≡ hash_of (shown_key key.now) }
         ensures { Removes (R.keys resolver.now) (shown_key key.now) self.old result self.new }
     {
-        match self.first.remove(hash, resolver, key) {
-            Some(place) => Some(place),
-            None => self.second.remove(hash, resolver, key),
-        }
+        let slot = slot_of(&self.held, hash, resolver, key)?;
+        Some(self.held.remove(slot).place)
     }
 
     /// Whether it holds this place under this hash.
@@ -114,7 +113,7 @@ impl Front {
     pub(crate) fn holds(&self, held: Held) -> bool
         ensures { result ≡ holds self.now held }
     {
-        self.first.holds(held) || self.second.holds(held)
+        slot_at(&self.held, held).is_some()
     }
 
     /// Whether its first place is this one under this hash.
@@ -122,7 +121,10 @@ impl Front {
     pub(crate) fn holds_first(&self, held: Held) -> bool
         ensures { result ≡ true → holds self.now held ≡ true }
     {
-        self.first.holds(held)
+        match self.held.first() {
+            Some(one) => is_same_held(one, held),
+            None => false,
+        }
     }
 
     /// A place that it holds under this hash becomes another place. Whether it was there.
@@ -131,19 +133,25 @@ impl Front {
         ensures had { result ≡ holds self.old held }
         ensures moved { self.new ≡ relocated held to self.old }
     {
-        self.first.relocate(held, to) || self.second.relocate(held, to)
+        match slot_at(&self.held, held) {
+            Some(slot) => {
+                self.held[slot].place = to;
+                true
+            }
+            None => false,
+        }
     }
 
-    /// Takes a place in, if it has fewer than two. Whether it did.
+    /// Takes one more place in, if it has room. Whether it did.
     #[inline]
     pub(crate) fn fill(&mut self, held: Held) -> bool
-        ensures filled { result ≡ true → IsShuffled (self.old ++ held ∷ []) self.new }
-        ensures hashes { result ≡ true → BringsNoHash (self.old ++ held ∷ []) self.new }
+        ensures filled { result ≡ true → self.new ≡ self.old ++ held ∷ [] }
         ensures same { result ≡ false → self.new ≡ self.old }
     {
-        if self.first.fill(held) {
-            return true;
+        if self.held.is_full() {
+            return false;
         }
-        self.second.fill(held)
+        self.held.push(held);
+        true
     }
 }

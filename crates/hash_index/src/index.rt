@@ -17,7 +17,7 @@ use std::alloc::{AllocError, Global};
 use std::marker::Model;
 
 /// How many keys there may be for each chain before the table grows.
-const KEYS_PER_CHAIN: usize = 2;
+const KEYS_PER_CHAIN: usize = 3;
 
 /// A map from keys to places that holds no keys.
 #[derive(Drop)]

@@ -1,12 +1,12 @@
 //! An index of a log: which place of the log has a key's object.
 //!
 //! It holds no keys: of each place it holds the hash of its key, and the owner of the log gives the key at each place
-//! (`Resolve`). `Index` is a table of chains of places. The first two places of a chain lie in the table itself, the
-//! others in memory of their own. A look-up takes one hash. It walks one chain, of two places on average at most, and the
+//! (`Resolve`). `Index` is a table of chains of places. The first three places of a chain lie in the table itself, the
+//! others in memory of their own. A look-up takes one hash. It walks one chain, of three places on average at most, and the
 //! few places that wait for their chain. A key is read only if the hash agrees.
 //!
 //! A key that is set waits in a list, in memory that `reserve` took for it, so `set` can't fail. `settle` puts it into
-//! its chain. It makes twice as many chains or more once there would be more than two keys for each. It puts each place
+//! its chain. It makes twice as many chains or more once there would be more than three keys for each. It puts each place
 //! anew by the hash that is held, so that no key is read. If `settle` is given no memory, keys wait on, and each look-up
 //! walks them.
 //!
@@ -20,7 +20,6 @@
 #![tactic(auto)]
 
 mod chain;
-mod first;
 mod front;
 mod hashing;
 mod index;

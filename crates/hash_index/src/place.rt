@@ -1,7 +1,7 @@
 //! Places of a log, and what an index holds of each.
 
 /// Where an entry lies.
-#[derive(Clone, Copy)]
+#[derive(Clone, Copy, Default)]
 pub struct Place {
     /// The segment's number.
     pub segment: u64,
@@ -10,7 +10,7 @@ pub struct Place {
 }
 
 /// A place, with the hash of the key that stands there.
-#[derive(Clone, Copy)]
+#[derive(Clone, Copy, Default)]
 pub struct Held {
     /// As `hash_key` gives it.
     pub hash: u64,

@@ -9,7 +9,6 @@ ghost use Rattle.hash_index.specs.declared.place.Place.{Place as PlaceValue};
 ghost use Rattle.hash_index.specs.Steps.{Moves, Removes, IsShuffled, chain_of};
 
 use crate::chain::Chain;
-use crate::front::Front;
 use crate::place::{Held, Place};
 use crate::plain::PlainIndex;
 use crate::resolve::Resolve;
@@ -200,21 +199,12 @@ impl Table {
         Ok(())
     }
 
-    /// Pushes the first two places of a chain.
-    fn push_front(&mut self, front: &Front) -> Result<(), NoMemory>
-        ensures { OnOk result (IsShuffled (self.old ++ front.now) self.new) }
-    {
-        let (first, second) = front.parts();
-        self.push_all(first)?;
-        self.push_all(second)
-    }
-
     /// Pushes each place of a chain.
     pub(crate) fn push_chain(&mut self, chain: &Chain) -> Result<(), NoMemory>
         ensures { OnOk result (IsShuffled (self.old ++ chain.now.held) self.new) }
     {
         let (front, more) = chain.parts();
-        self.push_front(front)?;
+        self.push_all(front)?;
         self.push_all(more)
     }
 

@@ -2,7 +2,7 @@ use Rattle.std.proofs.Common.{[], ◌∷◌, ◌++◌, refl, subst}
 use Rattle.std.specs.Prelude.{OnOk}
 use Rattle.hash_index.specs.Map.{IndexValue}
 use Rattle.hash_index.specs.Steps.{BringsNoHash, IsShuffled}
-use Rattle.hash_index.proofs.Parts.{filled_shuffled, filled_brings, pushed_shuffled, pushed_brings}
+use Rattle.hash_index.proofs.Parts.{filled_shuffled, filled_brings, filled_itself, filled_same, pushed_shuffled, pushed_brings}
 use Rattle.hash_index.proofs.chain.Chain.push.Goals as goal
 
 pub returns-then-fill-clause-ok : goal.returns-then-fill-clause-ok
@@ -12,7 +12,7 @@ returns-then-fill-clause-ok c =
     let more = c.self.inside.more.held in
     let new = c.fill.new.self in
     subst (λ (v : IndexValue). IsShuffled (v.held ++ h ∷ []) (new ++ more)) c.self.view_is
-    (filled_shuffled h front more new (c.if-fill.ensures.filled refl))
+    (filled_shuffled h front more new (filled_itself h front new (c.if-fill.ensures.filled refl)))
 
 pub returns-then-fill-clause-hashes : goal.returns-then-fill-clause-hashes
 returns-then-fill-clause-hashes c =
@@ -21,7 +21,7 @@ returns-then-fill-clause-hashes c =
     let more = c.self.inside.more.held in
     let new = c.fill.new.self in
     subst (λ (v : IndexValue). BringsNoHash (v.held ++ h ∷ []) (new ++ more)) c.self.view_is
-    (filled_brings h front more new (c.if-fill.ensures.hashes refl))
+    (filled_brings h front more new (filled_same h front new (c.if-fill.ensures.filled refl)))
 
 pub returns-clause-ok : goal.returns-clause-ok
 returns-clause-ok c =

@@ -1,27 +1,24 @@
-use Rattle.std.proofs.Common.{List, ◌++◌, subst}
-use Rattle.std.specs.Prelude.{Some}
-use Rattle.hash_index.specs.Map.{AreKept, IsCandidate}
+use Rattle.std.proofs.Common.{List, get_or, sym, ap, subst, ◌∙◌}
+use Rattle.std.specs.Prelude.{Option, Some, None}
 use Rattle.hash_index.specs.declared.place.Held.{Held}
-use Rattle.hash_index.proofs.Joining.{kept_left, kept_right}
-use Rattle.hash_index.proofs.Slots.{candidate_same}
-use Rattle.hash_index.proofs.Whole.{found_table, found_waiting}
+use Rattle.hash_index.specs.declared.place.Place.{Place}
+use Rattle.hash_index.specs.Map.{IsCandidate}
+use Rattle.hash_index.proofs.Slots.{first_along, first_none, first_some}
 use Rattle.hash_index.proofs.front.Front.candidate.Goals as goal
 
-pub returns-in-Some : goal.returns-in-Some
-returns-in-Some c = λ keys k of.
-    let first = c.self.inside.first in
-    let more = c.self.inside.second in
-    let p = c.in-Some.place in
-    subst (λ (v : List Held). AreKept keys v → IsCandidate keys k v (Some p)) c.self.view_is
-    (λ all there. found_table keys k first more p (c.in-Some.ensures keys k of (kept_left keys first more all) there))
+pub returns-in_err-slot : goal.returns-in_err-slot
+returns-in_err-slot c = λ keys k of all.
+    let hash = c.args.hash in
+    let hs = c.args.self.now in
+    let none = first_along hash c.deref.result.now hs None c.in_err-slot.ensures (c.deref.ensures.0 ∙ c.self.view_is) in
+    subst (λ (o : Option Place). IsCandidate keys k hs o) (sym c.from_residual.ensures) (first_none keys k hash hs of all.told none)
 
-pub returns-in-None : goal.returns-in-None
-returns-in-None c = λ keys k of.
-    let first = c.self.inside.first in
-    let more = c.self.inside.second in
-    let o = c.candidate-in-None.result in
-    subst (λ (v : List Held). AreKept keys v → IsCandidate keys k v o) c.self.view_is
-    (λ all.
-    candidate_same keys k c.args.hash more (first ++ more) o
-    (found_waiting keys k first more (c.in-None.ensures keys k of (kept_left keys first more all)))
-    (c.candidate-in-None.ensures keys k of (kept_right keys first more all)))
+pub returns : goal.returns
+returns c = λ keys k of all there.
+    let hash = c.args.hash in
+    let hs = c.args.self.now in
+    let slot = c.in_ok-slot.slot in
+    let d : Held = record { hash = 0; place = record { segment = 0; at = 0 } } in
+    let some = first_along hash c.deref.result.now hs (Some slot) c.in_ok-slot.ensures (c.deref.ensures.0 ∙ c.self.view_is) in
+    let place = ap (λ (xs : List Held). (get_or xs slot d).place) (c.deref-2.ensures.0 ∙ c.self.view_is) in
+    first_some keys k hash hs slot d some all (ap keys (sym place) ∙ there) ∙ ap (λ (p : Place). Some p) (sym place)

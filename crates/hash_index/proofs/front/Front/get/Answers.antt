@@ -1,28 +1,27 @@
-use Rattle.std.proofs.Common.{List, ◌≡◌, sym, subst, ◌∙◌}
-use Rattle.std.specs.Prelude.{Some}
+use Rattle.std.proofs.Common.{List, get_or, sym, ap, ◌∙◌}
+use Rattle.std.specs.Prelude.{Some, None}
 use Rattle.entry.specs.View.{shown_key}
-use Rattle.hash_index.specs.Map.{AreKept, found}
 use Rattle.hash_index.specs.declared.place.Held.{Held}
-use Rattle.hash_index.proofs.Joining.{kept_left, kept_right}
-use Rattle.hash_index.proofs.Whole.{found_table, found_waiting}
+use Rattle.hash_index.proofs.Slots.{along, slot_none, found_slot}
 use Rattle.hash_index.proofs.front.Front.get.Goals as goal
 
-pub returns-in-Some : goal.returns-in-Some
-returns-in-Some g c =
+pub returns-in_err-slot : goal.returns-in_err-slot
+returns-in_err-slot g c = λ all.
     let keys = g.R.Resolve.keys c.args.resolver.now in
     let k = shown_key c.args.key.now in
-    let first = c.self.inside.first in
-    let more = c.self.inside.second in
-    subst (λ (v : List Held). AreKept keys v → Some c.in-Some.place ≡ found keys k v) c.self.view_is
-    (λ all. sym (found_table keys k first more c.in-Some.place (sym (c.in-Some.ensures (kept_left keys first more all)))))
+    let hash = c.args.hash in
+    let hs = c.args.self.now in
+    let none = along keys k hash c.deref.result.now hs None c.in_err-slot.ensures (c.deref.ensures.0 ∙ c.self.view_is) in
+    c.from_residual.ensures ∙ sym (slot_none keys k hash hs c.requires all.told none)
 
-pub returns-in-None : goal.returns-in-None
-returns-in-None g c =
+pub returns : goal.returns
+returns g c = λ all.
     let keys = g.R.Resolve.keys c.args.resolver.now in
     let k = shown_key c.args.key.now in
-    let first = c.self.inside.first in
-    let more = c.self.inside.second in
-    subst (λ (v : List Held). AreKept keys v → c.get-in-None.result ≡ found keys k v) c.self.view_is
-    (λ all.
-    c.get-in-None.ensures (kept_right keys first more all)
-    ∙ sym (found_waiting keys k first more (sym (c.in-None.ensures (kept_left keys first more all)))))
+    let hash = c.args.hash in
+    let hs = c.args.self.now in
+    let slot = c.in_ok-slot.slot in
+    let d : Held = record { hash = 0; place = record { segment = 0; at = 0 } } in
+    let some = along keys k hash c.deref.result.now hs (Some slot) c.in_ok-slot.ensures (c.deref.ensures.0 ∙ c.self.view_is) in
+    ap (λ (xs : List Held). Some (get_or xs slot d).place) (c.deref-2.ensures.0 ∙ c.self.view_is)
+    ∙ sym (found_slot keys k hash hs slot d some all)

@@ -1,27 +1,39 @@
-use Rattle.std.proofs.Common.{List, ◌≡◌, ◌++◌, sym, subst, ◌∙◌}
-use Rattle.hash_index.specs.Relocation.{relocated}
+use Rattle.std.proofs.Common.{List, length, get_or, refl, sym, ap, ◌∙◌}
+use Rattle.std.specs.Prelude.{slice_set}
+use Rattle.std.specs.List.{position, refill}
 use Rattle.hash_index.specs.declared.place.Held.{Held}
-use Rattle.hash_index.proofs.Parts.{relocated_in_first, relocated_in_other}
+use Rattle.hash_index.specs.Relocation.{is_same, holds, relocated}
+use Rattle.hash_index.proofs.Fronts.{written_back}
+use Rattle.hash_index.proofs.Relocating.{slot_holds, slot_lacks, slot_relocated, relocated_none}
 use Rattle.hash_index.proofs.front.Front.relocate.Goals as goal
 
-pub returns-then-relocate-clause-moved : goal.returns-then-relocate-clause-moved
-returns-then-relocate-clause-moved c =
-    let h = c.args.held in
-    let to = c.args.to in
-    let first = c.self.inside.first in
-    let more = c.self.inside.second in
-    let new = c.relocate.new.self in
-    subst (λ (v : List Held). new ++ more ≡ relocated h to v) c.self.view_is
-    (relocated_in_first h to first more new (sym c.relocate.ensures.had ∙ c.if-relocate.true) c.relocate.ensures.moved)
+pub returns-in-Some-clause-had : goal.returns-in-Some-clause-had
+returns-in-Some-clause-had c =
+    sym (slot_holds c.args.held c.deref.result.now c.in-Some.slot (sym c.in-Some.ensures))
+    ∙ ap (λ (xs : List Held). holds xs c.args.held) (c.deref.ensures.0 ∙ c.self.view_is)
 
-pub returns-else-relocate-clause-moved : goal.returns-else-relocate-clause-moved
-returns-else-relocate-clause-moved c =
+pub returns-in-Some-clause-moved : goal.returns-in-Some-clause-moved
+returns-in-Some-clause-moved c =
     let h = c.args.held in
     let to = c.args.to in
-    let first = c.self.inside.first in
-    let more = c.self.inside.second in
-    let new = c.relocate.new.self in
-    let others = c.relocate-else-relocate.new.self in
-    let isnt = sym c.relocate.ensures.had ∙ c.if-relocate.false in
-    subst (λ (v : List Held). new ++ others ≡ relocated h to v) c.self.view_is
-    (relocated_in_other h to first more new others isnt c.relocate.ensures.moved c.relocate-else-relocate.ensures.moved)
+    let items = c.self.inside.held.items in
+    let slot = c.in-Some.slot in
+    let d : Held = record { hash = 0; place = record { segment = 0; at = 0 } } in
+    let some = sym (c.in-Some.ensures ∙ ap (λ (xs : List Held). position (is_same h) xs) c.deref.ensures.0) in
+    ap (λ (xs : List Held). refill (length items) items (slice_set xs slot (record { hash = (get_or xs slot d).hash; place = to })))
+    c.deref_mut.ensures.value
+    ∙ written_back items items slot (record { hash = (get_or items slot d).hash; place = to }) refl
+    ∙ slot_relocated h to items slot d some
+    ∙ ap (λ (xs : List Held). relocated h to xs) c.self.view_is
+
+pub returns-in-None-clause-had : goal.returns-in-None-clause-had
+returns-in-None-clause-had c =
+    sym (slot_lacks c.args.held c.deref.result.now (sym c.in-None.ensures))
+    ∙ ap (λ (xs : List Held). holds xs c.args.held) (c.deref.ensures.0 ∙ c.self.view_is)
+
+pub returns-in-None-clause-moved : goal.returns-in-None-clause-moved
+returns-in-None-clause-moved c =
+    let h = c.args.held in
+    let list = c.deref.ensures.0 ∙ c.self.view_is in
+    let none = slot_lacks h c.deref.result.now (sym c.in-None.ensures) in
+    sym (relocated_none h c.args.to c.args.self.now (ap (λ (xs : List Held). holds xs h) (sym list) ∙ none))
