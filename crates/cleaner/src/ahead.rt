@@ -15,14 +15,15 @@ const LOOK_AHEAD: usize = 16;
 
 /// About so many bytes of victims are still in the processor's cache, with what the index holds of them, if they have
 /// just been read.
-const NEAR: usize = 1048576;
+const NEAR: usize = 4194304;
 
 /// How far a pass looked ahead. It decides nothing: each copy asks the index again. But what it reads then is in the
 /// processor's cache, since the questions that were asked ahead didn't wait for each other's answers.
 #[derive(Clone, Copy)]
 pub struct Ahead {
-    /// Whether the pass looks ahead at all. It needn't if all was read to see whether it fits, and is still near.
-    pub is_needed: bool,
+    /// How many of the first victims needn't be looked at: all or none. They needn't if all was read to see whether it
+    /// fits, and is still near.
+    pub near: usize,
     /// In which victim, in the order in which they were given.
     pub victim: usize,
     /// The offset in its image behind the last entry that was looked at, in bytes.
@@ -63,8 +64,9 @@ pub(crate) fn unseen(victims: &[u64], images: &Images) -> Ahead {
             len = len.saturating_add(victim.bytes().len());
         }
     }
+    let was_read = len > images.segment_len() && len <= NEAR;
     Ahead {
-        is_needed: len <= images.segment_len() || len > NEAR,
+        near: if was_read { victims.len() } else { 0 },
         victim: 0,
         end: 0,
         held: 0,
@@ -83,7 +85,7 @@ pub(crate) fn look_ahead(
     let end = gather(segment.bytes(), from, &mut objects);
     let held = held_bytes(objects.as_slice(), id, index);
     Ahead {
-        is_needed: true,
+        near: 0,
         victim,
         end,
         held,

@@ -51,7 +51,7 @@ pub struct Pass {
 /// How far the pass has looked ahead of a cursor at this place. It looks on, if the cursor is where the last look ended.
 fn ahead_of(cursor: Cursor, place: Place, images: &Images, index: &Index) -> Ahead {
     let is_seen = cursor.victim == cursor.ahead.victim && cursor.at < cursor.ahead.end;
-    if is_seen || !cursor.ahead.is_needed {
+    if is_seen || cursor.victim < cursor.ahead.near {
         return cursor.ahead;
     }
     match images.get(place.segment) {

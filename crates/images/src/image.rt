@@ -51,8 +51,8 @@ pub(crate) fn recounted(images: &[Image], segment: usize, seglet: usize) -> u64
     sum
 }
 
-/// Where the image of a segment is in a list by rising id. As long as no segment was cleaned, the ids have no gaps. A
-/// survivor is mostly the last. Where neither holds, the image may be where it is guessed, and else it is searched for.
+/// Where the image of a segment is in a list by rising id. It may be where it is guessed. A survivor is mostly the last, and
+/// as long as no segment was cleaned, the ids have no gaps. If none of this holds, it is searched for.
 #[inline]
 pub(crate) fn place_of(images: &[Image], id: u64, guess: usize) -> Option<usize>
     requires { AreRising images.now }
@@ -70,11 +70,11 @@ pub(crate) fn place_of(images: &[Image], id: u64, guess: usize) -> Option<usize>
 fn quick_place(images: &[Image], id: u64, guess: usize) -> Option<usize>
     ensures { IfSome result (IsPlaceOf images.now id) }
 {
-    match place_without_gaps(images, id) {
+    match place_at(images, id, guess) {
         Some(at) => Some(at),
         None => match place_at_end(images, id) {
             Some(at) => Some(at),
-            None => place_at(images, id, guess),
+            None => place_without_gaps(images, id),
         },
     }
 }
