@@ -153,6 +153,7 @@ impl<F: Fleet> Master<F> {
     // ---- steps
 
     /// Makes one step, with at most one take.
+    #[inline(always)]
     pub fn step(&mut self, step: Step) -> Result<StepAnswer, Refusal>
         ensures gives { Steps (world F.state self.old) step result (world F.state self.new) }
         ensures keeps { Keeps 1 (world F.state self.old) (world F.state self.new) }

@@ -23,6 +23,7 @@ pub(crate) enum Part {
 
 impl Part {
     /// The step that the part is made of.
+    #[inline(always)]
     fn kind(self) -> Step
         ensures { result ≡ step_of self }
     {
@@ -35,6 +36,7 @@ impl Part {
 }
 
 /// Makes the steps of a part until nothing is left to do, or one is refused.
+#[inline(always)]
 fn make_all<F: Fleet>(master: &mut Master<F>, part: Part) -> Result<(), Refusal>
     ensures goes_on { LivesOn master.old.knows master.new.knows [] }
     ensures made { MakesAll (step_of part) (world F.state master.old) result (world F.state master.new) }
