@@ -1,0 +1,362 @@
+//! A plain Rust program of the same rules, without contracts: puts over a log, and passes that clean it. It reads lines
+//! `put TABLE KEY VALUE` and `clean SEGMENT..`, and answers them as `ramlog` does. It takes nothing but these lines.
+
+use std::io::{BufRead, BufWriter, Write};
+
+const BACKUPS: u64 = 3;
+const REPLICAS: u64 = 2;
+const OBJECT: usize = 23;
+const TOMBSTONE: usize = 27;
+
+fn u64_at(b: &[u8], at: usize) -> u64 {
+    u64::from_be_bytes(b[at..at + 8].try_into().unwrap())
+}
+
+fn u32_at(b: &[u8], at: usize) -> usize {
+    u32::from_be_bytes(b[at..at + 4].try_into().unwrap()) as usize
+}
+
+fn u16_at(b: &[u8], at: usize) -> usize {
+    u16::from_be_bytes(b[at..at + 2].try_into().unwrap()) as usize
+}
+
+fn fold(a: u64, b: u64) -> u64 {
+    let wide = a as u128 * b as u128;
+    wide as u64 ^ (wide >> 64) as u64
+}
+
+fn hash(table: u64, key: &[u8]) -> u64 {
+    let mut h = fold(table ^ 0x9E37_79B9_7F4A_7C15, 0xD6E8_FEB8_6659_FD93);
+    for part in key.chunks(8) {
+        let mut word = [0; 8];
+        word[..part.len()].copy_from_slice(part);
+        h = fold(h ^ u64::from_le_bytes(word), 0xA076_1D64_78BD_642F);
+    }
+    h | 1
+}
+
+/// An entry that lies in a segment.
+enum Entry<'a> {
+    Opening(usize),
+    Object { table: u64, key: &'a [u8], version: u64, len: usize },
+    Tombstone { segment: u64, len: usize },
+}
+
+fn entry_at(bytes: &[u8], at: usize) -> Entry<'_> {
+    let b = &bytes[at..];
+    match b[0] {
+        1 => Entry::Opening(18),
+        2 => Entry::Opening(5 + 8 * u32_at(b, 1)),
+        3 => Entry::Opening(9),
+        4 => {
+            let (k, v) = (u16_at(b, 17), u32_at(b, 19));
+            Entry::Object { table: u64_at(b, 1), key: &b[OBJECT..OBJECT + k], version: u64_at(b, 9), len: OBJECT + k + v }
+        }
+        _ => Entry::Tombstone { segment: u64_at(b, 17), len: TOMBSTONE + u16_at(b, 25) },
+    }
+}
+
+/// A place of the index: no key has hash 0.
+#[derive(Clone, Copy, Default)]
+struct Slot {
+    hash: u64,
+    segment: u32,
+    at: u32,
+}
+
+/// Open addressing, half full at most.
+struct Index {
+    slots: Vec<Slot>,
+    len: usize,
+}
+
+impl Index {
+    fn new() -> Index {
+        Index { slots: vec![Slot::default(); 1024], len: 0 }
+    }
+
+    fn find(&self, hash: u64, mut is: impl FnMut(&Slot) -> bool) -> Option<usize> {
+        let mask = self.slots.len() - 1;
+        let mut at = (hash >> 20) as usize & mask;
+        loop {
+            let slot = &self.slots[at];
+            if slot.hash == 0 {
+                return None;
+            }
+            if slot.hash == hash && is(slot) {
+                return Some(at);
+            }
+            at = (at + 1) & mask;
+        }
+    }
+
+    fn insert(&mut self, slot: Slot) {
+        if 2 * (self.len + 1) > self.slots.len() {
+            let old = std::mem::take(&mut self.slots);
+            self.slots = vec![Slot::default(); 2 * old.len()];
+            for slot in old.into_iter().filter(|slot| slot.hash != 0) {
+                self.place(slot);
+            }
+        }
+        self.place(slot);
+        self.len += 1;
+    }
+
+    fn place(&mut self, slot: Slot) {
+        let mask = self.slots.len() - 1;
+        let mut at = (slot.hash >> 20) as usize & mask;
+        while self.slots[at].hash != 0 {
+            at = (at + 1) & mask;
+        }
+        self.slots[at] = slot;
+    }
+}
+
+/// A command that was accepted, and its reply.
+#[allow(dead_code)]
+struct Record {
+    table: u64,
+    key: Box<[u8]>,
+    value: Box<[u8]>,
+    version: u64,
+}
+
+struct Master {
+    size: usize,
+    seglet: usize,
+    images: Vec<Option<Vec<u8>>>,
+    head: u64,
+    next: u64,
+    backups: Vec<Vec<Option<Vec<u8>>>>,
+    index: Index,
+    history: Vec<Record>,
+}
+
+impl Master {
+    fn new(size: usize, seglet: usize) -> Master {
+        let mut master = Master {
+            size,
+            seglet,
+            images: vec![None],
+            head: 1,
+            next: 1,
+            backups: (0..BACKUPS).map(|_| vec![None]).collect(),
+            index: Index::new(),
+            history: Vec::new(),
+        };
+        master.open();
+        master
+    }
+
+    fn take_id(&mut self) -> u64 {
+        let id = self.next;
+        self.next += 1;
+        self.images.push(None);
+        for backup in &mut self.backups {
+            backup.push(None);
+        }
+        id
+    }
+
+    fn header(&self, id: u64, role: u8) -> Vec<u8> {
+        let mut image = Vec::with_capacity(self.size);
+        image.push(1);
+        image.extend_from_slice(&1u64.to_be_bytes());
+        image.extend_from_slice(&id.to_be_bytes());
+        image.push(role);
+        image
+    }
+
+    fn replicas(&mut self, id: u64) -> impl Iterator<Item = &mut Option<Vec<u8>>> {
+        let first = id % BACKUPS;
+        self.backups.iter_mut().enumerate().filter_map(move |(at, backup)| {
+            let j = (at as u64 + BACKUPS - first) % BACKUPS;
+            (j < REPLICAS).then(|| &mut backup[id as usize])
+        })
+    }
+
+    fn open(&mut self) {
+        let id = self.take_id();
+        let ids: Vec<u64> = (1..id).filter(|&s| self.images[s as usize].is_some()).chain([id]).collect();
+        let mut image = self.header(id, 0);
+        image.push(2);
+        image.extend_from_slice(&(ids.len() as u32).to_be_bytes());
+        for id in ids {
+            image.extend_from_slice(&id.to_be_bytes());
+        }
+        image.push(3);
+        image.extend_from_slice(&1u64.to_be_bytes());
+        for replica in self.replicas(id) {
+            *replica = Some(image.clone());
+        }
+        self.images[id as usize] = Some(image);
+        self.head = id;
+    }
+
+    fn roll(&mut self) {
+        let seglet = self.seglet;
+        let image = self.images[self.head as usize].as_mut().unwrap();
+        image.shrink_to(image.len().div_ceil(seglet) * seglet);
+        self.open();
+    }
+
+    fn put(&mut self, table: u64, key: &[u8], value: &[u8]) -> u64 {
+        let hash = hash(table, key);
+        let images = &self.images;
+        let mut old_version = 0;
+        let old = self.index.find(hash, |slot| {
+            let image = images[slot.segment as usize].as_ref().unwrap();
+            match entry_at(image, slot.at as usize) {
+                Entry::Object { table: t, key: k, version, .. } if t == table && k == key => {
+                    old_version = version;
+                    true
+                }
+                _ => false,
+            }
+        });
+        let unit = OBJECT + key.len() + value.len() + if old.is_some() { TOMBSTONE + key.len() } else { 0 };
+        if self.images[self.head as usize].as_ref().unwrap().len() + unit > self.size {
+            self.roll();
+        }
+        let version = old_version + 1;
+        let head = self.head;
+        let image = self.images[head as usize].as_mut().unwrap();
+        let from = image.len();
+        if let Some(slot) = old {
+            image.push(5);
+            image.extend_from_slice(&table.to_be_bytes());
+            image.extend_from_slice(&old_version.to_be_bytes());
+            image.extend_from_slice(&(self.index.slots[slot].segment as u64).to_be_bytes());
+            image.extend_from_slice(&(key.len() as u16).to_be_bytes());
+            image.extend_from_slice(key);
+        }
+        let at = image.len();
+        image.push(4);
+        image.extend_from_slice(&table.to_be_bytes());
+        image.extend_from_slice(&version.to_be_bytes());
+        image.extend_from_slice(&(key.len() as u16).to_be_bytes());
+        image.extend_from_slice(&(value.len() as u32).to_be_bytes());
+        image.extend_from_slice(key);
+        image.extend_from_slice(value);
+        let image = self.images[head as usize].take().unwrap();
+        for replica in self.replicas(head) {
+            replica.as_mut().unwrap().extend_from_slice(&image[from..]);
+        }
+        self.images[head as usize] = Some(image);
+        let new = Slot { hash, segment: head as u32, at: at as u32 };
+        match old {
+            Some(slot) => self.index.slots[slot] = new,
+            None => self.index.insert(new),
+        }
+        self.history.push(Record { table, key: key.into(), value: value.into(), version });
+        version
+    }
+
+    fn is_held(&self, table: u64, key: &[u8], id: u64, at: usize) -> Option<usize> {
+        self.index.find(hash(table, key), |slot| slot.segment as u64 == id && slot.at as usize == at)
+    }
+
+    /// How many bytes a pass keeps of these.
+    fn kept(&self, victims: &[u64]) -> usize {
+        let mut kept = 0;
+        for &id in victims {
+            let image = self.images[id as usize].as_ref().unwrap();
+            let mut at = 0;
+            while at < image.len() {
+                at += match entry_at(image, at) {
+                    Entry::Opening(len) => len,
+                    Entry::Object { table, key, len, .. } => {
+                        if self.is_held(table, key, id, at).is_some() {
+                            kept += len;
+                        }
+                        len
+                    }
+                    Entry::Tombstone { segment, len } => {
+                        if self.images[segment as usize].is_some() {
+                            kept += len;
+                        }
+                        len
+                    }
+                };
+            }
+        }
+        kept
+    }
+
+    fn clean(&mut self, victims: &[u64]) -> Option<(u64, u64)> {
+        let all: usize = victims.iter().map(|&id| self.images[id as usize].as_ref().unwrap().len()).sum();
+        if all + 18 > self.size && self.kept(victims) + 18 > self.size {
+            return None;
+        }
+        let survivor = self.take_id();
+        let mut image = self.header(survivor, 1);
+        for &id in victims {
+            let victim = self.images[id as usize].take().unwrap();
+            let mut at = 0;
+            while at < victim.len() {
+                at += match entry_at(&victim, at) {
+                    Entry::Opening(len) => len,
+                    Entry::Object { table, key, len, .. } => {
+                        if let Some(slot) = self.is_held(table, key, id, at) {
+                            let slot = &mut self.index.slots[slot];
+                            slot.segment = survivor as u32;
+                            slot.at = image.len() as u32;
+                            image.extend_from_slice(&victim[at..at + len]);
+                        }
+                        len
+                    }
+                    Entry::Tombstone { segment, len } => {
+                        let is_there = self.images[segment as usize].is_some() || victims.contains(&segment);
+                        if is_there {
+                            image.extend_from_slice(&victim[at..at + len]);
+                        }
+                        len
+                    }
+                };
+            }
+            self.images[id as usize] = Some(victim);
+        }
+        for replica in self.replicas(survivor) {
+            *replica = Some(image.clone());
+        }
+        image.shrink_to(image.len().div_ceil(self.seglet) * self.seglet);
+        self.images[survivor as usize] = Some(image);
+        for &id in victims {
+            self.images[id as usize] = None;
+        }
+        self.roll();
+        for &id in victims {
+            for replica in self.replicas(id) {
+                *replica = None;
+            }
+        }
+        Some((survivor, self.head))
+    }
+}
+
+fn main() {
+    let words: Vec<usize> = std::env::args().skip(1).map(|word| word.parse().unwrap()).collect();
+    let mut master = Master::new(words[0], words[1]);
+    let mut input = std::io::stdin().lock();
+    let mut output = BufWriter::new(std::io::stdout().lock());
+    let mut line = Vec::new();
+    while input.read_until(b'\n', &mut line).unwrap() > 0 {
+        let mut words = line.strip_suffix(b"\n").unwrap_or(&line).split(|&byte| byte == b' ');
+        let number = |word: &[u8]| std::str::from_utf8(word).unwrap().parse::<u64>().unwrap();
+        match words.next() {
+            Some(b"put") => {
+                let table = number(words.next().unwrap());
+                let version = master.put(table, words.next().unwrap(), words.next().unwrap());
+                writeln!(output, "ok {version}").unwrap();
+            }
+            _ => {
+                let victims: Vec<u64> = words.map(number).collect();
+                match master.clean(&victims) {
+                    Some((survivor, head)) => writeln!(output, "cleaned {survivor} {head}").unwrap(),
+                    None => writeln!(output, "refused TooMuch").unwrap(),
+                }
+            }
+        }
+        line.clear();
+    }
+}
