@@ -127,6 +127,8 @@ struct Master {
     images: Vec<Option<Vec<u8>>>,
     head: u64,
     next: u64,
+    /// The version of the next new key.
+    safe: u64,
     backups: Vec<Vec<Option<Vec<u8>>>>,
     index: Index,
     history: Vec<Record>,
@@ -140,6 +142,7 @@ impl Master {
             images: vec![None],
             head: 1,
             next: 1,
+            safe: 1,
             backups: (0..BACKUPS).map(|_| vec![None]).collect(),
             index: Index::new(),
             history: Vec::new(),
@@ -185,7 +188,7 @@ impl Master {
             image.extend_from_slice(&id.to_be_bytes());
         }
         image.push(3);
-        image.extend_from_slice(&1u64.to_be_bytes());
+        image.extend_from_slice(&self.safe.to_be_bytes());
         for replica in self.replicas(id) {
             *replica = Some(image.clone());
         }
@@ -218,7 +221,7 @@ impl Master {
         if self.images[self.head as usize].as_ref().unwrap().len() + unit > self.size {
             self.roll();
         }
-        let version = old_version + 1;
+        let version = if old.is_some() { old_version + 1 } else { self.safe };
         let head = self.head;
         let image = self.images[head as usize].as_mut().unwrap();
         let from = image.len();
@@ -246,7 +249,10 @@ impl Master {
         let new = Slot { hash, segment: head as u32, at: at as u32 };
         match old {
             Some(slot) => self.index.slots[slot] = new,
-            None => self.index.insert(new),
+            None => {
+                self.index.insert(new);
+                self.safe += 1;
+            }
         }
         self.history.push(Record { table, key: key.into(), value: value.into(), version });
         version
