@@ -1,6 +1,8 @@
--- What holds of each element of a list, and elements by their places.
-use Rattle.std.proofs.Common.{◌≡◌, ℕ, zero, suc, List, [], ◌∷◌, ◌++◌, length, Some, refl, ap, ◌⊎◌, inl, inr}
-use Rattle.std.specs.List.{AllByRecursion, slice_get}
+-- What holds of each element of a list, elements by their places, and a list that is written back.
+use Rattle.std.proofs.Common.{◌≡◌, ◌≤◌, ℕ, zero, suc, List, [], ◌∷◌, ◌++◌, length, take, Some, refl, ap, ◌∙◌, ◌⊎◌, inl, inr}
+use Rattle.std.proofs.Common.{append-nil, arith}
+use Rattle.std.specs.List.{AllByRecursion, refill, slice_get}
+use Rattle.std.proofs.lemmas.List.{drop_all, take_all}
 use Rattle.std.proofs.lemmas.List.Elements.{All-from_recursion, recursion_from_All, All-append}
 use Rattle.std.proofs.lemmas.List.Elements.{All-push, All-weaker, All-contains}
 use Rattle.entry.specs.Bag.{IsAmong}
@@ -50,3 +52,12 @@ slice_get_push [] y (suc i) x is = absurd (cc)
 slice_get_push (z ∷ zs) y zero x is = inl is
 slice_get_push (z ∷ zs) y (suc i) x is =
     elim (slice_get_push zs y i x is) [ inl before ↦ inl before | inr last ↦ inr (ap suc last.0, last.1) ]
+
+-- ---- a list that is written back
+
+-- A list that fills all places takes the place of the old one.
+pub written_back : {X : Type 0} (n : ℕ) (old new : List X) → length old ≤ length new → length new ≡ n → refill n old new ≡ new
+written_back {X} n old new le len =
+    ap (λ (xs : List X). take n (new ++ xs)) (drop_all (length new) old le)
+    ∙ ap (λ (xs : List X). take n xs) (append-nil new)
+    ∙ take_all n new (omega arith)

@@ -92,6 +92,7 @@ fn read_safe(bytes: &[u8]) -> Result<(EntryRef<'_>, usize), EntryFault>
     Ok((EntryRef::Safe(version), 9))
 }
 
+#[inline(always)]
 fn read_object(bytes: &[u8]) -> Result<(EntryRef<'_>, usize), EntryFault>
     requires fixed { 23 ≤ length bytes.now }
     ensures { Reads Kind.Object bytes.entry.now result }
@@ -122,6 +123,7 @@ fn read_object(bytes: &[u8]) -> Result<(EntryRef<'_>, usize), EntryFault>
     Ok((EntryRef::Object(object), end))
 }
 
+#[inline(always)]
 fn read_tombstone(bytes: &[u8]) -> Result<(EntryRef<'_>, usize), EntryFault>
     requires fixed { 27 ≤ length bytes.now }
     ensures { Reads Kind.Tombstone bytes.entry.now result }
@@ -150,6 +152,7 @@ fn read_tombstone(bytes: &[u8]) -> Result<(EntryRef<'_>, usize), EntryFault>
     Ok((EntryRef::Tombstone(tombstone), end))
 }
 
+#[inline(always)]
 fn read_kind(kind: Kind, bytes: &[u8]) -> Result<(EntryRef<'_>, usize), EntryFault>
     ensures { Reads kind bytes.entry.now result }
 {
@@ -165,6 +168,7 @@ fn read_kind(kind: Kind, bytes: &[u8]) -> Result<(EntryRef<'_>, usize), EntryFau
     }
 }
 
+#[inline(always)]
 fn read_front(bytes: &[u8]) -> Result<(EntryRef<'_>, usize), EntryFault>
     ensures found { IfOk result (λ read. Begins bytes.entry.now (shown read.0) read.1) }
     ensures front { IfOk result (λ read. front_of bytes.entry.now ≡ Some (shown read.0, read.1)) }
@@ -182,6 +186,7 @@ fn read_front(bytes: &[u8]) -> Result<(EntryRef<'_>, usize), EntryFault>
 impl<'a> EntryRef<'a> {
     /// The entry at the front of the bytes, and how many bytes it takes. What follows it isn't looked at, and no memory
     /// is taken.
+    #[inline(always)]
     pub fn read(bytes: &'a [u8]) -> Result<(EntryRef<'a>, usize), EntryFault>
         // What is read is spelled at the front.
         ensures found { IfOk result (λ read. Begins bytes.entry.now (shown read.0) read.1) }

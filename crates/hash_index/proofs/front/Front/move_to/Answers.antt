@@ -4,7 +4,7 @@ use Rattle.std.specs.Prelude.{Some, None, true, slice_set}
 use Rattle.entry.specs.View.{shown_key}
 use Rattle.hash_index.specs.declared.place.Held.{Held}
 use Rattle.hash_index.specs.Steps.{Moves}
-use Rattle.hash_index.proofs.Fronts.{written_back}
+use Rattle.hash_index.proofs.Fronts.{set_back}
 use Rattle.hash_index.proofs.Slots.{along}
 use Rattle.hash_index.proofs.Steps.{moves_none, moves_slot}
 use Rattle.hash_index.proofs.front.Front.move_to.Goals as goal
@@ -22,7 +22,7 @@ returns-in-Some g c =
     let lent = c.deref_mut.result.now in
     let new = refill (length items) items (slice_set lent slot x) in
     let back = subst (λ (xs : List Held). Moves keys k c.args.place items true xs)
-    (sym (written_back items lent slot x c.deref_mut.ensures.value)) moved in
+    (sym (set_back items lent slot x c.deref_mut.ensures.value)) moved in
     subst (λ (xs : List Held). Moves keys k c.args.place xs true new) c.self.view_is back
 
 pub returns-in-None : goal.returns-in-None

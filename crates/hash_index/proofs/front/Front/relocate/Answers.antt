@@ -3,7 +3,7 @@ use Rattle.std.specs.Prelude.{slice_set}
 use Rattle.std.specs.List.{position, refill}
 use Rattle.hash_index.specs.declared.place.Held.{Held}
 use Rattle.hash_index.specs.Relocation.{is_same, holds, relocated}
-use Rattle.hash_index.proofs.Fronts.{written_back}
+use Rattle.hash_index.proofs.Fronts.{set_back}
 use Rattle.hash_index.proofs.Relocating.{slot_holds, slot_lacks, slot_relocated, relocated_none}
 use Rattle.hash_index.proofs.front.Front.relocate.Goals as goal
 
@@ -22,7 +22,7 @@ returns-in-Some-clause-moved c =
     let some = sym (c.in-Some.ensures ∙ ap (λ (xs : List Held). position (is_same h) xs) c.deref.ensures.0) in
     ap (λ (xs : List Held). refill (length items) items (slice_set xs slot (record { hash = (get_or xs slot d).hash; place = to })))
     c.deref_mut.ensures.value
-    ∙ written_back items items slot (record { hash = (get_or items slot d).hash; place = to }) refl
+    ∙ set_back items items slot (record { hash = (get_or items slot d).hash; place = to }) refl
     ∙ slot_relocated h to items slot d some
     ∙ ap (λ (xs : List Held). relocated h to xs) c.self.view_is
 
