@@ -5,7 +5,7 @@ use Rattle.std.specs.Prelude.{◌==◌, ◌&&◌, Option, Some, None, Result, Ok
 use Rattle.std.specs.List.{AllByRecursion}
 use Rattle.std.specs.Option.{option_map, option_map_or, option_and_then}
 use Rattle.std.proofs.lemmas.Bool.{eqb-true}
-use Rattle.std.proofs.lemmas.List.{take_all, drop_all, length-take, length-drop}
+use Rattle.std.proofs.lemmas.List.{length-take, length-drop}
 use Rattle.entry.specs.declared.entry.Entry.{Entry}
 use Rattle.entry.specs.Format.{spelling, IsEntry, Begins}
 use Rattle.entry.specs.Text.{text_of, entries_in, is_data, are_data}
@@ -29,14 +29,6 @@ set_part [] zero z = refl
 set_part [] (suc n) z = refl
 set_part (x ∷ xs) zero z = refl
 set_part (x ∷ xs) (suc n) z = ap (λ (ys : List Image). x ∷ ys) (set_part xs n z)
-
--- a list of the same length in the place of all items
-pub all_back : (n : ℕ) (old items new : List Image) → old ≡ items → length old ≡ n → length new ≡ length old
-    → take n (new ++ drop (length new) items) ≡ new
-all_back n old items new is len same =
-    let count : length items ≡ length old = ap (λ (xs : List Image). length xs) (sym is) in
-    let none : drop (length new) items ≡ [] = drop_all (length new) items (omega arith) in
-    ap (λ (xs : List Image). take n (new ++ xs)) none ∙ ap (λ (xs : List Image). take n xs) (append-nil new) ∙ take_all n new (omega arith)
 
 -- a lower id comes first
 pub places_rise : (xs : List Image) (a b i j : ℕ) → AreRising xs → IsPlaceOf xs a i → IsPlaceOf xs b j → a < b → i < j

@@ -1,5 +1,5 @@
 -- A binary search for an id.
-use Rattle.std.proofs.Common.{◌≡◌, ℕ, zero, suc, ◌<◌, ◌≤◌, false, List, [], ◌∷◌, length, get_or, refl, subst, arith, add-one}
+use Rattle.std.proofs.Common.{◌≡◌, ℕ, zero, suc, ◌<◌, ◌≤◌, ◌-◌, false, List, [], ◌∷◌, length, get_or, refl, ap, subst, arith, add-one}
 use Rattle.std.specs.Prelude.{Option, None, Result, Ok, Err, IfSome, IfNone, MatchResult}
 use Rattle.std.specs.List.Sorted.{IsBinarySearchResult, IsSearchInRange, IsSortedBy}
 use Rattle.std.specs.Ordering.{nat_cmp, is_lt, MatchOrdering}
@@ -7,10 +7,12 @@ use Rattle.std.specs.declared.cmp.Ordering.{Ordering}
 use Rattle.std.specs.declared.cmp.Ordering.TheVariants.{Less, Equal, Greater}
 use Rattle.std.specs.Result.{result_ok}
 use Rattle.std.proofs.lemmas.Cmp.{nat_cmp_total, ranked}
+use Rattle.std.proofs.lemmas.List.{get_or_default}
 use Rattle.std.proofs.lemmas.List.Sorted.{searchable_from_sorted}
 use Rattle.images.specs.declared.image.Image.{Image}
 use Rattle.images.specs.Sorted.{AreRising, image_of}
 use Rattle.images.specs.Place.{IsPlaceOf}
+use Rattle.images.proofs.Adding.{ids_rise}
 use Rattle.images.proofs.Listing.{all_at, IsAbsent, image_absent}
 
 -- each id is below the next
@@ -44,6 +46,25 @@ absent_by_place : (xs : List Image) (id : ℕ) → ((k : ℕ) (d : Image) → k 
 absent_by_place [] id other = tt
 absent_by_place (x ∷ xs) id other =
     (other zero x (omega arith), absent_by_place xs id (λ (k : ℕ) (d : Image) (lt : k < length xs). other (suc k) d (omega arith)))
+
+-- none has an id that is above those before a place, and below those from there on
+pub absent_between : (xs : List Image) (id at : ℕ) (a b : Image) → AreRising xs → at < length xs → id < (get_or xs at a).id
+    → ((at ≡ 0 → ⊥) → (get_or xs (at - 1) b).id < id) → image_of xs id ≡ None
+absent_between xs id at a b rising within above below = image_absent xs id (absent_by_place xs id away)
+  where
+    away : (k : ℕ) (d : Image) → k < length xs → (get_or xs k d).id ≡ id → ⊥
+    away k d lt is = (let not_below : at ≤ k = omega (arith, before) in from not_below)
+      where
+        before : k < at → ⊥
+        before under =
+            let last = ap (λ (x : Image). x.id) (get_or_default xs (at - 1) b d (omega arith)) in
+            let low = below (λ none. omega (arith, none)) in
+            omega (arith, last, low, is, ids_rise xs rising k (at - 1) d (omega arith) (omega arith))
+
+        from : at ≤ k → ⊥
+        from over =
+            let first = ap (λ (x : Image). x.id) (get_or_default xs at a d within) in
+            omega (arith, first, above, is, ids_rise xs rising at k d over lt)
 
 -- what the search found, or that there is none
 pub searched : (xs : List Image) (id : ℕ) (r : Result ℕ ℕ) → AreRising xs → IsSearchInRange r (length xs)

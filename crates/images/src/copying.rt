@@ -8,6 +8,7 @@ ghost use Rattle.segment.specs.Bytes.{IsDataText, standing_at};
 ghost use Rattle.images.specs.Sorted.{AreRising, image_of, changed};
 ghost use Rattle.images.specs.Steps.{with_unit, len_at, entry_at, StandsData, HasData};
 
+use crate::hints::Hints;
 use crate::image::{Image, place_of};
 use segment::{AppendFault, Segment};
 
@@ -49,7 +50,7 @@ pub(crate) fn copy_entry(
     len: usize,
     to: u64,
     limit: usize,
-    guess: usize,
+    hints: &Hints,
 ) -> Result<usize, AppendFault>
     requires rising { AreRising images.old }
     requires order { from < to }
@@ -64,10 +65,10 @@ pub(crate) fn copy_entry(
     ensures err { OnErr result (images.new ≡ images.old) }
     ensures len { length images.new ≡ length images.old }
 {
-    let Some(source) = place_of(images, from, guess) else {
+    let Some(source) = place_of(images, from, hints) else {
         unreachable!()
     };
-    let Some(target) = place_of(images, to, guess) else {
+    let Some(target) = place_of(images, to, hints) else {
         unreachable!()
     };
     let (earlier, later) = images.split_at_mut(target);

@@ -1,12 +1,13 @@
 //! One image, and images in a list.
 
-ghost use Rattle.std.specs.Prelude.{◌≡◌, ◌<◌, ◌≤◌, ◌^◌, length, insert, sum_by, IfSome, IfNone, None};
+ghost use Rattle.std.specs.Prelude.{◌≡◌, ◌<◌, ◌≤◌, ◌^◌, true, length, insert, sum_by, IfSome, IfNone, None};
 ghost use Rattle.std.specs.Int.{div_ceil};
 ghost use Rattle.entry.specs.Text.{text_of};
 ghost use Rattle.images.specs.Images.{count_of};
 ghost use Rattle.images.specs.Sorted.{AreRising, image_of, added};
 ghost use Rattle.images.specs.Place.{IsPlaceOf};
 
+use crate::hints::Hints;
 use segment::Segment;
 
 /// The image of a segment.
@@ -51,66 +52,42 @@ pub(crate) fn recounted(images: &[Image], segment: usize, seglet: usize) -> u64
     sum
 }
 
-/// Where the image of a segment is in a list by rising id. It may be where it is guessed. A survivor is mostly the last, and
-/// as long as no segment was cleaned, the ids have no gaps. If none of this holds, it is searched for.
-#[inline]
-pub(crate) fn place_of(images: &[Image], id: u64, guess: usize) -> Option<usize>
+/// Where the image of a segment is in a list by rising id. The hint mostly says it, or that there is none. If it doesn't, the
+/// image is searched for.
+#[inline(always)]
+pub(crate) fn place_of(images: &[Image], id: u64, hints: &Hints) -> Option<usize>
     requires { AreRising images.now }
     ensures found { IfSome result (IsPlaceOf images.now id) }
     ensures absent { IfNone result (image_of images.now id ≡ None) }
 {
-    match quick_place(images, id, guess) {
-        Some(at) => Some(at),
-        None => place_among(images, id),
-    }
-}
-
-/// Where the image is, if that is found without a search.
-#[inline]
-fn quick_place(images: &[Image], id: u64, guess: usize) -> Option<usize>
-    ensures { IfSome result (IsPlaceOf images.now id) }
-{
-    match place_at(images, id, guess) {
-        Some(at) => Some(at),
-        None => match place_at_end(images, id) {
-            Some(at) => Some(at),
-            None => place_without_gaps(images, id),
-        },
-    }
-}
-
-/// Where the image is if it is the last.
-#[inline]
-fn place_at_end(images: &[Image], id: u64) -> Option<usize>
-    ensures { IfSome result (IsPlaceOf images.now id) }
-{
-    if images.is_empty() {
-        return None;
-    }
-    place_at(images, id, images.len() - 1)
-}
-
-/// This place, if the image is there.
-#[inline]
-fn place_at(images: &[Image], id: u64, at: usize) -> Option<usize>
-    ensures { IfSome result (IsPlaceOf images.now id) }
-{
-    if at < images.len() && images[at].id == id {
+    let at = hints.of(id);
+    if is_at(images, id, at) {
         Some(at)
-    } else {
+    } else if is_between(images, id, at) {
         None
+    } else {
+        place_among(images, id)
     }
 }
 
-/// Where the image is if the ids from the first one to its own have no gaps.
-#[inline]
-fn place_without_gaps(images: &[Image], id: u64) -> Option<usize>
-    ensures { IfSome result (IsPlaceOf images.now id) }
+/// Whether the image of this id is at this place.
+#[inline(always)]
+fn is_at(images: &[Image], id: u64, at: usize) -> bool
+    ensures { result ≡ true → IsPlaceOf images.now id at }
 {
-    if images.is_empty() || id < images[0].id {
-        return None;
+    at < images.len() && images[at].id == id
+}
+
+/// Whether all images before this place have lower ids, and those from there on higher ones.
+#[inline(always)]
+fn is_between(images: &[Image], id: u64, at: usize) -> bool
+    requires { AreRising images.now }
+    ensures { result ≡ true → image_of images.now id ≡ None }
+{
+    if at >= images.len() || images[at].id <= id {
+        return false;
     }
-    place_at(images, id, (id - images[0].id) as usize)
+    at == 0 || images[at - 1].id < id
 }
 
 /// Where the image is, by a binary search.

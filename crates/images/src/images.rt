@@ -10,6 +10,7 @@ ghost use Rattle.entry.specs.View.{shown};
 
 use crate::copying::copy_entry;
 use crate::fault::ImagesFault;
+use crate::hints::Hints;
 use crate::image::{Image, count_of, place_for, place_of, recounted, seglets_of};
 use entry::{EntryRef, NoMemory};
 use segment::{AppendFault, Segment};
@@ -28,8 +29,8 @@ pub struct Images {
     images: Vec<Image>,
     /// How many seglets are counted.
     used: u64,
-    /// Where in the list the image was from which an entry was copied last. It only spares searches.
-    guess: usize,
+    /// Where in the list the images of the last numbers are.
+    hints: Hints,
 }
 
 impl Model for Images {
@@ -73,7 +74,7 @@ impl Images {
             seglets,
             images: Vec::new(alloc),
             used: 0,
-            guess: 0,
+            hints: Hints::new(alloc),
         }
     }
 
@@ -133,7 +134,7 @@ impl Images {
     pub fn get(&self, id: u64) -> Option<&Segment>
         ensures { option_copied result ≡ segment_of self.entry.now.images id }
     {
-        let at = place_of(self.images.as_slice(), id, self.guess)?;
+        let at = place_of(self.images.as_slice(), id, &self.hints)?;
         Some(&self.images[at].segment)
     }
 
@@ -144,7 +145,9 @@ impl Images {
         ensures ok { OnOk result (length self.old.images + more ≤ self.new.room) }
         ensures full { OnErr result (self.old.room < length self.old.images + more) }
     {
-        self.images.reserve(more)
+        self.images.reserve(more)?;
+        self.hints.grow(self.images.as_slice());
+        Ok(())
     }
 
     /// Adds the image of a segment, at its place. No image has its number, and it has at most `segment` bytes. A whole
@@ -205,6 +208,7 @@ impl Images {
         self.used += count_of(&image, self.segment, self.seglet);
         let at = place_for(self.images.as_slice(), id);
         self.images.insert(at, image).unwrap();
+        self.hints.added(self.images.as_slice(), at);
     }
 
     /// Appends a unit to a whole image, all or none of it. The answer is the offset of its first entry. `Full` comes
@@ -220,7 +224,7 @@ impl Images {
             (self.old.segment < len_at self.old.images id + length (text_of (map shown unit.now))) }
         ensures err { OnErr result (self.new ≡ self.old) }
     {
-        let Some(at) = place_of(self.images.as_slice(), id, self.guess) else {
+        let Some(at) = place_of(self.images.as_slice(), id, &self.hints) else {
             unreachable!()
         };
         self.images[at].segment.append(unit, self.segment)
@@ -246,7 +250,6 @@ impl Images {
             (self.old.segment < len_at self.old.images to + length (spelling e))) }
         ensures err { OnErr result (self.new ≡ self.old) }
     {
-        self.guess = place_of(self.images.as_slice(), from, self.guess).unwrap_or(0);
         copy_entry(
             self.images.as_mut_slice(),
             from,
@@ -254,7 +257,7 @@ impl Images {
             len,
             to,
             self.segment,
-            self.guess,
+            &self.hints,
         )
     }
 
@@ -263,7 +266,7 @@ impl Images {
     pub fn trim(&mut self, id: u64)
         ensures { self.new ≡ record self.old { images = changed self.old.images id trimmed } }
     {
-        let Some(at) = place_of(self.images.as_slice(), id, self.guess) else {
+        let Some(at) = place_of(self.images.as_slice(), id, &self.hints) else {
             return;
         };
         let image = &mut self.images[at];
@@ -287,7 +290,7 @@ impl Images {
             div_ceil (length (text_of segment)) self.old.seglet) }
         ensures back { IfErr result (λ e. (e.0 ≡ ImagesFault.NoRoom) × (e.1 ≡ segment)) }
     {
-        let Some(at) = place_of(self.images.as_slice(), id, self.guess) else {
+        let Some(at) = place_of(self.images.as_slice(), id, &self.hints) else {
             unreachable!()
         };
         let image = &mut self.images[at];
@@ -306,8 +309,9 @@ impl Images {
     pub fn drop_segment(&mut self, id: u64)
         ensures { self.new ≡ record self.old { images = without self.old.images id } }
     {
-        if let Some(at) = place_of(self.images.as_slice(), id, self.guess) {
+        if let Some(at) = place_of(self.images.as_slice(), id, &self.hints) {
             let image = self.images.remove(at);
+            self.hints.removed(at);
             self.used -= count_of(&image, self.segment, self.seglet);
         }
     }

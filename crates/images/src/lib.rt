@@ -8,6 +8,7 @@
 
 mod copying;
 mod fault;
+mod hints;
 mod image;
 mod images;
 mod laws;

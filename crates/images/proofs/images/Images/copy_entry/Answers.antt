@@ -1,14 +1,15 @@
-use Rattle.std.proofs.Common.{◌≡◌, ◌+◌, ◌<◌, ◌↔◌, [], ◌∷◌, List, length, subst, sym}
+use Rattle.std.proofs.Common.{◌≡◌, ◌+◌, ◌<◌, ◌≤◌, ◌↔◌, [], ◌∷◌, List, length, ap, subst, sym, arith}
 use Rattle.std.specs.Prelude.{IfSome, OnOk, OnErr, IsErrOf}
 use Rattle.entry.specs.declared.entry.Entry.{Entry}
 use Rattle.entry.specs.Format.{spelling}
+use Rattle.entry.proofs.ListLemmas.{written_back}
 use Rattle.segment.specs.declared.fault.AppendFault.TheVariants.{Full}
 use Rattle.images.specs.contracts.images.Images.{the_view}
 use Rattle.images.specs.declared.image.Image.{Image}
 use Rattle.images.specs.Images.{ImagesValue}
 use Rattle.images.specs.Sorted.{IsWhole, changed}
 use Rattle.images.specs.Steps.{with_unit, len_at, entry_at, HasData}
-use Rattle.images.proofs.Copies.{all_back, copied_valid, data_of}
+use Rattle.images.proofs.Copies.{copied_valid, data_of}
 use Rattle.images.proofs.images.Images.copy_entry.Goals as goal
 
 pub invariant_of-self : goal.invariant_of-self
@@ -26,5 +27,8 @@ invariant_of-self c =
     let full = subst (λ (xs : List Image). IfSome (entry_at xs c.args.from c.args.at)
     (λ (e : Entry). IsErrOf r Full ↔ (v.segment < len_at xs c.args.to + length (spelling e)))) is c.copy_entry.ensures.full in
     let err = subst (λ (xs : List Image). OnErr r (new ≡ xs)) is c.copy_entry.ensures.err in
-    rw (all_back c.self.inside.images.len old c.self.inside.images.items new is c.as_mut_slice.ensures.len c.copy_entry.ensures.len, c.self.invariant.0)
+    let len : length new ≡ c.self.inside.images.len = omega (arith, c.as_mut_slice.ensures.len, c.copy_entry.ensures.len) in
+    let le : length c.self.inside.images.items ≤ length new =
+    omega (arith, ap (λ (xs : List Image). length xs) is, c.copy_entry.ensures.len) in
+    rw (written_back c.self.inside.images.len c.self.inside.images.items new le len, c.self.invariant.0)
     (copied_valid v c.args.from c.args.at c.args.to new r c.self.invariant.1 whole some ok full err)
