@@ -99,6 +99,10 @@ kept_len ids held images p =
 abbrev pub kept_left : List ℕ → List Held → (ℕ → List Entry) → List Place → ℕ
 kept_left ids held images places = sum_by (kept_len ids held images) places
 
+-- the bytes of some segments
+abbrev pub bytes_in : (ℕ → List Entry) → List ℕ → ℕ
+bytes_in images ids = sum_by (λ (s : ℕ). length (text_of (images s))) ids
+
 -- a segment has room for what the survivor has and what is kept at the places before the pass
 abbrev pub HasRoom : ℕ → List ℕ → Pass → List Image → List Held → Type 0
 HasRoom segment ids p images held =

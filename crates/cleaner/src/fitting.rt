@@ -1,10 +1,10 @@
 //! Whether what a pass keeps fits one segment.
 
-ghost use Rattle.std.specs.Prelude.{◌≡◌, ◌+◌, ◌≤◌, ℕ, List, length, nat_le, IsSome};
+ghost use Rattle.std.specs.Prelude.{◌≡◌, ◌+◌, ◌*◌, ◌≤◌, length, nat_le, is_some, IsSome};
 ghost use Rattle.std.specs.List.{AllByRecursion};
-ghost use Rattle.hash_index.specs.declared.place.Held.{Held as HeldValue};
+ghost use Rattle.entry.specs.Text.{IsSegment};
 ghost use Rattle.images.specs.Sorted.{segment_of};
-ghost use Rattle.cleaner.specs.Passes.{images_in, ids_in, places_of, kept_left};
+ghost use Rattle.cleaner.specs.Passes.{images_in, ids_in, places_of, kept_left, bytes_in};
 
 use compactor::{LogSet, kept_bytes};
 use hash_index::Index;
@@ -13,25 +13,30 @@ use images::Images;
 /// How many bytes a survivor begins with: its header.
 const HEADER_LEN: usize = 18;
 
-/// No fewer bytes than a header and what is kept of some segments: a header and all their bytes.
-fn most_bytes(victims: &[u64], images: &Images) -> usize
-    requires there { AllByRecursion (λ s. IsSome (segment_of images.now.images s)) victims.now }
-    requires few { length victims.now ≤ 8 }
-    ensures { let image = images_in images.now.images in (ids : List ℕ) (held : List HeldValue) →
-        18 + kept_left ids held image (places_of image victims.now) ≤ result }
+/// About so many bytes of victims are still in the processor's cache, with what the index holds of them, if they have
+/// just been read.
+const NEAR: usize = 4_194_304;
+
+/// How many bytes some segments have.
+fn bytes_in(ids: &[u64], images: &Images) -> usize
+    requires there { AllByRecursion (λ s. IsSome (segment_of images.now.images s)) ids.now }
+    requires few { length ids.now ≤ 8 }
+    ensures sum { result ≡ bytes_in (images_in images.now.images) ids.now }
+    ensures valid { AllByRecursion (λ s. IsSegment (images_in images.now.images s)) ids.now }
+    ensures limit { result ≤ 8388608 * length ids.now }
 {
-    let mut len = HEADER_LEN;
-    for id in victims {
-        let Some(victim) = images.get(*id) else {
-            unreachable!()
-        };
-        len += victim.bytes().len();
-    }
-    len
+    let Some((id, others)) = ids.split_first() else {
+        return 0;
+    };
+    let Some(segment) = images.get(*id) else {
+        unreachable!()
+    };
+    segment.bytes().len() + bytes_in(others, images)
 }
 
-/// Whether a header and what is kept of some segments, at most 8, fit a segment of this many bytes. If all their bytes
-/// fit, no entry is read.
+/// Whether a header and what is kept of some segments, at most 8, fit a segment of this many bytes. It reads one segment
+/// after the other, until all bytes of the others fit. The answer is how many of the first ones it read that may still be
+/// near, in the processor's cache. `None` if it doesn't fit.
 pub fn fit(
     victims: &[u64],
     images: &Images,
@@ -39,27 +44,30 @@ pub fn fit(
     head: u64,
     new: Option<u64>,
     segment: usize,
-) -> bool
+) -> Option<usize>
     requires there { AllByRecursion (λ s. IsSome (segment_of images.now.images s)) victims.now }
     requires few { length victims.now ≤ 8 }
     ensures { let image = images_in images.now.images in
-        result ≡ nat_le (18 + kept_left (ids_in images.now.images head new) index.now.held image
+        is_some result ≡ nat_le (18 + kept_left (ids_in images.now.images head new) index.now.held image
         (places_of image victims.now)) segment }
 {
-    if most_bytes(victims, images) <= segment {
-        return true;
-    }
     let log = LogSet {
         closed: images,
         head,
         new,
     };
-    let mut len = HEADER_LEN;
-    for id in victims {
+    let mut left = bytes_in(victims, images);
+    let near = if left <= NEAR { victims.len() } else { 0 };
+    let mut kept = HEADER_LEN;
+    for (read, id) in victims.iter().enumerate() {
+        if kept + left <= segment {
+            return Some(near.min(read));
+        }
         let Some(victim) = images.get(*id) else {
             unreachable!()
         };
-        len += kept_bytes(*id, victim, index, &log);
+        left -= victim.bytes().len();
+        kept += kept_bytes(*id, victim, index, &log);
     }
-    len <= segment
+    (kept <= segment).then_some(near)
 }

@@ -4,7 +4,7 @@ ghost use Rattle.std.specs.Prelude.{◌≡◌, ◌+◌, ◌<◌, ◌≤◌, fals
 ghost use Rattle.cleaner.specs.Passes.{images_in, ids_in, AreVictims, places_of, rest_of, is_at_end, is_ready};
 ghost use Rattle.cleaner.specs.Passes.{IsCursorAt, IsPass, HasRoom, CopiesOne};
 
-use crate::ahead::{self, Ahead, look_ahead};
+use crate::ahead::{Ahead, look_ahead, unseen};
 use crate::treating::treat;
 use crate::walking::{cursor_behind, next_cursor};
 use entry::{NoMemory, Row};
@@ -55,14 +55,15 @@ fn ahead_of(cursor: Cursor, place: Place, images: &Images, index: &Index) -> Ahe
         return cursor.ahead;
     }
     match images.get(place.segment) {
-        Some(segment) => look_ahead(cursor.victim, segment, place.segment, place.at, index),
+        Some(segment) => look_ahead(cursor.victim, segment, place.at, index),
         None => cursor.ahead,
     }
 }
 
 impl Pass {
-    /// A pass over some segments, of which nothing is copied yet. It takes no memory.
-    pub fn begin(victims: Row<u64>, survivor: u64, images: &Images) -> Pass
+    /// A pass over some segments, of which nothing is copied yet. So many of the first ones are near, as `fit` says. It
+    /// takes no memory.
+    pub fn begin(victims: Row<u64>, near: usize, survivor: u64, images: &Images) -> Pass
         requires { AreVictims images.now.images survivor victims }
         ensures begun { result ≡ record {
           victims = victims;
@@ -79,7 +80,7 @@ impl Pass {
         let start = Cursor {
             victim: 0,
             at: 0,
-            ahead: ahead::unseen(victims.as_slice(), images),
+            ahead: unseen(near),
         };
         let cursor = next_cursor(victims.as_slice(), images, start);
         Pass {

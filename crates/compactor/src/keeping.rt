@@ -18,9 +18,9 @@ use segment::Segment;
 /// How many objects are looked up side by side.
 const SIDE_BY_SIDE: usize = 8;
 
-/// An object of a segment, for which the index is asked.
+/// An object of a segment that waits for the index.
 #[derive(Clone, Copy, Default)]
-pub struct Asked {
+pub(crate) struct Asked {
     /// The hash of its key.
     pub hash: u64,
     /// Its offset in the segment, in bytes.
@@ -60,7 +60,7 @@ pub fn kept(entry: &EntryRef<'_>, place: Place, index: &Index, log: &LogSet<'_>)
 
 /// How many bytes those of the objects of a segment have that the index holds. It asks for the first place of each chain
 /// on the way down, where no question waits for an answer, and for the rest of a chain on the way up.
-pub fn held_bytes(asked: &[Asked], id: u64, index: &Index) -> usize
+fn held_bytes(asked: &[Asked], id: u64, index: &Index) -> usize
     requires { asked_bytes asked.now ≤ 8388608 }
     ensures sum { result ≡ held_bytes index.now.held id asked.now }
     ensures limit { result ≤ asked_bytes asked.now }

@@ -131,6 +131,12 @@ impl Chain {
         self.front.holds_first(held)
     }
 
+    /// Reads its first place. The answer depends on it, and says nothing.
+    #[inline(always)]
+    pub(crate) fn touch(&self) -> u64 {
+        self.front.touch()
+    }
+
     /// A place that it holds under this hash becomes another place. Whether it was there.
     pub(crate) fn relocate(&mut self, held: Held, to: Place) -> bool
         ensures had { result ≡ holds self.old.held held }

@@ -127,6 +127,15 @@ impl Front {
         }
     }
 
+    /// Reads its first place. The answer depends on it, and says nothing.
+    #[inline(always)]
+    pub(crate) fn touch(&self) -> u64 {
+        match self.held.first() {
+            Some(one) => one.place.segment ^ one.place.at as u64,
+            None => 0,
+        }
+    }
+
     /// A place that it holds under this hash becomes another place. Whether it was there.
     #[inline]
     pub(crate) fn relocate(&mut self, held: Held, to: Place) -> bool

@@ -197,6 +197,14 @@ impl Index {
         self.table.holds_first(held)
     }
 
+    /// Reads the first place of the hash's chain, so that it is in the processor's cache if it is asked for soon. Of several
+    /// such reads, one after another, none waits for another one. The answer depends on the place, since the compiler leaves
+    /// out a read that nobody needs. It says nothing.
+    #[inline(always)]
+    pub fn touch(&self, hash: u64) -> u64 {
+        self.table.touch(hash)
+    }
+
     /// A place that it holds under this hash becomes another place, in the same chain. Whether it was there. It takes
     /// no memory, and no key is read.
     pub fn relocate(&mut self, held: Held, to: Place) -> bool

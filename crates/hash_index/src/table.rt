@@ -163,6 +163,16 @@ impl Table {
         chain.holds_first(held)
     }
 
+    /// Reads the first place of the hash's chain. The answer depends on it, and says nothing.
+    #[inline(always)]
+    pub(crate) fn touch(&self, hash: u64) -> u64 {
+        if self.chains.is_empty() {
+            return 0;
+        }
+        let at = chain_at(self.chains.len(), hash);
+        self.chains[at].touch()
+    }
+
     /// A place that it holds under this hash becomes another place, in the same chain. Whether it was there.
     pub(crate) fn relocate(&mut self, held: Held, to: Place) -> bool
         ensures had { result ≡ holds self.old held }

@@ -31,12 +31,12 @@ impl Core {
             ⊎ ((clean_refusal self.old victims ≡ None) × (r ≡ Refusal.NoMemory))) }
         ensures err { OnErr result (self.new ≡ self.old) }
     {
-        self.admit_pass(victims.as_slice())?;
+        let near = self.admit_pass(victims.as_slice())?;
         let id = self.next;
         let mut survivor = Segment::begin_survivor(self.alloc, self.config.master, id)?;
         survivor.reserve(self.config.segment as usize)?;
         self.closed.reserve(2)?;
-        let pass = Pass::begin(victims, id, &self.closed);
+        let pass = Pass::begin(victims, near, id, &self.closed);
         self.closed.add_reserved(id, survivor, true);
         self.next += 1;
         self.pass = Some(pass);

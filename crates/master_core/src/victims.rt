@@ -12,8 +12,8 @@ use crate::step::Refusal;
 use cleaner::{PassFault, fit};
 
 impl Core {
-    /// The tests of a pass.
-    pub(crate) fn admit_pass(&self, victims: &[u64]) -> Result<(), Refusal>
+    /// The tests of a pass. The answer is how many of the first victims are near.
+    pub(crate) fn admit_pass(&self, victims: &[u64]) -> Result<usize, Refusal>
         ensures { result_err result ≡ clean_refusal self.now victims.now }
     {
         if self.is_halted {
@@ -61,8 +61,8 @@ impl Core {
         Ok(())
     }
 
-    /// The tests of a pass over segments that may be its victims.
-    fn admit_space(&self, victims: &[u64]) -> Result<(), Refusal>
+    /// The tests of a pass over segments that may be its victims. The answer is how many of the first ones are near.
+    fn admit_space(&self, victims: &[u64]) -> Result<usize, Refusal>
         requires { victims_fault self.now victims.now ≡ None }
         ensures { result_err result ≡ space_refusal self.now victims.now }
     {
@@ -71,20 +71,20 @@ impl Core {
         }
         let new = opening_id(&self.head);
         let segment = self.config.segment as usize;
-        if !fit(
+        let Some(near) = fit(
             victims,
             &self.closed,
             &self.index,
             self.head.id(),
             new,
             segment,
-        ) {
+        ) else {
             return Err(Refusal::Pass(PassFault::TooMuch));
-        }
+        };
         if self.next > 4_611_686_018_427_387_904 {
             return Err(Refusal::SegmentsSpent);
         }
-        Ok(())
+        Ok(near)
     }
 
     /// The rule of a pass with so many victims: two whole segments are free, and the log may have the survivor and the

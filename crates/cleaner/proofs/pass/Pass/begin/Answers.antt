@@ -11,6 +11,6 @@ returns-clause-rest c =
     let start : Cursor = record { victim = 0; at = 0; ahead = c.unseen.result } in
     let cursor = c.next_cursor-cursor.result in
     let goes =
-    subst (λ (vs : List ℕ). GoesOn images vs start cursor) c.as_slice-2.ensures
+    subst (λ (vs : List ℕ). GoesOn images vs start cursor) c.as_slice.ensures
     c.next_cursor-cursor.ensures in
     goes.rest ∙ on_start images c.args.victims

@@ -36,7 +36,7 @@ pub begin-pass-requires : goal.begin-pass-requires
 begin-pass-requires c =
     let d = the_view c.self.inside in
     let passed = admitted d c.args.self.now c.args.victims c.as_slice.result.now _ c.self.view_is c.as_slice.ensures c.admit_pass.ensures
-    (ap result_err c.in_ok-admit_pass.was) in
+    (ap result_err c.in_ok-near.was) in
     subst (λ (v : ImagesValue). AreVictims v.images d.next c.args.victims) (sym c.reserve-2.ensures.same)
     (victims_fit d c.self.invariant.2 c.args.victims (may_begin_pass d c.args.victims passed))
 
@@ -44,7 +44,7 @@ pub add_reserved-requires-clause-other : goal.add_reserved-requires-clause-other
 add_reserved-requires-clause-other c =
     let d = the_view c.self.inside in
     let passed = admitted d c.args.self.now c.args.victims c.as_slice.result.now _ c.self.view_is c.as_slice.ensures c.admit_pass.ensures
-    (ap result_err c.in_ok-admit_pass.was) in
+    (ap result_err c.in_ok-near.was) in
     subst (λ (v : ImagesValue). image_of v.images d.next ≡ None) (sym c.reserve-2.ensures.same)
     (none_yet d c.self.invariant.2 c.args.victims (may_begin_pass d c.args.victims passed))
 
@@ -60,7 +60,7 @@ pub add_reserved-requires-clause-free : goal.add_reserved-requires-clause-free
 add_reserved-requires-clause-free c =
     let d = the_view c.self.inside in
     let passed = admitted d c.args.self.now c.args.victims c.as_slice.result.now _ c.self.view_is c.as_slice.ensures c.admit_pass.ensures
-    (ap result_err c.in_ok-admit_pass.was) in
+    (ap result_err c.in_ok-near.was) in
     survivor_free d c.self.invariant.2 c.args.victims (may_begin_pass d c.args.victims passed) c.reserve-2.new.self c.self.inside.closed
     c.self.invariant.1 refl c.reserve-2.ensures.same
 
@@ -76,7 +76,7 @@ module _ (c : goal.Joined-self) where
 
   passed : clean_refusal d victims ≡ None
   passed = admitted d c.args.self.now victims c.as_slice.result.now _ c.self.view_is c.as_slice.ensures c.admit_pass.ensures
-      (ap result_err c.in_ok-admit_pass.was)
+      (ap result_err c.in_ok-near.was)
 
   may : MayBegin d victims
   may = may_begin_pass d victims passed
