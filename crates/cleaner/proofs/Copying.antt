@@ -2,6 +2,8 @@
 use Rattle.std.proofs.Common.{◌≡◌, ℕ, ◌+◌, ◌≤◌, Bool, true, false, cond, List, [], ◌∷◌, length, refl, sym, ap, subst, ◌∙◌, arith}
 use Rattle.std.specs.Prelude.{Option, Some, None, IsSome, IsSomeAnd, IfSome, unwrap_or}
 use Rattle.std.specs.Option.{option_and_then}
+use Rattle.entry.specs.declared.entry.Object.{Object}
+use Rattle.entry.specs.declared.entry.Tombstone.{Tombstone}
 use Rattle.entry.specs.declared.entry.Entry.{Entry}
 use Rattle.entry.specs.declared.entry.Entry.TheVariants as entry
 use Rattle.entry.specs.Format.{spelling}
@@ -10,24 +12,27 @@ use Rattle.segment.specs.Bytes.{standing_at}
 use Rattle.hash_index.specs.declared.place.Place.{Place}
 use Rattle.hash_index.specs.declared.place.Held.{Held}
 use Rattle.hash_index.specs.Map.{hash_of}
-use Rattle.hash_index.specs.Relocation.{relocated}
+use Rattle.hash_index.specs.Relocation.{holds, relocated}
 use Rattle.images.specs.declared.image.Image.{Image}
 use Rattle.images.specs.Sorted.{segment_of, changed}
 use Rattle.images.specs.Images.{ImagesValue}
 use Rattle.images.specs.Steps.{entry_at, with_unit, len_at, StandsData, HasData}
-use Rattle.compactor.specs.Kept.{kept}
+use Rattle.compactor.specs.Kept.{kept, has_id}
 use Rattle.cleaner.specs.declared.pass.Copied.{Copied}
 use Rattle.cleaner.specs.declared.pass.Copied.TheVariants as copied
-use Rattle.cleaner.specs.declared.treating.Extent.{Extent}
+use Rattle.cleaner.specs.declared.ahead.Seen.{Seen}
+use Rattle.cleaner.specs.declared.ahead.Seen.TheVariants as seen
+use Rattle.cleaner.specs.declared.treating.Found.{Found}
 use Rattle.cleaner.specs.declared.treating.Found.TheVariants as found
-use Rattle.cleaner.specs.Passes.{images_in, kept_len, copied_as, copy_place, images_with, held_with}
-use Rattle.cleaner.specs.Walks.{found_as, IsSeen, Treats}
+use Rattle.cleaner.specs.Passes.{images_in, kept_len, copied_as, copy_place, images_with, held_with, seen_of, seen_len, IsSeenAt}
+use Rattle.cleaner.specs.Walks.{found_as, IsSeen, Finds, Treats}
+use Rattle.cleaner.proofs.Reading.{shows_data, shows_len}
 use Rattle.cleaner.proofs.Keeping.{stands, stands_data, len_stands}
 
 -- the entry that is seen is read
-pub seen_at : (images : List Image) (p : Place) (x : Extent) (e : Entry) → IsSome (segment_of images p.segment)
-    → IsSeen (images_in images) p x e → entry_at images p.segment p.at ≡ Some e
-seen_at images p x e there seen = go (segment_of images p.segment) refl there
+pub seen_at : (images : List Image) (p : Place) (n : ℕ) (e : Entry) → IsSome (segment_of images p.segment)
+    → IsSeen (images_in images) p n e → entry_at images p.segment p.at ≡ Some e
+seen_at images p n e there seen = go (segment_of images p.segment) refl there
   where
     go : (o : Option (List Entry)) → segment_of images p.segment ≡ o → IsSome o
         → option_and_then (λ (es : List Entry). standing_at p.at (text_of es)) o ≡ Some e
@@ -85,6 +90,59 @@ pub tombstone_kept : (p : Place) (b : Bool) (e : Entry) → found_as b p e ≡ f
 tombstone_kept p true e is = refl
 tombstone_kept p false e is = absurd (cc)
 
+-- ---- by what was read
+
+found_object_as : (p : Place) (o : Object) (hash : ℕ) (b : Bool) → hash_of o.key ≡ hash
+    → found_as b p (entry.Object o) ≡ cond b (found.Object (record { hash = hash; place = p })) found.Dead
+found_object_as p o hash true same = ap (λ (h : ℕ). found.Object (record { hash = h; place = p })) same
+found_object_as p o hash false same = refl
+
+found_tombstone_as : (p : Place) (t : Tombstone) (b : Bool) → found_as b p (entry.Tombstone t) ≡ cond b found.Tombstone found.Dead
+found_tombstone_as p t true = refl
+found_tombstone_as p t false = refl
+
+-- an object is found by its hash
+pub found_object : (ids : List ℕ) (held : List Held) (p : Place) (e : Entry) (hash n : ℕ) (b : Bool)
+    → seen_of e ≡ Some (seen.Object hash n) → holds held (record { hash = hash; place = p }) ≡ b
+    → found_as (kept ids held p e) p e ≡ cond b (found.Object (record { hash = hash; place = p })) found.Dead
+found_object ids held p (entry.Header h) hash n b is test = absurd (cc)
+found_object ids held p (entry.Digest l) hash n b is test = absurd (cc)
+found_object ids held p (entry.Safe v) hash n b is test = absurd (cc)
+found_object ids held p (entry.Tombstone t) hash n b is test = absurd (cc)
+found_object ids held p (entry.Object o) hash n b is test =
+    let same : hash_of o.key ≡ hash = cc in
+    ap (λ (t : Bool). found_as t p (entry.Object o))
+    (ap (λ (h : ℕ). holds held (record { hash = h; place = p })) same ∙ test)
+    ∙ found_object_as p o hash b same
+
+-- a tombstone by the segment that it names
+pub found_tombstone : (ids : List ℕ) (held : List Held) (p : Place) (e : Entry) (segment n : ℕ) (b : Bool)
+    → seen_of e ≡ Some (seen.Tombstone segment n) → has_id ids segment ≡ b
+    → found_as (kept ids held p e) p e ≡ cond b found.Tombstone found.Dead
+found_tombstone ids held p (entry.Header h) segment n b is test = absurd (cc)
+found_tombstone ids held p (entry.Digest l) segment n b is test = absurd (cc)
+found_tombstone ids held p (entry.Safe v) segment n b is test = absurd (cc)
+found_tombstone ids held p (entry.Object o) segment n b is test = absurd (cc)
+found_tombstone ids held p (entry.Tombstone t) segment n b is test =
+    let same : t.segment ≡ segment = cc in
+    ap (λ (x : Bool). found_as x p (entry.Tombstone t)) (ap (has_id ids) same ∙ test)
+    ∙ found_tombstone_as p t b
+
+-- what is found is seen
+pub finds : (ids : List ℕ) (held : List Held) (images : ℕ → List Entry) (p : Place) (f : Found) (x : Seen)
+    → (one : IsSeenAt (images p.segment) p.at x) → found_as (kept ids held p one.entry) p one.entry ≡ f
+    → Finds ids held images p f (seen_len x)
+finds ids held images p f x one is = (
+  one.entry,
+  record {
+    stands = one.lies;
+    valid = one.valid;
+    of_data = shows_data one.entry x one.shows;
+    size = shows_len one.entry x one.shows;
+  },
+  sym is,
+)
+
 -- ---- a copy
 
 -- nothing but the images changes
@@ -93,21 +151,21 @@ pub others_are : (new old : ImagesValue) (xs : List Image) → new ≡ record ol
 others_are new old xs is =
     is ∙ ap (λ (ys : List Image). record old { images = ys }) (sym (ap (λ (v : ImagesValue). v.images) is))
 
-module _ (images : List Image) (p : Place) (extent : Extent) (e : Entry) where
-  module _ (there : IsSome (segment_of images p.segment)) (seen : IsSeen (images_in images) p extent e) where
+module _ (images : List Image) (p : Place) (n : ℕ) (e : Entry) where
+  module _ (there : IsSome (segment_of images p.segment)) (seen : IsSeen (images_in images) p n e) where
     abbrev Read : Option Entry
     Read = entry_at images p.segment p.at
 
-    pub copy_data : HasData images p.segment p.at extent.len
+    pub copy_data : HasData images p.segment p.at n
     copy_data = go (segment_of images p.segment) refl there
       where
         go : (o : Option (List Entry)) → segment_of images p.segment ≡ o → IsSome o
-            → IsSomeAnd o (λ (es : List Entry). StandsData (text_of es) p.at extent.len)
+            → IsSomeAnd o (λ (es : List Entry). StandsData (text_of es) p.at n)
         go None is none = absurd (cc)
         go (Some es) is some =
             let own : images_in images p.segment ≡ es = ap (λ (x : Option (List Entry)). unwrap_or x []) is in
-            subst (λ (xs : List Entry). StandsData (text_of xs) p.at extent.len) own
-            (stands_data (images_in images p.segment) p.at extent.len e seen.valid seen.of_data seen.size seen.stands)
+            subst (λ (xs : List Entry). StandsData (text_of xs) p.at n) own
+            (stands_data (images_in images p.segment) p.at n e seen.valid seen.of_data seen.size seen.stands)
 
     pub copy_room : (ids : List ℕ) (held : List Held) (survivor segment : ℕ) → kept ids held p e ≡ true
         → len_at images survivor + kept_len ids held (images_in images) p ≤ segment
@@ -117,7 +175,7 @@ module _ (images : List Image) (p : Place) (extent : Extent) (e : Entry) where
         len_stands ids held (images_in images) p e seen.valid seen.stands
         ∙ ap (λ (b : Bool). cond b (length (spelling e)) 0) keeps in
         subst (λ (o : Option Entry). IfSome o (λ (x : Entry). len_at images survivor + length (spelling x) ≤ segment))
-        (sym (seen_at images p extent e there seen)) (omega (arith, room, len))
+        (sym (seen_at images p n e there seen)) (omega (arith, room, len))
 
     -- what is appended is the entry
     pub copied_is : (survivor : ℕ) (new old : ImagesValue) → IfSome Read (λ (x : Entry). new ≡
@@ -125,11 +183,11 @@ module _ (images : List Image) (p : Place) (extent : Extent) (e : Entry) where
         → new ≡ record old { images = changed images survivor (with_unit (e ∷ [])) }
     copied_is survivor new old is =
         subst (λ (o : Option Entry). IfSome o (λ (x : Entry). new ≡
-        record old { images = changed images survivor (with_unit (x ∷ [])) })) (seen_at images p extent e there seen) is
+        record old { images = changed images survivor (with_unit (x ∷ [])) })) (seen_at images p n e there seen) is
 
-  pub treats : (seen : IsSeen (images_in images) p extent e) (ids : List ℕ) (held : List Held) (survivor : ℕ)
+  pub treats : (seen : IsSeen (images_in images) p n e) (ids : List ℕ) (held : List Held) (survivor : ℕ)
       (copied : Copied) (after : List Image) (later : List Held)
       → Does p survivor images held (kept ids held p e) e copied after later
-      → Treats ids images held p survivor copied extent after later
+      → Treats ids images held p survivor copied n after later
   treats seen ids held survivor copied after later does =
       record { entry = e; seen = seen; told = does.0; grown = does.1; index = does.2 }

@@ -1,7 +1,7 @@
--- How the cursor of a pass goes on.
-use Rattle.std.proofs.Common.{◌≡◌, ℕ, ◌+◌, ◌<◌, ◌≤◌, true, false, List, [], ◌∷◌, ◌++◌, length, drop, get_or, refl, sym, ap, subst, ◌∙◌, arith}
+-- How a walk over victims goes on.
+use Rattle.std.proofs.Common.{◌≡◌, ℕ, ◌+◌, ◌<◌, ◌≤◌, true, false, List, [], ◌∷◌, ◌++◌, length, drop, refl, sym, ap, subst, ◌∙◌, arith}
 use Rattle.std.specs.Prelude.{Some, None}
-use Rattle.std.proofs.lemmas.List.{append-nil, drop_all, drop_more}
+use Rattle.std.proofs.lemmas.List.{drop_all}
 use Rattle.entry.specs.declared.entry.Entry.{Entry}
 use Rattle.entry.specs.Format.{spelling}
 use Rattle.entry.specs.Text.{text_of, is_data}
@@ -9,9 +9,9 @@ use Rattle.hash_index.specs.declared.place.Place.{Place}
 use Rattle.compactor.specs.Places.{LiesAt}
 use Rattle.compactor.proofs.Cutting.{IsCut, cut_next, cut_end}
 use Rattle.compactor.proofs.Walking.{IsHere}
-use Rattle.cleaner.specs.declared.pass.Cursor.{Cursor}
-use Rattle.cleaner.specs.Passes.{places_from, places_past, places_of, places_on, IsCursorAt}
-use Rattle.cleaner.specs.Walks.{IsBetween, IsCursorBetween, FindsData, EndsOn, GoesOn}
+use Rattle.cleaner.specs.declared.walking.Spot.{Spot}
+use Rattle.cleaner.specs.Passes.{places_from, places_past, places_of, places_on}
+use Rattle.cleaner.specs.Walks.{IsBetween, IsSpotBetween, IsSpotAt, FindsData, GoesOn}
 use Rattle.cleaner.proofs.Places.{from_data, past_cut, on_start}
 
 -- ---- in a segment
@@ -78,35 +78,35 @@ module _ (es : List Entry) (from : ℕ) where
 -- ---- in the victims
 
 -- at the start of the first
-pub starts : (images : ℕ → List Entry) (ids : List ℕ) → IsCursorBetween images ids 0
+pub starts : (images : ℕ → List Entry) (ids : List ℕ) → IsSpotBetween images ids 0
 starts images [] = tt
 starts images (s ∷ ids) = between_start (images s)
 
-module _ (images : ℕ → List Entry) (victims : List ℕ) (from : Cursor) where
-  -- no object or tombstone lies between the two cursors
-  pub record IsGoing (now : Cursor) : Type 0 where
+module _ (images : ℕ → List Entry) (victims : List ℕ) (from : Spot) where
+  -- no object or tombstone lies between the two spots
+  pub record IsGoing (now : Spot) : Type 0 where
     pub within : now.victim ≤ length victims
-    pub between : IsCursorBetween images (drop now.victim victims) now.at
+    pub between : IsSpotBetween images (drop now.victim victims) now.at
     pub rest : places_on images (drop now.victim victims) now.at ≡ places_on images (drop from.victim victims) from.at
 
-  pub going_start : from.victim ≤ length victims → IsCursorBetween images (drop from.victim victims) from.at → IsGoing from
+  pub going_start : from.victim ≤ length victims → IsSpotBetween images (drop from.victim victims) from.at → IsGoing from
   going_start within between = record { within = within; between = between; rest = refl }
 
-  pub going_end : (now : Cursor) → IsGoing now → length victims ≤ now.victim → GoesOn images victims from now
+  pub going_end : (now : Spot) → IsGoing now → length victims ≤ now.victim → GoesOn images victims from now
   going_end now g past =
       let none : drop now.victim victims ≡ [] = drop_all now.victim victims past in
       record {
         within = g.within;
         rest = g.rest;
-        cursor = subst (λ (ids : List ℕ). IsCursorAt images ids now.at) (sym none) tt;
+        spot = subst (λ (ids : List ℕ). IsSpotAt images ids now.at) (sym none) tt;
       }
 
-  module _ (now : Cursor) (g : IsGoing now) (s : ℕ) (ids : List ℕ) (split : drop now.victim victims ≡ s ∷ ids)
+  module _ (now : Spot) (g : IsGoing now) (s : ℕ) (ids : List ℕ) (split : drop now.victim victims ≡ s ∷ ids)
       (es : List Entry) (is : es ≡ images s) where
     pub going_between : IsBetween es now.at
     going_between =
         subst (λ (xs : List Entry). IsBetween xs now.at) (sym is)
-        (subst (λ (ds : List ℕ). IsCursorBetween images ds now.at) split g.between)
+        (subst (λ (ds : List ℕ). IsSpotBetween images ds now.at) split g.between)
 
     pub going_found : (at : ℕ) → FindsData es now.at (Some at) → GoesOn images victims from (record now { at = at })
     going_found at finds = record {
@@ -118,13 +118,13 @@ module _ (images : ℕ → List Entry) (victims : List ℕ) (from : Cursor) wher
           ∙ ap (λ (xs : List Entry). places_past s now.at xs ++ places_of images ids) is
           ∙ ap (λ (ds : List ℕ). places_on images ds now.at) (sym split)
           ∙ g.rest;
-      cursor =
-          subst (λ (ds : List ℕ). IsCursorAt images ds at) (sym split)
+      spot =
+          subst (λ (ds : List ℕ). IsSpotAt images ds at) (sym split)
           (subst (λ (xs : List Entry). (e : Entry) × LiesAt xs at e × (is_data e ≡ true)) is finds.0);
     }
 
     pub going_next : FindsData es now.at None → now.victim < length victims → ids ≡ drop (now.victim + 1) victims
-        → IsGoing (record now { victim = now.victim + 1; at = 0 })
+        → IsGoing (record { victim = now.victim + 1; at = 0 })
     going_next finds lt later = record {
       within = omega (arith, lt);
       between = starts images (drop (now.victim + 1) victims);
@@ -136,38 +136,3 @@ module _ (images : ℕ → List Entry) (victims : List ℕ) (from : Cursor) wher
           ∙ ap (λ (ds : List ℕ). places_on images ds now.at) (sym split)
           ∙ g.rest;
     }
-
--- ---- behind an object or tombstone
-
--- none begins at the end of a segment
-none_at_end : (es : List Entry) (at : ℕ) → at ≡ length (text_of es) → FindsData es at None
-none_at_end es at end = λ s. past_cut s at es es [] (sym (append-nil es)) end
-
-module _ (images : ℕ → List Entry) (victims : List ℕ) (from : Cursor) (lt : from.victim < length victims) where
-  pub behind_next : EndsOn images (drop from.victim victims) from.at false → GoesOn images victims from from
-  behind_next ends = record { within = omega (arith, lt); rest = refl; cursor = at_next (drop from.victim victims) ends }
-    where
-      at_next : (ids : List ℕ) → EndsOn images ids from.at false → IsCursorAt images ids from.at
-      at_next [] is = tt
-      at_next (s ∷ ids) is = is
-
-  abbrev Next : Cursor
-  Next = record from { victim = from.victim + 1; at = 0 }
-
-  pub behind_last : EndsOn images (drop from.victim victims) from.at true → (to : Cursor) → GoesOn images victims Next to
-      → GoesOn images victims from to
-  behind_last ends to goes =
-      let s = get_or victims from.victim 0 in
-      let ids = drop Next.victim victims in
-      let split : drop from.victim victims ≡ s ∷ ids = drop_more victims from.victim 0 lt in
-      let end : from.at ≡ length (text_of (images s)) =
-      subst (λ (ds : List ℕ). EndsOn images ds from.at true) split ends in
-      record {
-        within = goes.within;
-        rest =
-            goes.rest
-            ∙ on_start images ids
-            ∙ ap (λ (ps : List Place). ps ++ places_of images ids) (sym (none_at_end (images s) from.at end s))
-            ∙ ap (λ (ds : List ℕ). places_on images ds from.at) (sym split);
-        cursor = goes.cursor;
-      }

@@ -9,10 +9,12 @@ use Rattle.entry.specs.Format.{spelling}
 use Rattle.hash_index.specs.declared.place.Place.{Place}
 use Rattle.images.specs.declared.image.Image.{Image}
 use Rattle.images.specs.Sorted.{IsWhole, segment_of}
+use Rattle.cleaner.specs.declared.pass.Cursor.{Cursor}
 use Rattle.cleaner.specs.declared.pass.Pass.{Pass}
-use Rattle.cleaner.specs.Passes.{images_in, AreVictims, rest_of, is_at_end, places_on, IsAtData, IsCursorAt, IsPass}
+use Rattle.cleaner.specs.Passes.{images_in, AreVictims, rest_of, is_at_end, places_on, IsAhead, IsCursorAt, IsPass}
 use Rattle.cleaner.specs.Laws.{AreSameAt}
 use Rattle.cleaner.proofs.Places.{place_at, on_data, on_same, on_segment, among_drop}
+use Rattle.cleaner.proofs.Reading.{ahead_data}
 
 pub rest_same : (images again : ℕ → List Entry) (p : Pass) → AreSameAt images again p.victims
     → rest_of again p ≡ rest_of images p
@@ -20,17 +22,17 @@ rest_same images again p same =
     on_same images again (drop p.cursor.victim p.victims) p.cursor.at
     (λ s m. same s (among_drop p.cursor.victim p.victims s m))
 
-pub cursor_same : (images again : ℕ → List Entry) (ids : List ℕ) (at : ℕ) → AreSameAt images again ids
-    → IsCursorAt images ids at → IsCursorAt again ids at
-cursor_same images again [] at same is = tt
-cursor_same images again (s ∷ ids) at same is =
-    subst (λ (es : List Entry). IsAtData es at) (sym (same s (inl refl))) is
+pub cursor_same : (images again : ℕ → List Entry) (ids : List ℕ) (cursor : Cursor) → AreSameAt images again ids
+    → IsCursorAt images ids cursor → IsCursorAt again ids cursor
+cursor_same images again [] cursor same is = tt
+cursor_same images again (s ∷ ids) cursor same is =
+    subst (λ (es : List Entry). IsAhead es cursor.at cursor.ahead) (sym (same s (inl refl))) is
 
 pub cursor_agrees : (images again : ℕ → List Entry) (p : Pass) → AreSameAt images again p.victims
-    → IsCursorAt images (drop p.cursor.victim p.victims) p.cursor.at
-    → IsCursorAt again (drop p.cursor.victim p.victims) p.cursor.at
+    → IsCursorAt images (drop p.cursor.victim p.victims) p.cursor
+    → IsCursorAt again (drop p.cursor.victim p.victims) p.cursor
 cursor_agrees images again p same is =
-    cursor_same images again (drop p.cursor.victim p.victims) p.cursor.at
+    cursor_same images again (drop p.cursor.victim p.victims) p.cursor
     (λ s m. same s (among_drop p.cursor.victim p.victims s m)) is
 
 -- victims that are found as before
@@ -76,15 +78,18 @@ not_none : {X : Type 0} (x : X) (xs ys : List X) → ys ≡ x ∷ xs → ys ≡ 
 not_none x xs ys some none = absurd (cc)
 
 -- where a segment is left, a place is left
-none_left : (images : ℕ → List Entry) (ids : List ℕ) (at : ℕ) → IsCursorAt images ids at → places_on images ids at ≡ [] → ids ≡ []
-none_left images [] at is none = refl
-none_left images (s ∷ ids) at is none =
-    absurd (not_none (place_at s at) (places_on images (s ∷ ids) (at + length (spelling is.0))) (places_on images (s ∷ ids) at)
-    (on_data images s ids at is.0 is.1 is.2) none)
+none_left : (images : ℕ → List Entry) (ids : List ℕ) (cursor : Cursor) → IsCursorAt images ids cursor
+    → places_on images ids cursor.at ≡ [] → ids ≡ []
+none_left images [] cursor is none = refl
+none_left images (s ∷ ids) cursor is none =
+    let at = cursor.at in
+    let there = ahead_data (images s) at cursor.ahead is in
+    absurd (not_none (place_at s at) (places_on images (s ∷ ids) (at + length (spelling there.0))) (places_on images (s ∷ ids) at)
+    (on_data images s ids at there.0 there.1 there.2) none)
 
 pub none_end : (images : List Image) (p : Pass) → IsPass images p → rest_of (images_in images) p ≡ [] → is_at_end p ≡ true
 none_end images p pass none =
-    let left = none_left (images_in images) (drop p.cursor.victim p.victims) p.cursor.at pass.cursor none in
+    let left = none_left (images_in images) (drop p.cursor.victim p.victims) p.cursor pass.cursor none in
     eq-eqb p.cursor.victim (length p.victims)
     (omega (arith, pass.within, length-drop p.cursor.victim p.victims, ap length left))
 

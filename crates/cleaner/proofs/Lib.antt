@@ -3,8 +3,7 @@ pub mod Images
 pub mod Cursors
 pub mod Keeping
 pub mod Bounding
-pub mod Behind
-pub mod Seeing
+pub mod Reading
 pub mod Ends
 pub mod Leaving
 pub mod Copying

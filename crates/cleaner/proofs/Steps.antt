@@ -13,17 +13,16 @@ use Rattle.images.specs.declared.image.Image.{Image}
 use Rattle.images.specs.Sorted.{IsWhole, segment_of}
 use Rattle.images.specs.Steps.{len_at}
 use Rattle.compactor.specs.Kept.{kept}
-use Rattle.cleaner.specs.declared.ahead.Ahead.{Ahead}
 use Rattle.cleaner.specs.declared.pass.Cursor.{Cursor}
 use Rattle.cleaner.specs.declared.pass.Pass.{Pass}
 use Rattle.cleaner.specs.declared.pass.Copied.{Copied}
-use Rattle.cleaner.specs.declared.treating.Extent.{Extent}
 use Rattle.cleaner.specs.Passes.{images_in, rest_of, is_at_end, places_on, kept_len, kept_left, images_with}
-use Rattle.cleaner.specs.Passes.{AreVictims, IsAtData, IsCursorAt, IsPass, HasRoom, CopiesOne}
-use Rattle.cleaner.specs.Walks.{EndsAt, EndsOn, GoesOn, Treats}
+use Rattle.cleaner.specs.Passes.{AreVictims, IsAhead, IsCursorAt, IsPass, HasRoom, CopiesOne}
+use Rattle.cleaner.specs.Walks.{IsAtData, GoesTo, Treats}
 use Rattle.cleaner.proofs.Places.{place_at, on_data, on_same, among_drop}
 use Rattle.cleaner.proofs.Images.{len_is, is_victim, are_there, with_whole, with_victims, with_same}
 use Rattle.cleaner.proofs.Keeping.{left_cons}
+use Rattle.cleaner.proofs.Reading.{ahead_data}
 
 module _ (p : Pass) (images : List Image) (pass : IsPass images p) (more : is_at_end p ≡ false) where
   -- a victim is left
@@ -54,8 +53,11 @@ module _ (p : Pass) (images : List Image) (pass : IsPass images p) (more : is_at
   pub own_below : own < p.survivor
   own_below = (is_victim images p.survivor p.victims own pass.victims own_among).1
 
-  pub own_data : IsAtData (images_in images own) p.cursor.at
-  own_data = subst (λ (ids : List ℕ). IsCursorAt (images_in images) ids p.cursor.at) split pass.cursor
+  pub own_ahead : IsAhead (images_in images own) p.cursor.at p.cursor.ahead
+  own_ahead = subst (λ (ids : List ℕ). IsCursorAt (images_in images) ids p.cursor) split pass.cursor
+
+  own_data : IsAtData (images_in images own) p.cursor.at
+  own_data = ahead_data (images_in images own) p.cursor.at p.cursor.ahead own_ahead
 
   abbrev pub Here : Place
   Here = place_at own p.cursor.at
@@ -81,8 +83,8 @@ module _ (p : Pass) (images : List Image) (pass : IsPass images p) (more : is_at
 
   -- ---- the entry is treated
 
-  module _ (ids : List ℕ) (held : List Held) (copied : Copied) (x : Extent) (after : List Image) (later : List Held)
-      (t : Treats ids images held Here p.survivor copied x after later) where
+  module _ (ids : List ℕ) (held : List Held) (copied : Copied) (n : ℕ) (after : List Image) (later : List Held)
+      (t : Treats ids images held Here p.survivor copied n after later) where
     abbrev keeps : Bool
     keeps = kept ids held Here t.entry
 
@@ -97,23 +99,23 @@ module _ (p : Pass) (images : List Image) (pass : IsPass images p) (more : is_at
         (are_there (images_with keeps p.survivor t.entry images) p.survivor p.victims
         (with_victims images p.survivor t.entry keeps p.victims pass.victims))
 
-    pub after_ends : EndsOn (images_in after) (drop p.cursor.victim p.victims) (p.cursor.at + x.len) x.is_last
-    after_ends =
-        subst (λ (xs : List ℕ). EndsOn (images_in after) xs (p.cursor.at + x.len) x.is_last) (sym split)
-        (subst (λ (es : List Entry). EndsAt es (p.cursor.at + x.len) x.is_last) (sym (after_same own own_among)) t.seen.behind)
+    -- what was read ahead is there still
+    pub after_cursor : IsCursorAt (images_in after) (drop p.cursor.victim p.victims) p.cursor
+    after_cursor =
+        subst (λ (xs : List ℕ). IsCursorAt (images_in after) xs p.cursor) (sym split)
+        (subst (λ (es : List Entry). IsAhead es p.cursor.at p.cursor.ahead) (sym (after_same own own_among)) own_ahead)
 
     -- the places behind it are left
-    behind : places_on (images_in after) (drop p.cursor.victim p.victims) (p.cursor.at + x.len)
+    behind : places_on (images_in after) (drop p.cursor.victim p.victims) (p.cursor.at + n)
         ≡ places_on (images_in images) (own ∷ others) (p.cursor.at + length (spelling t.entry))
     behind =
-        on_same (images_in images) (images_in after) (drop p.cursor.victim p.victims) (p.cursor.at + x.len)
+        on_same (images_in images) (images_in after) (drop p.cursor.victim p.victims) (p.cursor.at + n)
         (λ s m. after_same s (among_drop p.cursor.victim p.victims s m))
-        ∙ ap (λ (xs : List ℕ). places_on (images_in images) xs (p.cursor.at + x.len)) split
+        ∙ ap (λ (xs : List ℕ). places_on (images_in images) xs (p.cursor.at + n)) split
         ∙ ap Behind t.seen.size
 
-    module _ (cursor : Cursor) (ahead : Ahead)
-        (goes : GoesOn (images_in after) p.victims
-        (record { victim = p.cursor.victim; at = p.cursor.at + x.len; ahead = ahead }) cursor) where
+    module _ (cursor : Cursor)
+        (goes : GoesTo (images_in after) p.victims (record { victim = p.cursor.victim; at = p.cursor.at + n }) cursor) where
       pub copies : CopiesOne ids p images held copied (record p { cursor = cursor }) after later
       copies = record {
         place = Here;

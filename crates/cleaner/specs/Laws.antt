@@ -25,8 +25,8 @@ RestsAgree = (images again : ℕ → List Entry) (p : Pass) → AreSameAt images
 -- The cursor is at an object or a tombstone of those images too.
 abbrev pub CursorsAgree : Type 0
 CursorsAgree = (images again : ℕ → List Entry) (p : Pass) → AreSameAt images again p.victims
-    → IsCursorAt images (drop p.cursor.victim p.victims) p.cursor.at
-    → IsCursorAt again (drop p.cursor.victim p.victims) p.cursor.at
+    → IsCursorAt images (drop p.cursor.victim p.victims) p.cursor
+    → IsCursorAt again (drop p.cursor.victim p.victims) p.cursor
 
 -- A pass over images stays one over others that have the same victims, if the survivor is there and whole.
 abbrev pub PassesAgree : Type 0

@@ -1,6 +1,6 @@
 -- A pass over victims: the places that it has before it, and what it does at one of them.
 use Rattle.std.specs.Prelude.{◌≡◌, ℕ, ◌+◌, ◌≤◌, ◌<◌, ◌==◌, Bool, true, false, ◌&&◌, if◌then◌else◌, nat_le}
-use Rattle.std.specs.Prelude.{List, [], ◌∷◌, ◌++◌, length, map, drop, filter, sum_by, Option, IsSome, unwrap_or}
+use Rattle.std.specs.Prelude.{List, [], ◌∷◌, ◌++◌, length, map, drop, filter, sum_by, Option, Some, None, IsSome, unwrap_or}
 use Rattle.std.specs.List.{AllByRecursion}
 use Rattle.std.specs.Option.{option_map_or, option_to_list}
 use Rattle.entry.specs.declared.entry.Entry.{Entry}
@@ -11,12 +11,16 @@ use Rattle.entry.specs.Text.{text_of, is_data}
 use Rattle.segment.specs.Bytes.{standing_at}
 use Rattle.hash_index.specs.declared.place.Place.{Place}
 use Rattle.hash_index.specs.declared.place.Held.{Held}
+use Rattle.hash_index.specs.Map.{hash_of}
 use Rattle.images.specs.declared.image.Image.{Image}
 use Rattle.images.specs.Sorted.{IsWhole, segment_of, changed}
 use Rattle.images.specs.Steps.{with_unit, len_at}
 use Rattle.compactor.specs.Kept.{kept}
 use Rattle.compactor.specs.Moved.{moved_one}
 use Rattle.compactor.specs.Places.{LiesAt, IsAtPlace}
+use Rattle.cleaner.specs.declared.ahead.Seen.{Seen}
+use Rattle.cleaner.specs.declared.ahead.Seen.TheVariants as seen
+use Rattle.cleaner.specs.declared.pass.Cursor.{Cursor}
 use Rattle.cleaner.specs.declared.pass.Pass.{Pass}
 use Rattle.cleaner.specs.declared.pass.Copied.{Copied}
 use Rattle.cleaner.specs.declared.pass.Copied.TheVariants.{Moved, Carried, Dropped}
@@ -71,21 +75,48 @@ is_at_end p = p.cursor.victim == length p.victims
 abbrev pub is_ready : ℕ → Pass → Bool
 is_ready replicas p = is_at_end p && (p.sealed == replicas)
 
--- an object or a tombstone stands at the offset
-abbrev pub IsAtData : List Entry → ℕ → Type 0
-IsAtData es at = (e : Entry) × LiesAt es at e × (is_data e ≡ true)
+-- what a pass remembers of an object or a tombstone that it read
+abbrev pub seen_of : Entry → Option Seen
+seen_of (entry.Header h) = None
+seen_of (entry.Digest ids) = None
+seen_of (entry.Safe version) = None
+seen_of (entry.Object o) = Some (seen.Object (hash_of o.key) (length (spelling (entry.Object o))))
+seen_of (entry.Tombstone t) = Some (seen.Tombstone t.segment (length (spelling (entry.Tombstone t))))
 
--- the cursor is at an object or a tombstone of the first of these segments, or there is no segment
-abbrev pub IsCursorAt : (ℕ → List Entry) → List ℕ → ℕ → Type 0
-IsCursorAt images [] at = Unit {0}
-IsCursorAt images (s ∷ ids) at = IsAtData (images s) at
+-- its length
+abbrev pub seen_len : Seen → ℕ
+seen_len (seen.Object hash len) = len
+seen_len (seen.Tombstone segment len) = len
+
+-- An object or a tombstone stands at the offset, and this is what is remembered of it.
+pub record IsSeenAt (es : List Entry) (at : ℕ) (x : Seen) : Type 0 where
+  pub entry : Entry
+  pub lies : LiesAt es at entry
+  pub valid : IsEntry entry
+  pub shows : seen_of entry ≡ Some x
+  pub limit : at + seen_len x ≤ 8388608
+
+-- the same of entries from an offset on, one after another
+abbrev pub AreSeenFrom : List Entry → ℕ → List Seen → Type 0
+AreSeenFrom es at [] = Unit {0}
+AreSeenFrom es at (x ∷ xs) = IsSeenAt es at x × AreSeenFrom es (at + seen_len x) xs
+
+-- at least one was read
+abbrev pub IsAhead : List Entry → ℕ → List Seen → Type 0
+IsAhead es at [] = ⊥
+IsAhead es at (x ∷ xs) = AreSeenFrom es at (x ∷ xs)
+
+-- What the cursor read ahead begins at its place in the first of these segments, or there is no segment.
+abbrev pub IsCursorAt : (ℕ → List Entry) → List ℕ → Cursor → Type 0
+IsCursorAt images [] cursor = Unit {0}
+IsCursorAt images (s ∷ ids) cursor = IsAhead (images s) cursor.at cursor.ahead
 
 -- What holds of an open pass and the images.
 pub record IsPass (images : List Image) (p : Pass) : Type 0 where
   pub victims : AreVictims images p.survivor p.victims
   pub whole : IsWhole images p.survivor
   pub within : p.cursor.victim ≤ length p.victims
-  pub cursor : IsCursorAt (images_in images) (drop p.cursor.victim p.victims) p.cursor.at
+  pub cursor : IsCursorAt (images_in images) (drop p.cursor.victim p.victims) p.cursor
 
 -- ---- kept bytes
 

@@ -1,5 +1,5 @@
 -- How a cursor goes on, and what a pass finds at its place.
-use Rattle.std.specs.Prelude.{◌≡◌, ℕ, ◌+◌, ◌≤◌, Bool, true, false, List, [], ◌∷◌, ◌++◌, length, drop, Option, Some, None}
+use Rattle.std.specs.Prelude.{◌≡◌, ℕ, ◌≤◌, Bool, true, false, List, [], ◌∷◌, ◌++◌, length, drop, Option, Some, None}
 use Rattle.entry.specs.declared.entry.Entry.{Entry}
 use Rattle.entry.specs.declared.entry.Entry.TheVariants as entry
 use Rattle.entry.specs.Format.{spelling, IsEntry}
@@ -9,13 +9,13 @@ use Rattle.hash_index.specs.declared.place.Held.{Held}
 use Rattle.hash_index.specs.Map.{hash_of}
 use Rattle.images.specs.declared.image.Image.{Image}
 use Rattle.compactor.specs.Kept.{kept}
-use Rattle.compactor.specs.Places.{IsAtPlace}
+use Rattle.compactor.specs.Places.{LiesAt, IsAtPlace}
 use Rattle.cleaner.specs.declared.pass.Cursor.{Cursor}
 use Rattle.cleaner.specs.declared.pass.Copied.{Copied}
-use Rattle.cleaner.specs.declared.treating.Extent.{Extent}
 use Rattle.cleaner.specs.declared.treating.Found.{Found}
 use Rattle.cleaner.specs.declared.treating.Found.TheVariants as found
-use Rattle.cleaner.specs.Passes.{images_in, places_past, places_on, IsAtData, IsCursorAt}
+use Rattle.cleaner.specs.declared.walking.Spot.{Spot}
+use Rattle.cleaner.specs.Passes.{images_in, places_past, places_on, IsCursorAt}
 use Rattle.cleaner.specs.Passes.{copied_as, copy_place, images_with, held_with}
 
 -- ---- the cursor
@@ -28,32 +28,36 @@ pub record IsBetween (es : List Entry) (at : ℕ) : Type 0 where
   pub offset : at ≡ length (text_of before)
 
 -- the same of the first of these segments, if there is one
-abbrev pub IsCursorBetween : (ℕ → List Entry) → List ℕ → ℕ → Type 0
-IsCursorBetween images [] at = Unit {0}
-IsCursorBetween images (s ∷ ids) at = IsBetween (images s) at
+abbrev pub IsSpotBetween : (ℕ → List Entry) → List ℕ → ℕ → Type 0
+IsSpotBetween images [] at = Unit {0}
+IsSpotBetween images (s ∷ ids) at = IsBetween (images s) at
+
+-- an object or a tombstone stands at the offset
+abbrev pub IsAtData : List Entry → ℕ → Type 0
+IsAtData es at = (e : Entry) × LiesAt es at e × (is_data e ≡ true)
+
+-- it stands there in the first of these segments, or there is no segment
+abbrev pub IsSpotAt : (ℕ → List Entry) → List ℕ → ℕ → Type 0
+IsSpotAt images [] at = Unit {0}
+IsSpotAt images (s ∷ ids) at = IsAtData (images s) at
 
 -- the first object or tombstone from an offset on is at the found one, or there is none
 abbrev pub FindsData : List Entry → ℕ → Option ℕ → Type 0
 FindsData es at None = (s : ℕ) → places_past s at es ≡ []
 FindsData es at (Some n) = IsAtData es n × ((s : ℕ) → places_past s n es ≡ places_past s at es)
 
--- A cursor is behind no victim but the last, at an object or tombstone if not there, and has the places before it that
+-- A spot is behind no victim but the last, at an object or tombstone if not there, and has the places before it that
 -- another one has.
-pub record GoesOn (images : ℕ → List Entry) (victims : List ℕ) (from to : Cursor) : Type 0 where
+pub record GoesOn (images : ℕ → List Entry) (victims : List ℕ) (from to : Spot) : Type 0 where
   pub within : to.victim ≤ length victims
   pub rest : places_on images (drop to.victim victims) to.at ≡ places_on images (drop from.victim victims) from.at
-  pub cursor : IsCursorAt images (drop to.victim victims) to.at
+  pub spot : IsSpotAt images (drop to.victim victims) to.at
 
--- What is at the offset behind an object or a tombstone: the end of the segment if that was the last entry, else another
--- object or tombstone.
-abbrev pub EndsAt : List Entry → ℕ → Bool → Type 0
-EndsAt es at true = at ≡ length (text_of es)
-EndsAt es at false = IsAtData es at
-
--- the same of the first of these segments, if there is one
-abbrev pub EndsOn : (ℕ → List Entry) → List ℕ → ℕ → Bool → Type 0
-EndsOn images [] at is_last = Unit {0}
-EndsOn images (s ∷ ids) at is_last = EndsAt (images s) at is_last
+-- The same of a cursor, which has read ahead there.
+pub record GoesTo (images : ℕ → List Entry) (victims : List ℕ) (from : Spot) (to : Cursor) : Type 0 where
+  pub within : to.victim ≤ length victims
+  pub rest : places_on images (drop to.victim victims) to.at ≡ places_on images (drop from.victim victims) from.at
+  pub cursor : IsCursorAt images (drop to.victim victims) to
 
 -- ---- the entry
 
@@ -66,25 +70,22 @@ found_as true p (entry.Safe version) = found.Tombstone
 found_as true p (entry.Object o) = found.Object (record { hash = hash_of o.key; place = p })
 found_as true p (entry.Tombstone t) = found.Tombstone
 
--- An object or tombstone stands at the place, and goes so far.
-pub record IsSeen (images : ℕ → List Entry) (p : Place) (extent : Extent) (e : Entry) : Type 0 where
+-- An object or tombstone of this length stands at the place.
+pub record IsSeen (images : ℕ → List Entry) (p : Place) (len : ℕ) (e : Entry) : Type 0 where
   pub stands : IsAtPlace images p e
   pub valid : IsEntry e
   pub of_data : is_data e ≡ true
-  pub size : extent.len ≡ length (spelling e)
-  pub limit : p.at + extent.len ≤ 8388608
-  pub behind : EndsAt (images p.segment) (p.at + extent.len) extent.is_last
+  pub size : len ≡ length (spelling e)
 
 -- the object or tombstone at the place is found
-abbrev pub Finds : List ℕ → List Held → (ℕ → List Entry) → Place → Found → Extent → Type 0
-Finds ids held images p f extent =
-    (e : Entry) × IsSeen images p extent e × (f ≡ found_as (kept ids held p e) p e)
+abbrev pub Finds : List ℕ → List Held → (ℕ → List Entry) → Place → Found → ℕ → Type 0
+Finds ids held images p f len = (e : Entry) × IsSeen images p len e × (f ≡ found_as (kept ids held p e) p e)
 
 -- The object or tombstone at the place is treated.
 pub record Treats (ids : List ℕ) (images : List Image) (held : List Held) (p : Place) (survivor : ℕ) (copied : Copied)
-    (extent : Extent) (images_after : List Image) (held_after : List Held) : Type 0 where
+    (len : ℕ) (images_after : List Image) (held_after : List Held) : Type 0 where
   pub entry : Entry
-  pub seen : IsSeen (images_in images) p extent entry
+  pub seen : IsSeen (images_in images) p len entry
   pub told : copied ≡ copied_as (kept ids held p entry) entry
   pub grown : images_after ≡ images_with (kept ids held p entry) survivor entry images
   pub index : held_after ≡ held_with (kept ids held p entry) p (copy_place survivor images) entry held

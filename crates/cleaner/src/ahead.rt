@@ -1,72 +1,166 @@
-//! Reads of the index ahead of the copies.
+//! Entries that a pass read ahead.
 
-ghost use Rattle.std.specs.Prelude.{◌≡◌, []};
+ghost use Rattle.std.specs.Prelude.{◌≡◌, ◌<◌, [], drop, length, nat_lt, slice_get};
+ghost use Rattle.std.specs.Prelude.{IfSome, IfNone};
+ghost use Rattle.cleaner.specs.Passes.{seen_len, IsSeenAt, IsAhead};
+ghost use Rattle.cleaner.specs.Walks.{IsBetween, IsAtData};
 
 use arrayvec::ArrayVec;
 use entry::EntryRef;
 use hash_index::{Index, hash_key};
 use segment::Segment;
+use std::marker::Model;
 
-/// How many entries a pass looks ahead.
-const LOOK_AHEAD: usize = 16;
+/// How many entries a pass reads ahead.
+const AHEAD: usize = 16;
 
-/// How far a pass looked ahead. It decides nothing: each copy asks the index. But what it reads then is in the processor's
-/// cache, since the reads ahead didn't wait for each other.
+/// What a pass remembers of an object or a tombstone that it read.
 #[derive(Clone, Copy)]
-pub struct Ahead {
-    /// How many of the first victims needn't be looked at, since they are near.
-    pub near: usize,
-    /// In which victim, in the order in which they were given.
-    pub victim: usize,
-    /// The offset in its image behind the last entry that was looked at, in bytes.
-    pub end: usize,
-    /// What the index answered. It says nothing, but without an answer that is kept the compiler leaves out the reads.
-    pub read: u64,
+pub enum Seen {
+    /// An object: the hash of its key, and its length in bytes.
+    Object(u64, usize),
+    /// A tombstone: the segment that it names, and its length in bytes.
+    Tombstone(u64, usize),
 }
 
-/// Puts the hashes of the keys of the objects among the next entries of a segment into an empty list. The answer is the
-/// offset behind these entries.
-fn gather(text: &[u8], from: usize, hashes: &mut ArrayVec<u64, LOOK_AHEAD>) -> usize
-    requires empty { hashes.old.items ≡ [] }
-{
-    let mut end = from;
-    for _ in 0..LOOK_AHEAD {
-        let Some(rest) = text.get(end..) else {
-            return end;
-        };
-        let Ok((entry, len)) = EntryRef::read(rest) else {
-            return end;
-        };
-        if let EntryRef::Object(object) = entry {
-            hashes.push(hash_key(&object.key));
+impl Default for Seen {
+    fn default() -> Seen {
+        Seen::Tombstone(0, 0)
+    }
+}
+
+impl Seen {
+    /// Its length in bytes.
+    #[inline(always)]
+    pub(crate) fn len(self) -> usize
+        ensures { result ≡ seen_len self }
+    {
+        match self {
+            Seen::Object(_, len) => len,
+            Seen::Tombstone(_, len) => len,
         }
-        end += len;
-    }
-    end
-}
-
-/// Nothing was looked at yet. So many of the first victims are near.
-pub(crate) fn unseen(near: usize) -> Ahead {
-    Ahead {
-        near,
-        victim: 0,
-        end: 0,
-        read: 0,
     }
 }
 
-/// Looks ahead in a victim's image from this offset on.
-pub(crate) fn look_ahead(victim: usize, segment: &Segment, from: usize, index: &Index) -> Ahead {
-    let mut hashes = ArrayVec::new();
-    let end = gather(segment.bytes(), from, &mut hashes);
-    let mut read = 0;
-    for hash in hashes.as_slice() {
-        read ^= index.touch(*hash);
+/// The next objects and tombstones of a victim, which were read at once. A contract sees those that aren't treated yet.
+#[derive(Drop)]
+pub struct Ahead {
+    /// How many of the first victims are near, in the processor's cache, with what the index holds of them.
+    near: usize,
+    /// How many of the entries are treated.
+    treated: usize,
+    /// What the index answered when it was touched. It says nothing, but without an answer that is kept the compiler leaves
+    /// out the reads.
+    touched: u64,
+    seen: ArrayVec<Seen, AHEAD>,
+}
+
+impl Model for Ahead {
+    ghost use Rattle.std.specs.Prelude.{◌≤◌, List, drop, length};
+    ghost use Rattle.cleaner.specs.declared.ahead.Seen.{Seen};
+
+    ghost Value = { List Seen };
+
+    ghost view = { λ a. drop a.treated a.seen.items };
+
+    ghost invariant = { λ a. a.treated ≤ length a.seen.items };
+}
+
+/// What stands at an offset of a segment, if it is an object or a tombstone.
+#[inline(always)]
+fn seen_at(segment: &Segment, at: usize) -> Option<Seen>
+    requires { IsBetween segment.now at }
+    ensures seen { IfSome result (IsSeenAt segment.now at) }
+    ensures other { IfNone result (IsAtData segment.now at → ⊥) }
+{
+    let text = segment.bytes();
+    if at >= text.len() {
+        return None;
     }
-    Ahead {
-        near: 0,
-        victim,
-        end,
-        read,
+    let Ok((entry, len)) = EntryRef::read(&text[at..]) else {
+        unreachable!()
+    };
+    match entry {
+        EntryRef::Object(object) => Some(Seen::Object(hash_key(&object.key), len)),
+        EntryRef::Tombstone(tombstone) => Some(Seen::Tombstone(tombstone.segment, len)),
+        _ => None,
+    }
+}
+
+/// The objects and tombstones of a segment from an offset on, as many as are read ahead.
+fn gather(segment: &Segment, from: usize, seen: &mut ArrayVec<Seen, AHEAD>)
+    requires empty { seen.old.items ≡ [] }
+    requires at { IsAtData segment.now from }
+    ensures { IsAhead segment.now from seen.new.items }
+{
+    let mut at = from;
+    for _ in 0..AHEAD {
+        let Some(one) = seen_at(segment, at) else {
+            return;
+        };
+        seen.push(one);
+        at += one.len();
+    }
+}
+
+impl Ahead {
+    /// Nothing was read yet. So many of the first victims are near.
+    pub(crate) fn new(near: usize) -> Ahead
+        ensures { result ≡ [] }
+    {
+        Ahead {
+            near,
+            treated: 0,
+            touched: 0,
+            seen: ArrayVec::new(),
+        }
+    }
+
+    /// The next entry.
+    #[inline(always)]
+    pub(crate) fn first(&self) -> Option<Seen>
+        ensures { result ≡ slice_get self.now 0 }
+    {
+        self.seen.as_slice().get(self.treated).copied()
+    }
+
+    /// The next entry is treated. The answer is whether more of them were read.
+    #[inline(always)]
+    pub(crate) fn pass(&mut self) -> bool
+        requires { 0 < length self.old }
+        ensures rest { self.new ≡ drop 1 self.old }
+        ensures more { result ≡ nat_lt 0 (length self.new) }
+    {
+        let read = self.seen.len();
+        self.treated += 1;
+        self.treated < read
+    }
+
+    /// Reads on in a segment, at an object or tombstone.
+    pub(crate) fn read(&mut self, segment: &Segment, from: usize)
+        requires { IsAtData segment.now from }
+        ensures { IsAhead segment.now from self.new }
+    {
+        let mut seen = ArrayVec::new();
+        gather(segment, from, &mut seen);
+        self.seen = seen;
+        self.treated = 0;
+    }
+
+    /// Reads what the index has for the objects, so that it is near if they are treated. It needn't in a victim that is
+    /// near.
+    pub(crate) fn touch(&mut self, victim: usize, index: &Index)
+        ensures { self.new ≡ self.old }
+    {
+        if victim < self.near {
+            return;
+        }
+        let mut touched = 0;
+        for one in self.seen.as_slice() {
+            if let Seen::Object(hash, _) = one {
+                touched ^= index.touch(*hash);
+            }
+        }
+        self.touched = touched;
     }
 }

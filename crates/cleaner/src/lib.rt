@@ -12,7 +12,7 @@ mod pass;
 mod treating;
 mod walking;
 
-pub use ahead::Ahead;
+pub use ahead::{Ahead, Seen};
 pub use fault::PassFault;
 pub use fitting::fit;
 pub use laws::{rest_fits, rests_agree};

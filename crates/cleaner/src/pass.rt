@@ -1,24 +1,28 @@
 //! A pass over some segments of the log.
 
-ghost use Rattle.std.specs.Prelude.{◌≡◌, ◌+◌, ◌<◌, ◌≤◌, false, length, drop, IfOk, OnOk, OnErr};
+ghost use Rattle.std.specs.Prelude.{◌≡◌, ◌+◌, ◌<◌, ◌≤◌, false, length, drop, IfOk, IfSome, OnOk, OnErr, IsSome, slice_get};
+ghost use Rattle.std.specs.List.{AllByRecursion};
+ghost use Rattle.images.specs.Sorted.{segment_of};
 ghost use Rattle.cleaner.specs.Passes.{images_in, ids_in, AreVictims, places_of, rest_of, is_at_end, is_ready};
 ghost use Rattle.cleaner.specs.Passes.{IsCursorAt, IsPass, HasRoom, CopiesOne};
+ghost use Rattle.cleaner.specs.Passes.{seen_len};
+ghost use Rattle.cleaner.specs.Walks.{IsSpotBetween, GoesTo};
 
-use crate::ahead::{Ahead, look_ahead, unseen};
+use crate::ahead::Ahead;
 use crate::treating::treat;
-use crate::walking::{cursor_behind, next_cursor};
+use crate::walking::{Spot, next_spot};
 use entry::{NoMemory, Row};
 use hash_index::{Index, Place};
 use images::Images;
 
 /// Where a pass is among its victims.
-#[derive(Clone, Copy)]
+#[derive(Drop)]
 pub struct Cursor {
     /// Which victim, in the order in which they were given. Behind the last one nothing is left.
     pub victim: usize,
     /// The offset in its image, in bytes.
     pub at: usize,
-    /// How far the pass looked ahead.
+    /// The entries there that were read ahead.
     pub ahead: Ahead,
 }
 
@@ -48,15 +52,44 @@ pub struct Pass {
     pub is_committing: bool,
 }
 
-/// How far the pass has looked ahead of a cursor at this place. It looks on, if the cursor is where the last look ended.
-fn ahead_of(cursor: Cursor, place: Place, images: &Images, index: &Index) -> Ahead {
-    let is_seen = cursor.victim == cursor.ahead.victim && cursor.at < cursor.ahead.end;
-    if is_seen || cursor.victim < cursor.ahead.near {
-        return cursor.ahead;
+/// Goes to the first object or tombstone from a spot on, or behind the last victim, and reads on there.
+fn settle(cursor: &mut Cursor, from: Spot, victims: &[u64], images: &Images)
+    requires there { AllByRecursion (λ s. IsSome (segment_of images.now.images s)) victims.now }
+    requires within { from.victim ≤ length victims.now }
+    requires between { IsSpotBetween (images_in images.now.images) (drop from.victim victims.now) from.at }
+    ensures { GoesTo (images_in images.now.images) victims.now from cursor.new }
+{
+    let spot = next_spot(victims, images, from);
+    cursor.victim = spot.victim;
+    cursor.at = spot.at;
+    if spot.victim < victims.len() {
+        let Some(segment) = images.get(victims[spot.victim]) else {
+            unreachable!()
+        };
+        cursor.ahead.read(segment, spot.at);
     }
-    match images.get(place.segment) {
-        Some(segment) => look_ahead(cursor.victim, segment, place.at, index),
-        None => cursor.ahead,
+}
+
+/// Goes on behind an object or tombstone of this length, which was treated.
+#[inline(always)]
+fn go_on(cursor: &mut Cursor, len: usize, victims: &[u64], images: &Images, index: &Index)
+    requires there { AllByRecursion (λ s. IsSome (segment_of images.now.images s)) victims.now }
+    requires within { cursor.old.victim < length victims.now }
+    requires cursor { IsCursorAt (images_in images.now.images) (drop cursor.old.victim victims.now) cursor.old }
+    requires len { IfSome (slice_get cursor.old.ahead 0) (λ x. len ≡ seen_len x) }
+    ensures { GoesTo (images_in images.now.images) victims.now
+        (record { victim = cursor.old.victim; at = cursor.old.at + len }) cursor.new }
+{
+    let at = cursor.at + len;
+    if cursor.ahead.pass() {
+        cursor.at = at;
+    } else {
+        let behind = Spot {
+            victim: cursor.victim,
+            at,
+        };
+        settle(cursor, behind, victims, images);
+        cursor.ahead.touch(cursor.victim, index);
     }
 }
 
@@ -74,15 +107,15 @@ impl Pass {
         } }
         ensures rest { let images = images_in images.now.images in rest_of images result ≡ places_of images victims }
         ensures within { result.cursor.victim ≤ length victims }
-        ensures cursor { IsCursorAt (images_in images.now.images) (drop result.cursor.victim victims)
-            result.cursor.at }
+        ensures cursor { IsCursorAt (images_in images.now.images) (drop result.cursor.victim victims) result.cursor }
     {
-        let start = Cursor {
+        let mut cursor = Cursor {
             victim: 0,
             at: 0,
-            ahead: unseen(near),
+            ahead: Ahead::new(near),
         };
-        let cursor = next_cursor(victims.as_slice(), images, start);
+        let start = Spot { victim: 0, at: 0 };
+        settle(&mut cursor, start, victims.as_slice(), images);
         Pass {
             victims,
             cursor,
@@ -141,14 +174,11 @@ impl Pass {
             segment: victims[self.cursor.victim],
             at: self.cursor.at,
         };
-        let ahead = ahead_of(self.cursor, place, images, index);
-        let (copied, extent) = treat(place, self.survivor, images, index, head, new)?;
-        let behind = Cursor {
-            victim: self.cursor.victim,
-            at: place.at + extent.len,
-            ahead,
+        let Some(seen) = self.cursor.ahead.first() else {
+            unreachable!()
         };
-        self.cursor = cursor_behind(victims, images, behind, extent.is_last);
+        let copied = treat(seen, place, self.survivor, images, index, head, new)?;
+        go_on(&mut self.cursor, seen.len(), victims, images, index);
         Ok(copied)
     }
 }

@@ -3,19 +3,17 @@
 ghost use Rattle.std.specs.Prelude.{◌≡◌, ◌+◌, ◌<◌, ◌≤◌, ◌∷◌, [], true, length};
 ghost use Rattle.std.specs.Prelude.{IfOk, IfSome, OnOk, OnErr, IsSome};
 ghost use Rattle.entry.specs.Format.{spelling};
-ghost use Rattle.entry.specs.Text.{is_data};
-ghost use Rattle.entry.specs.View.{shown};
 ghost use Rattle.images.specs.Sorted.{IsWhole, segment_of, changed};
 ghost use Rattle.images.specs.Steps.{entry_at, with_unit, len_at, HasData};
-ghost use Rattle.compactor.specs.Kept.{kept};
 ghost use Rattle.compactor.specs.Log.{ids_of_log};
-ghost use Rattle.cleaner.specs.Passes.{images_in, ids_in, kept_len, copy_place, IsAtData};
-ghost use Rattle.cleaner.specs.Walks.{found_as, Finds, Treats};
+ghost use Rattle.cleaner.specs.Passes.{images_in, ids_in, kept_len, copy_place, seen_len, IsSeenAt};
+ghost use Rattle.cleaner.specs.Walks.{Finds, Treats};
 
+use crate::ahead::Seen;
 use crate::pass::Copied;
 use compactor::LogSet;
-use entry::{EntryRef, NoMemory};
-use hash_index::{Held, Index, Place, hash_key};
+use entry::NoMemory;
+use hash_index::{Held, Index, Place};
 use images::Images;
 use segment::AppendFault;
 use std::alloc::AllocError;
@@ -31,24 +29,14 @@ pub(crate) enum Found {
     Dead,
 }
 
-/// How far an object or tombstone goes.
-#[derive(Clone, Copy)]
-pub(crate) struct Extent {
-    /// How many bytes it has.
-    pub len: usize,
-    /// Whether it is the last entry of its segment.
-    pub is_last: bool,
-}
-
-/// Whether the object or tombstone at a place is kept, and how the index holds it.
-fn look_at(entry: &EntryRef<'_>, place: Place, index: &Index, log: &LogSet<'_>) -> Found
-    requires { is_data (shown entry.now) ≡ true }
-    ensures { result ≡ found_as (kept (ids_of_log log.now) index.now.held place (shown entry.now)) place
-        (shown entry.now) }
+/// What stands at a place, of which this is known.
+#[inline(always)]
+fn find(seen: Seen, place: Place, index: &Index, log: &LogSet<'_>) -> Found
+    requires { IsSeenAt (images_in log.now.closed.now.images place.segment) place.at seen }
+    ensures { Finds (ids_of_log log.now) index.now.held (images_in log.now.closed.now.images) place result (seen_len seen) }
 {
-    match entry {
-        EntryRef::Object(object) => {
-            let hash = hash_key(&object.key);
+    match seen {
+        Seen::Object(hash, _) => {
             let held = Held { hash, place };
             if index.holds(held) {
                 Found::Object(held)
@@ -56,48 +44,14 @@ fn look_at(entry: &EntryRef<'_>, place: Place, index: &Index, log: &LogSet<'_>) 
                 Found::Dead
             }
         }
-        EntryRef::Tombstone(tombstone) => {
-            if log.has(tombstone.segment) {
+        Seen::Tombstone(segment, _) => {
+            if log.has(segment) {
                 Found::Tombstone
             } else {
                 Found::Dead
             }
         }
-        _ => unreachable!(),
     }
-}
-
-/// What stands at a place, and how far it goes.
-fn find(
-    place: Place,
-    images: &Images,
-    index: &Index,
-    head: u64,
-    new: Option<u64>,
-) -> (Found, Extent)
-    requires there { IsSome (segment_of images.now.images place.segment) }
-    requires at { IsAtData (images_in images.now.images place.segment) place.at }
-    ensures { Finds (ids_in images.now.images head new) index.now.held (images_in images.now.images) place
-        result.0 result.1 }
-{
-    let Some(segment) = images.get(place.segment) else {
-        unreachable!()
-    };
-    let text = segment.bytes();
-    let rest = &text[place.at..];
-    let Ok((entry, len)) = EntryRef::read(rest) else {
-        unreachable!()
-    };
-    let log = LogSet {
-        closed: images,
-        head,
-        new,
-    };
-    let extent = Extent {
-        len,
-        is_last: len == rest.len(),
-    };
-    (look_at(&entry, place, index, &log), extent)
 }
 
 /// Copies the object or tombstone at a place, of this length, to the end of the survivor's image, which has room for it.
@@ -123,38 +77,43 @@ fn copy(images: &mut Images, place: Place, len: usize, survivor: u64) -> Result<
     }
 }
 
-/// Treats the object or tombstone at a place. The answer is what became of it, and how far it goes.
+/// Treats the object or tombstone at a place, of which this is known. The answer is what became of it.
 pub(crate) fn treat(
+    seen: Seen,
     place: Place,
     survivor: u64,
     images: &mut Images,
     index: &mut Index,
     head: u64,
     new: Option<u64>,
-) -> Result<(Copied, Extent), NoMemory>
+) -> Result<Copied, NoMemory>
     requires order { place.segment < survivor }
     requires there { IsSome (segment_of images.old.images place.segment) }
     requires whole { IsWhole images.old.images survivor }
-    requires at { IsAtData (images_in images.old.images place.segment) place.at }
+    requires at { IsSeenAt (images_in images.old.images place.segment) place.at seen }
     requires room { len_at images.old.images survivor + kept_len (ids_in images.old.images head new) index.old.held
         (images_in images.old.images) place ≤ images.old.segment }
-    ensures treated { IfOk result (λ done. Treats (ids_in images.old.images head new) images.old.images
-        index.old.held place survivor done.0 done.1 images.new.images index.new.held) }
+    ensures treated { IfOk result (λ copied. Treats (ids_in images.old.images head new) images.old.images
+        index.old.held place survivor copied (seen_len seen) images.new.images index.new.held) }
     ensures images { images.new ≡ record images.old { images = images.new.images } }
     ensures room { index.new.room ≡ index.old.room }
     ensures err { OnErr result ((images.new ≡ images.old) × (index.new ≡ index.old)) }
 {
-    let (found, extent) = find(place, images, index, head, new);
-    match found {
+    let log = LogSet {
+        closed: images,
+        head,
+        new,
+    };
+    match find(seen, place, index, &log) {
         Found::Object(held) => {
-            let to = copy(images, place, extent.len, survivor)?;
+            let to = copy(images, place, seen.len(), survivor)?;
             index.relocate(held, to);
-            Ok((Copied::Moved, extent))
+            Ok(Copied::Moved)
         }
         Found::Tombstone => {
-            copy(images, place, extent.len, survivor)?;
-            Ok((Copied::Carried, extent))
+            copy(images, place, seen.len(), survivor)?;
+            Ok(Copied::Carried)
         }
-        Found::Dead => Ok((Copied::Dropped, extent)),
+        Found::Dead => Ok(Copied::Dropped),
     }
 }

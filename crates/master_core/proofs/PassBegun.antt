@@ -128,7 +128,7 @@ module _ (d : MasterData) (core : IsCore d) (victims : List ℕ) (may : MayBegin
 
   module _ (cursor : Cursor) (begins : rest_of (images_in d.closed) (fresh_pass victims d.next cursor) ≡ places_of (images_in d.closed) victims)
       (within : cursor.victim ≤ length victims)
-      (at : IsCursorAt (images_in d.closed) (drop cursor.victim victims) cursor.at) where
+      (at : IsCursorAt (images_in d.closed) (drop cursor.victim victims) cursor) where
     abbrev pub pass : Pass
     pass = fresh_pass victims d.next cursor
 

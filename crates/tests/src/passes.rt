@@ -64,11 +64,12 @@ fn run(alloc: Global, images: &mut Images, index: &mut Index) -> Result<String, 
     requires whole { IsWhole images.old.images 3 }
     requires segment { images.old.segment ≡ 512 }
 {
-    if fit(&[1], images, index, 2, Some(4), 512).is_none() || len_of(images, 3) > 18 {
+    let near = fit(&[1], images, index, 2, Some(4), 512).ok_or("too much")?;
+    if len_of(images, 3) > 18 {
         Err("too much")?;
     }
     let victims = Row::new(Vec::from_slice(alloc, &[1])?);
-    let mut pass = Pass::begin(victims, 0, 3, images);
+    let mut pass = Pass::begin(victims, near, 3, images);
     let mut told = String::new(alloc);
     while !pass.is_at_end() {
         let copied = pass.copy_one(images, index, 2, Some(4))?;

@@ -1,17 +1,29 @@
-use Rattle.std.proofs.Common.{◌≤◌, ◌+◌, [], ◌∷◌, length, length-append, ap, arith}
-use Rattle.cleaner.proofs.ahead.gather.Goals.{in-Object, in_default-entry}
+use Rattle.std.proofs.Common.{◌+◌, ◌∷◌, ◌++◌, [], List, length, sym, ap, subst, arith}
+use Rattle.cleaner.specs.declared.ahead.Seen.{Seen}
+use Rattle.cleaner.proofs.Reading.{IsGathered, gathered_start, gathered_next, gathered_ahead, gathered_some}
 use Rattle.cleaner.proofs.ahead.gather.Goals as goal
+
+pub loop-init : goal.loop-init
+loop-init c = gathered_start c.args.segment.now c.args.from c.args.seen.now.items c.requires.empty c.requires.at
 
 pub loop-preserved : goal.loop-preserved
 loop-preserved c =
+    let es = c.args.segment.now in
+    let at = c.loop.at in
+    let xs = c.loop.seen.items in
+    let x = c.in-Some.one in
+    let next = gathered_next es c.args.from c.loop.counter at xs x c.loop.invariant c.in-Some.ensures.seen in
+    subst (λ (ys : List Seen). IsGathered es c.args.from (c.loop.counter + 1) (at + c.len-at.result) ys) (sym c.push.ensures.items)
+    (subst (λ n. IsGathered es c.args.from (c.loop.counter + 1) (at + n) (xs ++ x ∷ [])) (sym c.len-at.ensures) next)
+
+pub returns-in_default : goal.returns-in_default
+returns-in_default c =
     let i = c.loop.invariant in
-    elim c.match-entry.branch as (λ _. length c.match-entry.hashes.items ≤ c.loop.counter + 1) [
-      | in-Object w ↦ omega (
-        arith,
-        i,
-        ap (λ v. length v.items) w.hashes-is,
-        ap length w.push.ensures.items,
-        length-append c.loop.hashes.items (w.hash_key.result ∷ []),
-      )
-      | in_default-entry w ↦ omega (arith, i, ap (λ v. length v.items) w.hashes-is)
-    ]
+    gathered_ahead c.args.segment.now c.args.from c.loop.seen.items i.all
+    (gathered_some c.args.segment.now c.args.from c.loop.counter c.loop.at c.loop.seen.items i c.requires.at c.in_default.ensures.other)
+
+pub returns : goal.returns
+returns c =
+    let i = c.loop.invariant in
+    gathered_ahead c.args.segment.now c.args.from c.loop.seen.items i.all
+    (λ none. omega (arith, i.few, ap (λ (xs : List Seen). length xs) none, c.loop-test.false))

@@ -1,34 +1,51 @@
-use Rattle.entry.specs.View.{shown}
+use Rattle.std.proofs.Common.{sym, ap, ◌∙◌, true, false, Some}
+use Rattle.compactor.specs.Log.{ids_of_log}
+use Rattle.cleaner.specs.declared.ahead.Seen.{Seen}
+use Rattle.cleaner.specs.declared.treating.Found.TheVariants as found
 use Rattle.cleaner.specs.Passes.{images_in}
-use Rattle.cleaner.proofs.Images.{image_is}
-use Rattle.cleaner.proofs.Seeing.{seen, never_unread}
+use Rattle.cleaner.proofs.Copying.{found_object, found_tombstone, finds}
 use Rattle.cleaner.proofs.treating.find.Goals as goal
 
-pub unreachable-requires-in_default-read : goal.unreachable-requires-in_default-read
-unreachable-requires-in_default-read c =
-    let images = c.args.images.now.images in
+pub returns-then-holds : goal.returns-then-holds
+returns-then-holds c =
     let p = c.args.place in
-    let es = c.in-Some.segment.now in
-    never_unread (images_in images) p es (image_is images p.segment es c.in-Some.ensures) c.requires.at
-    c.bytes-text.result.now c.bytes-text.ensures.text c.bytes-text.ensures.valid c.in_default-read.ensures.complete
+    let one = c.requires in
+    let h = c.in-Object.hash in
+    let shows = one.shows ∙ ap (λ (x : Seen). Some x) c.in-Object.is in
+    finds (ids_of_log c.args.log.now) c.args.index.now.held (images_in c.args.log.now.closed.now.images) p
+    (found.Object (record { hash = h; place = p })) c.args.seen one
+    (found_object (ids_of_log c.args.log.now) c.args.index.now.held p one.entry h c.in-Object.field-1 true shows
+    (sym c.holds.ensures ∙ c.if-holds.true))
 
-pub look_at-requires : goal.look_at-requires
-look_at-requires c =
-    let images = c.args.images.now.images in
+pub returns-else-holds : goal.returns-else-holds
+returns-else-holds c =
     let p = c.args.place in
-    let es = c.in-Some.segment.now in
-    (seen (images_in images) p es (image_is images p.segment es c.in-Some.ensures) c.requires.at
-    c.bytes-text.result.now c.bytes-text.ensures.text c.bytes-text.ensures.valid (shown c.in-Ok.entry) c.in-Ok.len
-    c.bytes-text.ensures.limit c.in-Ok.ensures.complete).of_data
+    let one = c.requires in
+    let h = c.in-Object.hash in
+    let shows = one.shows ∙ ap (λ (x : Seen). Some x) c.in-Object.is in
+    finds (ids_of_log c.args.log.now) c.args.index.now.held (images_in c.args.log.now.closed.now.images) p found.Dead
+    c.args.seen one
+    (found_object (ids_of_log c.args.log.now) c.args.index.now.held p one.entry h c.in-Object.field-1 false shows
+    (sym c.holds.ensures ∙ c.if-holds.false))
 
-pub returns : goal.returns
-returns c =
-    let images = c.args.images.now.images in
+pub returns-then-has : goal.returns-then-has
+returns-then-has c =
     let p = c.args.place in
-    let es = c.in-Some.segment.now in (
-      shown c.in-Ok.entry,
-      seen (images_in images) p es (image_is images p.segment es c.in-Some.ensures) c.requires.at
-          c.bytes-text.result.now c.bytes-text.ensures.text c.bytes-text.ensures.valid (shown c.in-Ok.entry) c.in-Ok.len
-          c.bytes-text.ensures.limit c.in-Ok.ensures.complete,
-      c.look_at.ensures,
-    )
+    let one = c.requires in
+    let s = c.in-Tombstone.segment in
+    let shows = one.shows ∙ ap (λ (x : Seen). Some x) c.in-Tombstone.is in
+    finds (ids_of_log c.args.log.now) c.args.index.now.held (images_in c.args.log.now.closed.now.images) p found.Tombstone
+    c.args.seen one
+    (found_tombstone (ids_of_log c.args.log.now) c.args.index.now.held p one.entry s c.in-Tombstone.field-1 true shows
+    (sym c.has.ensures ∙ c.if-has.true))
+
+pub returns-else-has : goal.returns-else-has
+returns-else-has c =
+    let p = c.args.place in
+    let one = c.requires in
+    let s = c.in-Tombstone.segment in
+    let shows = one.shows ∙ ap (λ (x : Seen). Some x) c.in-Tombstone.is in
+    finds (ids_of_log c.args.log.now) c.args.index.now.held (images_in c.args.log.now.closed.now.images) p found.Dead
+    c.args.seen one
+    (found_tombstone (ids_of_log c.args.log.now) c.args.index.now.held p one.entry s c.in-Tombstone.field-1 false shows
+    (sym c.has.ensures ∙ c.if-has.false))

@@ -95,8 +95,8 @@ module _ (c : goal.Joined-self) where
       subst (λ (x : List Image × Pass). rest_of (images_in x.0) x.1 ≡ places_of (images_in x.0) victims) (λ i. (images i, begun i))
       c.begin-pass.ensures.rest
 
-  at : IsCursorAt (images_in d.closed) (drop cursor.victim victims) cursor.at
-  at = subst (λ (cs : List Image). IsCursorAt (images_in cs) (drop cursor.victim victims) cursor.at) images c.begin-pass.ensures.cursor
+  at : IsCursorAt (images_in d.closed) (drop cursor.victim victims) cursor
+  at = subst (λ (cs : List Image). IsCursorAt (images_in cs) (drop cursor.victim victims) cursor) images c.begin-pass.ensures.cursor
 
   closed : c.add_reserved.new.self.images ≡ closed_then d core victims may
   closed =
