@@ -10,11 +10,12 @@ use Rattle.replica.specs.Picture.{Replica, Picture}
 use Rattle.log_model.specs.Data.{LogData, state_of}
 use Rattle.log_model.proofs.DurableCount.{kept_is_durable, kept_is_replicated}
 use Rattle.log_model.proofs.Lists.{among_data}
+use Rattle.log_model.proofs.PastTexts.{kept_holds_past}
 use Rattle.log_model.proofs.Replicas.{replicas_are_texts}
 use Rattle.log_model.proofs.Soundness.{kept_is_sound}
 use Rattle.clean_model.specs.Covered.{IsInLogBag, image_bag, log_bag, HasGrave, MayName, IsCovered}
 use Rattle.clean_model.specs.Intact.{IsIntact}
-use Rattle.clean_model.specs.Laws.{IntactIsCovered, IntactIsSound, IntactIsDurable}
+use Rattle.clean_model.specs.Laws.{IntactIsCovered, IntactIsSound, IntactIsDurable, IntactHoldsPast}
 use Rattle.clean_model.specs.Memory.{Memory, LogSet, log_ids, log_set_of, ImagesHave, SegmentHas, LogHas}
 use Rattle.clean_model.specs.Tracked.{IsBuried}
 use Rattle.clean_model.proofs.Bases.{key_data, data_among}
@@ -81,3 +82,6 @@ intact_is_sound d m p i = kept_is_sound d p i.log
 
 pub intact_is_durable : IntactIsDurable
 intact_is_durable d m p i = (kept_is_durable d p i.log, kept_is_replicated d p i.log)
+
+pub intact_holds_past : IntactHoldsPast
+intact_holds_past d m p i = kept_holds_past d p i.log

@@ -12,7 +12,7 @@ use Rattle.log_model.specs.Log.{Texts}
 use Rattle.log_model.specs.Mirror.{IsMirrored}
 use Rattle.log_model.specs.Ops.{LogOp, taken}
 use Rattle.log_model.proofs.Pictures.{is_taken}
-use Rattle.clean_model.specs.Intact.{AreSealed, AreGone, IsIntact}
+use Rattle.clean_model.specs.Intact.{AreSealed, AreGone}
 use Rattle.clean_model.specs.Laws.{OwnIsIntact, OwnIsFault}
 use Rattle.clean_model.specs.Memory.{Memory}
 use Rattle.clean_model.specs.Steps.{with_own}

@@ -11,7 +11,7 @@ use Rattle.clean_model.proofs.Applying.{apply_keeps}
 use Rattle.clean_model.proofs.Beginning.{begin_keeps}
 use Rattle.clean_model.proofs.Compacting.{compact_keeps}
 use Rattle.clean_model.proofs.Copying.{copy_keeps}
-use Rattle.clean_model.proofs.Coverage.{intact_is_covered, intact_is_sound, intact_is_durable}
+use Rattle.clean_model.proofs.Coverage.{intact_is_covered, intact_is_sound, intact_is_durable, intact_holds_past}
 use Rattle.clean_model.proofs.Freeing.{free_keeps}
 use Rattle.clean_model.proofs.Rolling.{roll_keeps, commit_keeps}
 use Rattle.clean_model.proofs.Sealing.{seal_keeps}
@@ -59,4 +59,5 @@ clean_runs_are_sound w v es i is =
       past = then_intact.log.past;
       durable = durable.0;
       replicated = durable.1;
+      heads = intact_holds_past v.knows v.memory v.picture then_intact;
     }

@@ -5,7 +5,7 @@ use Rattle.replica.specs.Picture.{Picture}
 use Rattle.versioned_map.specs.declared.command.Record.{Record}
 use Rattle.versioned_map.specs.Represents.{Represents}
 use Rattle.log_model.specs.Data.{LogConfig, Start, Ready, LogData, state_of, durable_of}
-use Rattle.log_model.specs.Durable.{IsDurable, IsReplicated}
+use Rattle.log_model.specs.Durable.{IsDurable, IsReplicated, IsPastOf}
 use Rattle.log_model.specs.Log.{base_of}
 use Rattle.log_model.specs.Ops.{LogOp, taken}
 use Rattle.log_model.specs.Sound.{IsSound}
@@ -32,6 +32,10 @@ IntactIsSound = (d : LogData) (m : Memory) (p : Picture) → IsIntact d m p → 
 abbrev pub IntactIsDurable : Type 0
 IntactIsDurable = (d : LogData) (m : Memory) (p : Picture) (i : IsIntact d m p)
     → IsDurable d i.log.past (durable_of d) × IsReplicated d i.log.past p
+
+-- Each head before is whole, and on all its homes while it is of the log.
+abbrev pub IntactHoldsPast : Type 0
+IntactHoldsPast = (d : LogData) (m : Memory) (p : Picture) (i : IsIntact d m p) → IsPastOf d i.log.past p
 
 -- ---- a new master and its commands
 
@@ -130,3 +134,8 @@ FaultIsCovered = (d : LogData) (m : Memory) (p q : Picture) → IsIntact d m p �
 abbrev pub FaultIsReplicated : Type 0
 FaultIsReplicated = (d : LogData) (m : Memory) (p q : Picture) (i : IsIntact d m p) → IsFault d m p q
     → IsReplicated d i.log.past q
+
+-- After a fault each head before that is of the log is on all its homes.
+abbrev pub FaultHoldsPast : Type 0
+FaultHoldsPast = (d : LogData) (m : Memory) (p q : Picture) (i : IsIntact d m p) → IsFault d m p q
+    → IsPastOf d i.log.past q

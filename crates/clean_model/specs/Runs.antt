@@ -4,7 +4,7 @@ use Rattle.entry.specs.declared.entry.Entry.{Entry}
 use Rattle.replica.specs.Picture.{Picture}
 use Rattle.versioned_map.specs.declared.command.Record.{Record}
 use Rattle.log_model.specs.Data.{Start, Head, LogData, durable_of}
-use Rattle.log_model.specs.Durable.{IsDurable, IsReplicated}
+use Rattle.log_model.specs.Durable.{IsDurable, IsReplicated, IsPastOf}
 use Rattle.log_model.specs.Ops.{LogOp, taken}
 use Rattle.log_model.specs.Sound.{IsSound}
 use Rattle.log_model.specs.Steps.{applied, MayApply, next_start, rolling, MayRoll, id_taken, IsNext}
@@ -69,13 +69,15 @@ abbrev pub IsCleanRun : CleanWorld → List CleanEvent → CleanWorld → Type 0
 IsCleanRun w [] v = v ≡ w
 IsCleanRun w (e ∷ es) v = (u : CleanWorld) × CleanBecomes e w u × IsCleanRun u es v
 
--- What holds at a stop: memory and backups are covered, the picture is sound, and what is durable is on the backups.
+-- What holds at a stop: memory and backups are covered, the picture is sound, and what is durable is on the backups,
+-- with the heads that went before.
 pub record IsCleanStop (w : CleanWorld) : Type 0 where
   pub covered : IsCovered w.knows w.memory w.picture
   pub sound : IsSound w.knows w.picture
   pub past : List Head
   pub durable : IsDurable w.knows past (durable_of w.knows)
   pub replicated : IsReplicated w.knows past w.picture
+  pub heads : IsPastOf w.knows past w.picture
 
 -- ---- laws
 

@@ -42,15 +42,14 @@ impl Seen {
     }
 }
 
-/// The next objects and tombstones of a victim, which were read at once. A contract sees those that aren't treated yet.
+/// The next objects and tombstones of a victim, read in one go. Contracts see those that aren't treated yet.
 #[derive(Drop)]
 pub struct Ahead {
-    /// How many of the first victims are near, in the processor's cache, with what the index holds of them.
+    /// The first `near` victims are still in cache, with what the index holds of them.
     near: usize,
     /// How many of the entries are treated.
     treated: usize,
-    /// What the index answered when it was touched. It says nothing, but without an answer that is kept the compiler leaves
-    /// out the reads.
+    /// The results of prefetches. They are meaningless; they only keep the compiler from removing the loads.
     touched: u64,
     seen: ArrayVec<Seen, AHEAD>,
 }
@@ -104,7 +103,7 @@ fn gather(segment: &Segment, from: usize, seen: &mut ArrayVec<Seen, AHEAD>)
 }
 
 impl Ahead {
-    /// Nothing was read yet. So many of the first victims are near.
+    /// Nothing is read yet. The first `near` victims are still in cache.
     pub(crate) fn new(near: usize) -> Ahead
         ensures { result ≡ [] }
     {
@@ -147,8 +146,7 @@ impl Ahead {
         self.treated = 0;
     }
 
-    /// Reads what the index has for the objects, so that it is near if they are treated. It needn't in a victim that is
-    /// near.
+    /// Prefetches what the index has for the objects, except in a victim that is still in cache.
     pub(crate) fn touch(&mut self, victim: usize, index: &Index)
         ensures { self.new ≡ self.old }
     {

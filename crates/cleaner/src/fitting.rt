@@ -13,8 +13,7 @@ use images::Images;
 /// How many bytes a survivor begins with: its header.
 const HEADER_LEN: usize = 18;
 
-/// About so many bytes of victims are still in the processor's cache, with what the index holds of them, if they have
-/// just been read.
+/// About this many bytes of victims that were just read are still in cache, with what the index holds of them.
 const NEAR: usize = 4_194_304;
 
 /// How many bytes some segments have.
@@ -34,9 +33,9 @@ fn bytes_in(ids: &[u64], images: &Images) -> usize
     segment.bytes().len() + bytes_in(others, images)
 }
 
-/// Whether a header and what is kept of some segments, at most 8, fit a segment of this many bytes. It reads one segment
-/// after the other, until all bytes of the others fit. The answer is how many of the first ones it read that may still be
-/// near, in the processor's cache. `None` if it doesn't fit.
+/// Answers whether a header and what is kept of at most 8 segments fit a segment of this many bytes: `None` if they don't.
+/// Reads one segment after the other, and stops once all bytes of the rest fit. Reports how many of the first ones it
+/// read and may still be in cache.
 pub fn fit(
     victims: &[u64],
     images: &Images,

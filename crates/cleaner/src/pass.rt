@@ -94,8 +94,7 @@ fn go_on(cursor: &mut Cursor, len: usize, victims: &[u64], images: &Images, inde
 }
 
 impl Pass {
-    /// A pass over some segments, of which nothing is copied yet. So many of the first ones are near, as `fit` says. It
-    /// takes no memory.
+    /// Begins a pass over `victims`. The first `near` of them are still in cache, as `fit` reported. Allocates nothing.
     pub fn begin(victims: Row<u64>, near: usize, survivor: u64, images: &Images) -> Pass
         requires { AreVictims images.now.images survivor victims }
         ensures begun { result ≡ record {

@@ -15,10 +15,10 @@ use entry::EntryRef;
 use hash_index::{Held, Index, Place, hash_key};
 use segment::Segment;
 
-/// How many objects are looked up side by side.
+/// Objects are looked up in batches of this many.
 const SIDE_BY_SIDE: usize = 8;
 
-/// An object of a segment that waits for the index.
+/// An object of a segment that waits for its look-up.
 #[derive(Clone, Copy, Default)]
 pub(crate) struct Asked {
     /// The hash of its key.
@@ -30,7 +30,7 @@ pub(crate) struct Asked {
 }
 
 impl Asked {
-    /// What the index is asked for.
+    /// What is looked up in the index.
     fn held(self, id: u64) -> Held
         ensures { result ≡ asked_of id self }
     {
@@ -58,8 +58,8 @@ pub fn kept(entry: &EntryRef<'_>, place: Place, index: &Index, log: &LogSet<'_>)
     }
 }
 
-/// How many bytes those of the objects of a segment have that the index holds. It asks for the first place of each chain
-/// on the way down, where no question waits for an answer, and for the rest of a chain on the way up.
+/// The bytes of those objects that the index holds. Looks up the first place of each chain on the way down, where the
+/// cache misses overlap, and the rest of a chain on the way up.
 fn held_bytes(asked: &[Asked], id: u64, index: &Index) -> usize
     requires { asked_bytes asked.now ≤ 8388608 }
     ensures sum { result ≡ held_bytes index.now.held id asked.now }
@@ -78,7 +78,7 @@ fn held_bytes(asked: &[Asked], id: u64, index: &Index) -> usize
     }
 }
 
-/// One more object of a segment waits for the index. How many bytes the kept ones had of those that made room for it.
+/// Adds an object to the batch. If the batch was full, it is looked up first: answers the bytes of its kept objects.
 fn ask(one: Asked, asked: &mut ArrayVec<Asked, SIDE_BY_SIDE>, id: u64, index: &Index) -> usize
     requires { asked_bytes asked.old.items ≤ 8388608 }
     ensures sum { result + held_bytes index.now.held id asked.new.items
@@ -95,7 +95,7 @@ fn ask(one: Asked, asked: &mut ArrayVec<Asked, SIDE_BY_SIDE>, id: u64, index: &I
     len
 }
 
-/// One more entry of a segment is counted, or waits for the index if it is an object. How many bytes were counted.
+/// Counts one more entry of a segment, or adds it to the batch if it is an object. Answers the bytes that were counted.
 fn count(
     entry: &EntryRef<'_>,
     place: Place,

@@ -6,7 +6,7 @@ use std::alloc::{AllocError, Global};
 use std::fmt;
 use std::marker::Model;
 
-/// So many bytes lie in the value itself.
+/// Up to this many bytes lie in the value itself.
 const INLINE_LEN: usize = 15;
 
 /// Bytes in a row. A few lie in the value itself, and more in memory of their own. A contract sees a list.

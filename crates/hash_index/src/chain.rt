@@ -131,7 +131,8 @@ impl Chain {
         self.front.holds_first(held)
     }
 
-    /// Reads its first place. The answer depends on it, and says nothing.
+    /// Prefetches the first place. The result is meaningless; it only keeps the compiler from removing the
+    /// load.
     #[inline(always)]
     pub(crate) fn touch(&self) -> u64 {
         self.front.touch()

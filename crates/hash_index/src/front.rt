@@ -127,7 +127,8 @@ impl Front {
         }
     }
 
-    /// Reads its first place. The answer depends on it, and says nothing.
+    /// Prefetches the first place. The result is meaningless; it only keeps the compiler from removing the
+    /// load.
     #[inline(always)]
     pub(crate) fn touch(&self) -> u64 {
         match self.held.first() {

@@ -197,9 +197,8 @@ impl Index {
         self.table.holds_first(held)
     }
 
-    /// Reads the first place of the hash's chain, so that it is in the processor's cache if it is asked for soon. Of several
-    /// such reads, one after another, none waits for another one. The answer depends on the place, since the compiler leaves
-    /// out a read that nobody needs. It says nothing.
+    /// Prefetches the first place of the hash's chain. The result is meaningless; it only keeps the compiler from removing
+    /// the load. Several prefetches in a row overlap.
     #[inline(always)]
     pub fn touch(&self, hash: u64) -> u64 {
         self.table.touch(hash)

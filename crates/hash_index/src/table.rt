@@ -163,7 +163,8 @@ impl Table {
         chain.holds_first(held)
     }
 
-    /// Reads the first place of the hash's chain. The answer depends on it, and says nothing.
+    /// Prefetches the first place of the hash's chain. The result is meaningless; it only keeps the compiler from removing the
+    /// load.
     #[inline(always)]
     pub(crate) fn touch(&self, hash: u64) -> u64 {
         if self.chains.is_empty() {

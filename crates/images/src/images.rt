@@ -138,7 +138,7 @@ impl Images {
         Some(&self.images[at].segment)
     }
 
-    /// Makes room for so many more images in the list, so that as many calls of `add` take no memory.
+    /// Makes room for `more` further images in the list: as many calls of `add` then take no memory.
     pub fn reserve(&mut self, more: usize) -> Result<(), NoMemory>
         ensures same { self.new ≡ record self.old { room = self.new.room } }
         ensures grown { self.old.room ≤ self.new.room }

@@ -3,7 +3,7 @@
 //! Memory is counted in seglets. An image that still takes appends counts those of a whole segment, since its memory is
 //! taken whole, and any other its length in seglets, rounded up. `specs/Images.antt` says what is counted, and
 //! `specs/Sorted.antt` how images are found. What is counted is an upper bound of the text's bytes, and not of the
-//! memory: the contract of a vector doesn't say that it shrinks when it is asked to, nor how much it grows.
+//! memory: the contract of a vector doesn't say how much it grows, nor that `shrink_to` shrinks it.
 #![tactic(auto)]
 
 mod copying;

@@ -16,6 +16,7 @@ use Rattle.log_model.specs.Laws.{AdoptedIsKept}
 use Rattle.log_model.specs.Log.{base_of, IsHeadLog, IsUnderWay}
 use Rattle.log_model.specs.Mirror.{head_replica, IsReplica, IsMirrored}
 use Rattle.log_model.specs.Steps.{no_units}
+use Rattle.log_model.proofs.PastHeads.{rises_none}
 use Rattle.log_model.proofs.Lists.{no_units_length, no_units_none, no_units_some}
 use Rattle.log_model.proofs.Replicas.{whole_held}
 
@@ -126,6 +127,7 @@ adopted_is_kept d p st is = record {
   past = [];
   before = record {
     units = refl;
+    rising = rises_none;
     whole = λ h m. absurd m;
     older = λ h m. absurd m;
     text = λ h m. absurd m;

@@ -17,10 +17,11 @@ use Rattle.log_model.specs.Durable.{HasUnit, HasTaken, AreTaken, IsReplicated}
 use Rattle.log_model.specs.Kept.{IsKept}
 use Rattle.log_model.specs.Laws.{KeptIsDurable, KeptIsReplicated, DurableIsWithin}
 use Rattle.log_model.specs.Log.{Rise, IsSegmentOf, IsWhole}
-use Rattle.log_model.specs.Mirror.{head_replica, IsHeadReplica, IsOther, IsInLog}
+use Rattle.log_model.specs.Mirror.{head_replica, IsHeadReplica, IsOther}
 use Rattle.log_model.proofs.Counts.{before_le, before_rise, before_at, before_past, fewest_below, fewest_more}
 use Rattle.log_model.proofs.Fronts.{in_front}
 use Rattle.log_model.proofs.Lists.{some_is}
+use Rattle.log_model.proofs.PastTexts.{earlier}
 use Rattle.log_model.proofs.Replicas.{head_data, below_head, older_data}
 use Rattle.log_model.proofs.Segments.{front_data}
 
@@ -142,15 +143,10 @@ module _ (d : LogData) (p : Picture) (kept : IsKept d p) where
         λ e k. subst (λ (es : List Entry). among es e) (sym entries) (in_front d.head place took.0 u e is took.2 k),
       )
 
-  -- an earlier head isn't the one in force
-  earlier : (h : Head) → IsAmong h past → IsInLog d h.start.id → IsOther d h.start.id
-  earlier h m (inl same) = (let lt = kept.before.older h m in absurd (omega arith))
-  earlier h m (inr other) = other
-
   replicated : IsReplicated d past p
   replicated h place b u m is lt of_log home = elim (among_push h past d.head m)
       as (λ _. HasUnit d.config.master p b h u) [
-        | inl l ↦ past_holds h place b u l is (earlier h l of_log) home
+        | inl l ↦ past_holds h place b u l is (earlier d p kept h l of_log) home
         | inr same ↦ subst (λ (x : Head). HasUnit d.config.master p b x u) same
             (head_holds place b u (ap (λ (x : Head). slice_get x.units place) same ∙ is) lt
             (subst (λ (x : Head). IsHome d x.start.id b) (sym same) home))

@@ -8,9 +8,11 @@ pub mod SameTexts
 pub mod Replicas
 pub mod Choices
 pub mod Survivors
+pub mod NewestOpened
 pub mod Soundness
 pub mod Forms
 pub mod PastHeads
+pub mod PastTexts
 pub mod Appending
 pub mod Applying
 pub mod Rolling

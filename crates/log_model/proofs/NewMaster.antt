@@ -12,6 +12,7 @@ use Rattle.log_model.specs.Laws.{FreshIsKept}
 use Rattle.log_model.specs.Log.{Texts, IsPlaced, IsHeadLog, IsStanding}
 use Rattle.log_model.specs.Mirror.{IsOther, IsMirrored}
 use Rattle.log_model.specs.Steps.{fresh, MayBegin}
+use Rattle.log_model.proofs.PastHeads.{rises_none}
 use Rattle.log_model.proofs.Segments.{start_segment}
 
 -- whatever safe version its head records, and whatever its opening is
@@ -88,6 +89,7 @@ module _ (c : LogConfig) (p : Picture) (may : MayBegin c p) where
   pub first_past : IsPast (fresh c) texts []
   first_past = record {
     units = refl;
+    rising = rises_none;
     whole = λ h m. absurd m;
     older = λ h m. absurd m;
     text = λ h m. absurd m;

@@ -1,6 +1,11 @@
 -- The heads that went before, through each step.
 use Rattle.std.proofs.Common.{◌≡◌, ℕ, suc, ◌+◌, ◌<◌, inl, inr, List, [], ◌∷◌, ◌++◌, length}
 use Rattle.std.proofs.Common.{Some, ◌⊎◌, refl, sym, ap, subst, ◌∙◌, arith, append_assoc}
+use Rattle.std.specs.List.{AllByRecursion}
+use Rattle.std.specs.List.Sorted.{IsStrictlySortedBy}
+use Rattle.std.specs.Ordering.{nat_cmp}
+use Rattle.std.specs.declared.cmp.Ordering.TheVariants.{Less}
+use Rattle.std.proofs.lemmas.Bool.{lt-ltb}
 use Rattle.std.proofs.lemmas.List.{append-nil, map-append, length-map}
 use Rattle.std.proofs.lemmas.Grind.{flat_map-append}
 use Rattle.entry.specs.declared.entry.Entry.{Entry}
@@ -14,7 +19,7 @@ use Rattle.versioned_map.specs.History.{commands_of}
 use Rattle.versioned_map.specs.Represents.{unit_of}
 use Rattle.versioned_map.specs.Versioned.{State, after, after_command}
 use Rattle.log_model.specs.Data.{Start, LogUnit, Head, Phase, Ready, LogData, head_entries, new_of, opened_of}
-use Rattle.log_model.specs.Durable.{heads_of, units_in, with_first, AreNumbered, HaveHistory}
+use Rattle.log_model.specs.Durable.{heads_of, ids_in, units_in, with_first, AreNumbered, HaveHistory}
 use Rattle.log_model.specs.Kept.{IsLogHeld, IsPast}
 use Rattle.log_model.specs.Laws.{AppliedIsPast, RollingIsPast, IdTakenIsPast, NextIsPast, SealedIsPast}
 use Rattle.log_model.specs.Log.{Texts, with_text, IsWhole}
@@ -78,6 +83,28 @@ history_applied d past segment r have =
     (sym (map-append (λ (x : Record). x.command) d.history (r ∷ [])))
     (numbered_push d.opening 0 (commands_of d.history) all segment r.command number (omega arith) have))
 
+-- ---- ids
+
+below_more : (x g : Head) (hs : List Head) → x.start.id < g.start.id
+    → AllByRecursion (λ (s : ℕ). nat_cmp x.start.id s ≡ Less) (ids_in hs)
+    → AllByRecursion (λ (s : ℕ). nat_cmp x.start.id s ≡ Less) (ids_in (hs ++ g ∷ []))
+below_more x g [] lt all = (rw (lt-ltb x.start.id g.start.id lt) refl, tt)
+below_more x g (h ∷ hs) lt all = (all.0, below_more x g hs lt all.1)
+
+-- ids rise with one more that is above all
+rises_more : (hs : List Head) (g : Head) → ((h : Head) → IsAmong h hs → h.start.id < g.start.id)
+    → IsStrictlySortedBy nat_cmp (ids_in hs) → IsStrictlySortedBy nat_cmp (ids_in (hs ++ g ∷ []))
+unfolding IsStrictlySortedBy
+rises_more [] g below rising = (tt, tt)
+rises_more (h ∷ hs) g below rising = (
+  below_more h g hs (below h (inl refl)) rising.0,
+  rises_more hs g (λ x m. below x (inr m)) rising.1,
+)
+
+pub rises_none : IsStrictlySortedBy nat_cmp []
+unfolding IsStrictlySortedBy
+rises_none = tt
+
 -- ---- texts
 
 -- a text is changed that is no earlier head's
@@ -90,6 +117,7 @@ module _ (d : LogData) (texts : Texts) (past : List Head) (s : ℕ) (es : List E
 pub applied_is_past : AppliedIsPast
 applied_is_past d texts past segment r is = record {
   units = history_applied d past segment r is.units;
+  rising = is.rising;
   whole = is.whole;
   older = is.older;
   text = past_text d texts past d.head.start.id (texts d.head.start.id ++ unit_now d segment r) is
@@ -99,6 +127,7 @@ applied_is_past d texts past segment r is = record {
 pub rolling_is_past : RollingIsPast
 rolling_is_past d texts p past n held roll is = record {
   units = is.units;
+  rising = is.rising;
   whole = is.whole;
   older = is.older;
   text = past_text d texts past n.id _ is
@@ -108,6 +137,7 @@ rolling_is_past d texts p past n held roll is = record {
 pub id_taken_is_past : IdTakenIsPast
 id_taken_is_past d texts p past es held is = record {
   units = is.units;
+  rising = is.rising;
   whole = is.whole;
   older = is.older;
   text = past_text d texts past d.next es is
@@ -118,6 +148,7 @@ id_taken_is_past d texts p past es held is = record {
 pub sealed_is_past : SealedIsPast
 sealed_is_past d texts p past o es seals is = record {
   units = is.units;
+  rising = is.rising;
   whole = is.whole;
   older = is.older;
   text = past_text d texts past o.segment es is (λ h m same.
@@ -132,6 +163,7 @@ past_steady : (d : LogData) (texts : Texts) (past : List Head) (ks : List ℕ) (
 past_steady d texts past ks ph is = record {
   units = subst (λ (us : List LogUnit). AreNumbered d.opening 0 (commands_of d.history) us)
       (heads_units past d.head ∙ sym (heads_units past (record d.head { taken = ks }))) is.units;
+  rising = is.rising;
   whole = is.whole;
   older = is.older;
   text = is.text;
@@ -152,6 +184,7 @@ past_ended d texts p past n held is is_new opened =
       units = subst (λ (us : List LogUnit). AreNumbered d.opening 0 (commands_of d.history) us)
           (sym (heads_units (heads_of past d) (new_head d.config.replicas n)
           ∙ append-nil (units_in (heads_of past d)))) is.units;
+      rising = rises_more past d.head is.older is.rising;
       whole = by_head (λ (h : Head). IsWhole d.config.replicas h) is.whole (held.logged.whole (omega arith));
       older = by_head (λ (h : Head). h.start.id < n.id)
           (λ h m. let lt = is.older h m in let newer = (held.logged.new n is_new).newer in omega arith)

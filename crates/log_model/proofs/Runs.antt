@@ -7,6 +7,7 @@ use Rattle.log_model.specs.Steps.{next_start}
 use Rattle.log_model.proofs.Applying.{applied_is_kept}
 use Rattle.log_model.proofs.DurableCount.{kept_is_durable, kept_is_replicated}
 use Rattle.log_model.proofs.NextOp.{next_is_kept}
+use Rattle.log_model.proofs.PastTexts.{kept_holds_past}
 use Rattle.log_model.proofs.Rolling.{rolling_is_kept, ordinary_is_roll}
 use Rattle.log_model.proofs.Soundness.{kept_is_sound}
 
@@ -35,4 +36,5 @@ log_runs_are_sound v w es kept is =
       past = then_kept.past;
       durable = kept_is_durable w.knows w.picture then_kept;
       replicated = kept_is_replicated w.knows w.picture then_kept;
+      heads = kept_holds_past w.knows w.picture then_kept;
     }

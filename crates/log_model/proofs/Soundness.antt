@@ -3,9 +3,11 @@ use Rattle.std.proofs.Common.{take, sym, ◌∙◌}
 use Rattle.replica.specs.Choice.{bag_of}
 use Rattle.versioned_map.specs.History.{commands_of}
 use Rattle.versioned_map.proofs.Versions.{safe_after}
+use Rattle.log_model.specs.Data.{newest_opened}
 use Rattle.log_model.specs.Laws.{KeptIsSound}
 use Rattle.log_model.proofs.Choices.{choice_stands}
 use Rattle.log_model.proofs.Replicas.{any_text, any_bears}
+use Rattle.log_model.proofs.NewestOpened.{newest_on_homes}
 use Rattle.log_model.proofs.Survivors.{surviving_choice}
 
 pub kept_is_sound : KeptIsSound
@@ -29,5 +31,6 @@ kept_is_sound d p kept =
               stands.represents;
         },
       );
-      choice = λ keep survive. surviving_choice d t p kept.held keep survive;
+      choice = λ keep survive.
+          surviving_choice d t p kept.held keep (newest_opened d) (newest_on_homes d t p kept.held) survive;
     }

@@ -3,24 +3,24 @@ use Rattle.std.proofs.Common.{◌≡◌, ℕ, zero, suc, ◌<◌, ◌≤◌, ◌
 use Rattle.std.proofs.Common.{length, map, Some, refl, sym, ap, subst, ◌∙◌, arith}
 use Rattle.std.specs.Prelude.{Option, None, IsSome, IsSomeAnd, slice_get, nat_lt}
 use Rattle.std.specs.List.{AllByRecursion}
-use Rattle.std.proofs.lemmas.Bool.{cases_lt, cases_eq}
+use Rattle.std.proofs.lemmas.Bool.{cases_eq}
 use Rattle.std.proofs.lemmas.Bool.Decides.{nat_tests}
 use Rattle.std.proofs.lemmas.Option.{slice_get_within}
 use Rattle.entry.specs.Bag.{IsAmong}
 use Rattle.entry.specs.Text.{Opening, opening_in}
 use Rattle.entry.proofs.BagLemmas.{among_left}
 use Rattle.replica.specs.declared.holding.Holding.{Holding}
-use Rattle.replica.specs.Picture.{Replica, Picture, left_on, Shown, shown_by, IsHeld}
+use Rattle.replica.specs.Picture.{Replica, Picture, left_on, shown_by, IsHeld}
 use Rattle.replica.specs.Choice.{Choice, IsUsableOf}
-use Rattle.replica.specs.Survival.{HoldsHead, IsOpened, IsHeadLeft, HeadSurvives, BothSurvive}
+use Rattle.replica.specs.Survival.{HoldsHead, IsHeadLeft, HeadSurvives, SegmentsSurvive, BothSurvive}
 use Rattle.log_model.specs.Data.{Start, LogData, IsHome, new_of, opened_of, closed_of}
 use Rattle.log_model.specs.Kept.{IsLogHeld}
 use Rattle.log_model.specs.Log.{Texts, IsLogged}
-use Rattle.log_model.specs.Mirror.{head_replica, new_replica, IsHeadReplica, IsNewReplica, IsMirrored}
+use Rattle.log_model.specs.Mirror.{head_replica, new_replica, IsHeadReplica, IsNewReplica, HoldOnly, IsMirrored}
 use Rattle.log_model.specs.Sound.{IsSurvivingChoice}
 use Rattle.log_model.proofs.Choices.{held_by, shown_in}
 use Rattle.log_model.proofs.Lists.{below_at, some_given, some_is}
-use Rattle.log_model.proofs.Replicas.{opening_for, one_new, stage, head_bears, home_held, whole_held, new_bears}
+use Rattle.log_model.proofs.Replicas.{opening_for, one_new, head_bears, home_held, whole_held, new_bears}
 use Rattle.log_model.proofs.Replicas.{bearing}
 
 -- ---- homes that are left
@@ -62,26 +62,6 @@ left_or_not keep (x ∷ homes) (suc limit) = first (keep x) refl (left_or_not ke
   first false is rest = next is rest
 
 -- ---- heads that are left
-
--- a head that survives leaves one of its replicas
-head_left : (Home : ℕ → ℕ → Type 0) (p : Shown) (master : ℕ) (keep : ℕ → Bool) → HeadSurvives Home p master keep
-    → (s : ℕ) × IsHeadLeft p master keep s
-head_left Home p master keep (inl newest) = elim newest.2 [
-  | inl left ↦ (newest.0, (left.0, left.2, newest.1.opened left.0 left.1))
-  | inr later ↦ (later.0, later.2)
-]
-head_left Home p master keep (inr none) = none.1
-
--- if one head was opened on all its homes, a head as new is left
-newer_left : (Home : ℕ → ℕ → Type 0) (p : Shown) (master : ℕ) (keep : ℕ → Bool) (s : ℕ)
-    → IsOpened Home p master s → HeadSurvives Home p master keep → (t : ℕ) × (s ≤ t) × IsHeadLeft p master keep t
-newer_left Home p master keep s opened (inl newest) =
-    let le = newest.1.newest s opened in
-    elim newest.2 as (λ _. (t : ℕ) × (s ≤ t) × IsHeadLeft p master keep t) [
-      | inl left ↦ (newest.0, le, (left.0, left.2, newest.1.opened left.0 left.1))
-      | inr later ↦ (let gt = later.1 in (later.0, omega arith, later.2))
-    ]
-newer_left Home p master keep s opened (inr none) = absurd (none.0 s opened)
 
 holds : (p : Picture) (master b s : ℕ) (r : Replica) (o : Opening) → p b master s ≡ Some r
     → opening_in r.bytes ≡ Some o → HoldsHead (shown_by p) master b s
@@ -150,13 +130,13 @@ record HeadFound (d : LogData) (p : Picture) (keep : ℕ → Bool) : Type 0 wher
   below : (id : ℕ) → IsAmong id n.others → id < n.id
 
 module _ (d : LogData) (p : Picture) (keep : ℕ → Bool)
-    (survive : BothSurvive (IsHome d) (shown_by p) d.config.master keep)
+    (segments : SegmentsSurvive (IsHome d) (shown_by p) d.config.master keep)
     (h : HeadFound d p keep) where
   -- one replica of each other id is left
   other_left : (id : ℕ) → IsAmong id h.n.others → Found p d.config.master keep id
   other_left id m =
       let lt = h.below id m in
-      let left = survive.segments h.n.id (opening_for h.n) (record {
+      let left = segments h.n.id (opening_for h.n) (record {
         b = h.b;
         r = h.r;
         is_kept = h.is_kept;
@@ -191,6 +171,15 @@ module _ (d : LogData) (p : Picture) (keep : ℕ → Bool)
   )
 
 -- ---- which head
+
+-- A head of which each home holds a replica: the new one of a roll; or the one in force, while no replica of it is
+-- closed. Or there is no such head, and the backups hold the first head alone.
+abbrev pub IsOnHomes : LogData → Picture → Option ℕ → Type 0
+IsOnHomes d p o =
+    ((n : Start) × (new_of d.phase ≡ Some n) × (d.config.replicas ≤ opened_of d.config.replicas d.phase)
+    × (o ≡ Some n.id))
+    ⊎ ((closed_of d.phase ≡ 0) × (((d.config.replicas ≤ length d.head.taken) × (o ≡ Some d.head.start.id))
+    ⊎ (HoldOnly p d.config.master d.head.start.id × (o ≡ None))))
 
 module _ (d : LogData) (texts : Texts) (p : Picture) (held : IsLogHeld d texts p) (keep : ℕ → Bool) where
   abbrev log : IsLogged d texts
@@ -285,52 +274,6 @@ module _ (d : LogData) (texts : Texts) (p : Picture) (held : IsLogHeld d texts p
         | inr (inr lt) ↦ absurd (omega arith)
       ]
 
-  head_opened : d.config.replicas ≤ length d.head.taken → IsOpened (IsHome d) (shown_by p) master id
-  head_opened enough b home =
-      let there = home_held d texts p held enough b home in
-      let r = head_replica master d.head closed home.0 there.0 in
-      holds p master b id r (opening_for d.head.start) there.2 (head_bears d texts p held b r
-      (record { j = home.0; count = there.0; home = home.1; taken = there.1; same = refl }))
-
-  new_opened : (n : Start) → new_of d.phase ≡ Some n → d.config.replicas ≤ opened
-      → IsOpened (IsHome d) (shown_by p) master n.id
-  new_opened n is_new enough b home =
-      let size = slice_get_within (d.config.homes n.id) home.0 b home.1 in
-      let all = held.placed.count n.id in
-      let below : home.0 < opened = omega arith in
-      holds p master b n.id (new_replica master n) (opening_for n) (mir.new n home.0 b is_new home.1 below)
-      (new_bears d texts p held n b (new_replica master n)
-      (record { is_new = is_new; j = home.0; home = home.1; opened = below; same = refl }))
-
-  -- a head that survives leaves the one in force or a newer one
-  not_older : HeadSurvives (IsHome d) (shown_by p) master keep
-      → (t : ℕ) × (id ≤ t) × IsHeadLeft (shown_by p) master keep t
-  not_older survives = elim (cases_lt (length d.head.taken) d.config.replicas)
-      as (λ _. (t : ℕ) × (id ≤ t) × IsHeadLeft (shown_by p) master keep t) [
-        | inl fewer ↦ (
-            let left = head_left (IsHome d) (shown_by p) master keep survives in
-            let given =
-            some_given (p left.1.0 master left.0) (λ (r : Replica). IsSome (opening_in r.bytes)) left.1.2.bears in
-            let same = mir.first fewer left.1.0 left.0 given.0 given.1 in (left.0, omega arith, left.1))
-        | inr enough ↦ newer_left (IsHome d) (shown_by p) master keep id (head_opened enough) survives
-      ]
-
-  -- if all replicas of a new head were opened, one of them is left
-  all_opened : HeadSurvives (IsHome d) (shown_by p) master keep → NoNew → (n : Start) → new_of d.phase ≡ Some n
-      → (opened < d.config.replicas → ⊥) → ⊥
-  all_opened survives no_new n is_new all = elim (cases_lt opened d.config.replicas) as (λ _. ⊥) [
-    | inl lt ↦ all lt
-    | inr le ↦ (
-        let left = newer_left (IsHome d) (shown_by p) master keep n.id (new_opened n is_new le) survives in
-        let newer = (log.new n is_new).newer in
-        let ge = left.1 in
-        elim (bearing d texts p held left.2.0 left.0 left.2.2) as (λ _. ⊥) [
-          | inl x ↦ (let s = x.1 in omega arith)
-          | inr (inl x) ↦ no_new x.0 x.3.is_new x.3.j left.2.0 x.3.home x.3.opened left.2.1
-          | inr (inr lt) ↦ omega arith
-        ])
-  ]
-
   -- a replica of a new head is left
   abbrev LeftNew : Type 0
   LeftNew = (n : Start) × (new_of d.phase ≡ Some n) × Left keep (d.config.homes n.id) opened
@@ -343,17 +286,57 @@ module _ (d : LogData) (texts : Texts) (p : Picture) (held : IsLogHeld d texts p
         subst (λ (x : Start). NoneLeft keep (d.config.homes x.id) opened) (one_new d.phase n m is is_new) none)
   ]
 
-  old_or_never : HeadSurvives (IsHome d) (shown_by p) master keep → NoNew → HeadFound d p keep
-  old_or_never survives no_new = elim (stage d.config.replicas d.phase) as (λ _. HeadFound d p keep) [
-    | inl x ↦ absurd (all_opened survives no_new x.0 x.1 x.2)
-    | inr shut ↦ (
-        let t = not_older survives in
-        let is = old_left no_new t.0 t.1 t.2 in old_found no_new shut is.0 is.1 is.2 is.3)
-  ]
+  -- a new head that all homes hold survives by a replica of it
+  new_survives : NoNew → (n : Start) → new_of d.phase ≡ Some n → d.config.replicas ≤ opened
+      → HeadSurvives (IsHome d) (Some n.id) (shown_by p) master keep → ⊥
+  new_survives no_new n is_new all (inl left) =
+      let home = left.1 in
+      let size = slice_get_within (d.config.homes n.id) home.0 left.0 home.1 in
+      let count = held.placed.count n.id in
+      no_new n is_new home.0 left.0 home.1 (omega arith) left.2
+  new_survives no_new n is_new all (inr later) =
+      let newer = later.1 in
+      let most = no_newer n is_new later.0 later.2 in omega arith
 
-  pub surviving_choice : BothSurvive (IsHome d) (shown_by p) master keep → (c : Choice) × IsSurvivingChoice d p keep c
-  surviving_choice survive = choose d p keep survive
+  -- a head that is left is that in force, which is open
+  old_by_left : NoNew → closed ≡ 0 → (t : ℕ) → id ≤ t → IsHeadLeft (shown_by p) master keep t → HeadFound d p keep
+  old_by_left no_new shut t le left =
+      let is = old_left no_new t le left in old_found no_new shut is.0 is.1 is.2 is.3
+
+  -- the head in force, that all homes hold, survives by a replica of it or of a new one
+  old_survives : NoNew → closed ≡ 0 → d.config.replicas ≤ length d.head.taken
+      → HeadSurvives (IsHome d) (Some id) (shown_by p) master keep → HeadFound d p keep
+  old_survives no_new shut all (inl left) =
+      let home = left.1 in
+      let there = home_held d texts p held all left.0 home in
+      old_found no_new shut left.0 (head_replica master d.head closed home.0 there.0) left.2
+      (record { j = home.0; count = there.0; home = home.1; taken = there.1; same = refl })
+  old_survives no_new shut all (inr later) =
+      let newer = later.1 in old_by_left no_new shut later.0 (omega arith) later.2
+
+  -- a first head survives by a replica of it
+  first_survives : NoNew → closed ≡ 0 → HoldOnly p master id
+      → HeadSurvives (IsHome d) None (shown_by p) master keep → HeadFound d p keep
+  first_survives no_new shut only survives =
+      let left = survives.1 in
+      let given = some_given (p left.0 master survives.0) (λ (r : Replica). IsSome (opening_in r.bytes)) left.2.bears in
+      let same = only left.0 survives.0 given.0 given.1 in old_by_left no_new shut survives.0 (omega arith) left
+
+  module _ (o : Option ℕ) (survives : HeadSurvives (IsHome d) o (shown_by p) master keep) where
+    -- the head is that of which all homes hold a replica
+    survives_as : (s : Option ℕ) → o ≡ s → HeadSurvives (IsHome d) s (shown_by p) master keep
+    survives_as s same =
+        subst (λ (x : Option ℕ). HeadSurvives (IsHome d) x (shown_by p) master keep) same survives
+
+    old_found_by : NoNew → IsOnHomes d p o → HeadFound d p keep
+    old_found_by no_new (inl x) = absurd (new_survives no_new x.0 x.1 x.2 (survives_as (Some x.0.id) x.3))
+    old_found_by no_new (inr (shut, inl x)) = old_survives no_new shut x.0 (survives_as (Some id) x.1)
+    old_found_by no_new (inr (shut, inr x)) = first_survives no_new shut x.0 (survives_as None x.1)
+
+  pub surviving_choice : (o : Option ℕ) → IsOnHomes d p o → BothSurvive (IsHome d) o (shown_by p) master keep
+      → (c : Choice) × IsSurvivingChoice d p keep c
+  surviving_choice o on survive = choose d p keep survive.segments
       (elim (new_left_or_not (new_of d.phase) refl) as (λ _. HeadFound d p keep) [
         | inl x ↦ new_found x.0 x.1 x.2
-        | inr no_new ↦ old_or_never survive.head no_new
+        | inr no_new ↦ old_found_by o survive.head no_new on
       ])

@@ -1,6 +1,6 @@
 -- What a master knows of its log, its fleet apart.
 use Rattle.std.specs.Prelude.{◌≡◌, ℕ, zero, suc, List, [], ◌∷◌, ◌++◌, length, take, Option, Some, None, slice_get}
-use Rattle.std.specs.Prelude.{min, nat_lt, if◌then◌else◌}
+use Rattle.std.specs.Prelude.{min, ◌==◌, nat_lt, if◌then◌else◌}
 use Rattle.std.specs.List.{flat_map}
 use Rattle.entry.specs.declared.tablet.Tablet.{Tablet}
 use Rattle.entry.specs.declared.entry.Entry.{Entry}
@@ -113,6 +113,20 @@ abbrev pub closed_of : Phase → ℕ
 closed_of Ready = 0
 closed_of (Opened j n) = 0
 closed_of (Closed j n) = j
+
+-- the head in force, if each of its homes took it
+abbrev pub opened_head : LogData → Option ℕ
+opened_head d = if length d.head.taken == d.config.replicas then Some d.head.start.id else None
+
+-- the new head of a roll once all its replicas were opened, or else this one
+abbrev pub opened_in : Phase → Option ℕ → Option ℕ
+opened_in Ready old = old
+opened_in (Opened j n) old = old
+opened_in (Closed j n) old = Some n.id
+
+-- the newest head that was opened on all its homes, by takes that answered Ok
+abbrev pub newest_opened : LogData → Option ℕ
+newest_opened d = opened_in d.phase (opened_head d)
 
 -- ---- history
 

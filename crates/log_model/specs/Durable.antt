@@ -1,16 +1,19 @@
 -- What is durable, in terms of takes that answered Ok, over the units of all heads that there were.
-use Rattle.std.specs.Prelude.{◌≡◌, ℕ, suc, ◌<◌, ◌≤◌, List, [], ◌∷◌, ◌++◌, length, Some, slice_get}
+use Rattle.std.specs.Prelude.{◌≡◌, ℕ, suc, ◌<◌, ◌≤◌, List, [], ◌∷◌, ◌++◌, length, map, Some, slice_get}
 use Rattle.std.specs.List.{flat_map}
+use Rattle.std.specs.List.Sorted.{IsStrictlySortedBy}
+use Rattle.std.specs.Ordering.{nat_cmp}
 use Rattle.entry.specs.declared.entry.Entry.{Entry}
 use Rattle.entry.specs.Bag.{IsAmong}
-use Rattle.entry.specs.Text.{data_in}
+use Rattle.entry.specs.Text.{text_of, data_in}
 use Rattle.entry.specs.Meaning.{among}
 use Rattle.replica.specs.Picture.{Replica, Picture}
 use Rattle.versioned_map.specs.declared.command.Command.{Command}
 use Rattle.versioned_map.specs.History.{commands_of}
 use Rattle.versioned_map.specs.Represents.{unit_of}
 use Rattle.versioned_map.specs.Versioned.{State, after_command}
-use Rattle.log_model.specs.Data.{LogUnit, Head, LogData, IsHome, durable_of}
+use Rattle.log_model.specs.Data.{LogUnit, Head, LogData, IsHome, head_entries, durable_of}
+use Rattle.log_model.specs.Log.{IsWhole}
 use Rattle.log_model.specs.Mirror.{IsInLog}
 
 -- ---- the units of the history
@@ -69,3 +72,23 @@ abbrev pub IsReplicated : LogData → List Head → Picture → Type 0
 IsReplicated d past p = (h : Head) (place b : ℕ) (u : LogUnit) → IsAmong h (heads_of past d)
     → slice_get h.units place ≡ Some u
     → u.number < durable_of d → IsInLog d h.start.id → IsHome d h.start.id b → HasUnit d.config.master p b h u
+
+-- ---- the heads before
+
+-- the ids of heads, in order
+abbrev pub ids_in : List Head → List ℕ
+ids_in hs = map (λ (h : Head). h.start.id) hs
+
+-- the backup's replica of the head's segment has the head's whole text
+abbrev pub HasText : ℕ → Picture → ℕ → Head → Type 0
+HasText master p b h = (r : Replica) × (p b master h.start.id ≡ Some r)
+    × (r.bytes ≡ text_of (head_entries master h (length h.units)))
+
+-- The heads that went before the one in force. Their ids rise, and lie below its id. Each replica took every unit, and
+-- each home holds the head's whole text, while the segment is of the log.
+pub record IsPastOf (d : LogData) (past : List Head) (p : Picture) : Type 0 where
+  pub rising : IsStrictlySortedBy nat_cmp (ids_in past)
+  pub older : (h : Head) → IsAmong h past → h.start.id < d.head.start.id
+  pub whole : (h : Head) → IsAmong h past → IsWhole d.config.replicas h
+  pub held : (h : Head) (b : ℕ) → IsAmong h past → IsInLog d h.start.id → IsHome d h.start.id b
+      → HasText d.config.master p b h

@@ -12,7 +12,7 @@ use Rattle.versioned_map.specs.Represents.{Represents}
 use Rattle.versioned_map.specs.Versioned.{State}
 use Rattle.log_model.specs.Adopt.{IsLoaded, adopted}
 use Rattle.log_model.specs.Data.{LogConfig, Start, Head, LogData, ids_of, head_entries, new_of, state_of, durable_of}
-use Rattle.log_model.specs.Durable.{heads_of, IsDurable, IsReplicated}
+use Rattle.log_model.specs.Durable.{heads_of, IsDurable, IsReplicated, IsPastOf}
 use Rattle.log_model.specs.Kept.{IsLogHeld, IsPast, IsKept}
 use Rattle.log_model.specs.Log.{Texts, base_of, IsSegmentOf, IsStanding}
 use Rattle.log_model.specs.Ops.{LogOp, op_of, taken}
@@ -35,6 +35,10 @@ KeptIsDurable = (d : LogData) (p : Picture) (kept : IsKept d p) → IsDurable d 
 -- Each durable unit is on all homes of its segment.
 abbrev pub KeptIsReplicated : Type 0
 KeptIsReplicated = (d : LogData) (p : Picture) (kept : IsKept d p) → IsReplicated d kept.past p
+
+-- Each home of a head before holds its whole text, while the segment is of the log.
+abbrev pub KeptHoldsPast : Type 0
+KeptHoldsPast = (d : LogData) (p : Picture) (kept : IsKept d p) → IsPastOf d kept.past p
 
 -- What a replica holds, its segment's text has.
 abbrev pub ReplicasAreTexts : Type 0
@@ -184,6 +188,11 @@ NextIsSound = (d e : LogData) (p q : Picture) (o : LogOp) → IsKept d p → IsN
 abbrev pub NextIsReplicated : Type 0
 NextIsReplicated = (d e : LogData) (p q : Picture) (o : LogOp) (kept : IsKept d p) → IsNext d o e
     → taken p d.config.master o ≡ Some q → IsReplicated d kept.past q
+
+-- And the heads before are there as they were.
+abbrev pub NextHoldsPast : Type 0
+NextHoldsPast = (d e : LogData) (p q : Picture) (o : LogOp) (kept : IsKept d p) → IsNext d o e
+    → taken p d.config.master o ≡ Some q → IsPastOf d kept.past q
 
 -- What an Extend does: its replica of the head ends with the units up to one place, is handed the spelling of those
 -- from there up to another, and then ends with these.

@@ -3,7 +3,7 @@ use Rattle.std.specs.Prelude.{◌≡◌, ℕ, List, [], ◌∷◌, Some}
 use Rattle.replica.specs.Picture.{Picture}
 use Rattle.versioned_map.specs.declared.command.Record.{Record}
 use Rattle.log_model.specs.Data.{Head, LogData, durable_of}
-use Rattle.log_model.specs.Durable.{IsDurable, IsReplicated}
+use Rattle.log_model.specs.Durable.{IsDurable, IsReplicated, IsPastOf}
 use Rattle.log_model.specs.Kept.{IsKept}
 use Rattle.log_model.specs.Ops.{LogOp, taken}
 use Rattle.log_model.specs.Sound.{IsSound}
@@ -33,12 +33,13 @@ abbrev pub IsLogRun : LogWorld → List LogEvent → LogWorld → Type 0
 IsLogRun w [] v = v ≡ w
 IsLogRun w (e ∷ es) v = (u : LogWorld) × LogBecomes e w u × IsLogRun u es v
 
--- What holds at a stop: the picture is sound, and what is durable is on the backups.
+-- What holds at a stop: the picture is sound, and what is durable is on the backups, with the heads that went before.
 pub record IsLogStop (w : LogWorld) : Type 0 where
   pub sound : IsSound w.knows w.picture
   pub past : List Head
   pub durable : IsDurable w.knows past (durable_of w.knows)
   pub replicated : IsReplicated w.knows past w.picture
+  pub heads : IsPastOf w.knows past w.picture
 
 -- ---- law
 

@@ -9,7 +9,7 @@ use Rattle.replica.specs.Choice.{Choice, IsShownChoice, bag_of}
 use Rattle.replica.specs.Survival.{BothSurvive}
 use Rattle.versioned_map.specs.History.{commands_of}
 use Rattle.versioned_map.specs.Versioned.{IsSafeAfter}
-use Rattle.log_model.specs.Data.{LogData, IsHome, state_after, durable_of}
+use Rattle.log_model.specs.Data.{LogData, IsHome, newest_opened, state_after, durable_of}
 use Rattle.log_model.specs.Log.{AreOfTablets}
 
 -- the bytes are a segment's, whose header names this master and segment
@@ -48,4 +48,5 @@ pub record IsSound (d : LogData) (p : Picture) : Type 0 where
   pub keys : (keep : ℕ → Bool) (c : Choice) → IsSurvivingChoice d p keep c → AreOfTablets d.config (bag_of c)
   pub prefix : (keep : ℕ → Bool) (c : Choice) → IsSurvivingChoice d p keep c → (count : ℕ) × IsPrefix d c count
   -- if both survive there is a choice
-  pub choice : (keep : ℕ → Bool) → BothSurvive (IsHome d) (shown_by p) d.config.master keep → HasChoice d p keep
+  pub choice : (keep : ℕ → Bool)
+      → BothSurvive (IsHome d) (newest_opened d) (shown_by p) d.config.master keep → HasChoice d p keep

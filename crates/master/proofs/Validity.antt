@@ -1,7 +1,7 @@
 -- What is kept is valid.
 use Rattle.replica.specs.Picture.{FleetState}
 use Rattle.clean_model.proofs.Coverage.{intact_is_durable}
-use Rattle.clean_model.proofs.Faults.{fault_is_sound, fault_is_covered, fault_is_replicated}
+use Rattle.clean_model.proofs.Faults.{fault_is_sound, fault_is_covered, fault_is_replicated, fault_holds_past}
 use Rattle.master_core.specs.Data.{MasterData}
 use Rattle.master_core.specs.Log.{log_of, memory_of}
 use Rattle.master_core.proofs.AllPushed.{all_durable}
@@ -25,6 +25,7 @@ valid d f kept = record {
     past = kept.holds.log.past;
     counted = (intact_is_durable (log_of d) (memory_of d) kept.before kept.holds).0;
     replicated = fault_is_replicated (log_of d) (memory_of d) kept.before f.picture kept.holds kept.now;
+    heads = fault_holds_past (log_of d) (memory_of d) kept.before f.picture kept.holds kept.now;
   };
   pushed = all_durable d kept.core.replicas;
 }

@@ -4,7 +4,7 @@ use Rattle.entry.specs.Bag.{IsAmong}
 use Rattle.replica.specs.Picture.{Picture, FleetState}
 use Rattle.versioned_map.specs.History.{IsLegal}
 use Rattle.log_model.specs.Data.{Head, LogData, durable_of}
-use Rattle.log_model.specs.Durable.{IsDurable, IsReplicated}
+use Rattle.log_model.specs.Durable.{IsDurable, IsReplicated, IsPastOf}
 use Rattle.log_model.specs.Sound.{IsSound}
 use Rattle.clean_model.specs.Covered.{IsCovered}
 use Rattle.clean_model.specs.Memory.{log_ids}
@@ -16,12 +16,13 @@ use Rattle.master_core.specs.Log.{opening_of, log_of, state_now, image_of, memor
 
 -- The durable count is the most records, from the first on, that are durable: for each of their units, every replica of
 -- the head that it was appended to took the unit whole and answered Ok. Each backup of such a segment of the log holds
--- these units.
+-- these units. The heads before the one in force are whole, and on each of their backups while they are of the log.
 pub record CountsDurable (d : LogData) (p : Picture) : Type 0 where
   -- the heads before the one in force
   pub past : List Head
   pub counted : IsDurable d past (durable_of d)
   pub replicated : IsReplicated d past p
+  pub heads : IsPastOf d past p
 
 pub record IsValid (d : MasterData) (f : FleetState) : Type 0 where
   pub config : config_fault d.config ≡ None

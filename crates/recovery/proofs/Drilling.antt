@@ -7,7 +7,7 @@ use Rattle.replay.specs.declared.rebuilt.Rebuilt.{Rebuilt}
 use Rattle.replica.specs.declared.holding.Holding.{Holding}
 use Rattle.replica.specs.Picture.{FleetState, left_on, shown_by, IsHeld}
 use Rattle.replica.specs.Survival.{BothSurvive}
-use Rattle.log_model.specs.Data.{IsHome}
+use Rattle.log_model.specs.Data.{IsHome, newest_opened}
 use Rattle.master_core.specs.declared.config.Config.{Config}
 use Rattle.master_core.specs.declared.step.Refusal.{Refusal}
 use Rattle.master_core.specs.declared.step.Step.{Step}
@@ -75,7 +75,7 @@ module _ (start stop : World) (steps : List Step) (kept : List ℕ) (will : List
         → NamesHeld (left_on (is_kept kept) left.picture) start.knows.config.master will order
         → (r : Result Rebuilt RecoveryFault) → IfErr r (IsSomeLoss hs start.knows.config.master will order)
         → IfErr r (λ e. IsLossOrMemory e
-        × (BothSurvive (IsHome (log_of stop.knows)) (shown_by left.picture) stop.knows.config.master (is_kept kept)
+        × (BothSurvive (IsHome (log_of stop.knows)) (newest_opened (log_of stop.knows)) (shown_by left.picture) stop.knows.config.master (is_kept kept)
         → IsWant e))
     loss covers names (Ok b) is = tt
     loss covers names (Err e) is =

@@ -21,7 +21,7 @@ use Rattle.recovery_plan.specs.declared.fault.PlanFault.TheVariants as plan_faul
 use Rattle.recovery_plan.specs.Planned.{IsChoiceOf, IsPlanOf, IsFirstBad, IsPlanFault, NamesLoss}
 use Rattle.entry.proofs.BagLemmas.{among_right}
 use Rattle.versioned_map.specs.History.{commands_of}
-use Rattle.log_model.specs.Data.{LogData, IsHome, state_after}
+use Rattle.log_model.specs.Data.{LogData, IsHome, newest_opened, state_after}
 use Rattle.log_model.specs.Sound.{IsSound}
 use Rattle.versioned_map.specs.Versioned.{IsSafeAfter}
 use Rattle.versioned_map.proofs.Meanings.{one_contents}
@@ -72,12 +72,12 @@ abbrev pub IsSomeLoss : List Holding → ℕ → List Part → GroupOrder → Re
 IsSomeLoss hs m will order e =
     (d : LogData) (p : Picture) (keep : ℕ → Bool) → IsSound d p → d.config.master ≡ m
     → Shows hs (survivors keep (shown_by p)) m → Covers d.config.tablets will → NamesGroups hs m will order →
-    IsLossOrMemory e × (BothSurvive (IsHome d) (shown_by p) d.config.master keep → IsWant e)
+    IsLossOrMemory e × (BothSurvive (IsHome d) (newest_opened d) (shown_by p) d.config.master keep → IsWant e)
 
 module _ (hs : List Holding) (m : ℕ) (d : LogData) (p : Picture) (keep : ℕ → Bool)
     (sound : IsSound d p) (is : d.config.master ≡ m) (shows : Shows hs (survivors keep (shown_by p)) m) where
   -- if there is nothing to choose, not both survive
-  not-both : ((c : Choice) → IsChoiceOf hs m c → ⊥) → BothSurvive (IsHome d) (shown_by p) d.config.master keep → ⊥
+  not-both : ((c : Choice) → IsChoiceOf hs m c → ⊥) → BothSurvive (IsHome d) (newest_opened d) (shown_by p) d.config.master keep → ⊥
   not-both none both =
       let some = sound.choice keep both in
       none some.0 (shown-choice hs m d p keep is shows some.0 some.1)
@@ -91,7 +91,7 @@ module _ (hs : List Holding) (m : ℕ) (d : LogData) (p : Picture) (keep : ℕ �
       first.is_bad (shown-good hs m d p keep is shows sound first.bad first.of_master there)
 
   pub plan-loss : (e : PlanFault) → IsPlanFault hs m e → NamesLoss hs m e →
-      IsPlanLoss e × (BothSurvive (IsHome d) (shown_by p) d.config.master keep → IsPlanWant e)
+      IsPlanLoss e × (BothSurvive (IsHome d) (newest_opened d) (shown_by p) d.config.master keep → IsPlanWant e)
   plan-loss plan_fault.NoHead says loss = (tt, λ both. absurd (not-both loss both))
   plan-loss (plan_fault.HeadClosed id) says loss = (tt, λ both. absurd (not-both loss both))
   plan-loss (plan_fault.Missing id) says loss =

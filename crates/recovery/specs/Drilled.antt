@@ -5,7 +5,7 @@ use Rattle.replay.specs.declared.rebuilt.Rebuilt.{Rebuilt}
 use Rattle.replica.specs.declared.holding.Holding.{Holding}
 use Rattle.replica.specs.Picture.{FleetState, Picture, AreHeld, left_on, shown_by}
 use Rattle.replica.specs.Survival.{BothSurvive}
-use Rattle.log_model.specs.Data.{IsHome}
+use Rattle.log_model.specs.Data.{IsHome, newest_opened}
 use Rattle.master_core.specs.declared.step.Refusal.{Refusal}
 use Rattle.master_core.specs.declared.step.Step.{Step}
 use Rattle.master_core.specs.declared.step.StepAnswer.{StepAnswer}
@@ -42,5 +42,6 @@ pub record IsDrill (start : World) (steps : List Step) (kept : List ℕ) (will :
   pub loss : Covers start.knows.config.tablets will
       → NamesHeld (left_on (is_kept kept) left.picture) start.knows.config.master will order
       → IfErr recovered (λ e. IsLossOrMemory e × (
-      BothSurvive (IsHome (log_of stop.knows)) (shown_by left.picture) stop.knows.config.master (is_kept kept)
+      BothSurvive (IsHome (log_of stop.knows)) (newest_opened (log_of stop.knows)) (shown_by left.picture)
+          stop.knows.config.master (is_kept kept)
       → IsWant e))

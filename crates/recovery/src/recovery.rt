@@ -8,7 +8,7 @@ ghost use Rattle.backup.specs.Division.{AreCovered};
 ghost use Rattle.replay.specs.Bags.{segments_bag};
 ghost use Rattle.replay.specs.Rebuilt.{IsRebuilt};
 ghost use Rattle.replay.specs.Rebuilds.{IsRebuildFault, CanBeRebuilt, NamesEach, count_of};
-ghost use Rattle.log_model.specs.Data.{LogData, IsHome};
+ghost use Rattle.log_model.specs.Data.{LogData, IsHome, newest_opened};
 ghost use Rattle.log_model.specs.Sound.{IsSound};
 ghost use Rattle.recovery.specs.Orders.{order_for, Covers, NamesGroups};
 ghost use Rattle.recovery.specs.Recovered.{Shows, IsRecovered, IsLossOrMemory, IsWant, IsRebuiltFrom, IsRefusedFrom};
@@ -88,7 +88,7 @@ pub fn recover(
     ensures refused { IfErr result (λ e. (d : LogData) (p : Picture) (keep : ℕ → Bool) →
         IsSound d p → d.config.master ≡ master → Shows inventory.now (survivors keep (shown_by p)) master →
         Covers d.config.tablets will.now → NamesGroups inventory.now master will.now order.now →
-        IsLossOrMemory e × (BothSurvive (IsHome d) (shown_by p) d.config.master keep → IsWant e)) }
+        IsLossOrMemory e × (BothSurvive (IsHome d) (newest_opened d) (shown_by p) d.config.master keep → IsWant e)) }
     // Of any inventory: what comes back, or the fault, follows from it.
     ensures rebuilt { IfOk result (IsRebuiltFrom inventory.now master will.now order.now) }
     ensures fault { IfErr result (IsRefusedFrom inventory.now master will.now order.now) }

@@ -79,7 +79,7 @@ losses hs m (Err fault) f = later-means hs m fault f
 pub fault_of : (hs : List Holding) (master : ℕ) (head : Holding) → IsHeadTaken hs master head → (fault : PlanFault)
     → IsLaterFault hs master fault → IsPlanFault hs master fault
 fault_of hs master head taken (Missing id) later = later
-fault_of hs master head taken NoMemory later = (head, taken)
+fault_of hs master head taken NoMemory later = later
 fault_of hs master head taken (BadReplica backup id) later = absurd later
 fault_of hs master head taken NoHead later = absurd later
 fault_of hs master head taken (HeadClosed id) later = absurd later

@@ -16,7 +16,7 @@ use Rattle.recovery_plan.specs.declared.chosen.Plan.{Plan}
 use Rattle.recovery_plan.specs.Good.{IsGood, IsOpenHead, IsReplicaOf}
 use Rattle.recovery_plan.specs.Preferred.{IsPreferred, IsBest}
 use Rattle.recovery_plan.specs.Looked.{lent, ArePreferred, AreFound, IsFirstLacking, IsLack}
-use Rattle.recovery_plan.specs.Planned.{IsChoiceOf, IsHeadTaken, IsMissing, IsHere, IsPlanOf, IsLaterFault}
+use Rattle.recovery_plan.specs.Planned.{IsChoiceOf, IsHeadTaken, IsMissing, IsHere, IsPlanOf, IsFoundFault}
 use Rattle.recovery_plan.proofs.Bests.{among-right}
 use Rattle.recovery_plan.proofs.Digests.{digest-of, ends-last, ends-some, among-place, place-among, earlier}
 
@@ -92,7 +92,7 @@ module _ (hs : List Holding) (m : ℕ) (look : ℕ → Option (Bor Holding)) (be
       here n (Some v) is some = let f = found-one n v (sym is) in (v.now, f.1.among, (f.1.other, f.0))
 
   pub lack-later : (head : Holding) (fault : PlanFault) → IsHeadTaken hs m head → opening_in head.bytes ≡ Some o
-      → IsLack look o.ids fault → IsLaterFault hs m fault
+      → IsLack look o.ids fault → IsFoundFault hs m fault
   lack-later head (Missing id) taken opened lack = lacking-missing head id taken opened lack
   lack-later head NoMemory taken opened lack = tt
   lack-later head NoHead taken opened lack = absurd lack

@@ -80,19 +80,33 @@ pub record IsMissing (hs : List Holding) (master id : ℕ) : Type 0 where
   pub lost : IsLost hs master opening id
   pub lowest : (n : ℕ) → IsAmong n opening.ids → n < id → IsHere hs master opening n
 
--- what holds of the replicas for each fault, in the order of the tests
+-- the head that is taken lists no lost segment
+pub record HasAllListed (hs : List Holding) (master : ℕ) : Type 0 where
+  pub head : Holding
+  pub taken : IsHeadTaken hs master head
+  pub opening : Opening
+  pub opened : opening_in head.bytes ≡ Some opening
+  pub here : (n : ℕ) → IsAmong n opening.ids → IsHere hs master opening n
+
+-- what holds of the replicas for each fault, in the order of the tests; memory is wanted only if no test fails
 abbrev pub IsPlanFault : List Holding → ℕ → PlanFault → Type 0
 IsPlanFault hs master (BadReplica backup id) = IsFirstBad hs master backup id
 IsPlanFault hs master NoHead = HasNoHead hs master
 IsPlanFault hs master (HeadClosed id) = IsHeadClosed hs master id
 IsPlanFault hs master (Missing id) = IsMissing hs master id
-IsPlanFault hs master NoMemory = (head : Holding) × IsHeadTaken hs master head
+IsPlanFault hs master NoMemory = HasAllListed hs master
 
 -- a fault that may come once it is known which head is taken
 abbrev pub IsLaterFault : List Holding → ℕ → PlanFault → Type 0
 IsLaterFault hs master (Missing id) = IsMissing hs master id
-IsLaterFault hs master NoMemory = Unit {0}
+IsLaterFault hs master NoMemory = HasAllListed hs master
 IsLaterFault hs master _ = ⊥
+
+-- the same, before it is known whether a segment is lost if memory ran out
+abbrev pub IsFoundFault : List Holding → ℕ → PlanFault → Type 0
+IsFoundFault hs master (Missing id) = IsMissing hs master id
+IsFoundFault hs master NoMemory = Unit {0}
+IsFoundFault hs master _ = ⊥
 
 -- ---- what a fault means
 

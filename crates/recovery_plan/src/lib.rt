@@ -10,6 +10,7 @@ mod chosen;
 mod fault;
 mod finding;
 mod listed;
+mod missing;
 mod planning;
 mod preferred;
 mod reading;

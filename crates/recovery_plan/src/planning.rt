@@ -3,19 +3,20 @@
 ghost use Rattle.std.specs.Prelude.{◌≡◌, ℕ, IfOk, IfErr};
 ghost use Rattle.replica.specs.Choice.{Choice};
 ghost use Rattle.replica.specs.declared.holding.Holding.{Holding};
-ghost use Rattle.recovery_plan.specs.Planned.{IsPlanOf, IsHeadTaken, IsPlanFault, IsLaterFault, NamesLoss};
+ghost use Rattle.recovery_plan.specs.Planned.{IsPlanOf, IsHeadTaken, IsPlanFault, IsLaterFault, IsFoundFault, NamesLoss};
 
 use crate::chosen::Plan;
 use crate::fault::PlanFault;
 use crate::finding::{newest_head, open_head};
 use crate::listed::others;
+use crate::missing::first_missing;
 use crate::preferred::best_replicas;
 use crate::reading::{copies, opening};
 use replica::{Holding, Inventory};
 use std::alloc::Global;
 
-// The plan, once it is known which replica of the head is taken.
-fn plan_from(
+// The plan of what is found of each listed segment. It asks for memory before each is looked up.
+fn found_plan(
     alloc: Global,
     holdings: &[Holding],
     master: u64,
@@ -23,7 +24,7 @@ fn plan_from(
 ) -> Result<Plan, PlanFault>
     requires { IsHeadTaken holdings.now master head.now }
     ensures ok { IfOk result (λ plan. (c : Choice) × IsPlanOf holdings.now master c plan) }
-    ensures fault { IfErr result (λ fault. IsLaterFault holdings.now master fault) }
+    ensures fault { IfErr result (λ fault. IsFoundFault holdings.now master fault) }
 {
     let (digest, safe) = opening(head);
     let best = best_replicas(alloc, holdings, master)?;
@@ -36,12 +37,42 @@ fn plan_from(
     Ok(Plan { segments, safe })
 }
 
+// Why there is no plan if memory ran out: a listed segment is lost, or else memory is all that was wanted.
+fn want(holdings: &[Holding], master: u64, head: &Holding) -> PlanFault
+    requires { IsHeadTaken holdings.now master head.now }
+    ensures { IsLaterFault holdings.now master result }
+{
+    let (digest, _) = opening(head);
+    match first_missing(holdings, master, &digest) {
+        Some(id) => PlanFault::Missing(id),
+        None => PlanFault::NoMemory,
+    }
+}
+
+// The plan, once it is known which replica of the head is taken.
+fn plan_from(
+    alloc: Global,
+    holdings: &[Holding],
+    master: u64,
+    head: &Holding,
+) -> Result<Plan, PlanFault>
+    requires { IsHeadTaken holdings.now master head.now }
+    ensures ok { IfOk result (λ plan. (c : Choice) × IsPlanOf holdings.now master c plan) }
+    ensures fault { IfErr result (λ fault. IsLaterFault holdings.now master fault) }
+{
+    match found_plan(alloc, holdings, master, head) {
+        Ok(plan) => Ok(plan),
+        Err(PlanFault::Missing(id)) => Err(PlanFault::Missing(id)),
+        Err(_) => Err(want(holdings, master, head)),
+    }
+}
+
 /// The segments of the newest log that the inventory shows of a master. Of the newest head the longest open replica is
 /// taken; of another segment a closed one, else the longest open one; ties go to the lowest backup, then to the first.
 pub fn plan(alloc: Global, inventory: &Inventory, master: u64) -> Result<Plan, PlanFault>
     // The plan is a choice of the newest log, and takes the preferred replicas.
     ensures ok { IfOk result (λ plan. (c : Choice) × IsPlanOf inventory.now master c plan) }
-    // A fault is the first that the tests find in the inventory.
+    // A fault is the first that the tests find in the inventory. Memory is wanted only if they find none.
     ensures fault { IfErr result (λ fault. IsPlanFault inventory.now master fault) }
     // A loss is named only if there is nothing to choose.
     ensures loss { IfErr result (λ fault. NamesLoss inventory.now master fault) }

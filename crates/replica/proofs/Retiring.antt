@@ -11,7 +11,7 @@ use Rattle.replica.specs.declared.op.TakeFault.TheVariants as take_fault
 use Rattle.replica.specs.declared.spot.Spot.{Spot}
 use Rattle.replica.specs.Op.{OpValue}
 use Rattle.replica.specs.Picture.{Replica, Picture, FleetState, with_replica, is_same_place}
-use Rattle.replica.specs.Take.{effect, taken, with_effect, faulted, Takes, Refuses}
+use Rattle.replica.specs.Take.{effect, taken, with_effect, Takes, Refuses}
 use Rattle.replica.specs.Retire.{AreOthers, freeing, TakesEach, FreesEach, EndsAt, Retires}
 
 -- What an op leaves as it is: the backups, the count but for one, and other masters' replicas.

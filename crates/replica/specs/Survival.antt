@@ -1,19 +1,14 @@
 -- Which losses leave a master's log to a recovery. The layer above names the homes of a segment's replicas.
-use Rattle.std.specs.Prelude.{◌≡◌, ℕ, ◌<◌, ◌≤◌, ◌⊎◌, Bool, true, Some, IsSome, IsSomeAnd}
+use Rattle.std.specs.Prelude.{◌≡◌, ℕ, ◌<◌, ◌≤◌, ◌⊎◌, Bool, true, Option, Some, None, IsSome, IsSomeAnd}
 use Rattle.entry.specs.Bag.{IsAmong}
 use Rattle.entry.specs.Text.{Opening, opening_in}
-use Rattle.replica.specs.declared.holding.Holding.{Holding}
-use Rattle.replica.specs.Choice.{IsUsableHead, IsUsableReplica}
-use Rattle.replica.specs.Picture.{Replica, Shown, IsHeld}
+use Rattle.replica.specs.Choice.{IsUsableHead}
+use Rattle.replica.specs.Picture.{Replica, Shown}
 
 -- the backup holds a replica of the segment that has a digest, and may be used as a head
 pub record HoldsHead (shown : Shown) (master b s : ℕ) : Type 0 where
   pub bears : IsSomeAnd (shown.holds b master s) (λ (r : Replica). IsSome (opening_in r.bytes))
   pub usable : IsUsableHead shown.least s
-
--- the segment is a head that was opened on all its homes
-abbrev pub IsOpened : (ℕ → ℕ → Type 0) → Shown → ℕ → ℕ → Type 0
-IsOpened IsHome shown master s = (b : ℕ) → IsHome s b → HoldsHead shown master b s
 
 -- a replica of the head is on a backup that is left
 abbrev pub IsHeadLeft : Shown → ℕ → (ℕ → Bool) → ℕ → Type 0
@@ -23,18 +18,12 @@ IsHeadLeft shown master keep s = (b : ℕ) × (keep b ≡ true) × HoldsHead sho
 abbrev pub IsHomeLeft : (ℕ → ℕ → Type 0) → (ℕ → Bool) → ℕ → Type 0
 IsHomeLeft IsHome keep s = (b : ℕ) × IsHome s b × (keep b ≡ true)
 
--- the newest head that was opened on all its homes
-pub record IsNewestOpened (IsHome : ℕ → ℕ → Type 0) (shown : Shown) (master s : ℕ) : Type 0 where
-  pub opened : IsOpened IsHome shown master s
-  pub newest : (t : ℕ) → IsOpened IsHome shown master t → t ≤ s
-
 -- Of the newest head that was opened on all its homes one of these is left, or a replica of a later head; of any head,
 -- if none was opened on all.
-abbrev pub HeadSurvives : (ℕ → ℕ → Type 0) → Shown → ℕ → (ℕ → Bool) → Type 0
-HeadSurvives IsHome shown master keep =
-    ((s : ℕ) × IsNewestOpened IsHome shown master s
-    × (IsHomeLeft IsHome keep s ⊎ ((t : ℕ) × (s < t) × IsHeadLeft shown master keep t)))
-    ⊎ (((s : ℕ) → IsOpened IsHome shown master s → ⊥) × ((t : ℕ) × IsHeadLeft shown master keep t))
+abbrev pub HeadSurvives : (ℕ → ℕ → Type 0) → Option ℕ → Shown → ℕ → (ℕ → Bool) → Type 0
+HeadSurvives IsHome (Some s) shown master keep =
+    IsHomeLeft IsHome keep s ⊎ ((t : ℕ) × (s < t) × IsHeadLeft shown master keep t)
+HeadSurvives IsHome None shown master keep = (t : ℕ) × IsHeadLeft shown master keep t
 
 -- a digest of the newest head that is left
 pub record IsNewestLeft (shown : Shown) (master : ℕ) (keep : ℕ → Bool) (s : ℕ) (opening : Opening) : Type 0 where
@@ -46,18 +35,14 @@ pub record IsNewestLeft (shown : Shown) (master : ℕ) (keep : ℕ → Bool) (s 
   pub usable : IsUsableHead shown.least s
   pub newest : (t : ℕ) → IsHeadLeft shown master keep t → t ≤ s
 
--- what the backup holds of the segment may be used for that id of the digest
-abbrev pub IsUsableOn : Shown → ℕ → Opening → ℕ → ℕ → Type 0
-IsUsableOn shown master opening id b = (h : Holding) → IsHeld shown.holds h → h.master ≡ master → h.segment ≡ id
-    → h.backup ≡ b → IsUsableReplica opening h
-
--- Of each other id of the newest digest that is left one of its homes is left, with what may be used.
+-- of each other id of the newest digest that is left one of its homes is left
 abbrev pub SegmentsSurvive : (ℕ → ℕ → Type 0) → Shown → ℕ → (ℕ → Bool) → Type 0
 SegmentsSurvive IsHome shown master keep = (s : ℕ) (opening : Opening) → IsNewestLeft shown master keep s opening →
-    (id : ℕ) → IsAmong id opening.ids → (id ≡ s → ⊥)
-    → (b : ℕ) × IsHome id b × (keep b ≡ true) × IsUsableOn shown master opening id b
+    (id : ℕ) → IsAmong id opening.ids → (id ≡ s → ⊥) → IsHomeLeft IsHome keep id
 
--- both the head and the segments survive if these backups are left
-pub record BothSurvive (IsHome : ℕ → ℕ → Type 0) (shown : Shown) (master : ℕ) (keep : ℕ → Bool) : Type 0 where
-  pub head : HeadSurvives IsHome shown master keep
+-- Both the head and the segments survive if these backups are left and this was the newest head that was opened on all
+-- its homes.
+pub record BothSurvive (IsHome : ℕ → ℕ → Type 0) (opened : Option ℕ) (shown : Shown) (master : ℕ)
+    (keep : ℕ → Bool) : Type 0 where
+  pub head : HeadSurvives IsHome opened shown master keep
   pub segments : SegmentsSurvive IsHome shown master keep

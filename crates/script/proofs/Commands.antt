@@ -14,8 +14,8 @@ use Rattle.master_core.specs.Data.{MasterData}
 use Rattle.master.specs.Valid.{IsValid}
 use Rattle.script.specs.declared.answer.Answer.TheVariants as answer
 use Rattle.script.specs.declared.node.Node.{Node}
-use Rattle.script.specs.Lives.{HasLived, life_to}
-use Rattle.script.specs.Served.{LivesOn, IsServed, IsUnserved, IsSpent, IsOf, IsNodeAt, left_now, life_of, record_of}
+use Rattle.script.specs.Lives.{HasLived, life_to, left_now}
+use Rattle.script.specs.Served.{LivesOn, IsServed, IsUnserved, IsSpent, IsOf, IsNodeAt, life_of, record_of}
 use Rattle.script.specs.Told.{Position, command_of}
 use Rattle.script.proofs.Standing.{Answered, same_opening, still_stands, stands_longer, record_there, lived, lived_longer}
 
@@ -112,18 +112,18 @@ module _ (d e : MasterData) (old new : Node) (config : Config) (at : Position) (
       )
 
   -- it was dropped, with a fleet that took no more ops
-  pub stopped_told : (r : Refusal) (f : FleetState) → IsValid e f → IsSpent f → IsOf new (Some (left_now f)) e
+  pub stopped_told : (r : Refusal) (f : FleetState) → IsValid e f → IsSpent f → IsOf new (Some (left_now e f)) e
       → IsUnserved d command r (record { knows = e; fleet = f }) → Answered d new config at line answer.Stopped
   stopped_told r f valid spent of (inl (g, why)) =
-      let stands = still_stands d e old new config at (Some (left_now f)) of s g in (
+      let stands = still_stands d e old new config at (Some (left_now e f)) of s g in (
         e,
-        record { made = at.made; acknowledged = at.acknowledged; left = Some (left_now f) },
+        record { made = at.made; acknowledged = at.acknowledged; left = Some (left_now e f) },
         stands,
         ([], g.origin, g.history),
         inl (
           none,
-          left_now f,
-          (e, f, lived_longer d e old new config at (Some (left_now f)) of s f valid at.made stands.configured stands.made, refl, spent),
+          left_now e f,
+          (e, f, lived_longer d e old new config at (Some (left_now e f)) of s f valid at.made stands.configured stands.made, refl, spent),
           inl (command, asks, refl),
         ),
       )
@@ -132,15 +132,15 @@ module _ (d e : MasterData) (old new : Node) (config : Config) (at : Position) (
       let g = added_before d left.mid.knows e command reply left.applied left.goes_on in
       let up = g.durable in
       let kept = s.acknowledged in
-      let stands = stands_longer d e old new config at (Some (left_now f)) of s command reply at.acknowledged g (omega arith) in (
+      let stands = stands_longer d e old new config at (Some (left_now e f)) of s command reply at.acknowledged g (omega arith) in (
         e,
-        record { made = suc at.made; acknowledged = at.acknowledged; left = Some (left_now f) },
+        record { made = suc at.made; acknowledged = at.acknowledged; left = Some (left_now e f) },
         stands,
         (record_of command reply, g.origin, g.history),
         inl (
           none,
-          left_now f,
-          (e, f, lived_longer d e old new config at (Some (left_now f)) of s f valid (suc at.made) stands.configured stands.made, refl, spent),
-          inr (inl (reply, (command, asks, record_there d e old new config at (Some (left_now f)) of s command reply g), refl)),
+          left_now e f,
+          (e, f, lived_longer d e old new config at (Some (left_now e f)) of s f valid (suc at.made) stands.configured stands.made, refl, spent),
+          inr (inl (reply, (command, asks, record_there d e old new config at (Some (left_now e f)) of s command reply g), refl)),
         ),
       )

@@ -25,10 +25,10 @@ use Rattle.script.specs.declared.node.Node.{Node}
 use Rattle.script.specs.declared.node.Node.TheVariants.{Up, Down}
 use Rattle.replay.specs.Adopting.{IsAdopted, IsAdoptedOn, DeclinesList}
 use Rattle.script.specs.Configuration.{config_of}
-use Rattle.script.specs.Lives.{life_to, HasLived, Left}
+use Rattle.script.specs.Lives.{life_to, HasLived, Left, left_now}
 use Rattle.script.specs.Numbers.{greatest_of}
 use Rattle.script.specs.Served.{Adopts, AnswersLine, BeginsNext, HasNoOther, IsCut, IsFoundIn, IsLeftOf, IsNodeAt, IsOf, IsSpent, Refuses, RetiresOthers, SparesOthers}
-use Rattle.script.specs.Served.{left_now, life_of, refusal_answer, standing_of}
+use Rattle.script.specs.Served.{life_of, refusal_answer, standing_of}
 use Rattle.script.specs.Succession.{EndsRecovery}
 use Rattle.script.specs.Told.{Position, IsUnadopted, Tells}
 use Rattle.script.proofs.Standing.{legal_of}
@@ -61,6 +61,7 @@ spared_left d l old new other apart spares of = record {
   crashed = of.crashed;
   valid = of.valid;
   picture = of.picture;
+  opened = of.opened;
   shown = λ b s. spares.others b d.config.master s apart ∙ of.shown b s;
   backups = let was = of.backups in let same = spares.backups in omega arith;
 }
@@ -208,10 +209,10 @@ module _ (fleet : MemoryFleet) (options : Options) (master : ℕ) (r : Rebuilt) 
         (refl, refl, (e, fleet_state m.fleet, lived (fleet_state m.fleet) valid, alone (fleet_state m.fleet) none))
 
     cut : (f : FleetState) → IsValid e f → (a : Answer) → IsCut f a
-        → EndsRecovery (standing_of next e (record { made = 0; acknowledged = 0; left = Some (left_now f) })) r a
-    cut f valid answer.Stopped spent = (left_now f, refl, (e, f, lived f valid, refl, spent))
-    cut f valid (answer.NotRetired why) unspent = (unspent, left_now f, refl, (e, f, lived f valid, refl))
+        → EndsRecovery (standing_of next e (record { made = 0; acknowledged = 0; left = Some (left_now e f) })) r a
+    cut f valid answer.Stopped spent = (left_now e f, refl, (e, f, lived f valid, refl, spent))
+    cut f valid (answer.NotRetired why) unspent = (unspent, left_now e f, refl, (e, f, lived f valid, refl))
     cut f valid a other = absurd other
 
     pub cut_told : (new : Node) (a : Answer) → RetiresOthers e new (Some a) → BeginsNext old (config_of options master) order new next a
-    cut_told new a (f, valid, of, why) = begins new a (Some (left_now f)) of (cut f valid a why)
+    cut_told new a (f, valid, of, why) = begins new a (Some (left_now e f)) of (cut f valid a why)

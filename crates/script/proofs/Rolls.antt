@@ -13,8 +13,8 @@ use Rattle.master.specs.Valid.{IsValid}
 use Rattle.script.specs.declared.answer.Answer.{Answer}
 use Rattle.script.specs.declared.answer.Answer.TheVariants as answer
 use Rattle.script.specs.declared.node.Node.{Node}
-use Rattle.script.specs.Lives.{Life, life_to, IsLeftBySpent}
-use Rattle.script.specs.Served.{LivesOn, IsUnserved, IsSpent, IsOf, IsNodeAt, Refuses, AnswersLine, fleet_of, left_now, life_of}
+use Rattle.script.specs.Lives.{Life, life_to, IsLeftBySpent, left_now}
+use Rattle.script.specs.Served.{LivesOn, IsUnserved, IsSpent, IsOf, IsNodeAt, Refuses, AnswersLine, fleet_of, life_of}
 use Rattle.script.specs.Waits.{LivesSame, StaysAt, WaitsForRoll, MakesRoom}
 use Rattle.script.specs.Told.{Position, command_of, is_of_push, pushes, IsTest, IsStepRefusal, TellsNoStep, Tells}
 use Rattle.script.proofs.Standing.{Answered, asks_master, same_opening, still_stands, lived, lived_longer}
@@ -72,15 +72,15 @@ no_step_told d e old mid new config at s none line r a g of fleet now spent may 
     )
 no_step_told d e old mid new config at s none line r a g of fleet now spent may on why (inr (is, rest, dropped, lifted)) =
     let gone = dropped e g of fleet in
-    let stands = still_stands d e old new config at (Some (left_now g)) gone s on in (
+    let stands = still_stands d e old new config at (Some (left_now e g)) gone s on in (
       e,
-      record { made = at.made; acknowledged = at.acknowledged; left = Some (left_now g) },
+      record { made = at.made; acknowledged = at.acknowledged; left = Some (left_now e g) },
       stands,
       (on.origin, on.history ∙ append-nil d.history),
-      subst (λ (x : Answer). TellsNoStep config (life_of e) at line x (record { made = at.made; acknowledged = at.acknowledged; left = Some (left_now g) })) (sym is) (
+      subst (λ (x : Answer). TellsNoStep config (life_of e) at line x (record { made = at.made; acknowledged = at.acknowledged; left = Some (left_now e g) })) (sym is) (
         none,
-        left_now g,
-        (e, g, lived_longer d e old new config at (Some (left_now g)) gone s g now at.made stands.configured stands.made, refl, spent rest),
+        left_now e g,
+        (e, g, lived_longer d e old new config at (Some (left_now e g)) gone s g now at.made stands.configured stands.made, refl, spent rest),
         may rest,
         refl,
       ),

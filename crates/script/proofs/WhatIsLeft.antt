@@ -2,7 +2,7 @@
 use Rattle.std.proofs.Common.{◌≡◌, ℕ, ◌≤◌, Bool, true, false, cond, List, [], ◌∷◌, refl, sym, ap, subst, inl, inr, ◌∙◌, arith}
 use Rattle.std.specs.declared.alloc.AllocError.{AllocError}
 use Rattle.std.proofs.lemmas.List.{append-nil}
-use Rattle.std.specs.Prelude.{Option, Some, None, not, ◌==◌, ◌||◌, ◌↔◌, Result, Ok, Err, IfOk}
+use Rattle.std.specs.Prelude.{ℕ, Option, Some, None, not, ◌==◌, ◌||◌, ◌↔◌, Result, Ok, Err, IfOk}
 use Rattle.backup.specs.Inventory.{IsRising}
 use Rattle.backup.specs.State.{fleet_state, lost}
 use Rattle.backup.specs.declared.fleet.MemoryFleet.{MemoryFleet}
@@ -34,8 +34,8 @@ use Rattle.recovery.proofs.Recoveries.{IsSomePrefix, IsSomeLoss}
 use Rattle.script.specs.declared.answer.Answer.TheVariants as answer
 use Rattle.script.specs.declared.node.Node.{Node}
 use Rattle.script.specs.declared.node.Node.TheVariants.{Down}
-use Rattle.script.specs.Lives.{Life, life_to, Left, is_left, IsHomeBy}
-use Rattle.script.specs.Served.{IsLeftOf, IsOf, IsNodeAt, AnswersLine, is_up, left_now, life_of, held_answer}
+use Rattle.script.specs.Lives.{Life, life_to, Left, left_now, is_left, IsHomeBy}
+use Rattle.script.specs.Served.{IsLeftOf, IsOf, IsNodeAt, AnswersLine, is_up, life_of, held_answer}
 use Rattle.script.specs.Told.{Position, IsRecoveredAt, IsFoundAt, AreLeft, AreHeldAt, Tells}
 use Rattle.script.proofs.Standing.{Answered, still_stands, lived_longer, is_up_none}
 use Rattle.script.proofs.MasterSteps.{goes_nowhere}
@@ -62,29 +62,29 @@ held_down config life at (Ok hs) d l f same left of shown rising =
 -- ---- crashes and losses
 
 -- a master that stops leaves the whole of what its fleet holds
-pub left_of : (d : MasterData) (fleet : MemoryFleet) → IsValid d (fleet_state fleet) → d.config.backups ≤ (fleet_state fleet).backups → IsOf (Down fleet) (Some (left_now (fleet_state fleet))) d
+pub left_of : (d : MasterData) (fleet : MemoryFleet) → IsValid d (fleet_state fleet) → d.config.backups ≤ (fleet_state fleet).backups → IsOf (Down fleet) (Some (left_now d (fleet_state fleet))) d
 left_of d fleet valid all = (
-  left_now (fleet_state fleet),
+  left_now d (fleet_state fleet),
   refl,
-  record { crashed = fleet_state fleet; valid = valid; picture = refl; shown = λ b s. refl; backups = all },
+  record { crashed = fleet_state fleet; valid = valid; picture = refl; opened = refl; shown = λ b s. refl; backups = all },
 )
 
 pub crashed_told : (old new : Node) (config : Config) (line : LineValue) (f : FleetState) → is_up old ≡ true
-    → ((d : MasterData) → IsOf old None d → IsValid d f × IsOf new (Some (left_now f)) d) → line ≡ Crash
+    → ((d : MasterData) → IsOf old None d → IsValid d f × IsOf new (Some (left_now d f)) d) → line ≡ Crash
     → AnswersLine old config line new answer.Crashed
 crashed_told old new config line f up leaves is d at s =
     let none = is_up_none old d at.left up s.node_of in
     let left = leaves d (subst (λ (l : Option Left). IsOf old l d) none s.node_of) in
-    let stands = still_stands d d old new config at (Some (left_now f)) left.1 s (goes_nowhere d) in (
+    let stands = still_stands d d old new config at (Some (left_now d f)) left.1 s (goes_nowhere d) in (
       d,
-      record { made = at.made; acknowledged = at.acknowledged; left = Some (left_now f) },
+      record { made = at.made; acknowledged = at.acknowledged; left = Some (left_now d f) },
       stands,
       ([], refl, sym (append-nil d.history)),
       (
         none,
         is,
-        left_now f,
-        (d, f, lived_longer d d old new config at (Some (left_now f)) left.1 s f left.0 at.made s.configured s.made, refl),
+        left_now d f,
+        (d, f, lived_longer d d old new config at (Some (left_now d f)) left.1 s f left.0 at.made s.configured s.made, refl),
         refl,
       ),
     )
@@ -95,11 +95,12 @@ cut_twice false gone r = refl
 
 -- what is left, less a backup
 pub lost_of : (d : MasterData) (l : Left) (old new : FleetState) (backup : ℕ) → new ≡ lost old backup → IsLeftOf d l old
-    → IsLeftOf d (record { picture = l.picture; lost = backup ∷ l.lost }) new
+    → IsLeftOf d (record { picture = l.picture; opened = l.opened; lost = backup ∷ l.lost }) new
 lost_of d l old new backup is of = record {
   crashed = of.crashed;
   valid = of.valid;
   picture = of.picture;
+  opened = of.opened;
   shown = λ b s. (λ i. (is i).picture b d.config.master s)
       ∙ ap (λ (r : Option Replica). cond (not (backup == b)) r None) (of.shown b s)
       ∙ cut_twice (backup == b) (is_kept l.lost b) (l.picture b d.config.master s);
@@ -112,6 +113,7 @@ same_picture d l old new is same of = record {
   crashed = of.crashed;
   valid = of.valid;
   picture = of.picture;
+  opened = of.opened;
   shown = λ b s. (λ i. is i b d.config.master s) ∙ of.shown b s;
   backups = let was = of.backups in omega arith;
 }
@@ -146,7 +148,7 @@ module _ (node : Node) (fleet : MemoryFleet) (config : Config) (d : MasterData) 
       → Answered d (Down new) config at (Lose backup) (answer.Lost backup)
   lost_told backup new is =
       let l = left_at.0 in
-      let less : Left = record { picture = l.picture; lost = backup ∷ l.lost } in (
+      let less : Left = record { picture = l.picture; opened = l.opened; lost = backup ∷ l.lost } in (
         d,
         record { made = at.made; acknowledged = at.acknowledged; left = Some less },
         record {
@@ -201,8 +203,10 @@ module _ (node : Node) (fleet : MemoryFleet) (config : Config) (d : MasterData) 
           (
             loss.0,
             λ both. loss.1 (subst
-                (λ (k : Config). BothSurvive (IsHomeBy k) (shown_by left_at.0.picture) k.master (is_left left_at.0.lost))
-                (sym s.configured) both),
+                (λ (o : Option ℕ). BothSurvive (IsHomeBy d.config) o (shown_by left_at.0.picture) d.config.master (is_left left_at.0.lost))
+                left_at.2.opened (subst
+                (λ (k : Config). BothSurvive (IsHomeBy k) left_at.0.opened (shown_by left_at.0.picture) k.master (is_left left_at.0.lost))
+                (sym s.configured) both)),
           ),
           refl,
         )

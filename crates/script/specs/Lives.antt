@@ -1,11 +1,12 @@
 -- A master's life, and what a crash leaves of it.
-use Rattle.std.specs.Prelude.{◌≡◌, ℕ, List, [], not, Bool, take, slice_get, Some}
+use Rattle.std.specs.Prelude.{◌≡◌, ℕ, List, [], not, Bool, take, slice_get, Option, Some}
 use Rattle.replica.specs.Picture.{Picture, FleetState}
 use Rattle.versioned_map.specs.declared.command.Record.{Record}
 use Rattle.versioned_map.specs.Versioned.{State}
 use Rattle.master_core.specs.declared.config.Config.{Config}
 use Rattle.master_core.specs.Data.{MasterData}
-use Rattle.master_core.specs.Log.{log_config, opening_of}
+use Rattle.log_model.specs.Data.{newest_opened}
+use Rattle.master_core.specs.Log.{log_config, log_of, opening_of}
 use Rattle.master.specs.Valid.{IsValid}
 use Rattle.recovery.specs.Kept.{is_kept}
 
@@ -27,23 +28,29 @@ pub record HasLived (config : Config) (life : Life) (d : MasterData) (f : FleetS
 
 -- ---- what is left
 
--- what the backups held of a master when it was dropped, and which backups have lost all they held since
+-- What the backups held of a master when it was dropped, the newest head that was opened on all its homes, and which
+-- backups have lost all they held since.
 pub record Left : Type 0 where
   pub picture : Picture
+  pub opened : Option ℕ
   pub lost : List ℕ
 
 abbrev pub is_left : List ℕ → ℕ → Bool
 is_left lost b = not (is_kept lost b)
 
+-- what a master over this fleet leaves
+abbrev pub left_now : MasterData → FleetState → Left
+left_now d f = record { picture = f.picture; opened = newest_opened (log_of d); lost = [] }
+
 -- a master that lived this life left this
 abbrev pub IsLeftBy : Config → Life → Left → Type 0
 IsLeftBy config life left =
-    (d : MasterData) × (f : FleetState) × HasLived config life d f × (left ≡ record { picture = f.picture; lost = [] })
+    (d : MasterData) × (f : FleetState) × HasLived config life d f × (left ≡ left_now d f)
 
 -- the same, and its fleet took no more ops
 abbrev pub IsLeftBySpent : Config → Life → Left → Type 0
 IsLeftBySpent config life left =
-    (d : MasterData) × (f : FleetState) × HasLived config life d f × (left ≡ record { picture = f.picture; lost = [] })
+    (d : MasterData) × (f : FleetState) × HasLived config life d f × (left ≡ left_now d f)
     × (f.takes ≡ f.end)
 
 -- the backups of a segment's replicas

@@ -17,7 +17,7 @@ use Rattle.versioned_map.specs.declared.command.Command.{Command}
 use Rattle.versioned_map.specs.declared.command.Record.{Record}
 use Rattle.versioned_map.specs.declared.command.Reply.{Reply}
 use Rattle.log_head.specs.Head.{is_open}
-use Rattle.log_model.specs.Data.{durable_of}
+use Rattle.log_model.specs.Data.{durable_of, newest_opened}
 use Rattle.master_core.specs.declared.config.Config.{Config}
 use Rattle.master_core.specs.declared.step.Refusal.{Refusal}
 use Rattle.master_core.specs.declared.step.Refusal.TheVariants.{NoMemory, Spent}
@@ -40,7 +40,7 @@ use Rattle.script.specs.declared.node.Node.TheVariants.{Up, Down, Changing}
 use Rattle.script.specs.declared.session.Session.{Session}
 use Rattle.script.specs.Configuration.{config_of, tables_to}
 use Rattle.script.specs.Numbers.{AreSpent, IsNextNumber, Renumbers}
-use Rattle.script.specs.Lives.{Life, Left, is_left}
+use Rattle.script.specs.Lives.{Life, Left, left_now, is_left}
 use Rattle.replay.specs.Adopting.{IsAdopted}
 use Rattle.recovery.specs.Orders.{Covers}
 use Rattle.script.specs.Cleans.{Cleans}
@@ -93,6 +93,7 @@ pub record IsLeftOf (d : MasterData) (l : Left) (f : FleetState) : Type 0 where
   pub crashed : FleetState
   pub valid : IsValid d crashed
   pub picture : l.picture ≡ crashed.picture
+  pub opened : l.opened ≡ newest_opened (log_of d)
   pub shown : (b s : ℕ) → f.picture b d.config.master s ≡ left_on (is_left l.lost) l.picture b d.config.master s
   pub backups : d.config.backups ≤ f.backups
 
@@ -101,10 +102,6 @@ abbrev pub IsOf : Node → Option Left → MasterData → Type 0
 IsOf (Up m) left d = (left ≡ None) × (m.knows ≡ d) × IsValid d (fleet_state m.fleet)
 IsOf (Down fleet) left d = (l : Left) × (left ≡ Some l) × IsLeftOf d l (fleet_state fleet)
 IsOf Changing left d = ⊥
-
--- what a crash of a master over this fleet leaves
-abbrev pub left_now : FleetState → Left
-left_now f = record { picture = f.picture; lost = [] }
 
 -- the fleet of a node; none while its master is being dropped
 abbrev pub fleet_of : Node → Option FleetState
@@ -120,7 +117,7 @@ is_up Changing = false
 -- a master was dropped, and its fleet is what is left
 abbrev pub IsDropped : Node → Node → Type 0
 IsDropped old new = (d : MasterData) (f : FleetState) → IsOf old None d → fleet_of old ≡ Some f →
-    IsOf new (Some (left_now f)) d
+    IsOf new (Some (left_now d f)) d
 
 -- the node has no master, and its fleet is the same, without a limit
 abbrev pub IsUnlimited : Node → Node → Type 0
@@ -310,7 +307,7 @@ abbrev pub RetiresOthers : MasterData → Node → Option Answer → Type 0
 RetiresOthers d new None = (m : MasterValue MemoryFleet) × (new ≡ Up m) × (m.knows ≡ d)
     × IsValid d (fleet_state m.fleet) × HasNoOther (fleet_state m.fleet) d.config.master
 RetiresOthers d new (Some answer) =
-    (f : FleetState) × IsValid d f × IsOf new (Some (left_now f)) d × IsCut f answer
+    (f : FleetState) × IsValid d f × IsOf new (Some (left_now d f)) d × IsCut f answer
 
 -- whatever the node stood for, that life ended, and the new node stands for the next
 abbrev pub BeginsNext : Node → Config → ReplayOrder → Node → Config → Answer → Type 0

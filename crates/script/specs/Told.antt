@@ -283,7 +283,7 @@ IsUnadopted config life at line r next = IsRecover line × ((l : Left) × (at.le
 -- what the refusal names is lost, or memory ran out; if the backups that are left have head and segments, memory did
 abbrev pub IsLossOf : Config → Left → RecoveryFault → Type 0
 IsLossOf config l e = IsLossOrMemory e
-    × (BothSurvive (IsHomeBy config) (shown_by l.picture) config.master (is_left l.lost) → IsWant e)
+    × (BothSurvive (IsHomeBy config) l.opened (shown_by l.picture) config.master (is_left l.lost) → IsWant e)
 
 -- ---- lines
 
@@ -384,7 +384,7 @@ Tells config life at line (answer.Lost backup) next = (line ≡ Lose backup) × 
     × (next ≡ record {
       made = at.made;
       acknowledged = at.acknowledged;
-      left = Some (record { picture = l.picture; lost = backup ∷ l.lost });
+      left = Some (record { picture = l.picture; opened = l.opened; lost = backup ∷ l.lost });
     })
 -- a table that was recovered and adopted begins another life
 Tells config life at line (answer.Recovered r) next = ⊥

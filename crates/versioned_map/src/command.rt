@@ -73,3 +73,16 @@ pub struct Record {
     pub command: Command,
     pub reply: Reply,
 }
+
+impl Record {
+    /// The same record, in memory of its own.
+    pub fn copy(&self) -> Result<Record, AllocError>
+        ensures { IfOk result (λ copy. copy ≡ self.now) }
+    {
+        Ok(Record {
+            seat: self.seat,
+            command: self.command.copy()?,
+            reply: self.reply.copy()?,
+        })
+    }
+}

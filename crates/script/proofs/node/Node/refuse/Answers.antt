@@ -4,7 +4,9 @@ use Rattle.std.specs.Option.{option_map}
 use Rattle.backup.specs.State.{fleet_state}
 use Rattle.master.specs.Valid.{IsValid}
 use Rattle.master.specs.World.{World}
+use Rattle.log_model.specs.Data.{newest_opened}
 use Rattle.master_core.specs.Data.{MasterData}
+use Rattle.master_core.specs.Log.{log_of}
 use Rattle.replica.specs.Picture.{FleetState, Picture}
 use Rattle.replica.specs.Take.{limited, no_limit}
 use Rattle.script.specs.declared.node.Node.{Node}
@@ -24,7 +26,7 @@ returns-in-Up c = inr (
       let picture : (fleet_state limited.fleet).picture ≡ f.picture =
       ap (λ (w : World). w.fleet.picture) c.limit.ensures.limited ∙ ap (λ (o : Option FleetState). (unwrap_or o f).picture) held in
       let valid = subst (λ (x : MasterData). IsValid x (fleet_state limited.fleet)) same c.limit.ensures.valid in
-      subst (λ (p : Picture). IsOf c.drop_master.new.self (Some (record { picture = p; lost = [] })) d) picture
+      subst (λ (p : Picture). IsOf c.drop_master.new.self (Some (record { picture = p; opened = newest_opened (log_of d); lost = [] })) d) picture
       (c.drop_master.ensures.left d (fleet_state limited.fleet) (refl, same, valid) refl),
   (
     c.drop_master.ensures.down,

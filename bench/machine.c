@@ -1,4 +1,4 @@
-// Prints how fast this machine copies memory and loads from it. bin/bench builds and runs it.
+// Prints how fast this machine copies memory and loads from it. bench/measure builds and runs it.
 
 #include <stdint.h>
 #include <stdio.h>

@@ -170,11 +170,10 @@ def main():
         names = sorted(glob.glob(f"{top}/examples/*.txt"))
         tallies = list(sweep_scripts(program, names, [os.path.relpath(name, top) for name in names], words))
         tallies += sweep_command_lines(program)
-        tests = f"{top}/crates/tests/out/tests_tests"
-        if os.path.exists(tests):
-            tallies.append(sweep_tests(Program(tests, folder)))
-        else:
-            print("the tests: not run, since neither bin/test nor 'rt test' in crates/tests has left their program")
+        tests = sorted(glob.glob(f"{top}/crates/*/out/*_tests"))
+        tallies += [sweep_tests(Program(test, folder)) for test in tests]
+        if not tests:
+            print("the tests: not run, since neither bin/test nor 'rt test' in their crates has left their programs")
     failed = sum(tally.failed for tally in tallies)
     print(f"{sum(tally.runs for tally in tallies)} runs, {failed} failed")
     sys.exit(failed > 0)

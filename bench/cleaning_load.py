@@ -1,4 +1,4 @@
-"""Scripts that overwrite keys at random and clean as they go, for bin/bench. It tests nothing.
+"""Scripts that overwrite keys at random and clean as they go, for bench/measure. It tests nothing.
 
 `Log` counts what the program has of segments: their lengths, which of their objects are live, and which segments their
 tombstones name. By that it knows when a roll comes, what a pass copies, and how many seglets are free, after the rules of

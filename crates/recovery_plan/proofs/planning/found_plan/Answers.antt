@@ -5,7 +5,7 @@ use Rattle.entry.specs.Text.{Opening}
 use Rattle.entry.specs.View.{shown_ids}
 use Rattle.recovery_plan.proofs.Digests.{digest-of, ends-some}
 use Rattle.recovery_plan.proofs.Plans.{taken-good, found-taken, lack-later, chosen-good, found-plan}
-use Rattle.recovery_plan.proofs.planning.plan_from.Goals as goal
+use Rattle.recovery_plan.proofs.planning.found_plan.Goals as goal
 
 pub opening-safe-requires-clause-good : goal.opening-safe-requires-clause-good
 opening-safe-requires-clause-good c = taken-good c.args.holdings.now c.args.master c.args.head.now c.requires

@@ -1,0 +1,300 @@
+#!/usr/bin/env python3
+"""Tests the built program in ways that no example can. The gate, bin/test, ends with them.
+
+  support/program_test.py [--program=FILE] [NAME ..]
+
+It tests the text of the help, words and lines that no file of examples holds, streams that fail, a terminal, pipes, and how much memory
+the program has at each point of a script. A test that fails says what it wanted. The last line is 'N tests, M failed', and the
+status is 1 if any failed. It needs python3 on Linux.
+"""
+
+import fcntl
+import os
+import pty
+import struct
+import subprocess
+import sys
+import tempfile
+import termios
+import time
+from dataclasses import dataclass
+
+from examples import TOP
+
+SECONDS = 60
+BLOCK = 4096
+
+# Words.
+
+def run(program, script=b"", words=(), **streams):
+    """How the program ends with this script."""
+    given = {"input": script} if "stdin" not in streams else {}
+    streams = {"stdout": subprocess.PIPE, "stderr": subprocess.PIPE, **streams}
+    ended = subprocess.run([program, *words], timeout=SECONDS, **given, **streams)
+    return ended.stdout, ended.stderr, ended.returncode
+
+
+def want(came, wanted):
+    if came != wanted:
+        raise AssertionError(f"wanted {wanted!r}\n  came   {came!r}")
+
+
+def help_is_printed(program):
+    with open(f"{TOP}/support/help.txt", "rb") as file:
+        text = file.read()
+    for word in ("--help", "-h"):
+        want(run(program, words=[word]), (text, b"", 0))
+
+
+def version_is_printed(program):
+    for word in ("--version", "-V"):
+        output, errors, status = run(program, words=[word])
+        want((output.split(b" ")[0], output.count(b"\n"), errors, status), (b"ramlog", 1, b"", 0))
+
+
+def words_are_text(program):
+    want(run(program, words=[b"--step\xff"]), (b"", b"ramlog: the command line is not UTF-8\n", 2))
+
+
+# Lines that a file of text can't hold well, with the output, the errors and the status.
+
+LINES = [
+    (b"", b"", b"", 0),
+    (b"put 1 a x\ncrash\nrecover", b"ok 1\ncrashed\n1 a 1 x\nrecovered 1\n", b"", 0),
+    (b"put 1 a x\r\n", b"", b"ramlog: bad line 1\n", 2),
+    (b"put 1 \0 x\n", b"", b"ramlog: bad line 1\n", 2),
+    (b"put 1 " + 1024 * b"k" + b" v\n", b"ok 1\n", b"", 0),
+    (b"put 1 " + 1025 * b"k" + b" v\n", b"", b"ramlog: bad line 1\n", 2),
+    (b"put 1 k " + 4088 * b"v" + b"\n", b"ok 1\n", b"", 0),
+    (b"put 1 k " + 4089 * b"v" + b"\n", b"", b"ramlog: bad line 1\n", 2),
+]
+
+
+def lines_have_limits(program):
+    for script, *wanted in LINES:
+        want(run(program, script, ["--segment=65536", "--seglets=4096"]), tuple(wanted))
+
+
+# Streams.
+
+def a_reader_fails(program):
+    folder = os.open("/", os.O_RDONLY)
+    want(run(program, stdin=folder), (b"", b"ramlog: cannot read\n", 1))
+
+
+def a_writer_fails(program):
+    with open("/dev/full", "wb") as full:
+        want(run(program, b"put 1 a x\n", stdout=full), (None, b"ramlog: cannot write\n", 1))
+
+
+def is_idle(process, pipe):
+    """Whether the program has read all that the pipe had, and waits for more."""
+    left = struct.unpack("i", fcntl.ioctl(pipe, termios.FIONREAD, bytes(4)))[0]
+    with open(f"/proc/{process.pid}/stat", encoding="ascii") as file:
+        state = file.read().rpartition(")")[2].split()[0]
+    return left == 0 and state == "S"
+
+
+def wait_idle(process, pipe):
+    until, seen = time.monotonic() + SECONDS, 0
+    while seen < 3:
+        if process.poll() is not None or time.monotonic() > until:
+            raise AssertionError("wanted a program that waits for more input")
+        seen = seen + 1 if is_idle(process, pipe) else 0
+        time.sleep(0.005)
+
+
+def input_comes_in_parts(program):
+    with subprocess.Popen([program], stdin=subprocess.PIPE, stdout=subprocess.PIPE) as process:
+        try:
+            for part in (b"put 1 a x\nge", b"t 1 ", b"a\nget 1 a"):
+                process.stdin.write(part)
+                process.stdin.flush()
+                wait_idle(process, process.stdin)
+            output = process.communicate(timeout=SECONDS)[0]
+        finally:
+            process.kill()
+    want((output, process.returncode), (b"ok 1\n1 x\n1 x\n", 0))
+
+
+def output_goes_in_blocks(program):
+    """While input is at hand the program writes in blocks. A pipe of packets keeps writes apart."""
+    reader, writer = os.pipe2(os.O_DIRECT)
+    with tempfile.TemporaryFile() as script:
+        script.write(2000 * b"get 1 a\n")
+        script.seek(0)
+        with subprocess.Popen([program], stdin=script, stdout=writer) as process:
+            os.close(writer)
+            packets = list(iter(lambda: os.read(reader, 2 * BLOCK), b""))
+    os.close(reader)
+    want((b"".join(packets), process.returncode), (2000 * b"none\n", 0))
+    if len(packets) > 10:
+        raise AssertionError(f"wanted 10,000 bytes in blocks, and {len(packets)} writes came")
+
+
+class Terminal:
+    """The program at a terminal, which shows no input."""
+
+    def __init__(self, program):
+        self.screen, keys = pty.openpty()
+        modes = termios.tcgetattr(keys)
+        modes[1] &= ~termios.OPOST
+        modes[3] &= ~termios.ECHO
+        termios.tcsetattr(keys, termios.TCSANOW, modes)
+        self.process = subprocess.Popen([program], stdin=keys, stdout=keys)
+        os.close(keys)
+
+    def type(self, text):
+        os.write(self.screen, text)
+
+    def read(self, length):
+        """The next bytes of the output; fewer if they don't come."""
+        text, until = b"", time.monotonic() + SECONDS
+        os.set_blocking(self.screen, False)
+        while len(text) < length and time.monotonic() < until:
+            try:
+                text += os.read(self.screen, length - len(text))
+            except BlockingIOError:
+                time.sleep(0.005)
+            except OSError:
+                break
+        return text
+
+    def __enter__(self):
+        return self
+
+    def __exit__(self, *_):
+        self.process.kill()
+        self.process.wait()
+        os.close(self.screen)
+
+
+def a_terminal_shows_each_answer(program):
+    with Terminal(program) as it:
+        for line, answer in ((b"put 1 a x\n", b"ok 1\n"), (b"get 1 a\n", b"1 x\n")):
+            it.type(line)
+            want(it.read(len(answer)), answer)
+
+
+def an_end_is_not_asked_for_again(program):
+    """At a terminal control-D ends the input once: a program that asks again would wait for more."""
+    with Terminal(program) as it:
+        it.type(b"put 1 a x\nget 1 a\x04\x04")
+        want(it.read(9), b"ok 1\n1 x\n")
+        want(it.process.wait(SECONDS), 0)
+
+
+# Memory. A segment has S bytes and a seglet G. Large pieces of memory are asked of the system one by one, and go back to it at
+# once, so that the system knows what the program has.
+
+S, G, N, VALUE = 8388608, 65536, 2000, 4000
+WORDS = [f"--segment={S}", f"--seglet={G}", f"--seglets={16 * S // G}"]
+LARGE = {"MALLOC_MMAP_THRESHOLD_": "1024"}
+# What small things may take: chains of the index, bookkeeping, tombstones of one byte's key.
+SMALL = S // 16
+PUTS = f"put 1 a {VALUE * 'v'}\n" * N
+# An overwrite of a key of one byte appends a tombstone and an object. So many fill a segment nearly.
+TEXT = N * (50 + 2 + VALUE)
+assert TEXT < S - 1000
+
+
+@dataclass(frozen=True)
+class Change:
+    """What some lines change in the bytes that the program has, by sections 7 and 10 of the specification."""
+
+    lines: str
+    # Of images: a head and the survivor of an open pass have a whole segment, others their length.
+    images: int
+    # Of replicas. They grow as they are written, and may have up to twice their length.
+    replicas: int = 0
+    # Of values in the history of the master. Each may take some bytes more.
+    values: int = 0
+
+    def bounds(self):
+        parts = [(self.images, self.images), (self.replicas, 2 * self.replicas), (self.values, self.values * 11 // 10)]
+        return sum(min(it) for it in parts) - SMALL, sum(max(it) for it in parts) + SMALL
+
+
+CHANGES = [
+    Change("# the first head is made at the start\n", S),
+    # The old head keeps its length alone, one seglet, and the new one takes a segment.
+    Change("beginroll\n", G),
+    Change("roll\n", 0),
+    # The survivor takes a segment, until its pass is committed.
+    Change("begin 1\ncopy\n", S),
+    Change("seal\nseal\nroll\nfree\nfree\n", G - S),
+    Change(PUTS, 0, 2 * TEXT, N * VALUE),
+    Change("roll\n", TEXT),
+    # One object lives, and tombstones stay.
+    Change("compact 4\n", G - TEXT),
+    Change("clean 4\n", 0, -2 * TEXT),
+    Change(PUTS, 0, 2 * TEXT, N * VALUE),
+    # The images of the head and of four short segments go, and the whole history.
+    Change("crash\n", -S - 4 * G, 0, -2 * N * VALUE),
+    Change("lose 1\n", 0, -TEXT),
+    # The new master has one object, and the last replica of the old head is freed.
+    Change("recover\n", S, -TEXT),
+    Change("crash\n", -S),
+]
+
+
+def bytes_of(process):
+    """The bytes of data that the program has of the system."""
+    with open(f"/proc/{process.pid}/status", encoding="ascii") as file:
+        return next(1024 * int(line.split()[1]) for line in file if line.startswith("VmData:"))
+
+
+def memory_is_taken_and_given_back(program):
+    environment = {**os.environ, **LARGE}
+    with subprocess.Popen([program, *WORDS], stdin=subprocess.PIPE, stdout=subprocess.DEVNULL, env=environment) as process:
+        try:
+            before = 0
+            for change in CHANGES:
+                process.stdin.write(change.lines.encode())
+                process.stdin.flush()
+                wait_idle(process, process.stdin)
+                after, (least, most) = bytes_of(process), change.bounds()
+                if not least <= after - before <= most:
+                    line = change.lines.split("\n", maxsplit=1)[0][:40]
+                    raise AssertionError(f"wanted {least} to {most} bytes more after {line!r}, and {after - before} came")
+                before = after
+        finally:
+            process.kill()
+    if before > SMALL:
+        raise AssertionError(f"wanted all memory back at the end, and {before} bytes are left")
+
+
+TESTS = [
+    help_is_printed, version_is_printed, words_are_text, lines_have_limits, a_reader_fails, a_writer_fails,
+    input_comes_in_parts, output_goes_in_blocks, a_terminal_shows_each_answer, an_end_is_not_asked_for_again,
+    memory_is_taken_and_given_back,
+]
+
+
+def is_passed(test, program):
+    try:
+        test(program)
+    except (AssertionError, OSError, subprocess.SubprocessError) as error:
+        print(f"{test.__name__} failed\n  {error}")
+        return False
+    return True
+
+
+def main():
+    words, program = sys.argv[1:], f"{TOP}/crates/ramlog/out/ramlog"
+    if words and words[0].startswith("--program="):
+        program = os.path.abspath(words.pop(0)[len("--program="):])
+    names = {test.__name__: test for test in TESTS}
+    unknown = [word for word in words if word not in names]
+    if unknown:
+        print(__doc__.strip())
+        sys.exit(0 if unknown[0] in ("-h", "--help") else 2)
+    if not os.access(program, os.X_OK):
+        sys.exit(f"program_test: there is no program {program}")
+    tests = [names[word] for word in words] or TESTS
+    failed = sum(not is_passed(test, program) for test in tests)
+    print(f"{len(tests)} tests, {failed} failed")
+    sys.exit(failed > 0)
+
+
+main()
