@@ -6,3 +6,4 @@ pub mod Valid
 pub mod Steps
 pub mod Loading
 pub mod Invariant
+pub mod Shown

@@ -16,11 +16,11 @@ mod cleaning;
 mod loading;
 mod master;
 mod pushing;
+mod showing;
 
 pub use loading::Loading;
 pub use master::Master;
-pub use master_core::{
-    Config, ConfigFault, Core, Look, PassFault, Refusal, Shown, Step, StepAnswer,
-};
+pub use master_core::{Config, ConfigFault, Core, PassFault, Refusal, Step, StepAnswer};
 pub use segment::{Segment, SegmentFault, read_segment};
+pub use showing::{Look, Shown};
 pub use versioned_map::{Command, If, Record, Reply};

@@ -8,7 +8,6 @@ ghost use Rattle.master_core.specs.Change.{IsFound};
 ghost use Rattle.master_core.specs.Config.{config_fault};
 ghost use Rattle.master_core.specs.Data.{fresh_data};
 ghost use Rattle.master_core.specs.Log.{log_of};
-ghost use Rattle.master_core.specs.Shown.{IsShown, NeedsMemory};
 ghost use Rattle.master_core.specs.Steps.{reply_now};
 ghost use Rattle.master.specs.Invariant.{IsWellKept};
 ghost use Rattle.master.specs.Keeps.{Keeps};
@@ -18,7 +17,7 @@ ghost use Rattle.master.specs.World.{world};
 
 use crate::pushing;
 use entry::{NoMemory, Tablet};
-use master_core::{Config, Core, Look, Refusal, Shown, Step, StepAnswer};
+use master_core::{Config, Core, Refusal, Step, StepAnswer};
 use replica::{Bench, Fleet, TakeFault};
 use std::alloc::Global;
 use std::marker::Model;
@@ -142,23 +141,17 @@ impl<F: Fleet> Master<F> {
         self.core.answer_to(command)
     }
 
-    /// Shows what the look asks for. Nothing changes.
-    pub fn look(&self, look: Look) -> Result<Shown, NoMemory>
-        ensures shown { IfOk result (λ shown. IsShown self.now.knows look shown) }
-        ensures refused { OnErr result (NeedsMemory self.now.knows look) }
-    {
-        self.core.look(look)
-    }
-
     // ---- steps
 
     /// Makes one step, with at most one take.
     #[inline(always)]
     pub fn step(&mut self, step: Step) -> Result<StepAnswer, Refusal>
+        ensures was_valid { IsValid self.old.knows (F.state self.old.fleet) }
         ensures gives { Steps (world F.state self.old) step result (world F.state self.new) }
         ensures keeps { Keeps 1 (world F.state self.old) (world F.state self.new) }
         ensures valid { IsValid self.new.knows (F.state self.new.fleet) }
     {
+        self.show_valid();
         self.show_kept();
         let outcome = match step {
             Step::Apply(seat, command) => self.apply(seat, command),

@@ -8,7 +8,6 @@ pub mod Causes
 pub mod Steps
 pub mod Index
 pub mod Invariant
-pub mod Shown
 pub mod Waits
 pub mod Choosing
 pub mod Names

@@ -35,4 +35,4 @@ pub use config::{Config, ConfigFault};
 pub use hash_index::Place;
 pub use laws::loading_goes_on;
 pub use state::Core;
-pub use step::{Look, Refusal, Shown, Step, StepAnswer};
+pub use step::{Refusal, Step, StepAnswer};

@@ -3,6 +3,7 @@
 ghost use Rattle.std.specs.Prelude.{◌≡◌, ◌<◌, None, IfOk, OnErr, IsSome};
 ghost use Rattle.std.specs.Option.{option_map};
 ghost use Rattle.entry.specs.Text.{text_of};
+ghost use Rattle.log_head.specs.Head.{digest_of};
 ghost use Rattle.log_model.specs.Data.{durable_of};
 ghost use Rattle.master_core.specs.Config.{config_fault};
 ghost use Rattle.master_core.specs.Data.{fresh_data};
@@ -10,12 +11,11 @@ ghost use Rattle.master_core.specs.Invariant.{IsCore};
 ghost use Rattle.clean_model.specs.Loading.{restored};
 ghost use Rattle.master_core.specs.Loading.{restored_data, IsBare};
 ghost use Rattle.master_core.specs.Log.{log_config, log_of, image_of, home};
-ghost use Rattle.master_core.specs.Shown.{IsShown, NeedsMemory};
 ghost use Rattle.master_core.specs.Steps.{failed_data, refusal_of};
 
 use crate::config::Config;
 use crate::image::image_of;
-use crate::step::{Look, Refusal, Shown};
+use crate::step::Refusal;
 use cleaner::Pass;
 use entry::{NoMemory, Row, SafeVersion, Tablet};
 use hash_index::Index;
@@ -186,6 +186,13 @@ impl Core {
         &self.head
     }
 
+    /// How many backups the configuration names. They are numbered from 0.
+    pub fn backups(&self) -> u64
+        ensures { result ≡ self.now.config.backups }
+    {
+        self.config.backups
+    }
+
     /// The backup of a replica of a segment.
     pub fn home(&self, segment: u64, replica: usize) -> u64
         requires { replica < 64 }
@@ -233,20 +240,15 @@ impl Core {
 
     // ---- what is shown
 
-    /// What is to be shown. Nothing changes.
-    pub fn look(&self, look: Look) -> Result<Shown, NoMemory>
-        ensures shown { IfOk result (λ shown. IsShown self.now look shown) }
-        ensures refused { OnErr result (NeedsMemory self.now look) }
+    /// The ids of the digest in force, in order. Nothing changes.
+    pub fn digest(&self) -> Result<Row<u64>, NoMemory>
+        ensures { IfOk result (λ ids. ids ≡ digest_of self.now.head.image) }
     {
-        match look {
-            Look::Digest => Ok(Shown::Digest(Row::new(self.head.digest(self.alloc)?))),
-            Look::Room => Ok(Shown::Room(self.used(), self.free())),
-            Look::Image(id) => Ok(Shown::Image(self.bytes_of(id)?)),
-        }
+        Ok(Row::new(self.head.digest(self.alloc)?))
     }
 
-    /// The bytes of a segment's image; `None` if there is no such image.
-    fn bytes_of(&self, id: u64) -> Result<Option<Bytes>, NoMemory>
+    /// The bytes of a segment's image; `None` if there is no such image. Nothing changes.
+    pub fn bytes_of(&self, id: u64) -> Result<Option<Bytes>, NoMemory>
         ensures image { IfOk result (λ image. image ≡ option_map text_of (image_of self.now id)) }
         ensures refused { OnErr result (IsSome (image_of self.now id)) }
     {

@@ -6,7 +6,6 @@ ghost use Rattle.master_core.specs.Names.{refusal_text};
 
 use cleaner::PassFault;
 use entry::Row;
-use replica::Bytes;
 use std::alloc::{AllocError, AllocFailed, Global};
 use std::error::Error;
 use std::fmt;
@@ -153,26 +152,4 @@ impl<T: Drop> From<AllocFailed<T>> for Refusal {
     fn from(_error: AllocFailed<T>) -> Refusal {
         Refusal::NoMemory
     }
-}
-
-/// What is to be shown of a master.
-#[derive(Clone, Copy)]
-pub enum Look {
-    /// The ids of the digest in force.
-    Digest,
-    /// How many seglets of memory are counted, and how many are free.
-    Room,
-    /// The image of a segment.
-    Image(u64),
-}
-
-/// What is shown of a master.
-#[derive(Drop)]
-pub enum Shown {
-    /// The ids of the digest in force, in order.
-    Digest(Row<u64>),
-    /// The seglets of memory that are counted, and those that are free.
-    Room(u64, u64),
-    /// The bytes of the image, or `None` if there is no such image.
-    Image(Option<Bytes>),
 }

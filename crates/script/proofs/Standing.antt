@@ -20,6 +20,7 @@ use Rattle.master_core.specs.Log.{opening_of, log_of}
 use Rattle.master.specs.Valid.{IsValid}
 use Rattle.master.specs.World.{MasterValue}
 use Rattle.master_core.specs.declared.step.Refusal.{Refusal}
+use Rattle.master_core.specs.declared.step.Step.{Step}
 use Rattle.recovery.specs.declared.recovery.RecoveryFault.TheVariants as fault
 use Rattle.recovery_plan.specs.declared.fault.PlanFault.TheVariants as plan_fault
 use Rattle.script.specs.declared.answer.Answer.{Answer}
@@ -27,7 +28,7 @@ use Rattle.script.specs.declared.answer.Answer.TheVariants as answer
 use Rattle.script.specs.declared.node.Node.{Node}
 use Rattle.script.specs.declared.node.Node.TheVariants.{Up, Down, Changing}
 use Rattle.script.specs.Lives.{life_to, HasLived, Left}
-use Rattle.script.specs.Served.{LivesOn, IsOf, IsNodeAt, AnswersLine, LivesLonger, is_up, life_of, record_of}
+use Rattle.script.specs.Served.{LivesOn, IsOf, IsNodeAt, AnswersLine, LivesLonger, MakesClean, MakesStep, is_up, life_of, record_of}
 use Rattle.script.specs.Told.{Position, command_of, is_for_master, is_for_none, Tells}
 
 -- ---- what the node stands for goes on
@@ -140,6 +141,17 @@ pub down_told : (node : Node) (config : Config) (line : LineValue) → is_up nod
     → AnswersLine node config line node answer.Down
 down_told node config line down asks =
     stays_told node config line answer.Down (λ d at s. (is_down_some node d at.left down s.node_of, asks, refl))
+
+-- a node without a master makes no step, and no cleaning
+pub down_step : (node : Node) (step : Step) → is_up node ≡ false → MakesStep node step node answer.Down
+down_step (Up m) step down = absurd (cc)
+down_step (Down fleet) step down = (refl, refl)
+down_step Changing step down = (refl, refl)
+
+pub down_clean : (node : Node) (victims : List ℕ) → is_up node ≡ false → MakesClean node victims node answer.Down
+down_clean (Up m) victims down = absurd (cc)
+down_clean (Down fleet) victims down = (refl, refl)
+down_clean Changing victims down = (refl, refl)
 
 pub up_told : (node : Node) (config : Config) (line : LineValue) → is_up node ≡ true → is_for_none line ≡ true
     → AnswersLine node config line node answer.Up

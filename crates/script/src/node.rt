@@ -268,8 +268,7 @@ impl Node {
         up.show_valid();
         match up.look(Look::Digest) {
             Ok(Shown::Digest(ids)) => Answer::Log(ids),
-            Ok(Shown::Room(_, _)) => unreachable!(),
-            Ok(Shown::Image(_)) => unreachable!(),
+            Ok(_) => unreachable!(),
             Err(NoMemory) => Answer::Refused(Refusal::NoMemory),
         }
     }
@@ -300,8 +299,7 @@ impl Node {
         match up.look(Look::Image(segment)) {
             Ok(Shown::Image(Some(bytes))) => Answer::Hex(bytes),
             Ok(Shown::Image(None)) => Answer::NotInLog(segment),
-            Ok(Shown::Digest(_)) => unreachable!(),
-            Ok(Shown::Room(_, _)) => unreachable!(),
+            Ok(_) => unreachable!(),
             Err(NoMemory) => Answer::Refused(Refusal::NoMemory),
         }
     }
@@ -316,8 +314,7 @@ impl Node {
         up.show_valid();
         match up.look(Look::Room) {
             Ok(Shown::Room(used, free)) => Answer::Room(used, free),
-            Ok(Shown::Digest(_)) => unreachable!(),
-            Ok(Shown::Image(_)) => unreachable!(),
+            Ok(_) => unreachable!(),
             Err(NoMemory) => unreachable!(),
         }
     }

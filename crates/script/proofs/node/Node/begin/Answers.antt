@@ -4,6 +4,7 @@ use Rattle.master_core.specs.declared.step.Step.TheVariants as step
 use Rattle.script.specs.declared.answer.Answer.TheVariants as told
 use Rattle.script.specs.Served.{AnswersLine, MakesStep}
 use Rattle.script.proofs.ByHand.{made_step, made_told, refused_step, refused_told}
+use Rattle.script.proofs.Standing.{down_step, down_told, not_up}
 use Rattle.script.proofs.node.Node.begin.Goals.{in-Ok-Begun, in-Err}
 use Rattle.script.proofs.node.Node.begin.Goals as goal
 
@@ -33,3 +34,12 @@ returns-clause-stepped c =
           (let e = w.in-Err in
           refused_step node c.in-Up.up c.step.new.self c.in-Up.is (step.BeginClean c.args.victims) e.refusal e.ensures.gives w.refuse.new.self w.refuse.result w.refuse.ensures)
     ]
+
+pub returns-in_default : goal.returns-in_default
+returns-in_default c =
+    let node = c.args.self.now in
+    let down = not_up node c.in_default.not-Up in
+    record {
+      told = λ config. down_told node config (Begin c.args.victims) down refl;
+      stepped = down_step node (step.BeginClean c.args.victims) down;
+    }

@@ -8,6 +8,7 @@ use Rattle.script.specs.declared.node.Node.TheVariants.{Up}
 use Rattle.script.specs.Cleans.{IsCleaned, IsNotCleaned}
 use Rattle.script.specs.Served.{LivesOn, IsOf}
 use Rattle.script.proofs.Steps.{clean_at, cleaned_told, no_step_answered}
+use Rattle.script.proofs.Standing.{down_clean, down_told, not_up}
 use Rattle.script.proofs.node.Node.clean.Goals as goal
 
 pub returns-in-Ok-clause-told : goal.returns-in-Ok-clause-told
@@ -39,3 +40,12 @@ returns-in-Err-clause-told c = λ config d at s.
     let why = clean_at d m.knows c.args.self.now (Up m) config at s was.0 of f g was.2 c.show_valid-2.ensures on ids (Err r) refused in
     no_step_answered d m.knows c.args.self.now (Up m) c.refuse.new.self config at s was.0 (Clean ids) refl
     r c.refuse.result g of refl c.show_valid-2.ensures c.in-Err.ensures.spent (λ is. refl) on why c.refuse.ensures
+
+pub returns-in_default : goal.returns-in_default
+returns-in_default c =
+    let node = c.args.self.now in
+    let down = not_up node c.in_default.not-Up in
+    record {
+      told = λ config. down_told node config (Clean c.args.victims) down refl;
+      cleaned = down_clean node c.args.victims down;
+    }

@@ -1,0 +1,72 @@
+//! What a master shows of itself and of its fleet.
+
+ghost use Rattle.std.specs.Prelude.{IfOk, OnErr, nat_lt};
+ghost use Rattle.replica.specs.Picture.{AreHeld, left_on};
+ghost use Rattle.master.specs.Shown.{IsShown, NeedsMemory};
+ghost use Rattle.master.specs.World.{world};
+
+use crate::master::Master;
+use entry::{NoMemory, Row, Size};
+use replica::{Bytes, Fleet, Inventory};
+use std::alloc::Global;
+
+/// What is to be shown of a master.
+#[derive(Clone, Copy)]
+pub enum Look {
+    /// The ids of the digest in force.
+    Digest,
+    /// How many seglets of memory are counted, and how many are free.
+    Room,
+    /// The image of a segment.
+    Image(u64),
+    /// The sizes of the live objects.
+    Sizes,
+    /// What the configuration's backups hold, of all masters.
+    Holdings,
+}
+
+/// What is shown of a master.
+#[derive(Drop)]
+pub enum Shown {
+    /// The ids of the digest in force, in order.
+    Digest(Row<u64>),
+    /// The seglets of memory that are counted, and those that are free.
+    Room(u64, u64),
+    /// The bytes of the image, or `None` if there is no such image.
+    Image(Option<Bytes>),
+    /// The sizes of the live objects, by table, then by place. Each is the length of the object's entry.
+    Sizes(Row<Size>),
+    /// The replicas, backup by backup.
+    Holdings(Inventory),
+}
+
+impl<F: Fleet> Master<F> {
+    /// Shows what the look asks for. Nothing changes.
+    pub fn look(&self, look: Look) -> Result<Shown, NoMemory>
+        ensures shown { IfOk result (λ shown. IsShown (world F.state self.now) look shown) }
+        ensures refused { OnErr result (NeedsMemory self.now.knows look) }
+    {
+        match look {
+            Look::Digest => Ok(Shown::Digest(self.core.digest()?)),
+            Look::Room => Ok(Shown::Room(self.core.used(), self.core.free())),
+            Look::Image(id) => Ok(Shown::Image(self.core.bytes_of(id)?)),
+            Look::Sizes => Ok(Shown::Sizes(Row::new(self.core.sizes()?))),
+            Look::Holdings => {
+                let backups = self.core.backups();
+                Ok(Shown::Holdings(holdings(self.alloc, &self.fleet, backups)?))
+            }
+        }
+    }
+}
+
+/// All replicas that the first backups hold, backup by backup.
+fn holdings<F: Fleet>(alloc: Global, fleet: &F, backups: u64) -> Result<Inventory, NoMemory>
+    ensures { IfOk result (λ hs. AreHeld hs (left_on (λ b. nat_lt b backups) (F.state fleet.now).picture)) }
+{
+    let mut list = Vec::new(alloc);
+    for backup in 0..backups {
+        let mut more = fleet.holdings(alloc, backup)?;
+        list.append(&mut more)?;
+    }
+    Ok(Inventory::new(list))
+}
