@@ -2,7 +2,7 @@
 //! lines of scripts, ops on backups, heads, wills, replicas that are freed, plans and rebuilt logs from replicas that are
 //! made by hand, logs that are rebuilt by wills, runs of masters, masters that are restored or adopt a list, turns of a
 //! cleaner, drills, lives that follow one another, recoveries in given orders, comparisons with the plain programs, and
-//! whole scripts.
+//! a script.
 #![tactic(auto)]
 
 #[cfg(test)]
@@ -13,10 +13,6 @@ mod any_order;
 mod asks;
 #[cfg(test)]
 mod backups;
-#[cfg(test)]
-mod cleaned_scripts;
-#[cfg(test)]
-mod compacted_scripts;
 #[cfg(test)]
 mod compactions;
 #[cfg(test)]
@@ -52,11 +48,7 @@ mod questions;
 #[cfg(test)]
 mod rebuilds;
 #[cfg(test)]
-mod recovered_scripts;
-#[cfg(test)]
 mod retiring;
-#[cfg(test)]
-mod rolls;
 #[cfg(test)]
 mod runs;
 #[cfg(test)]
@@ -69,7 +61,5 @@ mod segments;
 mod turns;
 #[cfg(test)]
 mod vectors;
-#[cfg(test)]
-mod willed_scripts;
 #[cfg(test)]
 mod wills;
