@@ -1,6 +1,6 @@
 -- The replicas of the first backups, one backup after another.
 use Rattle.std.proofs.Common.{◌≡◌, ℕ, ◌+◌, inl, inr, Bool, true, false, refl, arith, List, [], ◌++◌}
-use Rattle.std.specs.Prelude.{◌×◌, ◌⊎◌, Option, Some, None, nat_lt, if◌then◌else◌}
+use Rattle.std.specs.Prelude.{◌⊎◌, Option, Some, None, nat_lt, if◌then◌else◌}
 use Rattle.std.proofs.lemmas.Bool.Decides.{nat_tests}
 use Rattle.entry.specs.Bag.{IsAmong}
 use Rattle.entry.proofs.BagLemmas.{among_either, among_left, among_right}
@@ -32,8 +32,15 @@ below_or_at a n lt = by_test (nat_lt a n) refl
     by_test true is = inl is
     by_test false is = inr (grind (arith, nat_tests))
 
+below_none : (a : ℕ) → nat_lt a 0 ≡ true → ⊥
+below_none a lt = grind (arith, nat_tests)
+
 pub none_below : (p : Picture) → AreHeldBelow 0 p []
-none_below p h = (λ among. absurd among, λ held. absurd (cc))
+none_below p h = (
+  λ among. absurd among,
+  λ held. below_none h.backup
+      (picked (nat_lt h.backup 0) (p h.backup h.master h.segment) (record { bytes = h.bytes; is_open = h.is_open }) held).0,
+)
 
 pub more_below : (p : Picture) (n : ℕ) (hs more both : List Holding) → both ≡ hs ++ more → AreHeldBy more p n
     → AreHeldBelow n p hs → AreHeldBelow (n + 1) p both

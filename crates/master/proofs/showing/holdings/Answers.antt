@@ -3,7 +3,7 @@ use Rattle.master.proofs.HeldBelow.{more_below, none_below}
 use Rattle.master.proofs.showing.holdings.Goals as goal
 
 pub loop-backup-init : goal.loop-backup-init
-loop-backup-init g c = none_below (g.F.Fleet.state c.args.fleet.now).picture
+loop-backup-init g c = rw c.new-list.ensures.items (none_below (g.F.Fleet.state c.args.fleet.now).picture)
 
 pub loop-backup-preserved : goal.loop-backup-preserved
 loop-backup-preserved g c =
