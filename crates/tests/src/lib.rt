@@ -1,8 +1,7 @@
-//! The tests of all crates: vectors of entries and of segments, images in memory, the index, compaction, a pass, the
-//! lines of scripts, ops on backups, heads, wills, replicas that are freed, plans and rebuilt logs from replicas that are
-//! made by hand, logs that are rebuilt by wills, runs of masters, masters that are restored or adopt a list, turns of a
-//! cleaner, drills, lives that follow one another, recoveries in given orders, comparisons with the plain programs, and
-//! a script.
+//! The tests of the upper crates: the lines of scripts, ops on backups, replicas that are freed, plans and rebuilt logs from
+//! replicas that are made by hand, logs that are rebuilt by wills, runs of masters, masters that are restored or adopt a
+//! list, turns of a cleaner, drills, lives that follow one another, recoveries in given orders, comparisons with the plain
+//! programs, and a script.
 #![tactic(auto)]
 
 #[cfg(test)]
@@ -14,21 +13,13 @@ mod asks;
 #[cfg(test)]
 mod backups;
 #[cfg(test)]
-mod compactions;
-#[cfg(test)]
 mod comparisons;
 #[cfg(test)]
 mod divided;
 #[cfg(test)]
 mod drills;
 #[cfg(test)]
-mod entries;
-#[cfg(test)]
 mod given_orders;
-#[cfg(test)]
-mod heads;
-#[cfg(test)]
-mod indexes;
 #[cfg(test)]
 mod lines_of_scripts;
 #[cfg(test)]
@@ -39,8 +30,6 @@ mod lives;
 mod loadings;
 #[cfg(test)]
 mod options;
-#[cfg(test)]
-mod passes;
 #[cfg(test)]
 mod plans;
 #[cfg(test)]
@@ -53,10 +42,6 @@ mod retiring;
 mod runs;
 #[cfg(test)]
 mod scripts;
-#[cfg(test)]
-mod seglets;
-#[cfg(test)]
-mod segments;
 #[cfg(test)]
 mod turns;
 #[cfg(test)]

@@ -15,16 +15,25 @@ fn append(head: &mut Head, object: &[u8]) -> bool {
     }
 }
 
+/// Whether the opening of the head has this many bytes, and the first unit that some replica lacks is of this record.
+fn is_at(head: &Head, len: usize, missing: Option<usize>) -> bool {
+    head.end_of(0) == len && head.first_missing() == missing
+}
+
+/// Whether a head takes two units, and has none any more once it is settled.
+fn is_settled(head: &mut Head, object: &[u8]) -> bool {
+    if !append(head, object) || !append(head, object) || !is_at(head, 40, Some(0)) {
+        return false;
+    }
+    head.settle();
+    is_at(head, 90, None)
+}
+
 #[test]
 fn a_settled_head_has_no_units(rt: HostRuntime) -> Result<(), Fail> {
-    let object = bytes_of(rt.alloc(), &[OBJECT])?;
+    let object = bytes_of(rt.alloc(), &[OBJECT]).ok_or("no memory")?;
     let mut head = Head::begin(rt.alloc(), 1, 1, SafeVersion::first(), 0)?;
     head.open();
-    let first = append(&mut head, object.as_slice());
-    let second = append(&mut head, object.as_slice());
-    assert_eq!(rt; (first, second), (true, true));
-    assert_eq!(rt; (head.end_of(0), head.first_missing()), (40, Some(0)));
-    head.settle();
-    assert_eq!(rt; (head.end_of(0), head.first_missing()), (90, None));
+    assert!(rt; is_settled(&mut head, object.as_slice()));
     Ok(())
 }

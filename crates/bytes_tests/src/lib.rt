@@ -1,0 +1,26 @@
+//! The tests of the lower crates: vectors of entries and of segments, images in memory, the index, compaction, a pass,
+//! heads and wills.
+//!
+//! What a test does is data: a table of calls, each with its answer, or of inputs, each with what comes of it. A function
+//! owns one thing at most and lends it to the next, and a test asserts that no row is answered otherwise. So a further case
+//! is a row, and costs nothing to prove.
+#![tactic(auto)]
+
+#[cfg(test)]
+mod compactions;
+#[cfg(test)]
+mod entries;
+#[cfg(test)]
+mod heads;
+#[cfg(test)]
+mod indexes;
+#[cfg(test)]
+mod passes;
+#[cfg(test)]
+mod seglets;
+#[cfg(test)]
+mod segments;
+#[cfg(test)]
+mod vectors;
+#[cfg(test)]
+mod wills;
