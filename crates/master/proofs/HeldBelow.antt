@@ -5,7 +5,7 @@ use Rattle.std.proofs.lemmas.Bool.Decides.{nat_tests}
 use Rattle.entry.specs.Bag.{IsAmong}
 use Rattle.entry.proofs.BagLemmas.{among_either, among_left, among_right}
 use Rattle.replica.specs.declared.holding.Holding.{Holding}
-use Rattle.replica.specs.Picture.{Picture, Replica, IsHeld, AreHeld, AreHeldBy, left_on}
+use Rattle.replica.specs.Picture.{Picture, Replica, AreHeld, AreHeldBy, left_on}
 
 -- just what the backups below this number hold
 abbrev pub AreHeldBelow : ℕ → Picture → List Holding → Type 0
@@ -48,6 +48,7 @@ more_below p n hs more both joined shown old h = rw joined (forth, back)
   where
     there : Option Replica
     there = p h.backup h.master h.segment
+
     its : Replica
     its = record { bytes = h.bytes; is_open = h.is_open }
 

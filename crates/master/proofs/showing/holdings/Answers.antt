@@ -1,4 +1,3 @@
-use Rattle.std.proofs.Common.{refl}
 use Rattle.master.proofs.HeldBelow.{more_below, none_below}
 use Rattle.master.proofs.showing.holdings.Goals as goal
 
