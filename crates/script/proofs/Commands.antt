@@ -17,6 +17,7 @@ use Rattle.script.specs.declared.node.Node.{Node}
 use Rattle.script.specs.Lives.{HasLived, life_to, left_now}
 use Rattle.script.specs.Served.{LivesOn, IsServed, IsUnserved, IsSpent, IsOf, IsNodeAt, life_of, record_of}
 use Rattle.script.specs.Told.{Position, command_of}
+use Rattle.script.proofs.Pushes.{stops_until}
 use Rattle.script.proofs.Standing.{Answered, same_opening, still_stands, stands_longer, record_there, lived, lived_longer}
 
 -- ---- a record that was added, and what followed
@@ -103,7 +104,7 @@ module _ (d e : MasterData) (old new : Node) (config : Config) (at : Position) (
                 record { knows = e; fleet = h },
                 lived_so_far left.mid.knows e config left.mid.fleet left.valid left.goes_on (suc at.made) stands.configured stands.made,
                 lived_longer d e old new config at None of s h now (suc at.made) stands.configured stands.made,
-                left.pushed,
+                stops_until left.place left.mid (record { knows = e; fleet = h }) r left.pushed,
               ),
               left.waits,
             ),

@@ -3,6 +3,7 @@ pub mod MasterSteps
 pub mod PassSteps
 pub mod Heads
 pub mod Standing
+pub mod Pushes
 pub mod Commands
 pub mod Rolls
 pub mod WhatIsLeft
@@ -14,6 +15,7 @@ pub mod NextLife
 pub mod Turning
 pub mod Fronts
 pub mod Steps
+pub mod Tries
 pub mod AnyStep
 pub mod ByHand
 pub mod Parts

@@ -1,15 +1,16 @@
 -- Lines of steps that make no record, told of a master's life.
 use Rattle.std.proofs.Common.{◌≡◌, ℕ, true, List, [], refl, sym, ap, subst, inl, inr, ◌∙◌, arith}
 use Rattle.std.proofs.lemmas.List.{append-nil}
-use Rattle.std.specs.Prelude.{Option, Some, None, IfSome, IsSome}
+use Rattle.std.specs.Prelude.{Option, Some, None, IfSome}
 use Rattle.std.specs.Option.{option_map}
 use Rattle.lines.specs.Grammar.{LineValue, Idle, Roll, BeginRoll, Compact, Push, Clean, Begin, Copy, Seal, Free, Will}
-use Rattle.lines.specs.Grammar.{Hex, Log, Room, Holdings, Stop, Crash, Lose}
+use Rattle.lines.specs.Grammar.{Hex, Log, Room, Holdings, Stop, Crash, Lose, Recover}
 use Rattle.std.specs.Prelude.{Result, Ok, Err, IfOk}
 use Rattle.std.specs.declared.alloc.AllocError.{AllocError}
 use Rattle.replica.specs.declared.holding.Holding.{Holding}
 use Rattle.backup.specs.Inventory.{IsRising}
 use Rattle.replica.specs.Picture.{FleetState, AreHeld}
+use Rattle.versioned_map.specs.declared.command.Command.{Command}
 use Rattle.replica.specs.Take.{limited, no_limit}
 use Rattle.master_core.specs.declared.config.Config.{Config}
 use Rattle.master_core.specs.declared.step.Refusal.{Refusal}
@@ -27,7 +28,7 @@ use Rattle.script.specs.Lives.{Life, life_to, HasLived, Left, IsLeftBySpent}
 use Rattle.script.specs.Cleans.{Cleans}
 use Rattle.script.specs.Rolls.{Rolls}
 use Rattle.script.specs.Served.{LivesOn, IsSpent, IsOf, IsNodeAt, Refuses, fleet_of, life_of, held_answer}
-use Rattle.script.specs.Served.{IsLeftIn, LiftsLimit, MakesLine, ShowsFleet, refusal_answer, world_of}
+use Rattle.script.specs.Served.{IsLeftIn, MakesCommand, MakesLine, ShowsFleet, refusal_answer, world_of}
 use Rattle.script.specs.Told.{Position, command_of, pushes, is_for_master, IsStepAt, IsRollAt, IsCleanAt, IsStepRefusal, AreHeldAt, TellsNoStep, Tells}
 use Rattle.script.proofs.Rolls.{no_step_told}
 use Rattle.script.proofs.Standing.{Answered, still_stands, lived, lived_longer}
@@ -110,36 +111,30 @@ refused_left mid new w r a up fleet (inr (is, spent, dropped, (down, lifted))) =
   subst (λ (x : Answer). IsLeftIn w x new) (sym is) (down, lifted ∙ ap (λ (o : Option FleetState). option_map (λ (f : FleetState). limited f no_limit) o) fleet),
 )
 
-pub refused_lifts : (mid new : Node) (g : FleetState) (r : Refusal) (a : Answer) → fleet_of mid ≡ Some g → Refuses mid r new a → LiftsLimit new a
-refused_lifts mid new g r a fleet (inl (is, unspent, same)) = subst (λ (x : Answer). LiftsLimit new x) (sym is) tt
-refused_lifts mid new g r a fleet (inr (is, spent, dropped, (down, lifted))) = subst (λ (x : Answer). LiftsLimit new x) (sym is) (
-  limited g no_limit,
-  down,
-  lifted ∙ ap (λ (o : Option FleetState). option_map (λ (f : FleetState). limited f no_limit) o) fleet,
-  omega arith,
-)
-
--- a command's line makes no step of its own
-pub command_makes : (old : Node) (line : LineValue) (new : Node) (a : Answer) → LiftsLimit new a → IsSome (command_of line) → MakesLine old line new a
-command_makes old Roll new a lifts some = absurd (cc)
-command_makes old BeginRoll new a lifts some = absurd (cc)
-command_makes old (Compact segment) new a lifts some = absurd (cc)
-command_makes old Push new a lifts some = absurd (cc)
-command_makes old (Clean victims) new a lifts some = absurd (cc)
-command_makes old (Begin victims) new a lifts some = absurd (cc)
-command_makes old Copy new a lifts some = absurd (cc)
-command_makes old Seal new a lifts some = absurd (cc)
-command_makes old Free new a lifts some = absurd (cc)
-command_makes old Idle new a lifts some = absurd (cc)
-command_makes old (Hex segment) new a lifts some = absurd (cc)
-command_makes old Log new a lifts some = absurd (cc)
-command_makes old Room new a lifts some = absurd (cc)
-command_makes old Holdings new a lifts some = absurd (cc)
-command_makes old Will new a lifts some = absurd (cc)
-command_makes old (Stop takes) new a lifts some = absurd (cc)
-command_makes old Crash new a lifts some = absurd (cc)
-command_makes old (Lose backup) new a lifts some = absurd (cc)
-command_makes old line new a lifts some = λ again. lifts
+-- what a command's line makes is what its command does
+pub command_makes : (old : Node) (line : LineValue) (new : Node) (a : Answer) (command : Command) → command_of line ≡ Some command
+    → MakesCommand old command new a → MakesLine old line new a
+command_makes old Roll new a command asks makes = absurd (cc)
+command_makes old BeginRoll new a command asks makes = absurd (cc)
+command_makes old (Compact segment) new a command asks makes = absurd (cc)
+command_makes old Push new a command asks makes = absurd (cc)
+command_makes old (Clean victims) new a command asks makes = absurd (cc)
+command_makes old (Begin victims) new a command asks makes = absurd (cc)
+command_makes old Copy new a command asks makes = absurd (cc)
+command_makes old Seal new a command asks makes = absurd (cc)
+command_makes old Free new a command asks makes = absurd (cc)
+command_makes old Idle new a command asks makes = absurd (cc)
+command_makes old (Hex segment) new a command asks makes = absurd (cc)
+command_makes old Log new a command asks makes = absurd (cc)
+command_makes old Room new a command asks makes = absurd (cc)
+command_makes old Holdings new a command asks makes = absurd (cc)
+command_makes old Will new a command asks makes = absurd (cc)
+command_makes old (Stop takes) new a command asks makes = absurd (cc)
+command_makes old Crash new a command asks makes = absurd (cc)
+command_makes old (Lose backup) new a command asks makes = absurd (cc)
+command_makes old (Recover order) new a command asks makes = absurd (cc)
+command_makes old line new a command asks makes =
+    subst (λ (o : Option Command). IfSome o (λ (c : Command). MakesCommand old c new a)) (sym asks) makes
 
 -- ---- what backups hold
 

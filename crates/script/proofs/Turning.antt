@@ -19,7 +19,7 @@ use Rattle.script.specs.declared.answer.Answer.{Answer}
 use Rattle.script.specs.declared.fault.ScriptFault.{ScriptFault}
 use Rattle.script.specs.declared.fault.ScriptFault.TheVariants as fault
 use Rattle.script.specs.declared.session.Session.{Session}
-use Rattle.script.specs.Runs.{IsOfFleet, IsScriptLine, texts_of, answers_of, AreLines, IsTakenLine, IsBadLine, EndsWith, Prints, RunsScript}
+use Rattle.script.specs.Runs.{AreRunOn, IsOfFleet, IsScriptLine, texts_of, answers_of, AreLines, IsTakenLine, IsBadLine, EndsWith, Prints, RunsScript}
 use Rattle.command_line.specs.declared.settings.Options.{Options}
 use Rattle.lines.specs.Grammar.{LineValue, Recover}
 use Rattle.script.specs.Configuration.{config_of}
@@ -74,23 +74,26 @@ empty_opening d is = ap (λ (o : Origin). record { contents = contents_of o.obje
 -- ---- all lines so far
 
 -- the lines that were run before the one of this number, and what the session stands for
-pub record Running (config : Config) (session : Session) (had left held holds : Option (List ℕ)) (number : ℕ) : Type 0 where
+pub record Running (options : Options) (session : Session) (had left held holds : Option (List ℕ)) (number : ℕ) : Type 0 where
   pub told : List Told
   pub first : Life
+  pub start : Session
   pub knows : MasterData
   pub at : Position
-  pub set : config_of session.options 1 ≡ config
+  pub set : session.options ≡ options
+  pub begins : BeginsSession options start
+  pub run : AreRunOn start told session
   pub covers : IsCovered session
   pub stands : IsNodeAt session.node (config_of session.options session.master) knows at
   pub count : suc (length told) ≡ number
-  pub lines : All (IsScriptLine config.backups) told
+  pub lines : All (IsScriptLine options.backups) told
   pub opening : first.opening ≡ empty_state
-  pub telling : AreTelling (at_first config first) told (standing_of (config_of session.options session.master) knows at)
+  pub telling : AreTelling (at_first (config_of options 1) first) told (standing_of (config_of session.options session.master) knows at)
   pub consumed : Consumes had left (texts_of told)
   pub printed : Appends held holds (answers_of told)
 
 pub starts_running : (options : Options) (session : Session) (had held : Option (List ℕ)) → BeginsSession options session
-    → Running (config_of options 1) session had had held held 1
+    → Running options session had had held held 1
 starts_running options session had held begins =
     let d = begins.stands.0 in
     let set = begins.set in
@@ -99,13 +102,16 @@ starts_running options session had held begins =
     record {
       told = [];
       first = life_of d;
+      start = session;
       knows = d;
       at = at_start;
-      set = ap (λ (o : Options). config_of o 1) set;
+      set = set;
+      begins = begins;
+      run = refl;
       covers = begins.covers;
       stands = subst (λ (c : Config). IsNodeAt session.node c d at_start) (sym same) begins.stands.1;
       count = refl;
-      lines = All-nil (IsScriptLine (config_of options 1).backups);
+      lines = All-nil (IsScriptLine options.backups);
       opening = empty_opening d begins.stands.3;
       telling = λ i. standing_of (same i) d at_start;
       consumed = Consumes-nil had;
@@ -113,9 +119,9 @@ starts_running options session had held begins =
     }
 
 -- the session stands for some master
-pub running_stands : (config : Config) (session : Session) (had left held holds : Option (List ℕ)) (number : ℕ)
-    → Running config session had left held holds number → Stands session
-running_stands config session had left held holds number r = (r.covers, (r.knows, r.at, r.stands))
+pub running_stands : (options : Options) (session : Session) (had left held holds : Option (List ℕ)) (number : ℕ)
+    → Running options session had left held holds number → Stands session
+running_stands options session had left held holds number r = (r.covers, (r.knows, r.at, r.stands))
 
 -- ---- where a line leads
 
@@ -177,21 +183,27 @@ options_on : (old new : Session) (line : LineValue) (a : Answer) → RunsLine ol
 options_on old new line a (inl r) = r.options
 options_on old new line a (inr r) = r.options
 
+-- one line more was run
+runs_more : (first : Session) (told : List Told) (old : Session) (t : Told) (new : Session) → AreRunOn first told old → RunsLine old t.line new t.answer
+    → AreRunOn first (told ++ t ∷ []) new
+runs_more first [] old t new same runs = (new, subst (λ (s : Session). RunsLine s t.line new t.answer) same runs, refl)
+runs_more first (u ∷ us) old t new (mid, ran, rest) runs = (mid, ran, runs_more mid us old t new rest runs)
+
 texts-more : (told : List Told) (t : Told) → texts_of (told ++ t ∷ []) ≡ texts_of told ++ (t.text ++ 10 ∷ [])
 texts-more told t = flat_map-append _ told (t ∷ []) ∙ ap (λ l. texts_of told ++ l) (append-nil (t.text ++ 10 ∷ []))
 
 answers-more : (told : List Told) (t : Told) → answers_of (told ++ t ∷ []) ≡ answers_of told ++ answer_text t.answer
 answers-more told t = flat_map-append _ told (t ∷ []) ∙ ap (λ l. answers_of told ++ l) (append-nil (answer_text t.answer))
 
-module _ (config : Config) (old : Session) (had mid left held wrote holds : Option (List ℕ)) (number : ℕ) (r : Running config old had mid held wrote number) where
-  fleet : old.options.backups ≡ config.backups
-  fleet = ap (λ (c : Config). c.backups) r.set
+module _ (options : Options) (old : Session) (had mid left held wrote holds : Option (List ℕ)) (number : ℕ) (r : Running options old had mid held wrote number) where
+  fleet : old.options.backups ≡ options.backups
+  fleet = ap (λ (o : Options). o.backups) r.set
 
   abbrev now : Standing
   now = standing_of (config_of old.options old.master) r.knows r.at
 
   -- the lines tell of one life after another
-  tell_so_far : TellLives config r.told
+  tell_so_far : TellLives (config_of options 1) r.told
   tell_so_far = (
     r.first,
     r.opening,
@@ -210,16 +222,16 @@ module _ (config : Config) (old : Session) (had mid left held wrote holds : Opti
     abbrev after_this : Standing
     after_this = standing_of (config_of new.options new.master) after_line.0 after_line.1
 
-    abbrev longer : (before : List Record) × AreTelling (with_more (at_first config r.first) before) r.told (with_more now after_line.3.0)
-    longer = telling_longer (at_first config r.first) r.told now after_line.3.0 (let made = r.stands.made in omega arith) r.telling
+    abbrev longer : (before : List Record) × AreTelling (with_more (at_first (config_of options 1) r.first) before) r.told (with_more now after_line.3.0)
+    longer = telling_longer (at_first (config_of options 1) r.first) r.told now after_line.3.0 (let made = r.stands.made in omega arith) r.telling
 
     abbrev first_on : Life
     first_on = record { opening = r.first.opening; history = r.first.history ++ longer.0 }
 
-    telling_on : AreTelling (at_first config first_on) (r.told ++ next_told ∷ []) after_this
-    telling_on = telling_more (at_first config first_on) r.told (with_more now after_line.3.0) next_told after_this longer.1 after_line.3.1
+    telling_on : AreTelling (at_first (config_of options 1) first_on) (r.told ++ next_told ∷ []) after_this
+    telling_on = telling_more (at_first (config_of options 1) first_on) r.told (with_more now after_line.3.0) next_told after_this longer.1 after_line.3.1
 
-    tell_longer : TellLives config (r.told ++ next_told ∷ [])
+    tell_longer : TellLives (config_of options 1) (r.told ++ next_told ∷ [])
     tell_longer = (
       first_on,
       r.opening,
@@ -228,24 +240,30 @@ module _ (config : Config) (old : Session) (had mid left held wrote holds : Opti
       record { legal = legal_of new.node after_line.1.left after_line.0 after_line.2.node_of; whole = after_line.2.made },
     )
 
-    line_there : All (IsScriptLine config.backups) (r.told ++ next_told ∷ [])
-    line_there = All-push (IsScriptLine config.backups) r.told next_told r.lines
+    run_on : AreRunOn r.start (r.told ++ next_told ∷ []) new
+    run_on = runs_more r.start r.told old next_told new r.run runs.runs
+
+    line_there : All (IsScriptLine options.backups) (r.told ++ next_told ∷ [])
+    line_there = All-push (IsScriptLine options.backups) r.told next_told r.lines
         (record { whole = whole; says = runs.says; of_fleet = subst (λ (n : ℕ). IsOfFleet n runs.line) fleet runs.of_fleet })
 
     answers_on : Appends wrote holds (answer_text a) → Appends held holds (answers_of (r.told ++ next_told ∷ []))
     answers_on printed = subst (Appends held holds) (sym (answers-more r.told next_told)) (Appends-trans held wrote holds (answers_of r.told) (answer_text a) r.printed printed)
 
     -- one line more was run
-    runs_on : Consumes mid left (text ++ 10 ∷ []) → Appends wrote holds (answer_text a) → Running config new had left held holds (number + 1)
+    runs_on : Consumes mid left (text ++ 10 ∷ []) → Appends wrote holds (answer_text a) → Running options new had left held holds (number + 1)
     runs_on consumed printed =
         let count = r.count in
         let longer = length-append r.told (next_told ∷ []) in
         record {
           told = r.told ++ next_told ∷ [];
           first = first_on;
+          start = r.start;
           knows = after_line.0;
           at = after_line.1;
-          set = ap (λ (o : Options). config_of o 1) (options_on old new runs.line a runs.runs) ∙ r.set;
+          set = options_on old new runs.line a runs.runs ∙ r.set;
+          begins = r.begins;
+          run = run_on;
           covers = covers_on old new runs.line a runs.runs (r.covers, (r.knows, r.at, r.stands));
           stands = after_line.2;
           count = omega arith;
@@ -262,33 +280,35 @@ module _ (config : Config) (old : Session) (had mid left held wrote holds : Opti
 
     -- a line was run, and no more
     ends_here : (taken : List ℕ) (result : Result (Unit {0}) ScriptFault) → Consumes mid left taken
-        → EndsWith config.backups (r.told ++ next_told ∷ []) (texts_of r.told ++ taken) left result → Prints held holds (r.told ++ next_told ∷ []) result
-        → RunsScript config had left held holds result
+        → EndsWith options.backups (r.told ++ next_told ∷ []) (texts_of r.told ++ taken) left result → Prints held holds (r.told ++ next_told ∷ []) result
+        → RunsScript options had left held holds result
     ends_here taken result consumed ends prints = record {
       told = r.told ++ next_told ∷ [];
       taken = texts_of r.told ++ taken;
       consumed = Consumes-trans had mid left (texts_of r.told) taken r.consumed consumed;
       lines = line_there;
       tells = tell_longer;
+      session = inr (record { first = r.start; last = new; begins = r.begins; run = run_on });
       ends = ends;
       prints = prints;
     }
 
-    runs_last : Consumes mid left text → IsAtEnd left → 0 < length text → Appends wrote holds (answer_text a) → RunsScript config had left held holds (Ok tt)
+    runs_last : Consumes mid left text → IsAtEnd left → 0 < length text → Appends wrote holds (answer_text a) → RunsScript options had left held holds (Ok tt)
     runs_last consumed end some printed = ends_here text (Ok tt) consumed (lines_are text (inr (refl, some, end)), end) (answers_on printed)
 
-    fails_to_write : (taken : List ℕ) → Consumes mid left taken → IsTakenLine text taken left → RunsScript config had left held holds (Err fault.WriteFailed)
+    fails_to_write : (taken : List ℕ) → Consumes mid left taken → IsTakenLine text taken left → RunsScript options had left held holds (Err fault.WriteFailed)
     fails_to_write taken consumed is = ends_here taken (Err fault.WriteFailed) consumed (lines_are taken is) tt
 
   -- the lines were run, and no more
   closes : (taken : List ℕ) (result : Result (Unit {0}) ScriptFault) → Consumes mid left taken
-      → EndsWith config.backups r.told (texts_of r.told ++ taken) left result → Prints held holds r.told result → RunsScript config had left held holds result
+      → EndsWith options.backups r.told (texts_of r.told ++ taken) left result → Prints held holds r.told result → RunsScript options had left held holds result
   closes taken result consumed ends prints = record {
     told = r.told;
     taken = texts_of r.told ++ taken;
     consumed = Consumes-trans had mid left (texts_of r.told) taken r.consumed consumed;
     lines = r.lines;
     tells = tell_so_far;
+    session = inr (record { first = r.start; last = old; begins = r.begins; run = r.run });
     ends = ends;
     prints = prints;
   }
@@ -296,55 +316,56 @@ module _ (config : Config) (old : Session) (had mid left held wrote holds : Opti
   kept_answers : Keeps wrote holds → Appends held holds (answers_of r.told)
   kept_answers kept = Appends-kept held wrote holds (answers_of r.told) r.printed kept
 
-  runs_out : Consumes mid left [] → IsAtEnd left → Keeps wrote holds → RunsScript config had left held holds (Ok tt)
+  runs_out : Consumes mid left [] → IsAtEnd left → Keeps wrote holds → RunsScript options had left held holds (Ok tt)
   runs_out consumed end kept = closes [] (Ok tt) consumed (inl (append-nil (texts_of r.told)), end) (kept_answers kept)
 
-  bad_here : (n : ℕ) (bad : List ℕ) → n ≡ number → IsBadLine old.options.backups number bad left → IsBadLine config.backups n bad left
+  bad_here : (n : ℕ) (bad : List ℕ) → n ≡ number → IsBadLine old.options.backups number bad left → IsBadLine options.backups n bad left
   bad_here n bad is line = subst (λ (k : ℕ). IsBadLine k n bad left) fleet (subst (λ (k : ℕ). IsBadLine old.options.backups k bad left) (sym is) line)
 
-  pub fails : (new : Session) (f : ScriptFault) → TakesTurn old new number mid left wrote holds (Err f) → RunsScript config had left held holds (Err f)
+  pub fails : (new : Session) (f : ScriptFault) → TakesTurn old new number mid left wrote holds (Err f) → RunsScript options had left held holds (Err f)
   fails new (fault.BadLine n) t =
       closes t.1 (Err (fault.BadLine n)) t.2 (t.0 ∙ sym r.count, t.1, refl, bad_here n t.1 t.0 t.3) (kept_answers t.4)
   fails new fault.ReadFailed t = closes t.0 (Err fault.ReadFailed) t.1 (t.0, refl, t.2) (kept_answers t.3)
   fails new fault.WriteFailed t = fails_to_write new t.0 t.5 t.6 t.2 t.1 t.3 t.4
   fails new fault.NoMemory t = closes t.0 (Err fault.NoMemory) t.1 (t.0, refl, t.2) (kept_answers t.3)
 
-  none_left : (new : Session) → TakesTurn old new number mid left wrote holds (Ok false) → RunsScript config had left held holds (Ok tt)
+  none_left : (new : Session) → TakesTurn old new number mid left wrote holds (Ok false) → RunsScript options had left held holds (Ok tt)
   none_left new (inl t) = runs_last new t.0 t.5.0 t.5.1 t.1 t.2 t.3 t.4 t.5.2
   none_left new (inr t) = runs_out t.0 t.1 t.2
 
-  pub none_ran : (new : Session) (more : Bool) → more ≡ false → TakesTurn old new number mid left wrote holds (Ok more) → RunsScript config had left held holds (Ok tt)
+  pub none_ran : (new : Session) (more : Bool) → more ≡ false → TakesTurn old new number mid left wrote holds (Ok more) → RunsScript options had left held holds (Ok tt)
   none_ran new more is t = none_left new (subst (λ (b : Bool). TakesTurn old new number mid left wrote holds (Ok b)) is t)
 
   pub more_ran : (new : Session) (more : Bool) → more ≡ true → TakesTurn old new number mid left wrote holds (Ok more)
-      → Running config new had left held holds (number + 1)
+      → Running options new had left held holds (number + 1)
   more_ran new more is t =
       let ran : TakesTurn old new number mid left wrote holds (Ok true) = subst (λ (b : Bool). TakesTurn old new number mid left wrote holds (Ok b)) is t in
       runs_on new ran.0 ran.3.0 ran.3.1 ran.1 ran.2 ran.3.2
 
 -- ---- behind the last number, and behind the last line
 
-pub runs_dry : (config : Config) (old : Session) (had mid left held wrote : Option (List ℕ)) (number : ℕ) → number ≡ 2 ^ 64 - 1 → (r : Running config old had mid held wrote number)
-    (result : Result (Unit {0}) ScriptFault) → IsNoMore mid left result → RunsScript config had left held wrote result
-runs_dry config old had mid left held wrote number is r (Ok done) n = runs_out config old had mid left held wrote wrote number r n.0 n.1 (Keeps-refl wrote)
-runs_dry config old had mid left held wrote number is r (Err (fault.BadLine n)) none =
-    fails config old had mid left held wrote wrote number r old (fault.BadLine n)
+pub runs_dry : (options : Options) (old : Session) (had mid left held wrote : Option (List ℕ)) (number : ℕ) → number ≡ 2 ^ 64 - 1 → (r : Running options old had mid held wrote number)
+    (result : Result (Unit {0}) ScriptFault) → IsNoMore mid left result → RunsScript options had left held wrote result
+runs_dry options old had mid left held wrote number is r (Ok done) n = runs_out options old had mid left held wrote wrote number r n.0 n.1 (Keeps-refl wrote)
+runs_dry options old had mid left held wrote number is r (Err (fault.BadLine n)) none =
+    fails options old had mid left held wrote wrote number r old (fault.BadLine n)
     (none.0 ∙ sym is, none.1, none.2, subst (λ (k : ℕ). IsBadLine old.options.backups k none.1 left) (none.0 ∙ sym is) (none.3 old.options.backups), Keeps-refl wrote)
-runs_dry config old had mid left held wrote number is r (Err fault.ReadFailed) none =
-    fails config old had mid left held wrote wrote number r old fault.ReadFailed (none.0, none.1, none.2, Keeps-refl wrote)
-runs_dry config old had mid left held wrote number is r (Err fault.WriteFailed) none = absurd none
-runs_dry config old had mid left held wrote number is r (Err fault.NoMemory) none =
-    fails config old had mid left held wrote wrote number r old fault.NoMemory (none.0, none.1, none.2, Keeps-refl wrote)
+runs_dry options old had mid left held wrote number is r (Err fault.ReadFailed) none =
+    fails options old had mid left held wrote wrote number r old fault.ReadFailed (none.0, none.1, none.2, Keeps-refl wrote)
+runs_dry options old had mid left held wrote number is r (Err fault.WriteFailed) none = absurd none
+runs_dry options old had mid left held wrote number is r (Err fault.NoMemory) none =
+    fails options old had mid left held wrote wrote number r old fault.NoMemory (none.0, none.1, none.2, Keeps-refl wrote)
 
 -- the writer was flushed
-module _ (config : Config) (had left held wrote holds : Option (List ℕ)) (kept : Keeps wrote holds) where
-  pub flushes : (result : Result (Unit {0}) ScriptFault) → RunsScript config had left held wrote result → RunsScript config had left held holds result
+module _ (options : Options) (had left held wrote holds : Option (List ℕ)) (kept : Keeps wrote holds) where
+  pub flushes : (result : Result (Unit {0}) ScriptFault) → RunsScript options had left held wrote result → RunsScript options had left held holds result
   flushes result r = record {
     told = r.told;
     taken = r.taken;
     consumed = r.consumed;
     lines = r.lines;
     tells = r.tells;
+    session = r.session;
     ends = r.ends;
     prints = flushed result r.prints;
   } where
@@ -355,23 +376,24 @@ module _ (config : Config) (had left held wrote holds : Option (List ℕ)) (kept
     flushed (Err fault.WriteFailed) p = tt
     flushed (Err fault.NoMemory) p = Appends-kept held wrote holds (answers_of r.told) p kept
 
-  pub fails_to_flush : (done : Unit {0}) → RunsScript config had left held wrote (Ok done) → RunsScript config had left held holds (Err fault.WriteFailed)
-  fails_to_flush done r = record { told = r.told; taken = r.taken; consumed = r.consumed; lines = r.lines; tells = r.tells; ends = r.ends.0; prints = tt }
+  pub fails_to_flush : (done : Unit {0}) → RunsScript options had left held wrote (Ok done) → RunsScript options had left held holds (Err fault.WriteFailed)
+  fails_to_flush done r = record { told = r.told; taken = r.taken; consumed = r.consumed; lines = r.lines; tells = r.tells; session = r.session; ends = r.ends.0; prints = tt }
 
 -- nothing was begun
-pub begins_not : (config : Config) (had held : Option (List ℕ)) → RunsScript config had had held held (Err fault.NoMemory)
-begins_not config had held = record {
+pub begins_not : (options : Options) (had held : Option (List ℕ)) → RunsScript options had had held held (Err fault.NoMemory)
+begins_not options had held = record {
   told = [];
   taken = [];
   consumed = Consumes-nil had;
-  lines = All-nil (IsScriptLine config.backups);
+  lines = All-nil (IsScriptLine options.backups);
   tells = (
     record { opening = empty_state; history = [] },
     refl,
-    at_first config (record { opening = empty_state; history = [] }),
+    at_first (config_of options 1) (record { opening = empty_state; history = [] }),
     refl,
     record { legal = refl; whole = refl },
   );
+  session = inl refl;
   ends = ([], refl, omega arith);
   prints = Appends-nil held;
 }

@@ -4,7 +4,9 @@ pub mod Wills
 pub mod Texts
 pub mod Lives
 pub mod Rolls
+pub mod Commands
 pub mod Cleans
+pub mod Shows
 pub mod Told
 pub mod Succession
 pub mod Served

@@ -31,17 +31,18 @@ pub record IsMisuse (config : Config) (old new : Streams) (status : ℕ) : Type 
   pub unwritten : new.output ≡ old.output
   pub ends_with : status ≡ 2
 
--- The script was run under a configuration that passes its check, or memory ran out. The end of the run is reported.
-pub record IsRunOf (config : Config) (old new : Streams) (status : ℕ) : Type 0 where
+-- The script was run under options whose configuration passes its check, or memory ran out. The end of the run is
+-- reported.
+pub record IsRunOf (options : Options) (old new : Streams) (status : ℕ) : Type 0 where
   pub result : RunResult
-  pub checked : (config_fault config ≡ None) ⊎ (result ≡ Err NoMemory)
-  pub run : RunsScript config old.input new.input old.output new.output result
+  pub checked : (config_fault (config_of options 1) ≡ None) ⊎ (result ≡ Err NoMemory)
+  pub run : RunsScript options old.input new.input old.output new.output result
   pub reported : IsReported result old.errors new.errors status
 
 -- what the program does with its options
 abbrev pub RunsOptions : Options → Streams → Streams → ℕ → Type 0
 RunsOptions options old new status =
-    IsMisuse (config_of options 1) old new status ⊎ IsRunOf (config_of options 1) old new status
+    IsMisuse (config_of options 1) old new status ⊎ IsRunOf options old new status
 
 -- what the program does with the options that these matches of its words have
 abbrev pub RunsMatches : List Row → Streams → Streams → ℕ → Type 0

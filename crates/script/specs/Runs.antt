@@ -2,11 +2,14 @@
 use Rattle.std.specs.Prelude.{◌≡◌, ◌⊎◌, ◌<◌, ◌≤◌, ◌-◌, ◌^◌, ℕ, suc, List, [], ◌∷◌, ◌++◌, length, Option, Result, Ok, Err}
 use Rattle.std.specs.List.{All, flat_map}
 use Rattle.std.specs.Io.KnownBytes.{Appends, Consumes, IsAtEnd}
+use Rattle.command_line.specs.declared.settings.Options.{Options}
 use Rattle.lines.specs.Grammar.{LineValue, Says, Lose}
 use Rattle.lines.specs.Reading.{IsUnbroken, IsLineText}
-use Rattle.master_core.specs.declared.config.Config.{Config}
 use Rattle.script.specs.declared.fault.ScriptFault.{ScriptFault}
 use Rattle.script.specs.declared.fault.ScriptFault.TheVariants.{BadLine, ReadFailed, WriteFailed, NoMemory}
+use Rattle.script.specs.declared.session.Session.{Session}
+use Rattle.script.specs.Configuration.{config_of}
+use Rattle.script.specs.Served.{BeginsSession, RunsLine}
 use Rattle.script.specs.Succession.{TellLives}
 use Rattle.script.specs.Texts.{answer_text}
 use Rattle.script.specs.Told.{Told}
@@ -51,6 +54,20 @@ IsBadLine backups number taken left =
     ⊎ ((text : List ℕ) × IsLineText text × IsTakenLine text taken left
     × ((number ≡ 2 ^ 64 - 1) ⊎ ((line : LineValue) → Says text line → IsOfFleet backups line → ⊥)))
 
+-- ---- one session
+
+-- the lines were run in turn, each on the session that the line before it left
+abbrev pub AreRunOn : Session → List Told → Session → Type 0
+AreRunOn old [] new = new ≡ old
+AreRunOn old (t ∷ ts) new = (mid : Session) × RunsLine old t.line mid t.answer × AreRunOn mid ts new
+
+-- One session began under these options, and the lines were run on it.
+pub record AreRun (options : Options) (told : List Told) : Type 0 where
+  pub first : Session
+  pub last : Session
+  pub begins : BeginsSession options first
+  pub run : AreRunOn first told last
+
 -- ---- a run
 
 -- how a run ends
@@ -73,13 +90,15 @@ abbrev pub Prints : Option (List ℕ) → Option (List ℕ) → List Told → Re
 Prints old new told (Err WriteFailed) = Unit {0}
 Prints old new told result = Appends old new (answers_of told)
 
--- A run of a script under a configuration: what the reader had and has left, what the writer held and holds, and how
--- the run ended.
-pub record RunsScript (config : Config) (had left held holds : Option (List ℕ)) (result : RunResult) : Type 0 where
+-- A run of a script under options: what the reader had and has left, what the writer held and holds, and how the run
+-- ended.
+pub record RunsScript (options : Options) (had left held holds : Option (List ℕ)) (result : RunResult) : Type 0 where
   pub told : List Told
   pub taken : List ℕ
   pub consumed : Consumes had left taken
-  pub lines : All (IsScriptLine config.backups) told
-  pub tells : TellLives config told
-  pub ends : EndsWith config.backups told taken left result
+  pub lines : All (IsScriptLine options.backups) told
+  -- what they tell of one life after another, and what they make of one session; without a line there may be none
+  pub tells : TellLives (config_of options 1) told
+  pub session : (told ≡ []) ⊎ AreRun options told
+  pub ends : EndsWith options.backups told taken left result
   pub prints : Prints held holds told result

@@ -1,11 +1,11 @@
 -- What a session stands for, and what its lines do to it.
 use Rattle.std.specs.Prelude.{◌≡◌, ◌⊎◌, ℕ, ◌<◌, ◌≤◌, List, [], ◌∷◌, ◌++◌, Bool, true, false, Option, Some, None, length}
-use Rattle.backup.specs.State.{fleet_state, lost}
+use Rattle.backup.specs.State.{fleet_state, lost, new_fleet}
 use Rattle.backup.specs.declared.fleet.MemoryFleet.{MemoryFleet}
 use Rattle.command_line.specs.declared.settings.Options.{Options}
 use Rattle.lines.specs.Grammar.{LineValue, Idle, Roll, BeginRoll, Compact, Push, Clean, Begin, Copy, Seal, Free, Will, Recover}
 use Rattle.lines.specs.Grammar.{Hex, Log, Room, Stop, Crash, Lose, Holdings as HoldingsLine}
-use Rattle.std.specs.Prelude.{Result, Ok, Err, IfSome, IsSome, max}
+use Rattle.std.specs.Prelude.{Result, Ok, Err, IfSome, max}
 use Rattle.std.specs.Option.{option_map}
 use Rattle.std.specs.declared.alloc.AllocError.{AllocError}
 use Rattle.replay.specs.declared.rebuilt.Rebuilt.{Rebuilt}
@@ -20,13 +20,13 @@ use Rattle.log_head.specs.Head.{is_open}
 use Rattle.log_model.specs.Data.{durable_of, newest_opened}
 use Rattle.master_core.specs.declared.config.Config.{Config}
 use Rattle.master_core.specs.declared.step.Refusal.{Refusal}
-use Rattle.master_core.specs.declared.step.Refusal.TheVariants.{NoMemory, Spent}
+use Rattle.master_core.specs.declared.step.Refusal.TheVariants.{NoMemory, Nothing, Spent}
 use Rattle.master_core.specs.declared.step.Step.{Step}
 use Rattle.master_core.specs.declared.step.Step.TheVariants as step
 use Rattle.master_core.specs.declared.step.StepAnswer.{StepAnswer}
 use Rattle.master_core.specs.declared.step.StepAnswer.TheVariants as step_answer
 use Rattle.master_core.specs.Causes.{command_refusal}
-use Rattle.master_core.specs.Data.{MasterData, no_origin}
+use Rattle.master_core.specs.Data.{MasterData, fresh_data, no_origin}
 use Rattle.master_core.specs.Log.{opening_of, log_of}
 use Rattle.master.specs.Steps.{Steps}
 use Rattle.master.specs.Valid.{IsValid}
@@ -44,7 +44,9 @@ use Rattle.script.specs.Lives.{Life, Left, left_now, is_left}
 use Rattle.replay.specs.Adopting.{IsAdopted}
 use Rattle.recovery.specs.Orders.{Covers}
 use Rattle.script.specs.Cleans.{Cleans}
+use Rattle.script.specs.Commands.{RunsCommand, StopsShort}
 use Rattle.script.specs.Rolls.{PushesUntil, Rolls}
+use Rattle.script.specs.Shows.{ShowsDigest, ShowsRoom, ShowsImage}
 use Rattle.script.specs.Told.{Position, at_start, command_of, is_of_push, Tells, IsFoundAt, IsListDeclined, HasLimits}
 use Rattle.script.specs.Succession.{Standing, Succeeds}
 use Rattle.tablet_will.specs.declared.part.Part.{Part}
@@ -74,11 +76,12 @@ IsServed old new command reply =
 -- The command's record was added, and pushes were taken until one was refused, though something waited.
 pub record IsUnpushed (old : MasterData) (command : Command) (r : Refusal) (new : World) : Type 0 where
   pub reply : Reply
+  pub place : ℕ
   pub mid : World
   pub applied : LivesOn old mid.knows (record_of command reply)
   pub valid : IsValid mid.knows mid.fleet
   pub goes_on : LivesOn mid.knows new.knows []
-  pub pushed : PushesUntil mid r new
+  pub pushed : StopsShort place mid r new
   pub waits : is_of_push r ≡ true
 
 -- The command was not answered. Either a test refused it or memory ran out, and no record was added. Or its record was
@@ -131,11 +134,6 @@ Refuses old r new answer =
     ((answer ≡ Refused r) × (r ≡ Spent → ⊥) × (new ≡ old))
     ⊎ ((answer ≡ Stopped) × (r ≡ Spent) × IsDropped old new × IsUnlimited old new)
 
--- Once it has answered Stopped, a node has no master, and its fleet has no limit.
-abbrev pub LiftsLimit : Node → Answer → Type 0
-LiftsLimit new Stopped = (f : FleetState) × (is_up new ≡ false) × (fleet_of new ≡ Some f) × (f.end ≡ no_limit)
-LiftsLimit new answer = Unit {0}
-
 -- The node stands at this position for a master of this configuration that knows `d` or knew it. What was acknowledged
 -- is durable.
 pub record IsNodeAt (node : Node) (config : Config) (d : MasterData) (at : Position) : Type 0 where
@@ -185,6 +183,11 @@ abbrev pub roll_told : Result ℕ Refusal → Answer
 roll_told (Ok id) = Head id
 roll_told (Err r) = refusal_answer r
 
+-- what is answered to a command
+abbrev pub reply_told : Result Reply Refusal → Answer
+reply_told (Ok reply) = Replied reply
+reply_told (Err r) = refusal_answer r
+
 -- what is answered to a whole cleaning
 abbrev pub clean_told : Result (ℕ × ℕ) Refusal → Answer
 clean_told (Ok (survivor, head)) = Cleaned survivor head
@@ -207,6 +210,12 @@ abbrev pub MakesClean : Node → List ℕ → Node → Answer → Type 0
 MakesClean (Up m) victims new answer = (result : Result (ℕ × ℕ) Refusal) × (w : World)
     × Cleans (world fleet_state m) victims result w × (answer ≡ clean_told result) × IsLeftIn w answer new
 MakesClean old victims new answer = (new ≡ old) × (answer ≡ answers.Down)
+
+-- A node that is up makes just the steps of this command's line, and answers what comes of them. Any other does nothing.
+abbrev pub MakesCommand : Node → Command → Node → Answer → Type 0
+MakesCommand (Up m) command new answer = (result : Result Reply Refusal) × (w : World)
+    × RunsCommand (world fleet_state m) command result w × (answer ≡ reply_told result) × IsLeftIn w answer new
+MakesCommand old command new answer = (new ≡ old) × (answer ≡ answers.Down)
 
 -- ---- lines
 
@@ -231,8 +240,9 @@ abbrev pub ShowsFleet : Node → Answer → Type 0
 ShowsFleet node (Holdings hs) = IfSome (fleet_of node) (λ (f : FleetState). AreHeld hs f.picture)
 ShowsFleet node answer = Unit {0}
 
--- What a line makes of the node: just its step, its roll or its cleaning. A line that shows something changes nothing. A
--- limit is the one that the line names, and a crash leaves the fleet. After a command's line a stopped node has no limit.
+-- What a line makes of the node: just the steps of its command, its step, its roll or its cleaning. A line that shows
+-- something changes nothing, and shows what this node has. A limit is the one that the line names, and a crash leaves the
+-- fleet. What a recovery makes is said elsewhere.
 abbrev pub MakesLine : Node → LineValue → Node → Answer → Type 0
 MakesLine old Roll new answer = MakesRoll old new answer
 MakesLine old BeginRoll new answer = MakesStep old step.BeginRoll new answer
@@ -244,16 +254,17 @@ MakesLine old Copy new answer = MakesStep old step.Copy new answer
 MakesLine old Seal new answer = MakesStep old step.Seal new answer
 MakesLine old Free new answer = MakesStep old step.Free new answer
 MakesLine old Idle new answer = new ≡ old
-MakesLine old (Hex segment) new answer = new ≡ old
-MakesLine old Log new answer = new ≡ old
-MakesLine old Room new answer = new ≡ old
+MakesLine old (Hex segment) new answer = (new ≡ old) × ShowsImage old segment answer
+MakesLine old Log new answer = (new ≡ old) × ShowsDigest old answer
+MakesLine old Room new answer = (new ≡ old) × ShowsRoom old answer
 MakesLine old HoldingsLine new answer = (new ≡ old) × ShowsFleet old answer
 MakesLine old Will new answer = new ≡ old
 MakesLine old (Stop takes) new answer =
     fleet_of new ≡ option_map (λ (f : FleetState). limited f takes) (fleet_of old)
 MakesLine old Crash new answer = fleet_of new ≡ fleet_of old
 MakesLine old (Lose backup) new answer = LosesOne old backup new
-MakesLine old line new answer = IsSome (command_of line) → LiftsLimit new answer
+MakesLine old (Recover order) new answer = ⊥
+MakesLine old line new answer = IfSome (command_of line) (λ (c : Command). MakesCommand old c new answer)
 
 -- ---- recovery
 
@@ -381,10 +392,16 @@ pub record SessionRecovers (old : Session) (line : LineValue) (new : Session) (a
 abbrev pub RunsLine : Session → LineValue → Session → Answer → Type 0
 RunsLine old line new answer = SessionAnswers old line new answer ⊎ SessionRecovers old line new answer
 
+-- a new master of this configuration, over a fleet of so many backups that holds nothing
+abbrev pub new_world : Config → World
+new_world config = record { knows = fresh_data config; fleet = new_fleet config.backups }
+
 -- A session at its start: master 1 has this configuration, an open head and no keys, and nothing is told of it yet.
 pub record BeginsSession (options : Options) (s : Session) : Type 0 where
   pub stands : (d : MasterData) × IsNodeAt s.node (config_of options 1) d at_start × (is_open d.head ≡ true)
       × (d.origin ≡ no_origin)
+  -- a new master was pushed until nothing waited, and made no other step
+  pub begins : (w : World) × (world_of s.node ≡ Some w) × PushesUntil (new_world (config_of options 1)) Nothing w
   pub number : s.master ≡ 1
   pub used : s.used ≡ 1
   pub set : s.options ≡ options

@@ -1,16 +1,26 @@
 -- Commands that wait for a roll, and the roll that they wait for.
-use Rattle.std.specs.Prelude.{◌≡◌, true, Option, Some, None}
+use Rattle.std.specs.Prelude.{◌≡◌, ℕ, true, Option, Some, None, Result, Ok, Err}
+use Rattle.backup.specs.State.{fleet_state}
 use Rattle.lines.specs.Grammar.{LineValue, Roll}
 use Rattle.versioned_map.specs.declared.command.Command.{Command}
+use Rattle.versioned_map.specs.declared.command.Reply.{Reply}
 use Rattle.log_head.specs.Head.{is_open}
 use Rattle.master_core.specs.declared.config.Config.{Config}
+use Rattle.master_core.specs.declared.step.Refusal.{Refusal}
 use Rattle.master_core.specs.declared.step.Refusal.TheVariants.{Rolling}
+use Rattle.master_core.specs.declared.step.Step.TheVariants.{Apply}
 use Rattle.master_core.specs.Data.{MasterData}
+use Rattle.master.specs.Steps.{Declines}
+use Rattle.master.specs.World.{World, world}
 use Rattle.script.specs.declared.answer.Answer.{Answer}
+use Rattle.script.specs.declared.answer.Answer.TheVariants as answers
 use Rattle.script.specs.declared.node.Node.{Node}
+use Rattle.script.specs.declared.node.Node.TheVariants.{Up}
 use Rattle.script.specs.declared.session.Session.{Session}
+use Rattle.script.specs.Commands.{Tries, TriesAfterRoll}
 use Rattle.script.specs.Lives.{life_to}
-use Rattle.script.specs.Served.{AnswersLine, IsCovered, IsNodeAt, LiftsLimit, life_of}
+use Rattle.script.specs.Rolls.{Rolls}
+use Rattle.script.specs.Served.{AnswersLine, IsCovered, IsLeftIn, IsNodeAt, life_of, refusal_answer, reply_told, world_of}
 use Rattle.script.specs.Told.{Position, command_of, IsTest, TellsNoStep}
 
 -- the same life, with the same records
@@ -41,6 +51,32 @@ MakesRoom old config new (Some answer) = (d : MasterData) (at : Position) → Is
 MakesRoom old config new None = (d : MasterData) (at : Position) → IsNodeAt old config d at →
     (e : MasterData) × StaysAt new config d at e × (is_open e.head ≡ true)
 
+-- ---- what a node's own master makes
+
+-- A node that is up just tries the command, and answers what comes of it. Without an answer the command was refused as
+-- Rolling, and nothing was done. Any other node does nothing.
+abbrev pub MakesTry : Node → Command → Node → Option Answer → Type 0
+MakesTry (Up m) command new (Some answer) = (result : Result Reply Refusal) × (w : World)
+    × (Tries (world fleet_state m) command result w × (result ≡ Err Rolling → ⊥))
+    × (answer ≡ reply_told result) × IsLeftIn w answer new
+MakesTry (Up m) command new None = Declines (world fleet_state m) (Apply 0 command) Rolling (world fleet_state m)
+    × (world_of new ≡ Some (world fleet_state m))
+MakesTry old command new answer = (new ≡ old) × (answer ≡ Some answers.Down)
+
+-- A node that is up just makes a roll. An answer is why it was refused. Any other node does nothing.
+abbrev pub MakesOpen : Node → Node → Option Answer → Type 0
+MakesOpen (Up m) new (Some answer) = (r : Refusal) × (w : World)
+    × Rolls (world fleet_state m) (Err r) w × (answer ≡ refusal_answer r) × IsLeftIn w answer new
+MakesOpen (Up m) new None =
+    (head : ℕ) × (w : World) × Rolls (world fleet_state m) (Ok head) w × (world_of new ≡ Some w)
+MakesOpen old new answer = (new ≡ old) × (answer ≡ Some answers.Down)
+
+-- A node that is up makes just a roll, and then tries the command. Any other does nothing.
+abbrev pub MakesTryAfterRoll : Node → Command → Node → Answer → Type 0
+MakesTryAfterRoll (Up m) command new answer = (result : Result Reply Refusal) × (w : World)
+    × TriesAfterRoll (world fleet_state m) command result w × (answer ≡ reply_told result) × IsLeftIn w answer new
+MakesTryAfterRoll old command new answer = (new ≡ old) × (answer ≡ answers.Down)
+
 -- The answer of a line whose command waited for a roll. It is told of what the node stood for before the command had to
 -- wait.
 pub record AnswersAfterRoll (mid : Session) (line : LineValue) (new : Session) (answer : Answer) : Type 0 where
@@ -50,5 +86,5 @@ pub record AnswersAfterRoll (mid : Session) (line : LineValue) (new : Session) (
   pub covers : IsCovered mid → IsCovered new
   pub answers : (old : Node) (config : Config) (command : Command) → command_of line ≡ Some command
       → WaitsForRoll old config command mid.node → AnswersLine old config line new.node answer
-  pub lifted : LiftsLimit new.node answer
+  pub makes : (command : Command) → command_of line ≡ Some command → MakesTryAfterRoll mid.node command new.node answer
   pub will : new.will ≡ mid.will

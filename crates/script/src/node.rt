@@ -1,6 +1,6 @@
 //! A fleet, and the master over it if there is one.
 
-ghost use Rattle.std.specs.Prelude.{◌≡◌, ◌<◌, [], length, true, false, None, Some, IfOk, IfErr, IfSome};
+ghost use Rattle.std.specs.Prelude.{◌≡◌, ◌<◌, [], length, true, false, None, Some, IfOk, IfErr};
 ghost use Rattle.std.specs.Option.{option_map};
 ghost use Rattle.backup.specs.State.{lost};
 ghost use Rattle.master_core.specs.declared.config.Config.{Config};
@@ -9,12 +9,14 @@ ghost use Rattle.log_head.specs.Head.{is_open};
 ghost use Rattle.master_core.specs.Log.{log_of};
 ghost use Rattle.replica.specs.Take.{limited};
 ghost use Rattle.master.specs.World.{world};
+ghost use Rattle.script.specs.Commands.{PushesTo, StopsShort, Tries};
 ghost use Rattle.script.specs.Rolls.{PushesUntil, IsRolled, IsNotRolled};
 ghost use Rattle.script.specs.Served.{LivesOn, IsServed, IsUnserved, IsSpent, IsDropped, fleet_of, is_up};
-ghost use Rattle.script.specs.Served.{AnswersLine, LiftsLimit, MakesStep, MakesRoll, Refuses};
+ghost use Rattle.script.specs.Served.{AnswersLine, MakesStep, MakesRoll, Refuses};
 ghost use Rattle.script.specs.Served.{ShowsFleet, held_answer};
+ghost use Rattle.script.specs.Shows.{ShowsDigest, ShowsImage, ShowsRoom};
 ghost use Rattle.script.specs.Told.{is_of_push};
-ghost use Rattle.script.specs.Waits.{Serves, MakesRoom};
+ghost use Rattle.script.specs.Waits.{Serves, MakesRoom, MakesOpen, MakesTry};
 
 use crate::answer::Answer;
 use backup::MemoryFleet;
@@ -78,7 +80,8 @@ fn push_until<F: Fleet>(master: &mut Master<F>, place: u64) -> Result<(), Refusa
     requires { place < length master.old.knows.history }
     ensures goes_on { LivesOn master.old.knows master.new.knows [] }
     ensures durable { IfOk result (λ _. place < durable_of (log_of master.new.knows)) }
-    ensures refused { IfErr result (λ r. PushesUntil (world F.state master.old) r (world F.state master.new)) }
+    ensures pushed { IfOk result (λ _. PushesTo place (world F.state master.old) (world F.state master.new)) }
+    ensures refused { IfErr result (λ r. StopsShort place (world F.state master.old) r (world F.state master.new)) }
     ensures waits { IfErr result (λ r. is_of_push r ≡ true) }
     ensures spent { IfErr result (λ r. r ≡ Refusal.Spent → IsSpent (F.state master.new.fleet)) }
 {
@@ -97,6 +100,7 @@ fn push_until<F: Fleet>(master: &mut Master<F>, place: u64) -> Result<(), Refusa
 fn serve<F: Fleet>(master: &mut Master<F>, command: Command) -> Result<Reply, Refusal>
     ensures served { IfOk result (λ reply. IsServed master.old.knows master.new.knows command reply) }
     ensures unserved { IfErr result (λ r. IsUnserved master.old.knows command r (world F.state master.new)) }
+    ensures tried { Tries (world F.state master.old) command result (world F.state master.new) }
     ensures spent { IfErr result (λ r. r ≡ Refusal.Spent → IsSpent (F.state master.new.fleet)) }
 {
     match master.step(Step::Apply(0, command)) {
@@ -127,7 +131,7 @@ impl Node {
     #[inline(always)]
     pub fn serve(&mut self, command: Command) -> Option<Answer>
         ensures told { Serves self.old command self.new result }
-        ensures lifted { IfSome result (LiftsLimit self.new) }
+        ensures tried { MakesTry self.old command self.new result }
     {
         let Node::Up(up) = self else {
             return Some(Answer::Down);
@@ -146,7 +150,7 @@ impl Node {
     /// Begins a roll if none is under way, and pushes until nothing waits. It answers `None` if the head is open then.
     pub fn make_room(&mut self) -> Option<Answer>
         ensures told { (config : Config) → MakesRoom self.old config self.new result }
-        ensures lifted { IfSome result (LiftsLimit self.new) }
+        ensures rolled { MakesOpen self.old self.new result }
     {
         let Node::Up(up) = self else {
             return Some(Answer::Down);
@@ -260,7 +264,8 @@ impl Node {
 
     /// The ids of the digest in force.
     pub fn log(&self) -> Answer
-        ensures { (config : Config) → AnswersLine self.now config Log self.now result }
+        ensures told { (config : Config) → AnswersLine self.now config Log self.now result }
+        ensures shown { ShowsDigest self.now result }
     {
         let Node::Up(up) = self else {
             return Answer::Down;
@@ -290,7 +295,8 @@ impl Node {
 
     /// The image of a segment.
     pub fn hex(&self, segment: u64) -> Answer
-        ensures { (config : Config) → AnswersLine self.now config (Hex segment) self.now result }
+        ensures told { (config : Config) → AnswersLine self.now config (Hex segment) self.now result }
+        ensures shown { ShowsImage self.now segment result }
     {
         let Node::Up(up) = self else {
             return Answer::Down;
@@ -306,7 +312,8 @@ impl Node {
 
     /// How many seglets of memory are counted, and how many are free.
     pub fn room(&self) -> Answer
-        ensures { (config : Config) → AnswersLine self.now config Room self.now result }
+        ensures told { (config : Config) → AnswersLine self.now config Room self.now result }
+        ensures shown { ShowsRoom self.now result }
     {
         let Node::Up(up) = self else {
             return Answer::Down;

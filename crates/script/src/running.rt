@@ -26,7 +26,7 @@ pub fn run_script<R: BufRead, W: Write>(
 ) -> Result<(), ScriptFault>
     requires { config_fault (config_of options 1) ≡ None }
     // The lines tell of one legal life after another. Exactly their answers were written. A bad line is named.
-    ensures { RunsScript (config_of options 1) (R.remaining reader.old) (R.remaining reader.new)
+    ensures { RunsScript options (R.remaining reader.old) (R.remaining reader.new)
         (W.contents writer.old) (W.contents writer.new) result }
 {
     let Ok(mut session) = Session::start(alloc, &options) else {
@@ -44,7 +44,7 @@ fn run_and_flush<R: BufRead, W: Write>(
 ) -> Result<(), ScriptFault>
     requires { (options : OptionsValue) × BeginsSession options session.old }
     ensures { (options : OptionsValue) → BeginsSession options session.old →
-        RunsScript (config_of options 1) (R.remaining reader.old) (R.remaining reader.new)
+        RunsScript options (R.remaining reader.old) (R.remaining reader.new)
         (W.contents writer.old) (W.contents writer.new) result }
 {
     let ran = run_lines(alloc, reader, writer, session);
@@ -64,7 +64,7 @@ fn run_lines<R: BufRead, W: Write>(
 ) -> Result<(), ScriptFault>
     requires { (options : OptionsValue) × BeginsSession options session.old }
     ensures { (options : OptionsValue) → BeginsSession options session.old →
-        RunsScript (config_of options 1) (R.remaining reader.old) (R.remaining reader.new)
+        RunsScript options (R.remaining reader.old) (R.remaining reader.new)
         (W.contents writer.old) (W.contents writer.new) result }
 {
     let mut text = Vec::new(alloc);

@@ -28,3 +28,6 @@ loop-refusal-preserved-in_default-3 g c = (
 
 pub returns-in_default-refusal-clause-open : goal.returns-in_default-refusal-clause-open
 returns-in_default-refusal-clause-open g c = tt
+
+pub loop-refusal-smaller-in_default-3 : goal.loop-refusal-smaller-in_default-3
+loop-refusal-smaller-in_default-3 g c = fewer_left _ _ _ c.in_default.field-0 c.in_default.is c.step.ensures.gives

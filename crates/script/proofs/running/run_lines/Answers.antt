@@ -1,6 +1,5 @@
 use Rattle.std.proofs.Common.{◌≡◌, ◌-◌, ◌^◌, arith}
-use Rattle.script.specs.Configuration.{config_of}
-use Rattle.script.proofs.Turning.{starts_running, more_ran, none_ran, fails, runs_dry}
+use Rattle.script.proofs.Turning.{starts_running, running_stands, more_ran, none_ran, fails, runs_dry}
 use Rattle.script.proofs.running.run_lines.Goals as goal
 
 pub loop-number-init : goal.loop-number-init
@@ -20,4 +19,7 @@ loop-number-preserved g c = λ options begins.
 pub returns : goal.returns
 returns g c = λ options begins.
     let last : c.loop-number.number ≡ 2 ^ 64 - 1 = omega (arith, c.loop-number-test.false, c.loop-number.auto.number-end) in
-    runs_dry (config_of options 1) c.loop-number.session _ _ _ _ _ c.loop-number.number last (c.loop-number.invariant options begins) c.no_more.result c.no_more.ensures
+    runs_dry options c.loop-number.session _ _ _ _ _ c.loop-number.number last (c.loop-number.invariant options begins) c.no_more.result c.no_more.ensures
+
+pub run_next-requires : goal.run_next-requires
+run_next-requires g c = running_stands _ _ _ _ _ _ _ (c.loop-number.invariant c.requires.0 c.requires.1)

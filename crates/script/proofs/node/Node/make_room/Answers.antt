@@ -1,6 +1,7 @@
 use Rattle.std.proofs.Common.{[], ap, refl, subst}
 use Rattle.std.specs.Prelude.{Err, None}
 use Rattle.backup.specs.State.{fleet_state}
+use Rattle.master.specs.World.{world}
 use Rattle.lines.specs.Grammar.{Roll}
 use Rattle.master_core.specs.Data.{MasterData}
 use Rattle.script.specs.declared.node.Node.{Node}
@@ -9,7 +10,7 @@ use Rattle.script.specs.Rolls.{IsNotRolled}
 use Rattle.script.specs.Served.{LivesOn, IsOf, is_up}
 use Rattle.script.proofs.Rolls.{no_step_told}
 use Rattle.script.proofs.Standing.{is_up_none}
-use Rattle.script.proofs.Steps.{refused_lifts, roll_at}
+use Rattle.script.proofs.Steps.{refused_left, roll_at}
 use Rattle.script.proofs.node.Node.make_room.Goals as goal
 
 pub returns-in-Err-clause-told : goal.returns-in-Err-clause-told
@@ -28,6 +29,8 @@ returns-in-Err-clause-told c = λ config d at s.
     no_step_told d m.knows c.args.self.now (Up m) c.refuse.new.self config at s none Roll
     r c.refuse.result g of refl c.show_valid.ensures c.in-Err.ensures.spent (λ is. refl) on why c.refuse.ensures
 
-pub returns-in-Err-clause-lifted : goal.returns-in-Err-clause-lifted
-returns-in-Err-clause-lifted c =
-    refused_lifts (Up c.roll_all-outcome.new.master) c.refuse.new.self (fleet_state c.roll_all-outcome.new.master.fleet) c.in-Err.refusal c.refuse.result refl c.refuse.ensures
+pub returns-in-Err-clause-rolled : goal.returns-in-Err-clause-rolled
+returns-in-Err-clause-rolled c =
+    let m = c.roll_all-outcome.new.master in
+    let left = refused_left (Up m) c.refuse.new.self (world fleet_state m) c.in-Err.refusal c.refuse.result refl refl c.refuse.ensures in
+    rw c.in-Up.is (c.in-Err.refusal, world fleet_state m, c.in-Err.ensures.refused, left.0, left.1)

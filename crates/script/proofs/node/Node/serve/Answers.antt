@@ -8,13 +8,13 @@ use Rattle.script.specs.Served.{IsOf, IsServed, IsUnserved, is_up}
 use Rattle.script.proofs.Commands.{reply_told}
 use Rattle.script.proofs.Rolls.{unserved_told, waits_told}
 use Rattle.script.proofs.Standing.{asks_master, down_told, is_up_none, not_up}
-use Rattle.script.proofs.Steps.{refused_lifts}
+use Rattle.script.proofs.Tries.{not_tried, refused_try, replied_try, waits_try}
 use Rattle.script.proofs.node.Node.serve.Goals as goal
 
 pub returns-in_default : goal.returns-in_default
 returns-in_default c = record {
   told = λ config line asks. down_told c.args.self.now config line (not_up c.args.self.now c.in_default.not-Up) (asks_master line c.args.command asks);
-  lifted = tt;
+  tried = not_tried c.args.self.now c.args.command c.in_default.not-Up;
 }
 
 pub returns-in-Ok-clause-told : goal.returns-in-Ok-clause-told
@@ -45,6 +45,15 @@ returns-in_default-refusal-clause-told c = λ config line asks d at s.
     line c.args.command asks r c.refuse.result (fleet_state c.in-Up.up.fleet) (fleet_state m.fleet) was.2 (refl, refl, c.show_valid.ensures) refl c.show_valid.ensures
     c.in-Err.ensures.spent left c.refuse.ensures
 
-pub returns-in_default-refusal-clause-lifted : goal.returns-in_default-refusal-clause-lifted
-returns-in_default-refusal-clause-lifted c =
-    refused_lifts (Up c.serve-outcome.new.master) c.refuse.new.self (fleet_state c.serve-outcome.new.master.fleet) c.in-Err.refusal c.refuse.result refl c.refuse.ensures
+pub returns-in-Ok-clause-tried : goal.returns-in-Ok-clause-tried
+returns-in-Ok-clause-tried c =
+    replied_try c.args.self.now c.in-Up.up c.serve-outcome.new.master c.in-Up.is c.args.command c.in-Ok.reply c.in-Ok.ensures.tried
+
+pub returns-in-Rolling-clause-tried : goal.returns-in-Rolling-clause-tried
+returns-in-Rolling-clause-tried c =
+    waits_try c.args.self.now c.in-Up.up c.serve-outcome.new.master c.in-Up.is c.args.command c.in-Err.refusal c.in-Rolling.is c.in-Err.ensures.tried
+
+pub returns-in_default-refusal-clause-tried : goal.returns-in_default-refusal-clause-tried
+returns-in_default-refusal-clause-tried c =
+    refused_try c.args.self.now c.in-Up.up c.serve-outcome.new.master c.in-Up.is c.args.command c.in-Err.refusal c.in_default-refusal.not-Rolling
+    c.in-Err.ensures.tried c.refuse.new.self c.refuse.result c.refuse.ensures

@@ -2,6 +2,7 @@ use Rattle.std.proofs.Common.{refl}
 use Rattle.std.proofs.lemmas.Result.{IfOk-weaker}
 use Rattle.lines.specs.Grammar.{shown_line}
 use Rattle.script.proofs.Steps.{command_makes}
+use Rattle.script.proofs.Tries.{tried_makes, waited_makes}
 use Rattle.script.proofs.Willed.{command_keeps}
 use Rattle.script.proofs.session.Session.run_command.Goals as goal
 
@@ -12,7 +13,8 @@ returns-in-Some-clause-ran c = record {
   used = refl;
   covers = λ all. all.0;
   answers = λ config number. c.in-Some.ensures.told config (shown_line c.args.line) c.in_ok-command.ensures;
-  makes = command_makes _ (shown_line c.args.line) _ c.in-Some.answer c.in-Some.ensures.lifted c.requires.command;
+  makes = command_makes _ (shown_line c.args.line) _ c.in-Some.answer c.in_ok-command.command c.in_ok-command.ensures
+      (tried_makes _ _ c.in_ok-command.command c.in-Some.answer c.in-Some.ensures.tried);
   wills = command_keeps c.args.self.now (shown_line c.args.line) (record c.args.self.now { node = c.serve.new.self }) c.in-Some.answer refl c.requires.command;
 }
 
@@ -25,7 +27,8 @@ returns-in-None-clause-ran c =
       used = ran.used;
       covers = λ all. ran.covers all.0;
       answers = λ config number. ran.answers c.args.self.now.node config c.in_ok-command.command c.in_ok-command.ensures (c.in-None.ensures.told config);
-      makes = command_makes _ (shown_line c.args.line) _ answer ran.lifted c.requires.command;
+      makes = command_makes _ (shown_line c.args.line) _ answer c.in_ok-command.command c.in_ok-command.ensures
+          (waited_makes _ _ _ c.in_ok-command.command answer c.in-None.ensures.tried (ran.makes c.in_ok-command.command c.in_ok-command.ensures));
       wills = command_keeps c.args.self.now (shown_line c.args.line) c.run_after_roll.new.self answer ran.will c.requires.command;
     })
     c.run_after_roll.ensures.ran

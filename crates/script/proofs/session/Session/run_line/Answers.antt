@@ -8,7 +8,7 @@ pub returns-in-Idle-clause-ran : goal.returns-in-Idle-clause-ran
 returns-in-Idle-clause-ran c = rw c.in-Idle.is (inl (record { number = refl; options = refl; used = refl; covers = λ all. all.0; answers = λ config number. stays_told c.args.self.now.node config Idle Silent (λ d at s. (refl, refl)); makes = refl; wills = refl }))
 
 pub returns-in-Hex-clause-ran : goal.returns-in-Hex-clause-ran
-returns-in-Hex-clause-ran c = rw c.in-Hex.is (inl (record { number = refl; options = refl; used = refl; covers = λ all. all.0; answers = λ config number. c.hex.ensures config; makes = refl; wills = refl }))
+returns-in-Hex-clause-ran c = rw c.in-Hex.is (inl (record { number = refl; options = refl; used = refl; covers = λ all. all.0; answers = λ config number. c.hex.ensures.told config; makes = (refl, c.hex.ensures.shown); wills = refl }))
 
 pub returns-in-Stop-clause-ran : goal.returns-in-Stop-clause-ran
 returns-in-Stop-clause-ran c = rw c.in-Stop.is (inl (record { number = refl; options = refl; used = refl; covers = λ all. all.0; answers = λ config number. c.stop.ensures.told config; makes = c.stop.ensures.limited; wills = refl }))
@@ -35,10 +35,10 @@ pub returns-in-Push-clause-ran : goal.returns-in-Push-clause-ran
 returns-in-Push-clause-ran c = rw c.in-Push.is (inl (record { number = refl; options = refl; used = refl; covers = λ all. all.0; answers = λ config number. c.push.ensures.told config; makes = c.push.ensures.stepped; wills = refl }))
 
 pub returns-in-Log-clause-ran : goal.returns-in-Log-clause-ran
-returns-in-Log-clause-ran c = rw c.in-Log.is (inl (record { number = refl; options = refl; used = refl; covers = λ all. all.0; answers = λ config number. c.log.ensures config; makes = refl; wills = refl }))
+returns-in-Log-clause-ran c = rw c.in-Log.is (inl (record { number = refl; options = refl; used = refl; covers = λ all. all.0; answers = λ config number. c.log.ensures.told config; makes = (refl, c.log.ensures.shown); wills = refl }))
 
 pub returns-in-Room-clause-ran : goal.returns-in-Room-clause-ran
-returns-in-Room-clause-ran c = rw c.in-Room.is (inl (record { number = refl; options = refl; used = refl; covers = λ all. all.0; answers = λ config number. c.room.ensures config; makes = refl; wills = refl }))
+returns-in-Room-clause-ran c = rw c.in-Room.is (inl (record { number = refl; options = refl; used = refl; covers = λ all. all.0; answers = λ config number. c.room.ensures.told config; makes = (refl, c.room.ensures.shown); wills = refl }))
 
 pub returns-in-Holdings-clause-ran : goal.returns-in-Holdings-clause-ran
 returns-in-Holdings-clause-ran c = rw c.in-Holdings.is (inl (record { number = refl; options = refl; used = refl; covers = λ all. all.0; answers = λ config number. c.holdings.ensures.told config; makes = (refl, c.holdings.ensures.shown); wills = refl }))
