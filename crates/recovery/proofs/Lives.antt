@@ -16,7 +16,7 @@ use Rattle.entry.proofs.KeyOrder.{key_eq_tells}
 use Rattle.versioned_map.proofs.Keys.{at_key, at_other}
 use Rattle.log_model.specs.Data.{LogData, state_after}
 use Rattle.recovery.specs.Recovered.{IsRecovered}
-use Rattle.recovery.specs.Lives.{Life, taken_over, AreLives, IsSameOrNewer, VersionsRise}
+use Rattle.recovery.specs.Lives.{Life, taken_over, first_log, logs_of, AreLives, IsSameOrNewer, VersionsRise}
 
 -- what may follow once the key had this: the same, a greater version, or nothing above a greater safe version
 abbrev FollowsIn : ℕ → Versioned → Option Versioned → Type 0
@@ -105,19 +105,18 @@ module _ (k : Key) (x : Versioned) where
     follows : Follows st
     safe : x.version < st.safe
 
-  first_recovered : (l : Life) (ls : List Life) → AreLives (l ∷ ls) → IsRecovered l.log l.count l.recovered
-  first_recovered l [] lives = lives
-  first_recovered l (m ∷ ms) lives = lives.0
-
   -- a life that begins later
-  in_later : (l : Life) (ls : List Life) → AreLives (l ∷ ls) → IsLater l.log.opening → (m : Life) → IsAmong m (l ∷ ls)
-      → (b : ℕ) → Follows (state_after m.log b)
-  in_later l ls lives later m (inl same) b =
-      subst (λ (n : Life). Follows (state_after n.log b)) same
+  in_later : (ls : List Life) (on : LogData) → AreLives ls on → IsLater (first_log ls on).opening → (d : LogData) → IsAmong d (logs_of ls on)
+      → (b : ℕ) → Follows (state_after d b)
+  in_later [] on lives later d (inl same) b =
+      subst (λ (e : LogData). Follows (state_after e b)) same
+      (run_follows on.opening (take b (commands_of on.history)) later.follows)
+  in_later [] on lives later d (inr none) b = absurd none
+  in_later (l ∷ ls) on lives later d (inl same) b =
+      subst (λ (e : LogData). Follows (state_after e b)) same
       (run_follows l.log.opening (take b (commands_of l.log.history)) later.follows)
-  in_later l [] lives later m (inr among) b = absurd among
-  in_later l (n ∷ ns) lives later m (inr among) b =
-      in_later n ns lives.2 (subst IsLater (sym lives.1) next) m among b
+  in_later (l ∷ ls) on lives later d (inr among) b =
+      in_later ls on lives.2 (subst IsLater (sym lives.1) next) d among b
     where
       lt : x.version < l.recovered.safe
       lt = let le = lives.0.safe.no_lower in let above = later.safe in omega arith
@@ -148,10 +147,9 @@ followed : (k : Key) (x : Versioned) (safe : ℕ) (o : Option Versioned) (y : Ve
 followed k x safe o y is f = subst (FollowsIn safe x) is f
 
 pub versions_rise : VersionsRise
-versions_rise l [] m a b k x y lives among le had_x has_y = absurd among
-versions_rise l (n ∷ ns) m a b k x y lives among le had_x has_y =
-    followed k x (state_after m.log b).safe ((state_after m.log b).contents k) y has_y
-    (in_later k x n ns lives.2 (subst (IsLater k x) (sym lives.1) next) m among b)
+versions_rise l later on d a b k x y lives among le had_x has_y =
+    followed k x (state_after d b).safe ((state_after d b).contents k) y has_y
+    (in_later k x later on lives.2 (subst (IsLater k x) (sym lives.1) next) d among b)
   where
     commands : List Command
     commands = commands_of l.log.history

@@ -10,8 +10,8 @@ use Rattle.versioned_map.specs.declared.command.Command.TheVariants.{Get, Put, D
 use Rattle.versioned_map.specs.History.{commands_of}
 use Rattle.versioned_map.specs.Versioned.{State, is_met, after_command, after_put, after_delete, after}
 use Rattle.versioned_map.proofs.Keys.{at_other}
-use Rattle.log_model.specs.Data.{state_after}
-use Rattle.recovery.specs.Lives.{Life, AreLives, Spares, AllSpare, recovered_of, AcknowledgedOutlive}
+use Rattle.log_model.specs.Data.{LogData, state_after}
+use Rattle.recovery.specs.Lives.{Life, first_log, AreLives, Spares, AllSpare, recovered_of, AcknowledgedOutlive}
 
 module _ (k : Key) where
   put_spares : (st : State) (q : Key) (value : List ℕ) (o : Option Versioned) → (q ≡ k → ⊥)
@@ -49,13 +49,13 @@ module _ (k : Key) where
   rest_spares st (c ∷ cs) (suc a) spare = rest_spares (after_command st c) cs a spare
 
   -- a life that begins later, after lives that leave the key alone
-  later_has : (l : Life) (between : List Life) (m : Life) (later : List Life) → AreLives (l ∷ (between ++ m ∷ later))
+  later_has : (l : Life) (between later : List Life) (on : LogData) → AreLives (l ∷ (between ++ later)) on
       → ((n : Life) → IsAmong n between → AllSpare k (recovered_of n))
-      → m.log.opening.contents k ≡ (state_after l.log l.count).contents k
-  later_has l [] m later lives spare =
+      → (first_log later on).opening.contents k ≡ (state_after l.log l.count).contents k
+  later_has l [] later on lives spare =
       ap (λ (st : State). st.contents k) lives.1 ∙ ap (λ c. c k) lives.0.exactly
-  later_has l (n ∷ between) m later lives spare =
-      later_has n between m later lives.2 (λ p among. spare p (inr among))
+  later_has l (n ∷ between) later on lives spare =
+      later_has n between later on lives.2 (λ p among. spare p (inr among))
       ∙ run_spares n.log.opening (recovered_of n) (spare n (inl refl))
       ∙ ap (λ (st : State). st.contents k) lives.1 ∙ ap (λ c. c k) lives.0.exactly
 
@@ -66,8 +66,8 @@ take_within [] (suc a) (suc b) le = refl
 take_within (c ∷ cs) (suc a) (suc b) le = ap (λ l. c ∷ l) (take_within cs a b (omega arith))
 
 pub acknowledged_outlive : AcknowledgedOutlive
-acknowledged_outlive l between m later a b k lives le spare_l spare_between spare_m =
-    run_spares k m.log.opening (take b (commands_of m.log.history)) spare_m
-    ∙ later_has k l between m later lives spare_between
+acknowledged_outlive l between later on a b k lives le spare_l spare_between spare_later =
+    run_spares k (first_log later on).opening (take b (commands_of (first_log later on).history)) spare_later
+    ∙ later_has k l between later on lives spare_between
     ∙ rest_spares k l.log.opening (recovered_of l) a spare_l
     ∙ ap (λ cs. (after l.log.opening cs).contents k) (take_within (commands_of l.log.history) a l.count le)

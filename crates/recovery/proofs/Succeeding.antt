@@ -172,16 +172,21 @@ abbrev state_with : Origin → State
 state_with o = record { contents = contents_of o.objects; safe = o.safe }
 
 pub drilled_are_lives : DrilledAreLives
-drilled_are_lives start [] [] last are = tt
-drilled_are_lives start [] (l ∷ ls) last are = absurd are
-drilled_are_lives start (c ∷ cs) [] last are = absurd are
-drilled_are_lives start (c ∷ []) (l ∷ []) last are = are.1.drill.prefix.1
-drilled_are_lives start (c ∷ []) (l ∷ k ∷ ls) last are = absurd are.2
-drilled_are_lives start (c ∷ d ∷ cs) (l ∷ []) last are = absurd are.2
-drilled_are_lives start (c ∷ d ∷ cs) (l ∷ k ∷ ls) last are = (
+drilled_are_lives start [] [] last are steps answers now run = tt
+drilled_are_lives start [] (l ∷ ls) last are steps answers now run = absurd are
+drilled_are_lives start (c ∷ cs) [] last are steps answers now run = absurd are
+drilled_are_lives start (c ∷ []) (l ∷ []) last are steps answers now run = (are.1.drill.prefix.1, opening, tt)
+  where
+    opening : opening_of now.knows ≡ taken_over l.recovered
+    opening =
+        ap state_with (run_origin last now steps answers run ∙ ap (λ (w : World). w.knows.origin) are.2)
+        ∙ are.1.succeeds.adopted.opening
+drilled_are_lives start (c ∷ []) (l ∷ k ∷ ls) last are steps answers now run = absurd are.2
+drilled_are_lives start (c ∷ d ∷ cs) (l ∷ []) last are steps answers now run = absurd are.2
+drilled_are_lives start (c ∷ d ∷ cs) (l ∷ k ∷ ls) last are steps answers now run = (
   are.1.drill.prefix.1,
   opening,
-  drilled_are_lives are.0 (d ∷ cs) (k ∷ ls) last are.2,
+  drilled_are_lives are.0 (d ∷ cs) (k ∷ ls) last are.2 steps answers now run,
 )
   where
     opening : opening_of are.2.1.drill.stop.knows ≡ taken_over l.recovered

@@ -43,5 +43,5 @@ pub record IsDrill (start : World) (steps : List Step) (kept : List ℕ) (will :
       → NamesHeld (left_on (is_kept kept) left.picture) start.knows.config.master will order
       → IfErr recovered (λ e. IsLossOrMemory e × (
       BothSurvive (IsHome (log_of stop.knows)) (newest_opened (log_of stop.knows)) (shown_by left.picture)
-          stop.knows.config.master (is_kept kept)
+      stop.knows.config.master (is_kept kept)
       → IsWant e))

@@ -21,12 +21,22 @@ pub record Life : Type 0 where
 abbrev pub taken_over : Rebuilt → State
 taken_over r = record { contents = contents_of r.objects; safe = r.safe }
 
--- Each life ends in a recovery, and the next one begins with what was recovered.
-abbrev pub AreLives : List Life → Type 0
-AreLives [] = Unit {0}
-AreLives (l ∷ []) = IsRecovered l.log l.count l.recovered
-AreLives (l ∷ m ∷ ms) =
-    IsRecovered l.log l.count l.recovered × (m.log.opening ≡ taken_over l.recovered) × AreLives (m ∷ ms)
+-- the log of the first of these lives, or that of the life that goes on after them
+abbrev pub first_log : List Life → LogData → LogData
+first_log [] on = on
+first_log (l ∷ ls) on = l.log
+
+-- the logs of these lives, and that of the life that goes on after them
+abbrev pub logs_of : List Life → LogData → List LogData
+logs_of [] on = on ∷ []
+logs_of (l ∷ ls) on = l.log ∷ logs_of ls on
+
+-- Each of these lives ended in a recovery, and the next one begins with what was recovered. So does the life with this
+-- log, which goes on.
+abbrev pub AreLives : List Life → LogData → Type 0
+AreLives [] on = Unit {0}
+AreLives (l ∷ ls) on =
+    IsRecovered l.log l.count l.recovered × ((first_log ls on).opening ≡ taken_over l.recovered) × AreLives ls on
 
 -- the same version and value, or a greater version
 abbrev pub IsSameOrNewer : Versioned → Versioned → Type 0
@@ -50,18 +60,21 @@ recovered_of l = take l.count (commands_of l.log.history)
 -- ---- laws
 
 -- What a key has in a life, up to the records that were recovered, it has in each later life too, or a greater version,
--- or nothing. What came after those records is lost, and its versions may be given again.
+-- or nothing. The last of those is the life that goes on. What came after the records that were recovered is lost, and
+-- its versions may be given again.
 abbrev pub VersionsRise : Type 0
-VersionsRise = (l : Life) (later : List Life) (m : Life) (a b : ℕ) (k : Key) (x y : Versioned) → AreLives (l ∷ later)
-    → IsAmong m later → a ≤ l.count → (state_after l.log a).contents k ≡ Some x
-    → (state_after m.log b).contents k ≡ Some y → IsSameOrNewer x y
+VersionsRise = (l : Life) (later : List Life) (on d : LogData) (a b : ℕ) (k : Key) (x y : Versioned)
+    → AreLives (l ∷ later) on → IsAmong d (logs_of later on)
+    → a ≤ l.count → (state_after l.log a).contents k ≡ Some x
+    → (state_after d b).contents k ≡ Some y → IsSameOrNewer x y
 
--- What a key has after records that were recovered, the acknowledged ones among them, it has in each later life too,
--- unless a put or delete of it comes between: of those that were recovered, or in the later life itself.
+-- What a key has after records that were recovered, the acknowledged ones among them, it has in each later life too, up
+-- to the one that goes on, unless a put or delete of it comes between: of those that were recovered, or in the later
+-- life itself.
 abbrev pub AcknowledgedOutlive : Type 0
-AcknowledgedOutlive = (l : Life) (between : List Life) (m : Life) (later : List Life) (a b : ℕ) (k : Key)
-    → AreLives (l ∷ (between ++ m ∷ later)) → a ≤ l.count
+AcknowledgedOutlive = (l : Life) (between later : List Life) (on : LogData) (a b : ℕ) (k : Key)
+    → AreLives (l ∷ (between ++ later)) on → a ≤ l.count
     → AllSpare k (drop a (recovered_of l))
     → ((n : Life) → IsAmong n between → AllSpare k (recovered_of n))
-    → AllSpare k (take b (commands_of m.log.history))
-    → (state_after m.log b).contents k ≡ (state_after l.log a).contents k
+    → AllSpare k (take b (commands_of (first_log later on).history))
+    → (state_after (first_log later on) b).contents k ≡ (state_after l.log a).contents k

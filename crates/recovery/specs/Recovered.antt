@@ -19,6 +19,7 @@ use Rattle.replay.specs.declared.rebuilt.Rebuilt.{Rebuilt}
 use Rattle.replay.specs.Bags.{segments_bag}
 use Rattle.replay.specs.Rebuilt.{IsRebuilt}
 use Rattle.replay.specs.Rebuilds.{IsRebuildFault, NamesEach, count_of}
+use Rattle.replay.specs.Turns.{replayed}
 use Rattle.versioned_map.specs.History.{commands_of}
 use Rattle.log_model.specs.Data.{LogData, state_after, durable_of}
 use Rattle.versioned_map.specs.Versioned.{IsSafeAfter}
@@ -82,8 +83,8 @@ IsWant (fault.Replay refused) = IsReplayWant refused
 
 -- ---- any inventory, whatever it shows
 
--- What the log of a plan of the inventory stands for, with no key that the will sends nowhere, and by an order that
--- names each group once.
+-- What the log of a plan of the inventory stands for. The will divides the log, and sends each key somewhere. The groups
+-- are replayed in the order, which names each once: it is what they have, in their turn, that is rebuilt.
 pub record IsRebuiltFrom (inventory : List Holding) (master : ℕ) (will : List Part) (order : GroupOrder)
     (r : Rebuilt) : Type 0 where
   pub plan : Plan
@@ -91,6 +92,7 @@ pub record IsRebuiltFrom (inventory : List Holding) (master : ℕ) (will : List 
   pub covered : AreCovered will (segments_bag plan.segments)
   pub whole : NamesEach (count_of plan.segments will) (order_for plan will order)
   pub rebuilt : IsRebuilt plan.segments plan.safe r
+  pub turns : IsRebuilt (replayed plan.segments will (order_for plan will order)) plan.safe r
 
 -- The inventory has the fault: there is no plan of it, or the log of its plan is refused, by this will or this order.
 abbrev pub IsRefusedFrom : List Holding → ℕ → List Part → GroupOrder → RecoveryFault → Type 0

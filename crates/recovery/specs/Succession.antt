@@ -7,8 +7,10 @@ use Rattle.replay.specs.declared.rebuilt.Rebuilt.{Rebuilt}
 use Rattle.replay.specs.Adopting.{IsAdopted, IsAdoptedOn, DeclinesList}
 use Rattle.master_core.specs.declared.config.Config.{Config}
 use Rattle.master_core.specs.declared.step.Refusal.{Refusal}
+use Rattle.master_core.specs.declared.step.Step.{Step}
 use Rattle.master_core.specs.declared.step.StepAnswer.{StepAnswer}
 use Rattle.master_core.specs.Log.{log_of}
+use Rattle.master.specs.Steps.{IsRun}
 use Rattle.master.specs.Valid.{IsValid}
 use Rattle.master.specs.World.{World, world}
 use Rattle.recovery.specs.declared.recovery.RecoveryFault.{RecoveryFault}
@@ -115,7 +117,9 @@ lives_of start (c ∷ cs) (l ∷ ls) last are = life_of start c l are.0 are.1 �
 lives_of start [] (l ∷ ls) last are = []
 lives_of start (c ∷ cs) [] last are = []
 
--- Lives that were lived one after another each begin with what was recovered of the one before.
+-- Lives that were lived one after another each begin with what was recovered of the one before. So does the life that
+-- goes on, whatever steps it takes.
 abbrev pub DrilledAreLives : Type 0
 DrilledAreLives = (start : World) (cs : List Course) (ls : List Lived) (last : World) (are : AreLived start cs ls last)
-    → AreLives (lives_of start cs ls last are)
+    → (steps : List Step) (answers : List (Result StepAnswer Refusal)) (now : World) → IsRun last steps answers now
+    → AreLives (lives_of start cs ls last are) (log_of now.knows)

@@ -15,7 +15,8 @@ pub fn orders_name_groups()
     ensures { OrdersNameGroups }
 {}
 
-/// Over lives that each begin with what was recovered of the one before, the versions of a key rise.
+/// Over lives that each begin with what was recovered of the one before, up to the life that goes on, the versions of a
+/// key rise.
 pub fn versions_rise()
     ensures { VersionsRise }
 {}
@@ -25,7 +26,7 @@ pub fn acknowledged_outlive()
     ensures { AcknowledgedOutlive }
 {}
 
-/// Lives that `run_lives` lived follow one another, so the laws above hold of them.
+/// Lives that `run_lives` lived follow one another, and the life that goes on follows them. So the laws above hold of them.
 pub fn drilled_are_lives()
     ensures { DrilledAreLives }
 {}

@@ -8,6 +8,7 @@ ghost use Rattle.backup.specs.Division.{AreCovered};
 ghost use Rattle.replay.specs.Bags.{segments_bag};
 ghost use Rattle.replay.specs.Rebuilt.{IsRebuilt};
 ghost use Rattle.replay.specs.Rebuilds.{IsRebuildFault, CanBeRebuilt, NamesEach, count_of};
+ghost use Rattle.replay.specs.Turns.{replayed};
 ghost use Rattle.log_model.specs.Data.{LogData, IsHome, newest_opened};
 ghost use Rattle.log_model.specs.Sound.{IsSound};
 ghost use Rattle.recovery.specs.Orders.{order_for, Covers, NamesGroups};
@@ -51,6 +52,8 @@ fn rebuild_in(
     order: &GroupOrder,
 ) -> Result<Rebuilt, ReplayFault>
     ensures ok { IfOk result (IsRebuilt plan.now.segments plan.now.safe) }
+    ensures turns { IfOk result (IsRebuilt
+        (replayed plan.now.segments will.now (order_for plan.now will.now order.now)) plan.now.safe) }
     ensures covered { OnOk result (AreCovered will.now (segments_bag plan.now.segments)) }
     ensures order { OnOk result
         (NamesEach (count_of plan.now.segments will.now) (order_for plan.now will.now order.now)) }

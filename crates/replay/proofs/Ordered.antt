@@ -1,20 +1,22 @@
 -- What groups claim, in the order in which they are named.
-use Rattle.std.proofs.Common.{◌≡◌, ℕ, ◌+◌, ◌<◌, List, [], ◌∷◌, ◌++◌, map, length, get_or, take, sym, ap, subst, ◌∙◌, arith}
-use Rattle.std.specs.Prelude.{slice_index}
+use Rattle.std.proofs.Common.{◌≡◌, ℕ, ◌+◌, ◌<◌, List, [], ◌∷◌, ◌++◌, map, length, get_or, take, refl, sym, ap, subst, ◌∙◌, arith}
+use Rattle.std.specs.Prelude.{filter, slice_index, slice_index_or}
 use Rattle.std.specs.List.{flat_map}
 use Rattle.std.proofs.lemmas.Grind.{flat_map-append}
 use Rattle.std.proofs.lemmas.List.{append-nil, take_more, length-map, get_or_default}
 use Rattle.entry.specs.declared.entry.Entry.{Entry}
 use Rattle.entry.specs.Bag.{IsAmong}
+use Rattle.entry.specs.Text.{is_data}
 use Rattle.entry.specs.View.{shown}
 use Rattle.entry.proofs.BagLemmas.{among_at, among_place}
 use Rattle.backup.specs.declared.group.Group.{Group}
 use Rattle.backup.specs.Groups.{Grouped, grouped, bag_of}
 use Rattle.replay.specs.Claims.{Claimed, claims_of}
 use Rattle.replay.specs.Rebuilds.{NamesEach}
-use Rattle.replay.specs.Turns.{AreOf}
+use Rattle.replay.specs.Bags.{segments_bag}
+use Rattle.replay.specs.Turns.{AreOf, entries_in_turn}
 use Rattle.replay.proofs.AllGroups.{claims_within}
-use Rattle.replay.proofs.GatheringLemmas.{claims_of-append}
+use Rattle.replay.proofs.GatheringLemmas.{claims_of-append, claims_of-data}
 use Rattle.replay.proofs.Members.{flat_among, among_flat, map_at}
 
 abbrev none : Grouped
@@ -68,3 +70,18 @@ module _ (gs : List Grouped) (order : List ℕ) (names : NamesEach (length gs) o
     λ m. claims_within _ _ to_bag c (subst (IsAmong c) is m),
     λ m. subst (IsAmong c) (sym is) (claims_within _ _ from_bag c m),
   )
+
+-- what the named groups claim is what their entries do
+pub claims_in_turn : (gs : List Grouped) (order : List ℕ) → claims_named gs order ≡ claims_of (segments_bag (entries_in_turn gs order))
+claims_in_turn gs [] = refl
+claims_in_turn gs (n ∷ ns) =
+    let here : List Entry = slice_index_or (map (λ (g : Grouped). g.entries) gs) n [] in
+    let same : entries_at gs n ≡ here = sym (map_at (λ (g : Grouped). g.entries) gs n none) in
+    claims_of-append (entries_at gs n) (flat_map (entries_at gs) ns)
+    ∙ (λ i. claims_of (same i) ++ claims_in_turn gs ns i)
+    ∙ sym (claims_of-append (filter is_data here) (segments_bag (entries_in_turn gs ns))
+    ∙ ap (λ (cs : List Claimed). cs ++ claims_of (segments_bag (entries_in_turn gs ns))) (claims_of-data here))
+
+-- claims that are just those of the entries
+pub are_claims : (es : List Entry) (cs : List Claimed) → cs ≡ claims_of es → AreOf es cs
+are_claims es cs is c = (λ m. subst (IsAmong c) is m, λ m. subst (IsAmong c) (sym is) m)

@@ -1,6 +1,6 @@
 -- All groups of a log, the order in which they come, and what they claim.
 use Rattle.std.specs.Prelude.{◌≡◌, ℕ, ◌<◌, ◌≤◌, ◌↔◌, List, length, slice_index, ⊤}
-use Rattle.std.specs.Prelude.{◌≢◌, Bool, true, false, slice_index_or}
+use Rattle.std.specs.Prelude.{◌≢◌, Bool, true, false, slice_index_or, map, []}
 use Rattle.std.specs.List.{flat_map}
 use Rattle.entry.specs.declared.entry.Entry.{Entry}
 use Rattle.entry.specs.Bag.{IsAmong}
@@ -21,6 +21,15 @@ use Rattle.replay.specs.declared.fault.ReplayFault.TheVariants as fault
 -- the groups of the segments, in order
 abbrev pub all_groups : List Part → List (List Entry) → List Grouped
 all_groups qs segments = flat_map (λ (es : List Entry). groups_of qs (id_of es) es) segments
+
+-- what the groups with these numbers have, in the order of the numbers
+abbrev pub entries_in_turn : List Grouped → List ℕ → List (List Entry)
+entries_in_turn groups order =
+    map (λ (n : ℕ). slice_index_or (map (λ (g : Grouped). g.entries) groups) n []) order
+
+-- what is replayed: the groups of the segments, divided by the will, in this order
+abbrev pub replayed : List (List Entry) → List Part → List ℕ → List (List Entry)
+replayed segments qs order = entries_in_turn (all_groups qs segments) order
 
 -- each key of the segments has a partition
 abbrev pub AreAllCovered : List Part → List (List Entry) → Type 0

@@ -6,10 +6,10 @@ ghost use Rattle.entry.specs.Meaning.{IsClean, among};
 ghost use Rattle.backup.specs.Division.{AreCovered};
 ghost use Rattle.backup.specs.Groups.{grouped, bag_of};
 ghost use Rattle.replay.specs.Bags.{segments_bag};
-ghost use Rattle.replay.specs.Claims.{claimed};
+ghost use Rattle.replay.specs.Claims.{claimed, claims_of};
 ghost use Rattle.replay.specs.Rebuilds.{IsRebuildFault, CanBeRebuilt, NamesEach, count_of, ids_of};
 ghost use Rattle.replay.specs.Rebuilt.{IsRebuilt};
-ghost use Rattle.replay.specs.Turns.{all_groups, AreAllCovered, AreApart, AreMarked, AreOf};
+ghost use Rattle.replay.specs.Turns.{all_groups, entries_in_turn, replayed, AreAllCovered, AreApart, AreMarked, AreOf};
 ghost use Rattle.replay.specs.Turns.{IsGroupsFault, IsIdsFault, IsOrderFault};
 
 use crate::claim::Claim;
@@ -143,7 +143,9 @@ fn claims_in_order<'a>(
     order: &[usize],
 ) -> Result<Vec<Claim<'a>>, NoMemory>
     requires { NamesEach (length groups.now) order.now }
-    ensures { IfOk result (λ claims. AreOf (bag_of (map grouped groups.now)) (map claimed claims.items)) }
+    ensures of { IfOk result (λ claims. AreOf (bag_of (map grouped groups.now)) (map claimed claims.items)) }
+    ensures turns { IfOk result (λ claims. map claimed claims.items ≡
+        claims_of (segments_bag (entries_in_turn (map grouped groups.now) order.now))) }
 {
     let mut claims = Vec::with_capacity(alloc, count_entries(groups))?;
     for n in order {
@@ -160,6 +162,8 @@ fn claims_divided<'a>(
     order: &[usize],
 ) -> Result<Vec<Claim<'a>>, ReplayFault>
     ensures ok { IfOk result (λ claims. AreOf (segments_bag segments.entry.now) (map claimed claims.items)) }
+    ensures turns { IfOk result (λ claims. map claimed claims.items ≡
+        claims_of (segments_bag (replayed segments.entry.now will.now order.now))) }
     ensures covered { OnOk result (AreCovered will.now (segments_bag segments.entry.now)) }
     ensures order { OnOk result (NamesEach (count_of segments.entry.now will.now) order.now) }
     ensures fault { IfErr result (IsRebuildFault segments.entry.now will.now order.now) }
@@ -192,6 +196,7 @@ pub fn rebuild(
     order: &[usize],
 ) -> Result<Rebuilt, ReplayFault>
     ensures ok { IfOk result (IsRebuilt plan.now.segments plan.now.safe) }
+    ensures turns { IfOk result (IsRebuilt (replayed plan.now.segments will.now order.now) plan.now.safe) }
     ensures clean { OnOk result (IsClean (among (segments_bag plan.now.segments))) }
     ensures covered { OnOk result (AreCovered will.now (segments_bag plan.now.segments)) }
     ensures order { OnOk result (NamesEach (count_of plan.now.segments will.now) order.now) }

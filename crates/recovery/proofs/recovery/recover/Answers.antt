@@ -22,6 +22,7 @@ returns-in-Ok-rebuild_in-clause-rebuilt c = record {
   covered = c.in-Ok-rebuild_in.ensures.covered;
   whole = c.in-Ok-rebuild_in.ensures.order;
   rebuilt = c.in-Ok-rebuild_in.ensures.ok;
+  turns = c.in-Ok-rebuild_in.ensures.turns;
 }
 
 pub returns-clause-refused : goal.returns-clause-refused

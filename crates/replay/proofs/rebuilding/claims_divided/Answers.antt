@@ -1,8 +1,9 @@
 use Rattle.std.proofs.Common.{rules, ◌∙◌, List, map, length, ap, subst, sym}
 use Rattle.backup.specs.Groups.{Grouped, grouped, bag_of}
-use Rattle.replay.specs.Claims.{claimed}
+use Rattle.replay.specs.Bags.{segments_bag}
+use Rattle.replay.specs.Claims.{claimed, claims_of}
 use Rattle.replay.specs.Rebuilds.{IsRebuildFault, NamesEach, count_of}
-use Rattle.replay.specs.Turns.{IsIdsFault, IsOrderFault, AreOf}
+use Rattle.replay.specs.Turns.{entries_in_turn, IsIdsFault, IsOrderFault, AreOf}
 use Rattle.std.proofs.lemmas.List.{length-map}
 use Rattle.replay.proofs.AllGroups.{order_fault, groups_fault, claims_same, all_covered, names_log}
 use Rattle.replay.proofs.Twins.{ids_fault}
@@ -54,7 +55,7 @@ returns-clause-ok c =
     claims_same qs segments (map claimed c.in_ok-claims_in_order.field-0.items) c.partitions-count.ensures.valid
     c.in_ok-groups.ensures.covered
     (subst (λ (hs : List Grouped). AreOf (bag_of hs) (map claimed c.in_ok-claims_in_order.field-0.items)) gs
-    c.in_ok-claims_in_order.ensures)
+    c.in_ok-claims_in_order.ensures.of)
 
 pub returns-clause-covered : goal.returns-clause-covered
 returns-clause-covered c =
@@ -65,3 +66,9 @@ returns-clause-order c =
     let gs = ap (map grouped) c.as_slice.ensures.value ∙ c.in_ok-groups.ensures.ok in
     names_log c.args.will.now c.args.segments.now c.args.order.now (length c.as_slice.result.now)
     (sym (length-map c.as_slice.result.now grouped) ∙ ap length gs) c.in_ok-check_order.ensures.ok
+
+pub returns-clause-turns : goal.returns-clause-turns
+returns-clause-turns c =
+    let gs = ap (map grouped) c.as_slice-3.ensures.value ∙ c.in_ok-groups.ensures.ok in
+    c.in_ok-claims_in_order.ensures.turns
+    ∙ ap (λ (hs : List Grouped). claims_of (segments_bag (entries_in_turn hs c.args.order.now))) gs

@@ -7,7 +7,7 @@ use Rattle.backup.specs.Groups.{grouped}
 use Rattle.replay.specs.Claims.{claimed, claims_of}
 use Rattle.replay.specs.Rebuilds.{NamesEach}
 use Rattle.replay.proofs.Carried.{number_inside}
-use Rattle.replay.proofs.Ordered.{claims_named, named_more, all_named}
+use Rattle.replay.proofs.Ordered.{claims_named, claims_in_turn, named_more, all_named}
 use Rattle.replay.proofs.rebuilding.claims_in_order.Goals as goal
 
 pub offset_bounds-groups-n : goal.offset_bounds-groups-n
@@ -31,10 +31,16 @@ loop-n-preserved c =
     (c.as_slice.ensures.value ∙ ap (λ (g : Group). g.entries.items) (sym c.index-groups-n.is)))
     c.loop-n.invariant
 
-pub returns : goal.returns
-returns c =
+pub returns-clause-of : goal.returns-clause-of
+returns-clause-of c =
     all_named (map grouped c.args.groups.now) c.args.order.now
     (subst (λ m. NamesEach m c.args.order.now) (sym (length-map c.args.groups.now grouped)) c.requires)
     (map claimed c.loop-n.claims.items)
     (c.loop-n.invariant ∙ ap (claims_named (map grouped c.args.groups.now))
     (take_all c.loop-n.n-index c.args.order.now c.loop-n-test.false))
+
+pub returns-clause-turns : goal.returns-clause-turns
+returns-clause-turns c =
+    c.loop-n.invariant
+    ∙ ap (claims_named (map grouped c.args.groups.now)) (take_all c.loop-n.n-index c.args.order.now c.loop-n-test.false)
+    ∙ claims_in_turn (map grouped c.args.groups.now) c.args.order.now

@@ -4,11 +4,12 @@ use Rattle.entry.specs.declared.entry.Entry.{Entry}
 use Rattle.entry.specs.Meaning.{IsClean, among}
 use Rattle.replay.specs.declared.fault.ReplayFault.TheVariants as fault
 use Rattle.replay.specs.Bags.{segments_bag}
-use Rattle.replay.specs.Claims.{claimed}
+use Rattle.replay.specs.Claims.{claimed, claims_of}
 use Rattle.replay.specs.Rebuilt.{IsRebuilt}
 use Rattle.replay.specs.Rebuilds.{IsRebuildFault, CanBeRebuilt}
-use Rattle.replay.specs.Turns.{AreOf, AreRebuilt, AreCleanClaims, AreRefused}
+use Rattle.replay.specs.Turns.{AreOf, AreRebuilt, AreCleanClaims, AreRefused, replayed}
 use Rattle.replay.proofs.Carried.{if_ok, if_err, on_ok}
+use Rattle.replay.proofs.Ordered.{are_claims}
 use Rattle.replay.proofs.Wholes.{only_memory, refusal_fault}
 use Rattle.replay.proofs.rebuilding.rebuild.Goals.{After-from_residual, After-settle}
 use Rattle.replay.proofs.rebuilding.rebuild.Goals as goal
@@ -55,6 +56,16 @@ returns-clause-ok c =
     let cs = map claimed c.in_ok-claims.claims.items in
     if_ok (AreRebuilt cs c.args.plan.now.safe) (IsRebuilt c.args.plan.now.segments c.args.plan.now.safe) _
     (λ r h. h c.args.plan.now.segments (found all)) c.settle.ensures.ok
+
+pub returns-clause-turns : goal.returns-clause-turns
+returns-clause-turns c =
+    let cs = map claimed c.in_ok-claims.claims.items in
+    let taken = replayed c.args.plan.now.segments c.args.will.now c.args.order.now in
+    let here : cs ≡ claims_of (segments_bag taken) =
+    subst (λ (ss : List (List Entry)). cs ≡ claims_of (segments_bag (replayed ss c.args.will.now c.args.order.now)))
+    c.as_slice.ensures c.in_ok-claims.ensures.turns in
+    if_ok (AreRebuilt cs c.args.plan.now.safe) (IsRebuilt taken c.args.plan.now.safe) _
+    (λ r h. h taken (are_claims (segments_bag taken) cs here)) c.settle.ensures.ok
 
 pub returns-clause-clean : goal.returns-clause-clean
 returns-clause-clean c =
