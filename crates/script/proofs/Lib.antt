@@ -11,6 +11,7 @@ pub mod Willed
 pub mod LongerLives
 pub mod Succeeding
 pub mod Retired
+pub mod HowItEnds
 pub mod NextLife
 pub mod Turning
 pub mod Fronts

@@ -1,7 +1,8 @@
 -- Recoveries, told of the life that ends and of the one that begins.
 use Rattle.std.proofs.Common.{◌≡◌, ℕ, suc, ◌≤◌, max, List, [], ◌∷◌, length, inl, inr, refl, sym, ap, subst, ◌∙◌, arith}
 use Rattle.std.proofs.lemmas.List.{append-nil}
-use Rattle.std.specs.Prelude.{Option, Some, None}
+use Rattle.std.proofs.lemmas.Option.{same_Some}
+use Rattle.std.specs.Prelude.{Option, Some, None, Err}
 use Rattle.backup.specs.State.{fleet_state}
 use Rattle.backup.specs.declared.fleet.MemoryFleet.{MemoryFleet}
 use Rattle.command_line.specs.declared.settings.Options.{Options}
@@ -10,10 +11,12 @@ use Rattle.lines.specs.Grammar.{Recover}
 use Rattle.lines.specs.declared.line.ReplayOrder.{ReplayOrder}
 use Rattle.replay.specs.declared.rebuilt.Rebuilt.{Rebuilt}
 use Rattle.replica.specs.declared.holding.Holding.{Holding}
+use Rattle.replica.specs.declared.op.TakeFault.{TakeFault}
+use Rattle.replica.specs.declared.op.TakeFault.TheVariants as take_fault
 use Rattle.replica.specs.Picture.{Replica, Picture, FleetState, AreHeld}
 use Rattle.versioned_map.specs.declared.command.Record.{Record}
 use Rattle.master.specs.Valid.{IsValid}
-use Rattle.master.specs.World.{MasterValue}
+use Rattle.master.specs.World.{MasterValue, World, world}
 use Rattle.master_core.specs.declared.config.Config.{Config}
 use Rattle.master_core.specs.declared.step.Refusal.{Refusal}
 use Rattle.master_core.specs.declared.step.Refusal.TheVariants as refusal
@@ -23,14 +26,16 @@ use Rattle.script.specs.declared.answer.Answer.{Answer}
 use Rattle.script.specs.declared.answer.Answer.TheVariants as answer
 use Rattle.script.specs.declared.node.Node.{Node}
 use Rattle.script.specs.declared.node.Node.TheVariants.{Up, Down}
-use Rattle.replay.specs.Adopting.{IsAdopted, IsAdoptedOn, DeclinesList}
+use Rattle.replay.specs.Adopting.{IsAdopted, IsAdoptedOn}
 use Rattle.script.specs.Configuration.{config_of}
 use Rattle.script.specs.Lives.{life_to, HasLived, Left, left_now}
 use Rattle.script.specs.Numbers.{greatest_of}
-use Rattle.script.specs.Served.{Adopts, AnswersLine, BeginsNext, HasNoOther, IsCut, IsFoundIn, IsLeftOf, IsNodeAt, IsOf, IsSpent, Refuses, RetiresOthers, SparesOthers}
-use Rattle.script.specs.Served.{life_of, refusal_answer, standing_of}
+use Rattle.script.specs.Recoveries.{Adopts, BeginsNext, EndsFreeing, Frees, HasNoOther, IsCut, IsDeclined, IsDownOn, IsFoundIn, RetiresOthers}
+use Rattle.script.specs.Recoveries.{after_answer, fault_answer, standing_of}
+use Rattle.script.specs.Served.{AnswersLine, IsLeftOf, IsNodeAt, IsOf, IsSpent, Refuses, life_of, refusal_answer}
 use Rattle.script.specs.Succession.{EndsRecovery}
-use Rattle.script.specs.Told.{Position, IsUnadopted, Tells}
+use Rattle.script.specs.Told.{HoldsLeft, Position, IsUnadopted, Tells}
+use Rattle.script.proofs.HowItEnds.{after_backups, after_picture, down_final}
 use Rattle.script.proofs.Standing.{legal_of}
 
 -- ---- numbers
@@ -55,15 +60,15 @@ next_unused hs p master number held is b s = go (p b number s) refl
 -- ---- what is left
 
 -- another master's replicas alone changed
-pub spared_left : (d : MasterData) (l : Left) (old new : FleetState) (other : ℕ) → (d.config.master ≡ other → ⊥) → SparesOthers old other new
-    → IsLeftOf d l old → IsLeftOf d l new
-spared_left d l old new other apart spares of = record {
+pub spared_left : (d : MasterData) (l : Left) (old mid new : FleetState) (other : ℕ) → (d.config.master ≡ other → ⊥) → IsAdoptedOn other old mid
+    → new.picture ≡ mid.picture → new.backups ≡ mid.backups → IsLeftOf d l old → IsLeftOf d l new
+spared_left d l old mid new other apart on picture backups of = record {
   crashed = of.crashed;
   valid = of.valid;
   picture = of.picture;
   opened = of.opened;
-  shown = λ b s. spares.others b d.config.master s apart ∙ of.shown b s;
-  backups = let was = of.backups in let same = spares.backups in omega arith;
+  shown = λ b s. ap (λ (p : Picture). p b d.config.master s) picture ∙ on.others b d.config.master s apart ∙ of.shown b s;
+  backups = let was = of.backups in let same = on.backups in let last = backups in omega arith;
 }
 
 -- ---- an adoption that is refused, and a retirement that is cut short
@@ -72,25 +77,11 @@ abbrev fleet_in : MemoryFleet → Node → MemoryFleet
 fleet_in other (Down f) = f
 fleet_in other n = other
 
-pub list_declined : (given left final : MemoryFleet) (r : Rebuilt) (config : Config) (why : Refusal) (a : Answer)
-    → IsAdoptedOn config.master (fleet_state given) (fleet_state left) → DeclinesList config r (fleet_state given) why (fleet_state left)
-    → (fleet_state final).picture ≡ (fleet_state left).picture → (fleet_state final).backups ≡ (fleet_state left).backups → a ≡ refusal_answer why
-    → Adopts given r config (Down final) (Some a)
-list_declined given left final r config why a on declines picture backups told = (
-  final,
-  refl,
-  record {
-    backups = backups ∙ on.backups;
-    others = λ b m s other. ap (λ (p : Picture). p b m s) picture ∙ on.others b m s other;
-  },
-  (why, (fleet_state given, fleet_state left, declines), told),
-)
-
 -- an adoption from a node that is down is one from its fleet
 pub adopts_down : (self new : Node) (given : MemoryFleet) (r : Rebuilt) (config : Config) (o : Option Answer) → self ≡ Down given
-    → Adopts given r config new o → (fleet : MemoryFleet) → self ≡ Down fleet → Adopts fleet r config new o
+    → Adopts (fleet_state given) r config new o → (fleet : MemoryFleet) → self ≡ Down fleet → Adopts (fleet_state fleet) r config new o
 adopts_down self new given r config o down adopts fleet is =
-    subst (λ (x : MemoryFleet). Adopts x r config new o) (ap (fleet_in given) (sym down ∙ is)) adopts
+    subst (λ (x : MemoryFleet). Adopts (fleet_state x) r config new o) (ap (fleet_in given) (sym down ∙ is)) adopts
 
 pub cut_spent : (d : MasterData) (m : MasterValue MemoryFleet) (new : Node) (a : Answer) → m.knows ≡ d → IsValid d (fleet_state m.fleet)
     → IsSpent (fleet_state m.fleet) → Refuses (Up m) refusal.Spent new a → RetiresOthers d new (Some a)
@@ -101,6 +92,22 @@ cut_spent d m new a same valid spent (inr (is, why, dropped, lifted)) = (
   dropped d (fleet_state m.fleet) (refl, same, valid) refl,
   subst (λ (x : Answer). IsCut (fleet_state m.fleet) x) (sym is) spent,
 )
+
+-- the same, of its fleet
+pub cut_freeing : (old : World) (m : MasterValue MemoryFleet) (new : Node) (a : Answer) (why : TakeFault) → Frees old (Err why) (world fleet_state m)
+    → why ≡ take_fault.Spent → Refuses (Up m) refusal.Spent new a → EndsFreeing old new (Some a)
+cut_freeing old m new a why frees is (inl (told, unspent, stays)) = absurd (unspent refl)
+cut_freeing old m new a why frees is (inr (told, spent, dropped, lifted)) = (
+  why,
+  world fleet_state m,
+  frees,
+  told ∙ ap fault_answer (sym is),
+  subst (λ (x : Answer). IsDownOn (after_answer x (fleet_state m.fleet)) new) (sym told) lifted,
+)
+
+pub unspent_fault : (why : TakeFault) → (why ≡ take_fault.Spent → ⊥) → fault_answer why ≡ answer.NotRetired why
+unspent_fault take_fault.Spent unspent = absurd (unspent refl)
+unspent_fault why unspent = refl
 
 -- no refusal is told as spent numbers
 pub not_of_refusal : (r : Refusal) → refusal_answer r ≡ answer.NumbersSpent → ⊥
@@ -139,25 +146,35 @@ module _ (fleet : MemoryFleet) (options : Options) (master : ℕ) (r : Rebuilt) 
   declined d at s why un = inr (inr (λ is. cc, un))
 
   -- the table is not adopted
-  pub declined_told : (new : Node) (a : Answer) → Adopts fleet r config new (Some a) → AnswersLine old (config_of options master) (Recover order) new a
-  declined_told new a (left, is, spares, (why, cause, told)) d at s =
+  pub declined_told : (new : Node) (a : Answer) → IsDeclined (fleet_state fleet) r config new a
+      → AnswersLine old (config_of options master) (Recover order) new a
+  declined_told new a refused d at s =
       let before = was d at s in
       let l = before.node_of.0 in
       let table = found.table d at before in
+      let final = down_final new (after_answer a refused.left) refused.down in
+      let holds : HoldsLeft (config_of options master) table.0 (fleet_state fleet) =
+      subst (λ (k : Left). HoldsLeft (config_of options master) k (fleet_state fleet)) (same_Some l table.0 (sym before.node_of.1 ∙ table.1))
+      (subst (λ (c : Config). HoldsLeft c l (fleet_state fleet)) s.configured before.node_of.2.shown) in
       let apart : d.config.master ≡ config.master → ⊥ =
       λ same. (let here = ap (λ (c : Config). c.master) s.configured in let up = found.greater in absurd (omega arith)) in (
         d,
         at,
         record {
-          node_of = subst (λ (n : Node). IsOf n at.left d) (sym is)
-              (l, before.node_of.1, spared_left d l (fleet_state fleet) (fleet_state left) config.master apart spares before.node_of.2);
+          node_of = subst (λ (n : Node). IsOf n at.left d) (sym final.1) (
+            l,
+            before.node_of.1,
+            spared_left d l (fleet_state fleet) refused.left (fleet_state final.0) config.master apart refused.on
+                (ap (λ (f : FleetState). f.picture) final.2 ∙ after_picture a refused.left)
+                (ap (λ (f : FleetState). f.backups) final.2 ∙ after_backups a refused.left) before.node_of.2,
+          );
           configured = s.configured;
           made = s.made;
           acknowledged = s.acknowledged;
         },
         ([], refl, sym (append-nil d.history)),
-        subst (λ (x : Answer). Tells (config_of options master) (life_of d) at (Recover order) x at) (sym told)
-            (declined d at s why ((order, refl), (table.0, table.1, r, table.2, config, (found.greater, found.configured), cause), refl)),
+        subst (λ (x : Answer). Tells (config_of options master) (life_of d) at (Recover order) x at) (sym refused.told)
+            (declined d at s refused.why ((order, refl), (table.0, table.1, r, table.2, config, (found.greater, found.configured), (fleet_state fleet, refused.left, holds, refused.declines)), refl)),
       )
 
   -- it is adopted

@@ -1,6 +1,6 @@
 -- What is left of a fleet whose other masters are retired: nothing of theirs.
 use Rattle.std.proofs.Common.{◌≡◌, ℕ, List, [], ◌∷◌, Bool, true, false, inl, inr, refl, sym, ap, subst, ◌∙◌}
-use Rattle.std.specs.Prelude.{Option, Some, None, Ok, Err, IsSome, nat_lt, ◌&&◌, if◌then◌else◌}
+use Rattle.std.specs.Prelude.{Option, Some, None, Result, Ok, Err, IsSome, nat_lt, ◌&&◌, if◌then◌else◌}
 use Rattle.std.proofs.lemmas.Bool.{eq-eqb}
 use Rattle.std.proofs.lemmas.Option.{same_Some}
 use Rattle.entry.specs.Bag.{IsAmong}
@@ -9,9 +9,10 @@ use Rattle.replica.specs.declared.op.TakeFault.TheVariants as take_fault
 use Rattle.replica.specs.declared.spot.Spot.{Spot}
 use Rattle.replica.specs.Op.{Free}
 use Rattle.replica.specs.Picture.{Replica, FleetState, is_same_place, with_replica}
-use Rattle.replica.specs.Take.{effect, with_effect, Takes}
+use Rattle.replica.specs.Take.{effect, with_effect, Takes, Refuses}
 use Rattle.replica.specs.Retire.{freeing, TakesEach, Retires}
-use Rattle.script.specs.Served.{HasNoOther, IsSpent}
+use Rattle.script.specs.Recoveries.{HasNoOther}
+use Rattle.script.specs.Served.{IsSpent}
 
 -- ---- one replica
 
@@ -73,3 +74,34 @@ spent_retire old new keep why retires is = go (subst (λ (e : TakeFault). Retire
     go : Retires old keep (Err take_fault.Spent) new → IsSpent new
     go (inl (spots, others, ends)) = subst (λ (f : FleetState). IsSpent f) (sym ends.refused.1) ends.refused.0
     go (inr (none, same)) = absurd (cc)
+
+-- ---- the limit
+
+free_end : (f : FleetState) (x : Spot) (o : Option Replica) (g : FleetState) → with_effect f x.backup (freeing x) (effect Free o) ≡ Some g → g.end ≡ f.end
+free_end f x None g is = absurd (cc)
+free_end f x (Some r) g is = ap (λ (h : FleetState). h.end) (sym (same_Some _ g is))
+
+taken_end : (f : FleetState) (x : Spot) (g : FleetState) → Takes f x.backup (freeing x) g → g.end ≡ f.end
+taken_end f x g takes = go (nat_lt x.backup f.backups) takes.1 where
+  go : (t : Bool) → (if t then with_effect f x.backup (freeing x) (effect Free (f.picture x.backup x.master x.segment)) else None) ≡ Some g
+      → g.end ≡ f.end
+  go true is = free_end f x (f.picture x.backup x.master x.segment) g is
+  go false is = absurd (cc)
+
+each_end : (old new : FleetState) (spots : List Spot) → TakesEach old spots new → new.end ≡ old.end
+each_end old new [] each = ap (λ (f : FleetState). f.end) each
+each_end old new (x ∷ xs) each = each_end each.0 new xs each.2 ∙ taken_end old x each.0 each.1
+
+refused_end : (f g : FleetState) (x : Spot) (fault : TakeFault) → Refuses f x.backup (freeing x) fault g → g.end ≡ f.end
+refused_end f g x take_fault.NoMemory is = ap (λ (h : FleetState). h.end) is
+refused_end f g x take_fault.Wrong is = ap (λ (h : FleetState). h.end) is.1
+refused_end f g x take_fault.Fault (inl is) = ap (λ (h : FleetState). h.end) is
+refused_end f g x take_fault.Fault (inr took) = ap (λ (h : FleetState). h.end) took.2 ∙ taken_end f x took.0 took.1
+refused_end f g x take_fault.Spent is = ap (λ (h : FleetState). h.end) is.1
+
+-- retiring others leaves the limit as it is
+pub retire_keeps_end : (old new : FleetState) (keep : ℕ) (freed : Result Unit TakeFault) → Retires old keep freed new → new.end ≡ old.end
+retire_keeps_end old new keep (Ok u) (spots, others, frees) = each_end old new spots frees.each
+retire_keeps_end old new keep (Err why) (inl (spots, others, ends)) =
+    refused_end ends.mid new ends.next why ends.refused ∙ each_end old ends.mid ends.front ends.freed.each
+retire_keeps_end old new keep (Err why) (inr (none, same)) = ap (λ (f : FleetState). f.end) same

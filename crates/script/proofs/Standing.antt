@@ -1,5 +1,5 @@
 -- Where a node stands, and lines that make no record.
-use Rattle.std.proofs.Common.{◌≡◌, ℕ, suc, ◌≤◌, true, false, List, [], ◌∷◌, ◌++◌, length, take, refl, sym, ap, ◌∙◌, arith}
+use Rattle.std.proofs.Common.{◌≡◌, ℕ, suc, ◌≤◌, true, false, List, [], ◌∷◌, ◌++◌, length, take, refl, sym, ap, inl, ◌∙◌, arith}
 use Rattle.std.proofs.lemmas.List.{append-nil, length-append}
 use Rattle.std.proofs.Math.Seq.{take-length}
 use lib.Seq.{take-append_seam}
@@ -176,4 +176,4 @@ ok_of_no_err (Err e) P none all = absurd (cc)
 pub want_at : (node : Node) (config : Config) (order : ReplayOrder) → is_up node ≡ false
     → AnswersLine node config (Recover order) node (answer.NotRecovered (fault.Plan plan_fault.NoMemory))
 want_at node config order down =
-    stays_told node config (Recover order) (answer.NotRecovered (fault.Plan plan_fault.NoMemory)) (λ d at s. let l = is_down_some node d at.left down s.node_of in ((order, refl), l.0, l.1, (tt, λ both. tt), refl))
+    stays_told node config (Recover order) (answer.NotRecovered (fault.Plan plan_fault.NoMemory)) (λ d at s. let l = is_down_some node d at.left down s.node_of in ((order, refl), l.0, l.1, (tt, inl tt, λ both. tt), refl))

@@ -24,7 +24,8 @@ use Rattle.command_line.specs.declared.settings.Options.{Options}
 use Rattle.lines.specs.Grammar.{LineValue, Recover}
 use Rattle.script.specs.Configuration.{config_of}
 use Rattle.script.specs.Lives.{Life}
-use Rattle.script.specs.Served.{BeginsSession, AnswersLine, IsNodeAt, IsCovered, RunsLine, Stands, life_of, standing_of}
+use Rattle.script.specs.Recoveries.{RunsLine, standing_of}
+use Rattle.script.specs.Served.{BeginsSession, AnswersLine, IsNodeAt, IsCovered, Stands, life_of}
 use Rattle.script.specs.Texts.{answer_text}
 use Rattle.script.specs.Succession.{Standing, at_first, Succeeds, Moves, AreTelling, TellLives}
 use Rattle.script.specs.Told.{Told, Position, at_start, Tells}

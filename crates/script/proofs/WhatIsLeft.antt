@@ -1,5 +1,5 @@
 -- Crashes, losses and recoveries, told of what is left of a master.
-use Rattle.std.proofs.Common.{◌≡◌, ℕ, ◌≤◌, Bool, true, false, cond, List, [], ◌∷◌, refl, sym, ap, subst, inl, inr, ◌∙◌, arith}
+use Rattle.std.proofs.Common.{◌≡◌, ◌⊎◌, ℕ, ◌≤◌, Bool, true, false, cond, List, [], ◌∷◌, refl, sym, ap, subst, inl, inr, ◌∙◌, arith}
 use Rattle.std.specs.declared.alloc.AllocError.{AllocError}
 use Rattle.std.proofs.lemmas.List.{append-nil}
 use Rattle.std.specs.Prelude.{ℕ, Option, Some, None, not, ◌==◌, ◌||◌, ◌↔◌, Result, Ok, Err, IfOk}
@@ -26,7 +26,8 @@ use Rattle.recovery.specs.Kept.{is_kept}
 use Rattle.recovery.specs.Orders.{Covers, NamesGroups}
 use Rattle.recovery.specs.declared.order.GroupOrder.{GroupOrder}
 use Rattle.tablet_will.specs.declared.part.Part.{Part}
-use Rattle.recovery.specs.Recovered.{Shows, IsRecovered, IsRebuiltFrom}
+use Rattle.recovery.specs.Recovered.{Shows, IsRecovered, IsRebuiltFrom, IsRefusedFrom, IsLossOrMemory, IsWant}
+use Rattle.recovery_plan.specs.Planned.{IsPlanFault, NamesLoss}
 use Rattle.recovery.specs.declared.recovery.RecoveryFault.{RecoveryFault}
 use Rattle.recovery.specs.declared.recovery.RecoveryFault.TheVariants as fault
 use Rattle.recovery.proofs.Choices.{bag-of-plan, surviving-choice}
@@ -36,7 +37,7 @@ use Rattle.script.specs.declared.node.Node.{Node}
 use Rattle.script.specs.declared.node.Node.TheVariants.{Down}
 use Rattle.script.specs.Lives.{Life, life_to, Left, left_now, is_left, IsHomeBy}
 use Rattle.script.specs.Served.{IsLeftOf, IsOf, IsNodeAt, AnswersLine, is_up, life_of, held_answer}
-use Rattle.script.specs.Told.{Position, IsRecoveredAt, IsFoundAt, AreLeft, AreHeldAt, Tells}
+use Rattle.script.specs.Told.{Position, IsRecoveredAt, IsFoundAt, AreLeft, AreHeldAt, NamesLossOf, Tells}
 use Rattle.script.proofs.Standing.{Answered, still_stands, lived_longer, is_up_none}
 use Rattle.script.proofs.MasterSteps.{goes_nowhere}
 
@@ -192,9 +193,21 @@ module _ (node : Node) (fleet : MemoryFleet) (config : Config) (d : MasterData) 
           ),
         )
 
-    pub loss_told : (e : RecoveryFault) (will : List Part) (order : GroupOrder) → IsSomeLoss hs master will order e → Covers config.tablets will
+    -- what is named is lost to these backups
+    loss_named : (e : RecoveryFault) (will : List Part) (order : GroupOrder) → IsLossOrMemory e → IsRefusedFrom hs master will order e
+        → IsWant e ⊎ NamesLossOf config left_at.0 e
+    loss_named (fault.Plan loss) will order is from = inr (
+      hs,
+      held_of_left config d left_at.0 (fleet_state fleet) hs s.configured left_at.2 shown,
+      subst (λ (n : ℕ). IsPlanFault hs n loss) (sym number) from.0,
+      subst (λ (n : ℕ). NamesLoss hs n loss) (sym number) from.1,
+    )
+    loss_named (fault.Replay refused) will order is from = inl is
+
+    pub loss_told : (e : RecoveryFault) (will : List Part) (order : GroupOrder) → IsSomeLoss hs master will order e
+        → IsRefusedFrom hs master will order e → Covers config.tablets will
         → NamesGroups hs master will order → (asked : ReplayOrder) → Tells config (life_of d) at (Recover asked) (answer.NotRecovered e) at
-    loss_told e will order refuses covers names asked =
+    loss_told e will order refuses from covers names asked =
         let here : Covers d.config.tablets will = subst (λ (k : Config). Covers k.tablets will) (sym s.configured) covers in
         let loss = refuses (log_of d) left_at.0.picture (is_left left_at.0.lost) sound of_master shows here names in (
           (asked, refl),
@@ -202,6 +215,7 @@ module _ (node : Node) (fleet : MemoryFleet) (config : Config) (d : MasterData) 
           left_at.1,
           (
             loss.0,
+            loss_named e will order loss.0 from,
             λ both. loss.1 (subst
                 (λ (o : Option ℕ). BothSurvive (IsHomeBy d.config) o (shown_by left_at.0.picture) d.config.master (is_left left_at.0.lost))
                 left_at.2.opened (subst
@@ -213,4 +227,4 @@ module _ (node : Node) (fleet : MemoryFleet) (config : Config) (d : MasterData) 
 
   -- a refusal for memory names no loss
   pub want_told : (order : ReplayOrder) → Tells config (life_of d) at (Recover order) (answer.NotRecovered (fault.Plan plan_fault.NoMemory)) at
-  want_told order = ((order, refl), left_at.0, left_at.1, (tt, λ both. tt), refl)
+  want_told order = ((order, refl), left_at.0, left_at.1, (tt, inl tt, λ both. tt), refl)

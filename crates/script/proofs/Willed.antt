@@ -11,6 +11,7 @@ use Rattle.versioned_map.specs.declared.command.Record.{Record}
 use Rattle.versioned_map.specs.Versioned.{after}
 use Rattle.tablet_will.specs.Parts.{partitions_of, Divides}
 use Rattle.lines.specs.Grammar.{LineValue, Will}
+use Rattle.entry.specs.declared.tablet.Tablet.{Tablet}
 use Rattle.master_core.specs.declared.config.Config.{Config}
 use Rattle.master_core.specs.Data.{MasterData}
 use Rattle.tablet_will.specs.declared.part.Part.{Part}
@@ -26,7 +27,7 @@ use Rattle.recovery.specs.Orders.{Covers}
 use Rattle.script.specs.Configuration.{config_of, tables_to}
 use Rattle.script.specs.Served.{DividesAnew, IsNodeAt, Stands, life_of, MakesWill as MakesWillOf}
 use Rattle.script.specs.Told.{Position, command_of, IsWillAt}
-use Rattle.script.specs.Wills.{MakesWill}
+use Rattle.script.specs.Wills.{MakesWill, one_partition}
 
 -- ---- a will that stays
 
@@ -95,3 +96,9 @@ will_at node config d at limits parts s made = (
       (sym (ap (λ (n : ℕ). take n d.history) s.made ∙ take-length d.history)) made.rule.1,
   made.rule.2 ∙ ap (λ (c : Config). parts_by_rule limits.bytes limits.objects c.tablets made.rule.0) s.configured,
 )
+
+-- without sizes each tablet is one part, of partition 0
+pub one_part_each : (bytes objects : ℕ) (tablets : List Tablet) → parts_by_rule bytes objects tablets [] ≡ one_partition tablets
+one_part_each bytes objects [] = refl
+one_part_each bytes objects (t ∷ ts) =
+    ap (λ (qs : List Part). record { table = t.table; first = t.first; last = t.last; partition = 0 } ∷ qs) (one_part_each bytes objects ts)

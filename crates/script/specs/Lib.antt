@@ -10,6 +10,7 @@ pub mod Shows
 pub mod Told
 pub mod Succession
 pub mod Served
+pub mod Recoveries
 pub mod Waits
 pub mod Runs
 pub mod Turns

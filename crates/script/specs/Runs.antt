@@ -9,7 +9,8 @@ use Rattle.script.specs.declared.fault.ScriptFault.{ScriptFault}
 use Rattle.script.specs.declared.fault.ScriptFault.TheVariants.{BadLine, ReadFailed, WriteFailed, NoMemory}
 use Rattle.script.specs.declared.session.Session.{Session}
 use Rattle.script.specs.Configuration.{config_of}
-use Rattle.script.specs.Served.{BeginsSession, RunsLine}
+use Rattle.script.specs.Recoveries.{RunsLine}
+use Rattle.script.specs.Served.{BeginsSession}
 use Rattle.script.specs.Succession.{TellLives}
 use Rattle.script.specs.Texts.{answer_text}
 use Rattle.script.specs.Told.{Told}

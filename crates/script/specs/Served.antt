@@ -1,16 +1,13 @@
 -- What a session stands for, and what its lines do to it.
 use Rattle.std.specs.Prelude.{◌≡◌, ◌⊎◌, ℕ, ◌<◌, ◌≤◌, List, [], ◌∷◌, ◌++◌, Bool, true, false, Option, Some, None, length}
 use Rattle.backup.specs.State.{fleet_state, lost, new_fleet}
-use Rattle.backup.specs.declared.fleet.MemoryFleet.{MemoryFleet}
 use Rattle.command_line.specs.declared.settings.Options.{Options}
 use Rattle.lines.specs.Grammar.{LineValue, Idle, Roll, BeginRoll, Compact, Push, Clean, Begin, Copy, Seal, Free, Will, Recover}
 use Rattle.lines.specs.Grammar.{Hex, Log, Room, Stop, Crash, Lose, Holdings as HoldingsLine}
-use Rattle.std.specs.Prelude.{Result, Ok, Err, IfSome, max}
+use Rattle.std.specs.Prelude.{Result, Ok, Err, IfSome}
 use Rattle.std.specs.Option.{option_map}
 use Rattle.std.specs.declared.alloc.AllocError.{AllocError}
-use Rattle.replay.specs.declared.rebuilt.Rebuilt.{Rebuilt}
 use Rattle.replica.specs.declared.holding.Holding.{Holding}
-use Rattle.replica.specs.declared.op.TakeFault.TheVariants as take_fault
 use Rattle.replica.specs.Picture.{FleetState, AreHeld, left_on}
 use Rattle.replica.specs.Take.{limited, no_limit}
 use Rattle.versioned_map.specs.declared.command.Command.{Command}
@@ -30,7 +27,7 @@ use Rattle.master_core.specs.Data.{MasterData, fresh_data, no_origin}
 use Rattle.master_core.specs.Log.{opening_of, log_of}
 use Rattle.master.specs.Steps.{Steps}
 use Rattle.master.specs.Valid.{IsValid}
-use Rattle.master.specs.World.{MasterValue, World, world}
+use Rattle.master.specs.World.{World, world}
 use Rattle.script.specs.declared.answer.Answer.{Answer}
 use Rattle.script.specs.declared.answer.Answer.TheVariants.{Refused, Stopped, Holdings, Reply as Replied, Head, Opening, Compacted, Extended, Opened, Closed}
 use Rattle.script.specs.declared.answer.Answer.TheVariants.{Begun, Moved, Carried, Dropped, Sealed, Freed, Cleaned, NotRetired}
@@ -39,20 +36,17 @@ use Rattle.script.specs.declared.node.Node.{Node}
 use Rattle.script.specs.declared.node.Node.TheVariants.{Up, Down, Changing}
 use Rattle.script.specs.declared.session.Session.{Session}
 use Rattle.script.specs.Configuration.{config_of, tables_to}
-use Rattle.script.specs.Numbers.{AreSpent, IsNextNumber, Renumbers}
 use Rattle.script.specs.Lives.{Life, Left, left_now, is_left}
-use Rattle.replay.specs.Adopting.{IsAdopted}
 use Rattle.recovery.specs.Orders.{Covers}
 use Rattle.script.specs.Cleans.{Cleans}
 use Rattle.script.specs.Commands.{RunsCommand, StopsShort}
 use Rattle.script.specs.Rolls.{PushesUntil, Rolls}
 use Rattle.script.specs.Shows.{ShowsDigest, ShowsRoom, ShowsImage}
-use Rattle.script.specs.Told.{Position, at_start, command_of, is_of_push, Tells, IsFoundAt, IsListDeclined, HasLimits}
-use Rattle.script.specs.Succession.{Standing, Succeeds}
+use Rattle.script.specs.Told.{Position, at_start, command_of, is_of_push, Tells, HasLimits}
 use Rattle.tablet_will.specs.declared.part.Part.{Part}
 use Rattle.tablet_will.specs.Parts.{Divides}
 use Rattle.script.specs.declared.will.Limits.{Limits}
-use Rattle.lines.specs.declared.line.ReplayOrder.{ReplayOrder}
+use Rattle.script.specs.Wills.{one_partition}
 
 -- the master goes on: its configuration is the same, as much is durable or more, and it has these records more
 pub record LivesOn (old new : MasterData) (more : List Record) : Type 0 where
@@ -242,7 +236,7 @@ ShowsFleet node answer = Unit {0}
 
 -- What a line makes of the node: just the steps of its command, its step, its roll or its cleaning. A line that shows
 -- something changes nothing, and shows what this node has. A limit is the one that the line names, and a crash leaves the
--- fleet. What a recovery makes is said elsewhere.
+-- fleet. What a recovery makes is said of the session.
 abbrev pub MakesLine : Node → LineValue → Node → Answer → Type 0
 MakesLine old Roll new answer = MakesRoll old new answer
 MakesLine old BeginRoll new answer = MakesStep old step.BeginRoll new answer
@@ -265,73 +259,6 @@ MakesLine old Crash new answer = fleet_of new ≡ fleet_of old
 MakesLine old (Lose backup) new answer = LosesOne old backup new
 MakesLine old (Recover order) new answer = ⊥
 MakesLine old line new answer = IfSome (command_of line) (λ (c : Command). MakesCommand old c new answer)
-
--- ---- recovery
-
--- where a node stands that stands for this master
-abbrev pub standing_of : Config → MasterData → Position → Standing
-standing_of config d at = record { config = config; life = life_of d; at = at }
-
--- whatever is left on the fleet of a master of this configuration, its recovery gives this table
-abbrev pub FindsTable : MemoryFleet → Config → Rebuilt → Type 0
-FindsTable fleet config r = (d : MasterData) (at : Position) → IsNodeAt (Down fleet) config d at →
-    (l : Left) × (at.left ≡ Some l) × IsFoundAt config (life_of d) at l r
-
--- A table was found, and a configuration for a master with a greater number. The fleet holds no replica of that one.
-pub record IsFoundIn (fleet : MemoryFleet) (options : Options) (master : ℕ) (r : Rebuilt) (config : Config) : Type 0 where
-  pub table : FindsTable fleet (config_of options master) r
-  pub configured : config ≡ config_of options config.master
-  pub greater : master < config.master
-  pub unused : (b s : ℕ) → (fleet_state fleet).picture b config.master s ≡ None
-
--- whatever is left on the fleet of a master of this configuration, this answer tells why nothing was found
-abbrev pub FindsNone : MemoryFleet → Config → Answer → Type 0
-FindsNone fleet config answer = (order : ReplayOrder) (d : MasterData) (at : Position)
-    → IsNodeAt (Down fleet) config d at → Tells config (life_of d) at (Recover order) answer at
-
--- the fleet has as many backups as before, and no replica of another master changed
-pub record SparesOthers (old : FleetState) (master : ℕ) (new : FleetState) : Type 0 where
-  pub backups : new.backups ≡ old.backups
-  pub others : (b m s : ℕ) → (m ≡ master → ⊥) → new.picture b m s ≡ old.picture b m s
-
--- A table was adopted, and the new master is up. Or it was refused, and the answer tells so: then the node has the fleet
--- still, and what other masters left.
-abbrev pub Adopts : MemoryFleet → Rebuilt → Config → Node → Option Answer → Type 0
-Adopts fleet r config new None = (m : MasterValue MemoryFleet) × (new ≡ Up m) × IsAdopted config r m.knows
-    × IsValid m.knows (fleet_state m.fleet)
-Adopts fleet r config new (Some answer) = (left : MemoryFleet) × (new ≡ Down left)
-    × SparesOthers (fleet_state fleet) config.master (fleet_state left)
-    × ((refusal : Refusal) × IsListDeclined config r refusal × (answer ≡ refusal_answer refusal))
-
--- why the replicas of other masters weren't all freed
-abbrev pub IsCut : FleetState → Answer → Type 0
-IsCut f Stopped = IsSpent f
-IsCut f (NotRetired fault) = fault ≡ take_fault.Spent → ⊥
-IsCut f answer = ⊥
-
--- no replica of another master is held
-abbrev pub HasNoOther : FleetState → ℕ → Type 0
-HasNoOther f master = (b m s : ℕ) → (m ≡ master → ⊥) → f.picture b m s ≡ None
-
--- The replicas of all other masters were freed. Or that was cut short, and the master was dropped.
-abbrev pub RetiresOthers : MasterData → Node → Option Answer → Type 0
-RetiresOthers d new None = (m : MasterValue MemoryFleet) × (new ≡ Up m) × (m.knows ≡ d)
-    × IsValid d (fleet_state m.fleet) × HasNoOther (fleet_state m.fleet) d.config.master
-RetiresOthers d new (Some answer) =
-    (f : FleetState) × IsValid d f × IsOf new (Some (left_now d f)) d × IsCut f answer
-
--- whatever the node stood for, that life ended, and the new node stands for the next
-abbrev pub BeginsNext : Node → Config → ReplayOrder → Node → Config → Answer → Type 0
-BeginsNext old config order new next answer = (d : MasterData) (at : Position) → IsNodeAt old config d at →
-    (e : MasterData) × (to : Position) × IsNodeAt new next e to × (e.history ≡ [])
-    × Succeeds (standing_of config d at) (Recover order) answer (standing_of next e to)
-
--- What a recovery makes of a node, and of the number that a later recovery asks for. The life of the master goes on, or
--- the next begins.
-abbrev pub Recovers : Node → Options → ℕ → ReplayOrder → Node → Answer → ℕ → Type 0
-Recovers old options master order new answer number =
-    ((number ≡ master) × AnswersLine old (config_of options master) (Recover order) new answer)
-    ⊎ BeginsNext old (config_of options master) order new (config_of options number) answer
 
 -- ---- wills
 
@@ -375,23 +302,6 @@ pub record SessionAnswers (old : Session) (line : LineValue) (new : Session) (an
   pub makes : MakesLine old.node line new.node answer
   pub wills : MakesWill old line new answer
 
--- what a recovery makes of a session
-pub record SessionRecovers (old : Session) (line : LineValue) (new : Session) (answer : Answer) : Type 0 where
-  pub order : ReplayOrder
-  pub asks : line ≡ Recover order
-  pub options : new.options ≡ old.options
-  pub covers : Stands old → IsCovered new
-  pub numbers : Renumbers old.master old.used new.master new.used
-  pub recovers : Recovers old.node old.options old.master order new.node answer new.master
-  pub least : (new.used ≡ old.used)
-      ⊎ IfSome (fleet_of old.node) (λ (f : FleetState). IsNextNumber (max old.master old.used) f.picture new.used)
-  pub spent : answer ≡ answers.NumbersSpent
-      → IfSome (fleet_of old.node) (λ (f : FleetState). AreSpent (max old.master old.used) f.picture)
-
--- what a line makes of a session
-abbrev pub RunsLine : Session → LineValue → Session → Answer → Type 0
-RunsLine old line new answer = SessionAnswers old line new answer ⊎ SessionRecovers old line new answer
-
 -- a new master of this configuration, over a fleet of so many backups that holds nothing
 abbrev pub new_world : Config → World
 new_world config = record { knows = fresh_data config; fleet = new_fleet config.backups }
@@ -406,6 +316,7 @@ pub record BeginsSession (options : Options) (s : Session) : Type 0 where
   pub used : s.used ≡ 1
   pub set : s.options ≡ options
   pub covers : IsCovered s
+  pub will : s.will ≡ one_partition (tables_to options.tables)
 
 -- the answer that shows what backups hold
 abbrev pub held_answer : Result (List Holding) AllocError → Answer

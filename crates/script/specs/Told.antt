@@ -37,7 +37,9 @@ use Rattle.master_core.specs.Budget.{used_seglets, free_seglets}
 use Rattle.master_core.specs.Log.{image_of}
 use Rattle.replay.specs.declared.rebuilt.Rebuilt.{Rebuilt}
 use Rattle.recovery.specs.declared.recovery.RecoveryFault.{RecoveryFault}
+use Rattle.recovery.specs.declared.recovery.RecoveryFault.TheVariants as recovery_fault
 use Rattle.recovery.specs.Recovered.{IsLossOrMemory, IsWant}
+use Rattle.recovery_plan.specs.Planned.{IsPlanFault, NamesLoss}
 use Rattle.script.specs.declared.answer.Answer.{Answer}
 use Rattle.script.specs.declared.answer.Answer.TheVariants as answer
 use Rattle.script.specs.Lives.{Life, life_to, HasLived, Left, is_left, IsLeftBy, IsLeftBySpent, IsHomeBy}
@@ -269,20 +271,32 @@ IsFoundAt config life at l r = IsRecoveredAt life at r × IsOfLeft config l r
 abbrev pub IsNextConfig : Config → Config → Type 0
 IsNextConfig old new = (old.master < new.master) × (new ≡ record old { master = new.master })
 
--- a master of this configuration doesn't adopt the table, over some fleet
-abbrev pub IsListDeclined : Config → Rebuilt → Refusal → Type 0
-IsListDeclined config table r = (before after : FleetState) × DeclinesList config table before r after
+-- of the master's replicas the fleet holds just what is left
+abbrev pub HoldsLeft : Config → Left → FleetState → Type 0
+HoldsLeft config l f =
+    (b s : ℕ) → f.picture b config.master s ≡ left_on (is_left l.lost) l.picture b config.master s
+
+-- A master of the new configuration doesn't adopt the table, over a fleet that holds what is left of the old one.
+abbrev pub IsListDeclined : Config → Left → Config → Rebuilt → Refusal → Type 0
+IsListDeclined config l new table r =
+    (before after : FleetState) × HoldsLeft config l before × DeclinesList new table before r after
 
 -- The table was recovered, and no master adopted it, for this refusal. What is left of the old master stays.
 abbrev pub IsUnadopted : Config → Life → Position → LineValue → Refusal → Position → Type 0
 IsUnadopted config life at line r next = IsRecover line × ((l : Left) × (at.left ≡ Some l)
     × (table : Rebuilt) × IsFoundAt config life at l table
-    × (new : Config) × IsNextConfig config new × IsListDeclined new table r)
+    × (new : Config) × IsNextConfig config new × IsListDeclined config l new table r)
     × (next ≡ at)
+
+-- What the backups that are left hold of the master has this fault, and the loss that is named hides the log.
+abbrev pub NamesLossOf : Config → Left → RecoveryFault → Type 0
+NamesLossOf config l (recovery_fault.Plan loss) = (hs : List Holding) × AreLeft config l hs
+    × IsPlanFault hs config.master loss × NamesLoss hs config.master loss
+NamesLossOf config l (recovery_fault.Replay refused) = ⊥
 
 -- what the refusal names is lost, or memory ran out; if the backups that are left have head and segments, memory did
 abbrev pub IsLossOf : Config → Left → RecoveryFault → Type 0
-IsLossOf config l e = IsLossOrMemory e
+IsLossOf config l e = IsLossOrMemory e × (IsWant e ⊎ NamesLossOf config l e)
     × (BothSurvive (IsHomeBy config) l.opened (shown_by l.picture) config.master (is_left l.lost) → IsWant e)
 
 -- ---- lines

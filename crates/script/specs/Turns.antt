@@ -10,7 +10,7 @@ use Rattle.script.specs.declared.session.LineFault.{LineFault}
 use Rattle.script.specs.declared.session.LineFault.TheVariants as line_fault
 use Rattle.script.specs.declared.session.Session.{Session}
 use Rattle.script.specs.Runs.{IsOfFleet, IsTakenLine, IsBadLine, RunResult}
-use Rattle.script.specs.Served.{RunsLine}
+use Rattle.script.specs.Recoveries.{RunsLine}
 use Rattle.script.specs.Texts.{answer_text}
 
 -- what a reader has left or a writer holds, if that is known

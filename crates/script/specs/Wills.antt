@@ -1,5 +1,5 @@
 -- Wills that are made of the live objects.
-use Rattle.std.specs.Prelude.{◌≡◌, List, false}
+use Rattle.std.specs.Prelude.{◌≡◌, List, map, false}
 use Rattle.entry.specs.declared.tablet.Size.{Size}
 use Rattle.entry.specs.declared.tablet.Tablet.{Tablet}
 use Rattle.entry.specs.Meaning.{Contents}
@@ -30,3 +30,8 @@ IsNoWill limits BadTablets = ⊥
 IsNoWill limits BadLimits = are_limits limits.bytes limits.objects ≡ false
 IsNoWill limits StraySize = ⊥
 IsNoWill limits NoMemory = Unit {0}
+
+-- the will that is one partition over all tablets
+abbrev pub one_partition : List Tablet → List Part
+one_partition tablets =
+    map (λ (t : Tablet). record { table = t.table; first = t.first; last = t.last; partition = 0 }) tablets

@@ -1,8 +1,9 @@
 //! What a master left is recovered into a new master.
 
-ghost use Rattle.std.specs.Prelude.{◌≡◌, ◌⊎◌, ◌≤◌, ◌<◌, ℕ, List, suc, max, false, true, None, Some, IfOk, IfErr, IfSome, ◌^◌, ◌-◌};
+ghost use Rattle.std.specs.Prelude.{◌≡◌, ◌⊎◌, ◌≤◌, ◌<◌, ℕ, List, suc, max, false, true, None, Some, Ok, IfOk, IfErr, IfSome, ◌^◌, ◌-◌};
 ghost use Rattle.backup.specs.State.{fleet_state};
 ghost use Rattle.backup.specs.declared.fleet.MemoryFleet.{MemoryFleet as FleetValue};
+ghost use Rattle.master.specs.World.{World};
 ghost use Rattle.master_core.specs.Config.{config_fault};
 ghost use Rattle.master_core.specs.Data.{MasterData};
 ghost use Rattle.script.specs.declared.node.Node.TheVariants.{Up, Down};
@@ -11,7 +12,9 @@ ghost use Rattle.replica.specs.declared.holding.Holding.{Holding as HoldingValue
 ghost use Rattle.lines.specs.declared.line.ReplayOrder.{ReplayOrder};
 ghost use Rattle.script.specs.Configuration.{config_of, tables_to};
 ghost use Rattle.script.specs.Numbers.{greatest_of, AreSpent, IsNextNumber, Renumbers};
-ghost use Rattle.script.specs.Served.{Adopts, FindsNone, IsFoundIn, IsNodeAt, IsOf, Recovers, RetiresOthers};
+ghost use Rattle.script.specs.Recoveries.{Adopts, Ends, EndsFreeing, FindsNone, FindsNothing, IsFoundIn};
+ghost use Rattle.script.specs.Recoveries.{Rebuilds, Recovers, RetiresOthers, ask};
+ghost use Rattle.script.specs.Served.{IsNodeAt, IsOf, world_of};
 ghost use Rattle.script.specs.Served.{fleet_of, is_up};
 ghost use Rattle.script.specs.Told.{Position};
 
@@ -95,6 +98,9 @@ fn find(
     ensures least { IfOk result (λ found.
         IsNextNumber (max master used) (fleet_state fleet.now).picture found.config.master) }
     ensures none { IfErr result (FindsNone fleet.now (config_of options.now master)) }
+    ensures rebuilt { IfOk result (λ found.
+        Rebuilds (fleet_state fleet.now) (ask master used will.now order.now) (Ok found.rebuilt)) }
+    ensures nothing { IfErr result (FindsNothing (fleet_state fleet.now) (ask master used will.now order.now)) }
     ensures spent { IfErr result (λ a.
         a ≡ Answer.NumbersSpent → AreSpent (max master used) (fleet_state fleet.now).picture) }
 {
@@ -131,6 +137,8 @@ impl Node {
         requires order { (hs : List HoldingValue) → NamesGroups hs master will.now order.now }
         requires stands { (d : MasterData) × (at : Position) × IsNodeAt self.old (config_of options.now master) d at }
         ensures recovers { (asked : ReplayOrder) → Recovers self.old options.now master asked self.new result.answer result.master }
+        ensures ends { Ends self.old options.now (ask master used will.now order.now) result.used self.new
+            result.answer result.master }
         ensures numbers { Renumbers master used result.master result.used }
         ensures least { (result.used ≡ used)
             ⊎ IfSome (fleet_of self.old) (λ f. IsNextNumber (max master used) f.picture result.used) }
@@ -185,7 +193,8 @@ impl Node {
         requires fleet { (fleet : FleetValue) × (self.old ≡ Down fleet)
             × (config.backups ≤ (fleet_state fleet).backups)
             × ((b s : ℕ) → (fleet_state fleet).picture b config.master s ≡ None) }
-        ensures { (fleet : FleetValue) → self.old ≡ Down fleet → Adopts fleet rebuilt.now config self.new result }
+        ensures { (fleet : FleetValue) → self.old ≡ Down fleet →
+            Adopts (fleet_state fleet) rebuilt.now config self.new result }
     {
         let Node::Down(fleet) = replace(self, Node::Changing) else {
             unreachable!();
@@ -205,7 +214,8 @@ impl Node {
     /// Frees the replicas of all other masters. If that is cut short, it drops the master and answers why.
     fn retire(&mut self) -> Option<Answer>
         requires { is_up self.old ≡ true }
-        ensures { (d : MasterData) → IsOf self.old None d → RetiresOthers d self.new result }
+        ensures others { (d : MasterData) → IsOf self.old None d → RetiresOthers d self.new result }
+        ensures frees { (w : World) → world_of self.old ≡ Some w → EndsFreeing w self.new result }
     {
         let Node::Up(up) = self else {
             unreachable!();
@@ -234,7 +244,7 @@ fn adopted(
     requires config { config_fault config ≡ None }
     requires backups { config.backups ≤ (fleet_state fleet).backups }
     requires none { (b s : ℕ) → (fleet_state fleet).picture b config.master s ≡ None }
-    ensures { Adopts fleet rebuilt.now config result.0 result.1 }
+    ensures { Adopts (fleet_state fleet) rebuilt.now config result.0 result.1 }
 {
     match adopt_list(alloc, rebuilt, config, fleet) {
         Ok(master) => (Node::Up(master), None),

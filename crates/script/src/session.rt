@@ -10,7 +10,8 @@ ghost use Rattle.replica.specs.declared.holding.Holding.{Holding as HoldingValue
 ghost use Rattle.script.specs.Configuration.{config_of};
 ghost use Rattle.script.specs.declared.session.LineFault.TheVariants as line_fault;
 ghost use Rattle.script.specs.Runs.{IsOfFleet};
-ghost use Rattle.script.specs.Served.{BeginsSession, RunsLine, SessionAnswers, SessionRecovers, Stands};
+ghost use Rattle.script.specs.Recoveries.{RunsLine, SessionRecovers, order_named};
+ghost use Rattle.script.specs.Served.{BeginsSession, SessionAnswers, Stands};
 ghost use Rattle.script.specs.Told.{command_of};
 ghost use Rattle.script.specs.Turns.{HasValue, RefusesLine};
 ghost use Rattle.script.specs.Waits.{AnswersAfterRoll};
@@ -227,7 +228,8 @@ impl Session {
 
 /// The order of the groups that a line asks for. It has each group once.
 fn groups_in(order: ReplayOrder) -> GroupOrder
-    ensures { (hs : List HoldingValue) (master : ℕ) (will : List PartValue) → NamesGroups hs master will result }
+    ensures named { result ≡ order_named order }
+    ensures once { (hs : List HoldingValue) (master : ℕ) (will : List PartValue) → NamesGroups hs master will result }
 {
     match order {
         ReplayOrder::Forward => GroupOrder::Forward,

@@ -4,6 +4,7 @@ ghost use Rattle.std.specs.Prelude.{◌≡◌, ◌<◌, None, IfOk, OnErr};
 ghost use Rattle.master_core.specs.Config.{config_fault};
 ghost use Rattle.recovery.specs.Orders.{Covers};
 ghost use Rattle.script.specs.Configuration.{config_of, tables_to};
+ghost use Rattle.script.specs.Wills.{one_partition};
 
 use command_line::Options;
 use entry::{NoMemory, Tablet, Tablets};
@@ -49,7 +50,8 @@ pub fn configuration(alloc: Global, options: &Options, master: u64) -> Result<Co
 /// The will that is one partition over all tablets of the options.
 pub(crate) fn whole_will(alloc: Global, options: &Options) -> Result<Will, NoMemory>
     requires { config_fault (config_of options.now 1) ≡ None }
-    ensures { IfOk result (Covers (tables_to options.now.tables)) }
+    ensures whole { IfOk result (λ will. will ≡ one_partition (tables_to options.now.tables)) }
+    ensures covers { IfOk result (Covers (tables_to options.now.tables)) }
 {
     let tablets = tables(alloc, options.tables)?;
     match make_will(alloc, tablets.as_slice(), &[], u64::MAX, u64::MAX) {

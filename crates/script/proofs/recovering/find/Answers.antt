@@ -1,4 +1,4 @@
-use Rattle.std.proofs.Common.{◌≡◌, ℕ, suc, max, List, refl, sym, ap, subst, ◌∙◌, arith}
+use Rattle.std.proofs.Common.{◌≡◌, ℕ, suc, max, List, refl, sym, ap, subst, inl, inr, ◌∙◌, arith}
 use Rattle.backup.specs.State.{fleet_state}
 use Rattle.lines.specs.Grammar.{Recover}
 use Rattle.master_core.specs.declared.config.Config.{Config}
@@ -7,6 +7,7 @@ use Rattle.script.specs.declared.answer.Answer.{Answer}
 use Rattle.script.specs.declared.node.Node.TheVariants.{Down}
 use Rattle.script.specs.Configuration.{config_of}
 use Rattle.script.specs.Numbers.{greatest_of}
+use Rattle.script.specs.Recoveries.{FindsNothing, ask}
 use Rattle.script.specs.Served.{life_of}
 use Rattle.script.specs.Told.{Tells}
 use Rattle.script.proofs.NextLife.{next_unused}
@@ -22,7 +23,7 @@ pub returns-in-Err-recover-clause-none : goal.returns-in-Err-recover-clause-none
 returns-in-Err-recover-clause-none c = λ order d at s.
     let e = c.in-Err-recover in
     loss_told (Down c.args.fleet.now) c.args.fleet.now (config_of c.args.options.now c.args.master) d at refl s c.in-Ok.inventory c.args.master refl
-    c.in-Ok.ensures.shown e.fault c.args.will.now c.args.order.now e.ensures.refused c.requires.covers (c.requires.order c.in-Ok.inventory) order
+    c.in-Ok.ensures.shown e.fault c.args.will.now c.args.order.now e.ensures.refused e.ensures.fault c.requires.covers (c.requires.order c.in-Ok.inventory) order
 
 pub returns-in-Ok-configuration-clause-found : goal.returns-in-Ok-configuration-clause-found
 returns-in-Ok-configuration-clause-found c =
@@ -63,3 +64,22 @@ returns-in-Ok-configuration-clause-least c =
     let next : c.in-Some.number ≡ suc (max c.max_of.result (greatest_of hs)) =
     subst (λ (xs : List Holding). c.in-Some.number ≡ suc (max c.max_of.result (greatest_of xs))) c.as_slice.ensures c.in-Some.ensures.next in
     (hs, c.in-Ok.ensures.shown, number ∙ next ∙ ap (λ (m : ℕ). suc (max m (greatest_of hs))) c.max_of.ensures)
+
+pub returns-in-Err-clause-nothing : goal.returns-in-Err-clause-nothing
+returns-in-Err-clause-nothing c =
+    subst (λ (a : Answer). FindsNothing (fleet_state c.args.fleet.now) (ask c.args.master c.args.used c.args.will.now c.args.order.now) a) (sym c.want.ensures) (inl tt)
+
+pub returns-in-Err-recover-clause-nothing : goal.returns-in-Err-recover-clause-nothing
+returns-in-Err-recover-clause-nothing c = inr (c.in-Ok.inventory, c.in-Ok.ensures.shown, c.in-Err-recover.ensures.fault)
+
+pub returns-in_default-clause-nothing : goal.returns-in_default-clause-nothing
+returns-in_default-clause-nothing c =
+    (c.in-Ok-recover.rebuilt, (c.in-Ok.inventory, c.in-Ok.ensures.shown, c.in-Ok-recover.ensures.rebuilt))
+
+pub returns-in-Ok-configuration-clause-rebuilt : goal.returns-in-Ok-configuration-clause-rebuilt
+returns-in-Ok-configuration-clause-rebuilt c = (c.in-Ok.inventory, c.in-Ok.ensures.shown, c.in-Ok-recover.ensures.rebuilt)
+
+pub returns-clause-nothing : goal.returns-clause-nothing
+returns-clause-nothing c =
+    subst (λ (a : Answer). FindsNothing (fleet_state c.args.fleet.now) (ask c.args.master c.args.used c.args.will.now c.args.order.now) a)
+    (sym c.want-in-Err-configuration.ensures) (inl tt)

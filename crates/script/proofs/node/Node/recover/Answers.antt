@@ -1,14 +1,19 @@
-use Rattle.std.proofs.Common.{inl, inr, refl, sym, subst, max, ◌∙◌, arith}
+use Rattle.std.proofs.Common.{inl, inr, refl, sym, ap, subst, max, ◌∙◌, arith}
 use Rattle.std.specs.Prelude.{None, IfSome}
+use Rattle.backup.specs.State.{fleet_state}
 use Rattle.lines.specs.Grammar.{Recover}
 use Rattle.lines.specs.declared.line.ReplayOrder.TheVariants.{Forward}
+use Rattle.master_core.specs.declared.config.Config.{Config}
 use Rattle.replica.specs.Picture.{FleetState}
+use Rattle.script.specs.declared.answer.Answer.TheVariants as answer
 use Rattle.script.specs.declared.node.Node.{Node}
 use Rattle.script.specs.declared.node.Node.TheVariants.{Down}
 use Rattle.script.specs.Configuration.{config_of}
 use Rattle.script.specs.Numbers.{AreSpent, IsNextNumber}
-use Rattle.script.specs.Served.{AnswersLine, IsOf, fleet_of}
+use Rattle.script.specs.Recoveries.{IsDeclined, IsTakenOver}
+use Rattle.script.specs.Served.{AnswersLine, IsOf, fleet_of, world_of}
 use Rattle.script.proofs.NextLife.{cut_told, declined_told, has_backups, not_of_cut, not_of_refusal, recovered_told}
+use Rattle.script.proofs.HowItEnds.{cut_over, down_on, taken_over}
 use Rattle.script.proofs.Standing.{stays_told}
 use Rattle.script.proofs.node.Node.recover.Goals as goal
 
@@ -45,14 +50,14 @@ returns-in-None-clause-recovers c = λ order.
     let a = c.in_default-adopt.ensures c.in-Down.fleet refl in
     inr (recovered_told c.in-Down.fleet c.args.options.now c.args.master c.in-Ok.found.rebuilt c.in-Ok.found.config c.in-Ok.ensures.found
     c.args.self.now c.in-Down.is order a.0.knows a.2 c.retire.new.self
-    (c.in-None.ensures a.0.knows (subst (λ (n : Node). IsOf n None a.0.knows) (sym a.1) (refl, refl, a.3))))
+    (c.in-None.ensures.others a.0.knows (subst (λ (n : Node). IsOf n None a.0.knows) (sym a.1) (refl, refl, a.3))))
 
 pub returns-in-Some-retire-clause-recovers : goal.returns-in-Some-retire-clause-recovers
 returns-in-Some-retire-clause-recovers c = λ order.
     let a = c.in_default-adopt.ensures c.in-Down.fleet refl in
     inr (cut_told c.in-Down.fleet c.args.options.now c.args.master c.in-Ok.found.rebuilt c.in-Ok.found.config c.in-Ok.ensures.found
     c.args.self.now c.in-Down.is order a.0.knows a.2 c.retire.new.self c.in-Some-retire.answer
-    (c.in-Some-retire.ensures a.0.knows (subst (λ (n : Node). IsOf n None a.0.knows) (sym a.1) (refl, refl, a.3))))
+    (c.in-Some-retire.ensures.others a.0.knows (subst (λ (n : Node). IsOf n None a.0.knows) (sym a.1) (refl, refl, a.3))))
 
 pub returns-in-Err-clause-numbers : goal.returns-in-Err-clause-numbers
 returns-in-Err-clause-numbers c = record { rises = omega arith; fresh = inl refl }
@@ -73,8 +78,8 @@ returns-in-Err-clause-spent c = λ is.
 
 pub returns-in-Some-clause-spent : goal.returns-in-Some-clause-spent
 returns-in-Some-clause-spent c = λ is.
-    let why = (c.in-Some.ensures c.in-Down.fleet refl).3 in
-    absurd (not_of_refusal why.0 (sym why.2 ∙ is))
+    let refused = c.in-Some.ensures c.in-Down.fleet refl in
+    absurd (not_of_refusal refused.why (sym refused.told ∙ is))
 
 pub returns-in-None-clause-spent : goal.returns-in-None-clause-spent
 returns-in-None-clause-spent c = λ is. absurd (cc)
@@ -83,7 +88,7 @@ pub returns-in-Some-retire-clause-spent : goal.returns-in-Some-retire-clause-spe
 returns-in-Some-retire-clause-spent c = λ is.
     let a = c.in_default-adopt.ensures c.in-Down.fleet refl in
     absurd (not_of_cut a.0.knows c.retire.new.self c.in-Some-retire.answer
-    (c.in-Some-retire.ensures a.0.knows (subst (λ (n : Node). IsOf n None a.0.knows) (sym a.1) (refl, refl, a.3))) is)
+    (c.in-Some-retire.ensures.others a.0.knows (subst (λ (n : Node). IsOf n None a.0.knows) (sym a.1) (refl, refl, a.3))) is)
 
 pub returns-in-Err-clause-least : goal.returns-in-Err-clause-least
 returns-in-Err-clause-least c = inl refl
@@ -102,3 +107,70 @@ pub returns-in-Some-retire-clause-least : goal.returns-in-Some-retire-clause-lea
 returns-in-Some-retire-clause-least c = inr
     (subst (λ (n : Node). IfSome (fleet_of n) (λ (f : FleetState). IsNextNumber (max c.args.master c.args.used) f.picture c.in-Ok.found.config.master))
     (sym c.in-Down.is) c.in-Ok.ensures.least)
+
+pub returns-in-Err-clause-ends : goal.returns-in-Err-clause-ends
+returns-in-Err-clause-ends c = inr (
+  fleet_state c.in-Down.fleet,
+  down_on c.args.self.now c.in-Down.fleet c.in-Down.is,
+  inl (c.in-Err.ensures.nothing, sym c.in-Down.is, refl, refl),
+)
+
+pub returns-in-Some-clause-ends : goal.returns-in-Some-clause-ends
+returns-in-Some-clause-ends c =
+    let f = fleet_state c.in-Down.fleet in
+    let r = c.in-Ok.found.rebuilt in
+    inr (
+      f,
+      down_on c.args.self.now c.in-Down.fleet c.in-Down.is,
+      inr (
+        r,
+        c.in-Ok.ensures.rebuilt,
+        c.in-Ok.ensures.least,
+        inl (
+          subst (λ (k : Config). IsDeclined f r k c.adopt.new.self c.in-Some.answer) c.in-Ok.ensures.found.configured
+              (c.in-Some.ensures c.in-Down.fleet refl),
+          refl,
+        ),
+      ),
+    )
+
+pub returns-in-None-clause-ends : goal.returns-in-None-clause-ends
+returns-in-None-clause-ends c =
+    let f = fleet_state c.in-Down.fleet in
+    let r = c.in-Ok.found.rebuilt in
+    let a = c.in_default-adopt.ensures c.in-Down.fleet refl in
+    inr (
+      f,
+      down_on c.args.self.now c.in-Down.fleet c.in-Down.is,
+      inr (
+        r,
+        c.in-Ok.ensures.rebuilt,
+        c.in-Ok.ensures.least,
+        inr (
+          subst (λ (k : Config). IsTakenOver f r k c.retire.new.self (answer.Recovered r)) c.in-Ok.ensures.found.configured
+              (taken_over f r c.in-Ok.found.config a.0 a.2 a.4 c.retire.new.self (c.in-None.ensures.frees _ (ap world_of a.1))),
+          refl,
+        ),
+      ),
+    )
+
+pub returns-in-Some-retire-clause-ends : goal.returns-in-Some-retire-clause-ends
+returns-in-Some-retire-clause-ends c =
+    let f = fleet_state c.in-Down.fleet in
+    let r = c.in-Ok.found.rebuilt in
+    let a = c.in_default-adopt.ensures c.in-Down.fleet refl in
+    let told = c.in-Some-retire.answer in
+    inr (
+      f,
+      down_on c.args.self.now c.in-Down.fleet c.in-Down.is,
+      inr (
+        r,
+        c.in-Ok.ensures.rebuilt,
+        c.in-Ok.ensures.least,
+        inr (
+          subst (λ (k : Config). IsTakenOver f r k c.retire.new.self told) c.in-Ok.ensures.found.configured
+              (cut_over f r c.in-Ok.found.config a.0 a.2 a.4 c.retire.new.self told (c.in-Some-retire.ensures.frees _ (ap world_of a.1))),
+          refl,
+        ),
+      ),
+    )

@@ -1,20 +1,29 @@
-use Rattle.std.proofs.Common.{ℕ, inl, refl, subst, arith}
+use Rattle.std.proofs.Common.{ℕ, inl, inr, refl, subst, arith}
+use Rattle.recovery.specs.declared.order.GroupOrder.{GroupOrder}
 use Rattle.script.specs.Configuration.{config_of}
 use Rattle.script.specs.Numbers.{Renumbers}
-use Rattle.script.specs.Served.{Recovers}
+use Rattle.script.specs.Recoveries.{Ends, Recovers, ask, asked_of}
+use Rattle.script.proofs.HowItEnds.{down_at, limit_made, want_ends}
 use Rattle.script.proofs.Standing.{not_up, want_at}
 use Rattle.script.proofs.session.Session.run_recover.Goals as goal
 
 pub returns-in_default-whole_will : goal.returns-in_default-whole_will
 returns-in_default-whole_will c =
     let s = c.args.self.now in
+    let config = config_of s.options s.master in
+    let down = not_up s.node c.in_default.not-Up in
+    let stands = c.requires.stands.1 in
+    let fleet = down_at s.node config stands.0 stands.1 down stands.2 in
     record {
       order = c.args.order;
       asks = refl;
       options = refl;
       covers = λ all. all.0;
       numbers = record { rises = omega arith; fresh = inl refl };
-      recovers = inl (refl, want_at s.node (config_of s.options s.master) c.args.order (not_up s.node c.in_default.not-Up));
+      recovers = inl (refl, want_at s.node config c.args.order down);
+      ends = want_ends s.node s.options (asked_of s c.args.order) fleet.0 fleet.1;
+      limit = refl;
+      will = inl (refl, refl);
       least = inl refl;
       spent = λ is. absurd (cc);
     }
@@ -23,6 +32,9 @@ pub returns-else-recovery-self : goal.returns-else-recovery-self
 returns-else-recovery-self c =
     let s = c.args.self.now in
     let r = c.recover-recovery in
+    let ended : Ends s.node s.options (asked_of s c.args.order) r.result.used r.new.self r.result.answer r.result.master =
+    subst (λ (o : GroupOrder). Ends s.node s.options (ask s.master s.used s.will o) r.result.used r.new.self r.result.answer r.result.master)
+    c.groups_in-groups.ensures.named r.ensures.ends in
     record {
       order = c.args.order;
       asks = refl;
@@ -30,23 +42,33 @@ returns-else-recovery-self c =
       covers = λ all. all.0;
       numbers = subst (λ (n : ℕ). Renumbers s.master s.used n r.result.used) c.if-recovery-self.false r.ensures.numbers;
       recovers = subst (λ (n : ℕ). Recovers s.node s.options s.master c.args.order r.new.self r.result.answer n) c.if-recovery-self.false (r.ensures.recovers c.args.order);
+      ends = subst (λ (n : ℕ). Ends s.node s.options (asked_of s c.args.order) r.result.used r.new.self r.result.answer n) c.if-recovery-self.false ended;
+      limit = limit_made s.node r.new.self s.options (asked_of s c.args.order) r.result.used r.result.answer r.result.master ended;
+      will = inl (refl, refl);
       least = r.ensures.least;
       spent = r.ensures.spent;
     }
 
 pub returns-then-recovery-self : goal.returns-then-recovery-self
 returns-then-recovery-self c =
+    let s = c.args.self.now in
     let r = c.recover-recovery in
+    let ended : Ends s.node s.options (asked_of s c.args.order) r.result.used r.new.self r.result.answer r.result.master =
+    subst (λ (o : GroupOrder). Ends s.node s.options (ask s.master s.used s.will o) r.result.used r.new.self r.result.answer r.result.master)
+    c.groups_in-groups.ensures.named r.ensures.ends in
     record {
       order = c.args.order;
       asks = refl;
       options = refl;
-      covers = λ all. c.in-Ok.ensures;
+      covers = λ all. c.in-Ok.ensures.covers;
       numbers = r.ensures.numbers;
       recovers = r.ensures.recovers c.args.order;
+      ends = ended;
+      limit = limit_made s.node r.new.self s.options (asked_of s c.args.order) r.result.used r.result.answer r.result.master ended;
+      will = inr (c.if-recovery-self.true, c.in-Ok.ensures.whole);
       least = r.ensures.least;
       spent = r.ensures.spent;
     }
 
 pub recover-recovery-requires-clause-order : goal.recover-recovery-requires-clause-order
-recover-recovery-requires-clause-order c = λ hs. c.groups_in-groups.ensures hs c.args.self.now.master c.args.self.now.will
+recover-recovery-requires-clause-order c = λ hs. c.groups_in-groups.ensures.once hs c.args.self.now.master c.args.self.now.will

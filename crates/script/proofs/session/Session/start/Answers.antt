@@ -45,5 +45,6 @@ returns c =
       number = refl;
       used = refl;
       set = refl;
-      covers = c.in_ok-will.ensures;
+      covers = c.in_ok-will.ensures.covers;
+      will = c.in_ok-will.ensures.whole;
     }
