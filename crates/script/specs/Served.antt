@@ -27,7 +27,7 @@ use Rattle.master_core.specs.Data.{MasterData, fresh_data, no_origin}
 use Rattle.master_core.specs.Log.{opening_of, log_of}
 use Rattle.master.specs.Steps.{Steps}
 use Rattle.master.specs.Valid.{IsValid}
-use Rattle.master.specs.World.{World, world}
+use Rattle.master.specs.World.{World, limited_world, world}
 use Rattle.script.specs.declared.answer.Answer.{Answer}
 use Rattle.script.specs.declared.answer.Answer.TheVariants.{Refused, Stopped, Holdings, Reply as Replied, Head, Opening, Compacted, Extended, Opened, Closed}
 use Rattle.script.specs.declared.answer.Answer.TheVariants.{Begun, Moved, Carried, Dropped, Sealed, Freed, Cleaned, NotRetired}
@@ -224,10 +224,21 @@ AnswersLine old config line new answer = (d : MasterData) (at : Position) → Is
     (e : MasterData) × (next : Position) × IsNodeAt new config e next
     × LivesLonger d e × Tells config (life_of e) at line answer next
 
--- the backup of a node without a master loses all that it holds, and no other does
+-- the fleet is to take this many more ops, and nothing else changed; what a master knows is the same
+abbrev pub LimitsFleet : Node → ℕ → Node → Type 0
+LimitsFleet old takes new =
+    (world_of new ≡ option_map (λ (w : World). limited_world w takes) (world_of old))
+    × (fleet_of new ≡ option_map (λ (f : FleetState). limited f takes) (fleet_of old))
+
+-- there is no master any more, and the fleet is the same
+abbrev pub LosesMaster : Node → Node → Type 0
+LosesMaster old new = (is_up new ≡ false) × (fleet_of new ≡ fleet_of old)
+
+-- the backup of a node without a master loses all that it holds, and no other does; a node with a master stays
 abbrev pub LosesOne : Node → ℕ → Node → Type 0
+LosesOne (Up m) backup new = new ≡ Up m
 LosesOne old backup new =
-    is_up old ≡ false → fleet_of new ≡ option_map (λ (f : FleetState). lost f backup) (fleet_of old)
+    (is_up new ≡ false) × (fleet_of new ≡ option_map (λ (f : FleetState). lost f backup) (fleet_of old))
 
 -- what is shown is what the node's backups hold, of all masters
 abbrev pub ShowsFleet : Node → Answer → Type 0
@@ -235,8 +246,8 @@ ShowsFleet node (Holdings hs) = IfSome (fleet_of node) (λ (f : FleetState). Are
 ShowsFleet node answer = Unit {0}
 
 -- What a line makes of the node: just the steps of its command, its step, its roll or its cleaning. A line that shows
--- something changes nothing, and shows what this node has. A limit is the one that the line names, and a crash leaves the
--- fleet. What a recovery makes is said of the session.
+-- something changes nothing, and shows what this node has. A stop sets just the limit that it names, and a crash leaves
+-- just the fleet. What a recovery makes is said of the session.
 abbrev pub MakesLine : Node → LineValue → Node → Answer → Type 0
 MakesLine old Roll new answer = MakesRoll old new answer
 MakesLine old BeginRoll new answer = MakesStep old step.BeginRoll new answer
@@ -253,9 +264,8 @@ MakesLine old Log new answer = (new ≡ old) × ShowsDigest old answer
 MakesLine old Room new answer = (new ≡ old) × ShowsRoom old answer
 MakesLine old HoldingsLine new answer = (new ≡ old) × ShowsFleet old answer
 MakesLine old Will new answer = new ≡ old
-MakesLine old (Stop takes) new answer =
-    fleet_of new ≡ option_map (λ (f : FleetState). limited f takes) (fleet_of old)
-MakesLine old Crash new answer = fleet_of new ≡ fleet_of old
+MakesLine old (Stop takes) new answer = LimitsFleet old takes new
+MakesLine old Crash new answer = LosesMaster old new
 MakesLine old (Lose backup) new answer = LosesOne old backup new
 MakesLine old (Recover order) new answer = ⊥
 MakesLine old line new answer = IfSome (command_of line) (λ (c : Command). MakesCommand old c new answer)

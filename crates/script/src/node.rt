@@ -1,18 +1,15 @@
 //! A fleet, and the master over it if there is one.
 
 ghost use Rattle.std.specs.Prelude.{◌≡◌, ◌<◌, [], length, true, false, None, Some, IfOk, IfErr};
-ghost use Rattle.std.specs.Option.{option_map};
-ghost use Rattle.backup.specs.State.{lost};
 ghost use Rattle.master_core.specs.declared.config.Config.{Config};
 ghost use Rattle.log_model.specs.Data.{durable_of};
 ghost use Rattle.log_head.specs.Head.{is_open};
 ghost use Rattle.master_core.specs.Log.{log_of};
-ghost use Rattle.replica.specs.Take.{limited};
 ghost use Rattle.master.specs.World.{world};
 ghost use Rattle.script.specs.Commands.{PushesTo, StopsShort, Tries};
 ghost use Rattle.script.specs.Rolls.{PushesUntil, IsRolled, IsNotRolled};
 ghost use Rattle.script.specs.Served.{LivesOn, IsServed, IsUnserved, IsSpent, IsDropped, fleet_of, is_up};
-ghost use Rattle.script.specs.Served.{AnswersLine, MakesStep, MakesRoll, Refuses};
+ghost use Rattle.script.specs.Served.{AnswersLine, LimitsFleet, LosesMaster, LosesOne, MakesStep, MakesRoll, Refuses};
 ghost use Rattle.script.specs.Served.{ShowsFleet, held_answer};
 ghost use Rattle.script.specs.Shows.{ShowsDigest, ShowsImage, ShowsRoom};
 ghost use Rattle.script.specs.Told.{is_of_push};
@@ -329,7 +326,7 @@ impl Node {
     /// Lets the fleet take this many more ops.
     pub fn stop(&mut self, takes: u64) -> Answer
         ensures told { (config : Config) → AnswersLine self.old config (Stop takes) self.new result }
-        ensures limited { fleet_of self.new ≡ option_map (λ f. limited f takes) (fleet_of self.old) }
+        ensures limited { LimitsFleet self.old takes self.new }
     {
         match self {
             Node::Up(up) => up.limit(takes),
@@ -342,7 +339,7 @@ impl Node {
     /// Drops the master. The fleet stays as it is.
     pub fn crash(&mut self) -> Answer
         ensures told { (config : Config) → AnswersLine self.old config Crash self.new result }
-        ensures fleet { fleet_of self.new ≡ fleet_of self.old }
+        ensures dropped { LosesMaster self.old self.new }
     {
         if let Node::Up(_) = self {
             self.drop_master();
@@ -355,8 +352,7 @@ impl Node {
     /// Has a backup lose all that it holds.
     pub fn lose(&mut self, backup: u64) -> Answer
         ensures told { (config : Config) → AnswersLine self.old config (Lose backup) self.new result }
-        ensures lost { is_up self.old ≡ false →
-            fleet_of self.new ≡ option_map (λ f. lost f backup) (fleet_of self.old) }
+        ensures lost { LosesOne self.old backup self.new }
     {
         let Node::Down(fleet) = self else {
             return Answer::Up;

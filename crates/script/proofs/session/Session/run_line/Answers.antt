@@ -14,7 +14,7 @@ pub returns-in-Stop-clause-ran : goal.returns-in-Stop-clause-ran
 returns-in-Stop-clause-ran c = rw c.in-Stop.is (inl (record { number = refl; options = refl; used = refl; covers = λ all. all.0; answers = λ config number. c.stop.ensures.told config; makes = c.stop.ensures.limited; wills = refl }))
 
 pub returns-in-Crash-clause-ran : goal.returns-in-Crash-clause-ran
-returns-in-Crash-clause-ran c = rw c.in-Crash.is (inl (record { number = refl; options = refl; used = refl; covers = λ all. all.0; answers = λ config number. c.crash.ensures.told config; makes = c.crash.ensures.fleet; wills = refl }))
+returns-in-Crash-clause-ran c = rw c.in-Crash.is (inl (record { number = refl; options = refl; used = refl; covers = λ all. all.0; answers = λ config number. c.crash.ensures.told config; makes = c.crash.ensures.dropped; wills = refl }))
 
 pub returns-in-Lose-2-clause-ran : goal.returns-in-Lose-2-clause-ran
 returns-in-Lose-2-clause-ran c = rw c.in-Lose-2.is (inl (record { number = refl; options = refl; used = refl; covers = λ all. all.0; answers = λ config number. c.lose.ensures.told config; makes = c.lose.ensures.lost; wills = refl }))
