@@ -24,7 +24,8 @@ use Rattle.script.specs.declared.node.Node.TheVariants.{Up, Down, Changing}
 use Rattle.script.specs.Configuration.{config_of}
 use Rattle.script.specs.Recoveries.{Asked, Ends, EndsFreeing, FindsNothing, Frees, HasNoOther, IsDownOn, IsTakenOver, MakesLimit, StandsAfter}
 use Rattle.script.specs.Recoveries.{adopted_answer, after_answer, fault_answer}
-use Rattle.script.specs.Served.{IsNodeAt, fleet_of, is_up, world_of}
+use Rattle.script.specs.Lives.{Left}
+use Rattle.script.specs.Served.{IsNodeAt, IsOf, fleet_of, is_up, world_of}
 use Rattle.script.specs.Told.{Position}
 use Rattle.script.proofs.Retired.{others_gone, retire_keeps_end}
 
@@ -39,6 +40,12 @@ pub down_at : (node : Node) (config : Config) (d : MasterData) (at : Position) �
 down_at (Up m) config d at down s = absurd (cc)
 down_at (Down fleet) config d at down s = (fleet_state fleet, (refl, refl))
 down_at Changing config d at down s = absurd s.node_of
+
+-- a node that stands for a master has a fleet
+pub fleet_held : (node : Node) (left : Option Left) (d : MasterData) → IsOf node left d → (f : FleetState) × (fleet_of node ≡ Some f)
+fleet_held (Up m) left d of = (fleet_state m.fleet, refl)
+fleet_held (Down fleet) left d of = (fleet_state fleet, refl)
+fleet_held Changing left d of = absurd of
 
 -- one that stands for a master and is not down is up
 pub up_at : (node : Node) (config : Config) (d : MasterData) (at : Position) → ((fleet : MemoryFleet) → node ≡ Down fleet → ⊥)

@@ -32,10 +32,10 @@ use Rattle.script.specs.Lives.{life_to, HasLived, Left, left_now}
 use Rattle.script.specs.Numbers.{greatest_of}
 use Rattle.script.specs.Recoveries.{Adopts, BeginsNext, EndsFreeing, Frees, HasNoOther, IsCut, IsDeclined, IsDownOn, IsFoundIn, RetiresOthers}
 use Rattle.script.specs.Recoveries.{after_answer, fault_answer, standing_of}
-use Rattle.script.specs.Served.{AnswersLine, IsLeftOf, IsNodeAt, IsOf, IsSpent, Refuses, life_of, refusal_answer}
+use Rattle.script.specs.Served.{AnswersLine, IsLeftOf, IsNodeAt, IsOf, IsSpent, Refuses, fleet_of, life_of, refusal_answer}
 use Rattle.script.specs.Succession.{EndsRecovery}
 use Rattle.script.specs.Told.{HoldsLeft, Position, IsUnadopted, Tells}
-use Rattle.script.proofs.HowItEnds.{after_backups, after_picture, down_final}
+use Rattle.script.proofs.HowItEnds.{after_backups, after_picture, down_final, fleet_held}
 use Rattle.script.proofs.Standing.{legal_of}
 
 -- ---- numbers
@@ -188,10 +188,10 @@ module _ (fleet : MemoryFleet) (options : Options) (master : ℕ) (r : Rebuilt) 
     lived : (f : FleetState) → IsValid e f → HasLived next (life_to (life_of e) 0) e f
     lived f valid = record { configured = configured; opening = refl; history = adopted.history; valid = valid }
 
-    begins : (new : Node) (a : Answer) (left : Option Left) → IsOf new left e
-        → EndsRecovery (standing_of next e (record { made = 0; acknowledged = 0; left = left })) r a
+    begins : (new : Node) (a : Answer) (left : Option Left) → IsOf new left e → (f : FleetState) → fleet_of new ≡ Some f
+        → EndsRecovery (standing_of next e (record { made = 0; acknowledged = 0; left = left })) f r a
         → BeginsNext old (config_of options master) order new next a
-    begins new a left of ends d at s =
+    begins new a left of f held ends d at s =
         let table = found.table d at (was d at s) in (
           e,
           record { made = 0; acknowledged = 0; left = left },
@@ -213,8 +213,10 @@ module _ (fleet : MemoryFleet) (options : Options) (master : ℕ) (r : Rebuilt) 
             opening = adopted.opening;
             made = refl;
             acknowledged = refl;
+            fleet = f;
             ends = ends;
           },
+          held,
         )
 
     alone : (f : FleetState) → HasNoOther f e.config.master → HasNoOther f next.master
@@ -223,13 +225,15 @@ module _ (fleet : MemoryFleet) (options : Options) (master : ℕ) (r : Rebuilt) 
     pub recovered_told : (new : Node) → RetiresOthers e new None → BeginsNext old (config_of options master) order new next (answer.Recovered r)
     recovered_told new (m, is, same, valid, none) =
         begins new (answer.Recovered r) None (subst (λ (n : Node). IsOf n None e) (sym is) (refl, same, valid))
-        (refl, refl, (e, fleet_state m.fleet, lived (fleet_state m.fleet) valid, alone (fleet_state m.fleet) none))
+        (fleet_state m.fleet) (ap fleet_of is) (refl, refl, (e, lived (fleet_state m.fleet) valid, alone (fleet_state m.fleet) none))
 
-    cut : (f : FleetState) → IsValid e f → (a : Answer) → IsCut f a
-        → EndsRecovery (standing_of next e (record { made = 0; acknowledged = 0; left = Some (left_now e f) })) r a
-    cut f valid answer.Stopped spent = (left_now e f, refl, (e, f, lived f valid, refl, spent))
-    cut f valid (answer.NotRetired why) unspent = (unspent, left_now e f, refl, (e, f, lived f valid, refl))
-    cut f valid a other = absurd other
+    cut : (f g : FleetState) → IsValid e f → (a : Answer) → IsCut f a
+        → EndsRecovery (standing_of next e (record { made = 0; acknowledged = 0; left = Some (left_now e f) })) g r a
+    cut f g valid answer.Stopped spent = (left_now e f, refl, (e, f, lived f valid, refl, spent))
+    cut f g valid (answer.NotRetired why) unspent = (unspent, left_now e f, refl, (e, f, lived f valid, refl))
+    cut f g valid a other = absurd other
 
     pub cut_told : (new : Node) (a : Answer) → RetiresOthers e new (Some a) → BeginsNext old (config_of options master) order new next a
-    cut_told new a (f, valid, of, why) = begins new a (Some (left_now e f)) of (cut f valid a why)
+    cut_told new a (f, valid, of, why) =
+        let held = fleet_held new (Some (left_now e f)) e of in
+        begins new a (Some (left_now e f)) of held.0 held.1 (cut f held.0 valid a why)

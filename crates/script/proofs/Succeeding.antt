@@ -3,6 +3,7 @@ use Rattle.std.proofs.Common.{◌≡◌, ◌≤◌, List, [], ◌∷◌, ◌++�
 use Rattle.std.proofs.lemmas.List.{append-nil}
 use Rattle.lines.specs.Grammar.{LineValue}
 use Rattle.replay.specs.declared.rebuilt.Rebuilt.{Rebuilt}
+use Rattle.replica.specs.Picture.{FleetState}
 use Rattle.versioned_map.specs.declared.command.Record.{Record}
 use Rattle.script.specs.declared.answer.Answer.{Answer}
 use Rattle.script.specs.declared.answer.Answer.TheVariants as answer
@@ -28,11 +29,12 @@ goes_longer from next line a more within after g = record {
   tells = tells_longer from.config from.life.opening from.life.history more from.at line a next.at within after g.tells;
 }
 
-ends_longer : (to : Standing) (table : Rebuilt) (a : Answer) (more : List Record) → EndsRecovery to table a → EndsRecovery (with_more to more) table a
-ends_longer to table (answer.Recovered r) more ends = ends
-ends_longer to table answer.Stopped more ends = ends
-ends_longer to table (answer.NotRetired why) more ends = ends
-ends_longer to table a more ends = absurd ends
+ends_longer : (to : Standing) (f : FleetState) (table : Rebuilt) (a : Answer) (more : List Record) → EndsRecovery to f table a
+    → EndsRecovery (with_more to more) f table a
+ends_longer to f table (answer.Recovered r) more ends = ends
+ends_longer to f table answer.Stopped more ends = ends
+ends_longer to f table (answer.NotRetired why) more ends = ends
+ends_longer to f table a more ends = absurd ends
 
 succeeds_longer : (from next : Standing) (line : LineValue) (a : Answer) (more : List Record) → Succeeds from line a next
     → Succeeds from line a (with_more next more)
@@ -47,7 +49,8 @@ succeeds_longer from next line a more s = record {
   opening = s.opening;
   made = s.made;
   acknowledged = s.acknowledged;
-  ends = ends_longer next s.table a more s.ends;
+  fleet = s.fleet;
+  ends = ends_longer next s.fleet s.table a more s.ends;
 }
 
 -- ---- many lines

@@ -202,11 +202,12 @@ MakesLimit old new answer =
 
 -- ---- lives
 
--- whatever the node stood for, that life ended, and the new node stands for the next
+-- whatever the node stood for, that life ended, and the new node stands for the next and has the fleet after it
 abbrev pub BeginsNext : Node → Config → ReplayOrder → Node → Config → Answer → Type 0
 BeginsNext old config order new next answer = (d : MasterData) (at : Position) → IsNodeAt old config d at →
     (e : MasterData) × (to : Position) × IsNodeAt new next e to × (e.history ≡ [])
-    × Succeeds (standing_of config d at) (Recover order) answer (standing_of next e to)
+    × (s : Succeeds (standing_of config d at) (Recover order) answer (standing_of next e to))
+    × (fleet_of new ≡ Some s.fleet)
 
 -- What a recovery makes of a node, and of the number that a later recovery asks for. The life of the master goes on, or
 -- the next begins.

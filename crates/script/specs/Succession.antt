@@ -36,21 +36,21 @@ pub record IsTold (s : Standing) : Type 0 where
 abbrev pub state_of_table : Rebuilt → State
 state_of_table r = record { contents = contents_of r.objects; safe = r.safe }
 
--- a master that has lived this life is the only one that backups hold replicas of
-abbrev pub IsAloneAt : Config → Life → Type 0
-IsAloneAt config life = (d : MasterData) × (f : FleetState) × HasLived config life d f
+-- a master that has lived this life is the only one that this fleet holds replicas of
+abbrev pub IsAloneAt : Config → Life → FleetState → Type 0
+IsAloneAt config life f = (d : MasterData) × HasLived config life d f
     × ((b m s : ℕ) → (m ≡ config.master → ⊥) → f.picture b m s ≡ None)
 
--- How a recovery ended whose table was adopted. The new master is there, and the replicas of all others are freed. Or
--- that was cut short, by the limit or by a fault, and the new master was dropped.
-abbrev pub EndsRecovery : Standing → Rebuilt → Answer → Type 0
-EndsRecovery to table (answer.Recovered r) =
-    (r ≡ table) × (to.at.left ≡ None) × IsAloneAt to.config (life_to to.life 0)
-EndsRecovery to table answer.Stopped =
+-- How a recovery ended whose table was adopted, and which left this fleet. The new master is there, and the replicas of
+-- all others are freed. Or that was cut short, by the limit or by a fault, and the new master was dropped.
+abbrev pub EndsRecovery : Standing → FleetState → Rebuilt → Answer → Type 0
+EndsRecovery to f table (answer.Recovered r) =
+    (r ≡ table) × (to.at.left ≡ None) × IsAloneAt to.config (life_to to.life 0) f
+EndsRecovery to f table answer.Stopped =
     (l : Left) × (to.at.left ≡ Some l) × IsLeftBySpent to.config (life_to to.life 0) l
-EndsRecovery to table (answer.NotRetired fault) = (fault ≡ take_fault.Spent → ⊥)
+EndsRecovery to f table (answer.NotRetired fault) = (fault ≡ take_fault.Spent → ⊥)
     × (l : Left) × (to.at.left ≡ Some l) × IsLeftBy to.config (life_to to.life 0) l
-EndsRecovery to table _ = ⊥
+EndsRecovery to f table _ = ⊥
 
 -- A recovery ended a life, of which all is told. A table was found of what was left, with each acknowledged record. The
 -- next life begins with this table, as that of a master with a greater number, and nothing is told of it yet.
@@ -65,7 +65,9 @@ pub record Succeeds (from : Standing) (line : LineValue) (answer : Answer) (to :
   pub opening : to.life.opening ≡ state_of_table table
   pub made : to.at.made ≡ 0
   pub acknowledged : to.at.acknowledged ≡ 0
-  pub ends : EndsRecovery to table answer
+  -- the fleet after it
+  pub fleet : FleetState
+  pub ends : EndsRecovery to fleet table answer
 
 -- ---- lines
 
