@@ -19,7 +19,7 @@ use Rattle.script.specs.declared.answer.Answer.TheVariants as answer
 use Rattle.script.specs.declared.node.Node.{Node}
 use Rattle.script.specs.declared.node.Node.TheVariants.{Up, Down, Changing}
 use Rattle.script.specs.Commands.{PushesTo, StopsShort, Tries, TriesAfterRoll}
-use Rattle.script.specs.Served.{MakesCommand, Refuses, world_of}
+use Rattle.script.specs.Served.{MakesCommand, Refuses}
 use Rattle.script.specs.Told.{command_of}
 use Rattle.script.specs.Waits.{MakesOpen, MakesTry, MakesTryAfterRoll}
 use Rattle.script.proofs.Steps.{refused_left}
