@@ -117,6 +117,36 @@ def input_comes_in_parts(program):
     want((output, process.returncode), (b"ok 1\n1 x\n1 x\n", 0))
 
 
+DIALOGUE = ((b"put 1 a x\n", b"ok 1\n"), (b"# nothing\nget 1 a\n", b"1 x\n"), (b"crash\nrecover\n", b"crashed\n1 a 1 x\nrecovered 1\n"))
+
+
+def read_answer(pipe, length):
+    """The next bytes of the pipe; fewer if they don't come."""
+    text, until = b"", time.monotonic() + SECONDS
+    os.set_blocking(pipe.fileno(), False)
+    while len(text) < length and time.monotonic() < until:
+        part = pipe.read(length - len(text))
+        if part == b"":
+            break
+        text += part or b""
+        if part is None:
+            time.sleep(0.005)
+    return text
+
+
+def pipes_show_each_answer(program):
+    """A program that talks through two pipes gets each answer before it sends the next line."""
+    with subprocess.Popen([program], stdin=subprocess.PIPE, stdout=subprocess.PIPE, bufsize=0) as process:
+        try:
+            for lines, answer in DIALOGUE:
+                process.stdin.write(lines)
+                want(read_answer(process.stdout, len(answer)), answer)
+            process.stdin.close()
+            want((process.wait(SECONDS), process.stdout.read()), (0, b""))
+        finally:
+            process.kill()
+
+
 def output_goes_in_blocks(program):
     """While input is at hand the program writes in blocks. A pipe of packets keeps writes apart."""
     reader, writer = os.pipe2(os.O_DIRECT)
@@ -266,7 +296,7 @@ def memory_is_taken_and_given_back(program):
 
 TESTS = [
     help_is_printed, version_is_printed, words_are_text, lines_have_limits, a_reader_fails, a_writer_fails,
-    input_comes_in_parts, output_goes_in_blocks, a_terminal_shows_each_answer, an_end_is_not_asked_for_again,
+    input_comes_in_parts, pipes_show_each_answer, output_goes_in_blocks, a_terminal_shows_each_answer, an_end_is_not_asked_for_again,
     memory_is_taken_and_given_back,
 ]
 

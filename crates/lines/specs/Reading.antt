@@ -8,7 +8,7 @@ use Rattle.lines.specs.declared.reading.Taken.TheVariants.{Ended, Last, TooLong,
 use Rattle.lines.specs.declared.reading.Shown.{Shown}
 use Rattle.lines.specs.declared.reading.Shown.TheVariants as shown
 use Rattle.lines.specs.declared.reading.ReadFault.{ReadFault}
-use Rattle.lines.specs.declared.reading.ReadFault.TheVariants.{Failed, NoMemory}
+use Rattle.lines.specs.declared.reading.ReadFault.TheVariants.{ReadFailed, WriteFailed, NoMemory}
 
 -- no byte is a line feed
 abbrev pub IsUnbroken : List ℕ → Type 0
@@ -32,9 +32,10 @@ TakesLine old new line Last = Consumes old new line × IsAtEnd new × (0 < lengt
 TakesLine old new line TooLong = Consumes old new line × IsUnbroken line × (length line ≡ 4097)
 TakesLine old new line Nothing = Consumes old new [] × IsAtEnd new × (line ≡ [])
 
--- what was taken at a fault: the bytes in `line` if the reader failed, and nothing if it was out of memory
+-- what was taken at a fault: the bytes in `line` if the reader or the writer failed, and nothing if memory ran out
 abbrev pub StopsIn : Option (List ℕ) → Option (List ℕ) → List ℕ → ReadFault → Type 0
-StopsIn old new line Failed = Consumes old new line × IsLineText line
+StopsIn old new line ReadFailed = Consumes old new line × IsLineText line
+StopsIn old new line WriteFailed = Consumes old new line × IsLineText line
 StopsIn old new line NoMemory = Consumes old new [] × (line ≡ [])
 
 -- ---- what a reader shows
@@ -58,5 +59,6 @@ TakesShown old new before after (Ok shown.Ended) =
 TakesShown old new before after (Ok shown.Part) =
     (part : List ℕ) × Consumes old new part × GrowsBy before after part × (length after ≤ 4097) × (0 < length part)
 TakesShown old new before after (Ok shown.Nothing) = Keeps old new × (after ≡ before)
-TakesShown old new before after (Err Failed) = Keeps old new × (after ≡ before)
+TakesShown old new before after (Err ReadFailed) = Keeps old new × (after ≡ before)
+TakesShown old new before after (Err WriteFailed) = ⊥
 TakesShown old new before after (Err NoMemory) = ⊥

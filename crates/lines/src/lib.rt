@@ -1,6 +1,6 @@
 //! The lines of a script: read one at a time from any reader, and parsed.
 //!
-//! `next_line` promises which bytes it took of the reader and where they ended, also at a fault. `parse_line` promises
+//! `LineReader::next_line` promises which bytes it took of the reader and where they ended, also at a fault. `parse_line` promises
 //! that the text is that of its line, and at `None` that the text is that of no line. `specs/Grammar.antt` defines what
 //! each line is written as, and uses nothing of the parser.
 #![tactic(auto)]
@@ -16,4 +16,4 @@ pub use laws::one_line;
 pub use line::{Line, ReplayOrder};
 pub use numbers::Numbers;
 pub use parse::parse_line;
-pub use reading::{ReadFault, Taken, next_line};
+pub use reading::{LineReader, ReadFault, Taken};

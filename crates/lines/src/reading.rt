@@ -1,18 +1,24 @@
-//! Reading lines one at a time, each of a bounded length.
+//! Reading lines one at a time, each of a bounded length, in a dialogue with a writer.
 
-ghost use Rattle.std.specs.Prelude.{◌≡◌, ◌+◌, ◌≤◌, ◌++◌, length, IfErr, IfOk, OnErr, vec_capacity, vec_len};
+ghost use Rattle.std.specs.Prelude.{◌≡◌, ◌+◌, ◌≤◌, ◌++◌, [], List, ℕ, length, IfErr, IfOk, OnErr, vec_capacity, vec_len};
 ghost use Rattle.std.specs.Io.KnownBytes.{Keeps};
 ghost use Rattle.lines.specs.Reading.{IsFrontOfLine, StopsIn, TakesByte, TakesLine, TakesShown};
 
 use memchr::memchr;
-use std::io::{BufRead, ErrorKind, Read};
+use std::alloc::Global;
+use std::io::{BufRead, ErrorKind, Read, Write};
+use std::marker::Model;
 use thiserror::Error;
 
 /// Why no line was taken.
 #[derive(Clone, Copy, Debug, PartialEq, Eq, Error)]
 pub enum ReadFault {
+    /// The reader failed.
     #[error("cannot read")]
-    Failed,
+    ReadFailed,
+    /// The writer failed to hand over what it held.
+    #[error("cannot write")]
+    WriteFailed,
     #[error("no memory")]
     NoMemory,
 }
@@ -33,37 +39,80 @@ pub enum Taken {
 /// The most bytes of a line, without its line feed.
 const MAX_LINE_LEN: usize = 4096;
 
-/// Reads the next line, without its line feed, in place of what `line` held.
-///
-/// It asks for the memory of the longest line before it reads anything. It tries an interrupted read again.
-pub fn next_line<R: BufRead>(reader: &mut R, line: &mut Vec<u8>) -> Result<Taken, ReadFault>
-    ensures taken { IfOk result (TakesLine (R.remaining reader.old) (R.remaining reader.new) line.new.items) }
-    ensures fault { IfErr result (StopsIn (R.remaining reader.old) (R.remaining reader.new) line.new.items) }
-{
-    line.clear();
-    if line.reserve(MAX_LINE_LEN + 1).is_err() {
-        return Err(ReadFault::NoMemory);
-    }
-    'parts: while line.len() <= MAX_LINE_LEN {
-        match take_shown(reader, line)? {
-            Shown::Ended => return Ok(Taken::Ended),
-            Shown::Part => {}
-            // Only a read is certain to find the end of the input.
-            Shown::Nothing => match next_byte(reader)? {
-                Some(b'\n') => return Ok(Taken::Ended),
-                Some(byte) => line.push_reserved(byte),
-                None if line.is_empty() => return Ok(Taken::Nothing),
-                None => return Ok(Taken::Last),
-            },
+/// Reads lines one at a time, and holds the text of the last, without its line feed.
+#[derive(Drop)]
+pub struct LineReader {
+    text: Vec<u8>,
+    /// All bytes that the reader showed are used up: it may wait before it shows more.
+    is_spent: bool,
+}
+
+impl Model for LineReader {
+    ghost Value = { List ℕ };
+
+    ghost view = { λ r. r.text.items };
+}
+
+impl LineReader {
+    pub fn new(alloc: Global) -> LineReader
+        ensures { result ≡ [] }
+    {
+        LineReader {
+            text: Vec::new(alloc),
+            is_spent: true,
         }
     }
-    Ok(Taken::TooLong)
+
+    /// The line that was read last.
+    pub fn text(&self) -> &[u8]
+        ensures { result.now ≡ self.now }
+    {
+        self.text.as_slice()
+    }
+
+    /// Reads the next line.
+    ///
+    /// The writer is flushed before the reader is asked for bytes that it didn't show yet. So whoever sends a line and waits
+    /// for its answer gets it. While the reader has more to show, the writer may go on writing in blocks.
+    ///
+    /// It asks for the memory of the longest line before it reads anything. It tries an interrupted read again.
+    pub fn next_line<R: BufRead, W: Write>(
+        &mut self,
+        reader: &mut R,
+        writer: &mut W,
+    ) -> Result<Taken, ReadFault>
+        ensures taken { IfOk result (TakesLine (R.remaining reader.old) (R.remaining reader.new) self.new) }
+        ensures fault { IfErr result (StopsIn (R.remaining reader.old) (R.remaining reader.new) self.new) }
+        ensures flushed { Keeps (W.contents writer.old) (W.contents writer.new) }
+    {
+        self.text.clear();
+        if self.text.reserve(MAX_LINE_LEN + 1).is_err() {
+            return Err(ReadFault::NoMemory);
+        }
+        'parts: while self.text.len() <= MAX_LINE_LEN {
+            if self.is_spent && writer.flush().is_err() {
+                return Err(ReadFault::WriteFailed);
+            }
+            match take_shown(reader, &mut self.text, &mut self.is_spent)? {
+                Shown::Ended => return Ok(Taken::Ended),
+                Shown::Part => {}
+                // Only a read is certain to find the end of the input.
+                Shown::Nothing => match next_byte(reader)? {
+                    Some(b'\n') => return Ok(Taken::Ended),
+                    Some(byte) => self.text.push_reserved(byte),
+                    None if self.text.is_empty() => return Ok(Taken::Nothing),
+                    None => return Ok(Taken::Last),
+                },
+            }
+        }
+        Ok(Taken::TooLong)
+    }
 }
 
 /// The next byte of the reader, or `None` at its end.
 fn next_byte<R: Read>(reader: &mut R) -> Result<Option<u8>, ReadFault>
     ensures taken { IfOk result (TakesByte (R.remaining reader.old) (R.remaining reader.new)) }
-    ensures failed { IfErr result (λ fault. fault ≡ ReadFault.Failed) }
+    ensures failed { IfErr result (λ fault. fault ≡ ReadFault.ReadFailed) }
     ensures none_lost { OnErr result (Keeps (R.remaining reader.old) (R.remaining reader.new)) }
 {
     for _ in 0..u64::MAX {
@@ -72,10 +121,10 @@ fn next_byte<R: Read>(reader: &mut R) -> Result<Option<u8>, ReadFault>
             Ok(0) => return Ok(None),
             Ok(_) => return Ok(Some(buffer[0])),
             Err(error) if error.kind() == ErrorKind::Interrupted => {}
-            Err(_) => return Err(ReadFault::Failed),
+            Err(_) => return Err(ReadFault::ReadFailed),
         }
     }
-    Err(ReadFault::Failed)
+    Err(ReadFault::ReadFailed)
 }
 
 /// What `take_shown` took.
@@ -90,7 +139,11 @@ enum Shown {
 }
 
 /// Takes what the reader shows of a line.
-fn take_shown<R: BufRead>(reader: &mut R, line: &mut Vec<u8>) -> Result<Shown, ReadFault>
+fn take_shown<R: BufRead>(
+    reader: &mut R,
+    line: &mut Vec<u8>,
+    is_spent: &mut bool,
+) -> Result<Shown, ReadFault>
     requires short { vec_len line.old ≤ 4096 }
     requires room { 4097 ≤ vec_capacity line.old }
     ensures taken { TakesShown (R.remaining reader.old) (R.remaining reader.new) line.old.items line.new.items result }
@@ -100,10 +153,11 @@ fn take_shown<R: BufRead>(reader: &mut R, line: &mut Vec<u8>) -> Result<Shown, R
         Ok([]) => return Ok(Shown::Nothing),
         Ok(shown) => shown,
         Err(error) if error.kind() == ErrorKind::Interrupted => return Ok(Shown::Nothing),
-        Err(_) => return Err(ReadFault::Failed),
+        Err(_) => return Err(ReadFault::ReadFailed),
     };
     let (len, is_ended) = front_of_line(shown, MAX_LINE_LEN + 1 - line.len());
     append(line, &shown[..len]);
+    *is_spent = len + usize::from(is_ended) == shown.len();
     if is_ended {
         reader.consume(len + 1);
         Ok(Shown::Ended)

@@ -6,9 +6,9 @@ mod until_end;
 
 use clap::Error;
 use clap::error::ErrorKind;
-use script::{ScriptFault, report, run_program};
+use script::{ErrorOutput, ScriptFault, report, run_program};
 use std::env;
-use std::io::{self, BufReader, BufWriter, IsTerminal, LineWriter};
+use std::io::{self, BufReader, BufWriter};
 use std::process::ExitCode;
 use until_end::UntilEnd;
 
@@ -17,7 +17,7 @@ const MISUSE: u8 = 2;
 
 /// Writes the line of a fault to standard error, and answers the exit status.
 fn fail(rt: &HostRuntime, fault: ScriptFault) -> ExitCode {
-    let mut errors = rt.stderr().lock();
+    let mut errors = ErrorOutput::new(rt.stderr().lock());
     ExitCode::from(report(&fault, &mut errors))
 }
 
@@ -51,23 +51,17 @@ fn refuse(rt: &HostRuntime, error: &Error) -> ExitCode {
     }
 }
 
-/// Runs the program from standard input to standard output. It writes to a terminal line by line, and else in blocks.
+/// Runs the program from standard input to standard output. It writes in blocks, and writes what it answered before it
+/// waits for more input.
 fn run(rt: &HostRuntime, words: &[&str]) -> Result<u8, Error> {
-    let mut errors = rt.stderr().lock();
+    let mut errors = ErrorOutput::new(rt.stderr().lock());
     let Ok(mut reader) = BufReader::new(rt.alloc(), UntilEnd::new(rt.reader())) else {
         return Ok(report(&ScriptFault::NoMemory, &mut errors));
     };
-    if rt.stdout().is_terminal() {
-        let Ok(mut writer) = LineWriter::new(rt.alloc(), rt.stdout().lock()) else {
-            return Ok(report(&ScriptFault::NoMemory, &mut errors));
-        };
-        run_program(rt.alloc(), words, &mut reader, &mut writer, &mut errors)
-    } else {
-        let Ok(mut writer) = BufWriter::new(rt.alloc(), rt.stdout().lock()) else {
-            return Ok(report(&ScriptFault::NoMemory, &mut errors));
-        };
-        run_program(rt.alloc(), words, &mut reader, &mut writer, &mut errors)
-    }
+    let Ok(mut writer) = BufWriter::new(rt.alloc(), rt.stdout().lock()) else {
+        return Ok(report(&ScriptFault::NoMemory, &mut errors));
+    };
+    run_program(rt.alloc(), words, &mut reader, &mut writer, &mut errors)
 }
 
 /// Runs the program with these words.

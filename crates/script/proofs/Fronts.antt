@@ -1,10 +1,10 @@
 -- As far as a writer takes it.
-use Rattle.std.proofs.Common.{◌≡◌, ◌∙◌, ap, sym, append_assoc, List, ◌++◌, take, drop, ℕ}
-use Rattle.std.proofs.KnownBytes.{Appends-trans, Appends-kept}
+use Rattle.std.proofs.Common.{◌≡◌, ◌∙◌, ap, refl, sym, append_assoc, List, [], ◌++◌, take, drop, ℕ, subst, append-nil, Bool, true, false}
+use Rattle.std.proofs.KnownBytes.{Appends-nil, Appends-trans, Appends-kept, Keeps-refl, Keeps-trans}
 use Rattle.std.proofs.lemmas.List.{take-append-drop}
 use Rattle.std.specs.Io.KnownBytes.{Appends, Keeps}
 use Rattle.std.specs.Prelude.{Option}
-use Rattle.script.specs.Texts.{AppendsFront}
+use Rattle.script.specs.Errors.{AppendsFront, Errors, Writes, WritesUnless}
 
 -- what was written of some bytes is written of more
 pub cut_there : (held holds : Option (List ℕ)) (bytes more : List ℕ) → AppendsFront held holds bytes → AppendsFront held holds (bytes ++ more)
@@ -14,6 +14,39 @@ cut_there held holds bytes more f = (f.0, f.1 ++ more, ap (λ l. l ++ more) f.2 
 pub cut_later : (held mid holds : Option (List ℕ)) (bytes more : List ℕ) → Appends held mid bytes → AppendsFront mid holds more → AppendsFront held holds (bytes ++ more)
 cut_later held mid holds bytes more all f =
     (bytes ++ f.0, f.1, ap (λ l. bytes ++ l) f.2 ∙ sym (append_assoc bytes f.0 f.1), Appends-trans held mid holds bytes f.0 all f.3)
+
+-- nothing more was written of what follows
+cut_before : (held mid holds : Option (List ℕ)) (bytes more : List ℕ) → AppendsFront held mid bytes → Keeps mid holds → AppendsFront held holds (bytes ++ more)
+cut_before held mid holds bytes more f kept = cut_there held holds bytes more (f.0, f.1, f.2, Appends-kept held mid holds f.0 f.3 kept)
+
+-- the output was flushed
+pub nothing_written : (held holds : Option (List ℕ)) (failed : Bool) → Keeps held holds → WritesUnless false failed held holds []
+nothing_written held holds false kept = Appends-kept held held holds [] (Appends-nil held) kept
+nothing_written held holds true kept = ([], [], refl, Appends-kept held held holds [] (Appends-nil held) kept)
+
+writes_on : (a b c : Bool) (held mid holds : Option (List ℕ)) (bytes more : List ℕ) → WritesUnless a b held mid bytes → WritesUnless b c mid holds more
+    → WritesUnless a c held holds (bytes ++ more)
+writes_on false false false held mid holds bytes more all next = Appends-trans held mid holds bytes more all next
+writes_on false false true held mid holds bytes more all next = cut_later held mid holds bytes more all next
+writes_on false true false held mid holds bytes more front next = absurd next
+writes_on false true true held mid holds bytes more front kept = cut_before held mid holds bytes more front kept
+writes_on true false c held mid holds bytes more none next = absurd none
+writes_on true true false held mid holds bytes more none next = absurd next
+writes_on true true true held mid holds bytes more kept next = Keeps-trans held mid holds kept next
+
+-- some bytes were written, and then more
+pub writes_more : (a b c : Errors) (bytes more : List ℕ) → Writes a b bytes → Writes b c more → Writes a c (bytes ++ more)
+writes_more a b c = writes_on a.has_failed b.has_failed c.has_failed a.holds b.holds c.holds
+
+-- some bytes were written, and then the output was flushed
+pub writes_all : (a b c : Errors) (bytes : List ℕ) → Writes a b bytes → Writes b c [] → Writes a c bytes
+writes_all a b c bytes first then = subst (Writes a c) (append-nil bytes) (writes_more a b c bytes [] first then)
+
+pub writes_nothing : (e : Errors) → Writes e e []
+writes_nothing e = go e.has_failed where
+  go : (failed : Bool) → WritesUnless failed failed e.holds e.holds []
+  go false = Appends-nil e.holds
+  go true = Keeps-refl e.holds
 
 -- the front of the bytes that was written so far, where `rest` is left
 abbrev pub Wrote : Option (List ℕ) → Option (List ℕ) → List ℕ → List ℕ → Type 0
@@ -29,3 +62,12 @@ wrote_more held mid holds bytes rest n w more = (
 
 pub wrote_same : (held mid holds : Option (List ℕ)) (bytes rest : List ℕ) → Wrote held mid bytes rest → Keeps mid holds → Wrote held holds bytes rest
 wrote_same held mid holds bytes rest w kept = (w.0, w.1, Appends-kept held mid holds w.0 w.2 kept)
+
+-- all was written
+pub wrote_all : (held holds : Option (List ℕ)) (bytes rest : List ℕ) → Wrote held holds bytes rest → rest ≡ [] → Appends held holds bytes
+wrote_all held holds bytes rest w none =
+    subst (Appends held holds) (sym (append-nil w.0) ∙ ap (λ l. w.0 ++ l) (sym none) ∙ sym w.1) w.2
+
+-- no more was written
+pub wrote_front : (held holds : Option (List ℕ)) (bytes rest : List ℕ) → Wrote held holds bytes rest → AppendsFront held holds bytes
+wrote_front held holds bytes rest w = (w.0, rest, w.1, w.2)

@@ -3,9 +3,9 @@ use Rattle.std.proofs.Common.{◌≡◌, ℕ, suc, ◌+◌, ◌-◌, ◌^◌, �
 use Rattle.std.proofs.lemmas.List.{append-nil, length-append}
 use Rattle.std.proofs.lemmas.List.Elements.{All-nil, All-push}
 use Rattle.std.proofs.lemmas.List.Concat.{flat_map-append}
-use Rattle.std.specs.Prelude.{Option, Result, Ok, Err}
+use Rattle.std.specs.Prelude.{Option, None, Some, Result, Ok, Err}
 use Rattle.std.specs.Io.KnownBytes.{Appends, Consumes, IsAtEnd, Keeps}
-use Rattle.std.proofs.KnownBytes.{Appends-nil, Appends-trans, Appends-kept, Consumes-nil, Consumes-trans, Keeps-refl}
+use Rattle.std.proofs.KnownBytes.{Appends-nil, Appends-trans, Appends-kept, Consumes-nil, Consumes-trans, Keeps-trans}
 use Rattle.std.specs.List.{All}
 use Rattle.lines.specs.Reading.{IsLineText, StopsIn, TakesLine}
 use Rattle.lines.specs.declared.reading.ReadFault.{ReadFault}
@@ -52,6 +52,22 @@ taken_as had left text bytes was is same whole there =
 pub stopped_as : (had left : Option (List ℕ)) (text : List ℕ) (was is : ReadFault) → was ≡ is → StopsIn had left text was → StopsIn had left text is
 stopped_as had left text was is same there = subst (λ (f : ReadFault). StopsIn had left text f) same there
 
+-- ---- the writer was flushed before the line was run
+
+kept_first : (held wrote holds : Option (List ℕ)) (bytes : List ℕ) → Keeps held wrote → Appends wrote holds bytes → Appends held holds bytes
+kept_first None wrote holds bytes kept more = tt
+kept_first (Some xs) None holds bytes kept more = absurd kept
+kept_first (Some xs) (Some ys) None bytes kept more = absurd more
+kept_first (Some xs) (Some ys) (Some zs) bytes kept more = more ∙ ap (λ l. l ++ bytes) kept
+
+pub flushed_first : (old new : Session) (text : List ℕ) (number : ℕ) (held wrote holds : Option (List ℕ)) (r : Result (Unit {0}) ScriptFault)
+    → Keeps held wrote → PrintsText old new text number wrote holds r → PrintsText old new text number held holds r
+flushed_first old new text number held wrote holds (Ok done) kept p = (p.0, p.1, kept_first held wrote holds (answer_text p.0) kept p.2)
+flushed_first old new text number held wrote holds (Err (fault.BadLine n)) kept p = (p.0, p.1, Keeps-trans held wrote holds kept p.2)
+flushed_first old new text number held wrote holds (Err fault.ReadFailed) kept p = absurd p
+flushed_first old new text number held wrote holds (Err fault.WriteFailed) kept p = p
+flushed_first old new text number held wrote holds (Err fault.NoMemory) kept p = Keeps-trans held wrote holds kept p
+
 -- ---- a turn that failed
 
 pub turn_fault : (old new : Session) (number : ℕ) (had left held holds : Option (List ℕ)) (text taken : List ℕ) (f : ScriptFault) → IsLineText text
@@ -59,7 +75,7 @@ pub turn_fault : (old new : Session) (number : ℕ) (had left held holds : Optio
 turn_fault old new number had left held holds text taken (fault.BadLine n) whole consumed is p =
     (p.0, taken, consumed, inr (text, whole, is, inr p.1), p.2)
 turn_fault old new number had left held holds text taken fault.ReadFailed whole consumed is p = absurd p
-turn_fault old new number had left held holds text taken fault.WriteFailed whole consumed is p = (text, taken, whole, consumed, is, p.0, p.1)
+turn_fault old new number had left held holds text taken fault.WriteFailed whole consumed is p = inl (text, taken, whole, consumed, is, p.0, p.1)
 turn_fault old new number had left held holds text taken fault.NoMemory whole consumed is p =
     let short = whole.short in
     let count : length taken ≤ 4097 = elim is [
@@ -298,7 +314,7 @@ module _ (options : Options) (old : Session) (had mid left held wrote holds : Op
     runs_last consumed end some printed = ends_here text (Ok tt) consumed (lines_are text (inr (refl, some, end)), end) (answers_on printed)
 
     fails_to_write : (taken : List ℕ) → Consumes mid left taken → IsTakenLine text taken left → RunsScript options had left held holds (Err fault.WriteFailed)
-    fails_to_write taken consumed is = ends_here taken (Err fault.WriteFailed) consumed (lines_are taken is) tt
+    fails_to_write taken consumed is = ends_here taken (Err fault.WriteFailed) consumed (inl (lines_are taken is)) tt
 
   -- the lines were run, and no more
   closes : (taken : List ℕ) (result : Result (Unit {0}) ScriptFault) → Consumes mid left taken
@@ -327,7 +343,8 @@ module _ (options : Options) (old : Session) (had mid left held wrote holds : Op
   fails new (fault.BadLine n) t =
       closes t.1 (Err (fault.BadLine n)) t.2 (t.0 ∙ sym r.count, t.1, refl, bad_here n t.1 t.0 t.3) (kept_answers t.4)
   fails new fault.ReadFailed t = closes t.0 (Err fault.ReadFailed) t.1 (t.0, refl, t.2) (kept_answers t.3)
-  fails new fault.WriteFailed t = fails_to_write new t.0 t.5 t.6 t.2 t.1 t.3 t.4
+  fails new fault.WriteFailed (inl t) = fails_to_write new t.0 t.5 t.6 t.2 t.1 t.3 t.4
+  fails new fault.WriteFailed (inr t) = closes t.0 (Err fault.WriteFailed) t.1 (inr (t.0, refl, t.2)) tt
   fails new fault.NoMemory t = closes t.0 (Err fault.NoMemory) t.1 (t.0, refl, t.2) (kept_answers t.3)
 
   none_left : (new : Session) → TakesTurn old new number mid left wrote holds (Ok false) → RunsScript options had left held holds (Ok tt)
@@ -345,17 +362,18 @@ module _ (options : Options) (old : Session) (had mid left held wrote holds : Op
 
 -- ---- behind the last number, and behind the last line
 
-pub runs_dry : (options : Options) (old : Session) (had mid left held wrote : Option (List ℕ)) (number : ℕ) → number ≡ 2 ^ 64 - 1 → (r : Running options old had mid held wrote number)
-    (result : Result (Unit {0}) ScriptFault) → IsNoMore mid left result → RunsScript options had left held wrote result
-runs_dry options old had mid left held wrote number is r (Ok done) n = runs_out options old had mid left held wrote wrote number r n.0 n.1 (Keeps-refl wrote)
-runs_dry options old had mid left held wrote number is r (Err (fault.BadLine n)) none =
-    fails options old had mid left held wrote wrote number r old (fault.BadLine n)
-    (none.0 ∙ sym is, none.1, none.2, subst (λ (k : ℕ). IsBadLine old.options.backups k none.1 left) (none.0 ∙ sym is) (none.3 old.options.backups), Keeps-refl wrote)
-runs_dry options old had mid left held wrote number is r (Err fault.ReadFailed) none =
-    fails options old had mid left held wrote wrote number r old fault.ReadFailed (none.0, none.1, none.2, Keeps-refl wrote)
-runs_dry options old had mid left held wrote number is r (Err fault.WriteFailed) none = absurd none
-runs_dry options old had mid left held wrote number is r (Err fault.NoMemory) none =
-    fails options old had mid left held wrote wrote number r old fault.NoMemory (none.0, none.1, none.2, Keeps-refl wrote)
+pub runs_dry : (options : Options) (old : Session) (had mid left held wrote holds : Option (List ℕ)) (number : ℕ) → number ≡ 2 ^ 64 - 1 → (r : Running options old had mid held wrote number)
+    (result : Result (Unit {0}) ScriptFault) → IsNoMore mid left wrote holds result → RunsScript options had left held holds result
+runs_dry options old had mid left held wrote holds number is r (Ok done) n = runs_out options old had mid left held wrote holds number r n.0 n.1 n.2
+runs_dry options old had mid left held wrote holds number is r (Err (fault.BadLine n)) none =
+    fails options old had mid left held wrote holds number r old (fault.BadLine n)
+    (none.0 ∙ sym is, none.1, none.2, subst (λ (k : ℕ). IsBadLine old.options.backups k none.1 left) (none.0 ∙ sym is) (none.3 old.options.backups), none.4)
+runs_dry options old had mid left held wrote holds number is r (Err fault.ReadFailed) none =
+    fails options old had mid left held wrote holds number r old fault.ReadFailed none
+runs_dry options old had mid left held wrote holds number is r (Err fault.WriteFailed) none =
+    fails options old had mid left held wrote holds number r old fault.WriteFailed (inr none)
+runs_dry options old had mid left held wrote holds number is r (Err fault.NoMemory) none =
+    fails options old had mid left held wrote holds number r old fault.NoMemory none
 
 -- the writer was flushed
 module _ (options : Options) (had left held wrote holds : Option (List ℕ)) (kept : Keeps wrote holds) where
@@ -378,7 +396,7 @@ module _ (options : Options) (had left held wrote holds : Option (List ℕ)) (ke
     flushed (Err fault.NoMemory) p = Appends-kept held wrote holds (answers_of r.told) p kept
 
   pub fails_to_flush : (done : Unit {0}) → RunsScript options had left held wrote (Ok done) → RunsScript options had left held holds (Err fault.WriteFailed)
-  fails_to_flush done r = record { told = r.told; taken = r.taken; consumed = r.consumed; lines = r.lines; tells = r.tells; session = r.session; ends = r.ends.0; prints = tt }
+  fails_to_flush done r = record { told = r.told; taken = r.taken; consumed = r.consumed; lines = r.lines; tells = r.tells; session = r.session; ends = inl r.ends.0; prints = tt }
 
 -- nothing was begun
 pub begins_not : (options : Options) (had held : Option (List ℕ)) → RunsScript options had had held held (Err fault.NoMemory)

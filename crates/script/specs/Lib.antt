@@ -2,6 +2,7 @@ pub mod Configuration
 pub mod Numbers
 pub mod Wills
 pub mod Texts
+pub mod Errors
 pub mod Lives
 pub mod Rolls
 pub mod Commands

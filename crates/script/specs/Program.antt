@@ -8,25 +8,26 @@ use Rattle.master_core.specs.declared.config.ConfigFault.{ConfigFault}
 use Rattle.master_core.specs.Config.{config_fault}
 use Rattle.script.specs.declared.fault.ScriptFault.TheVariants.{NoMemory}
 use Rattle.script.specs.Configuration.{config_of}
+use Rattle.script.specs.Errors.{Errors, Writes}
 use Rattle.script.specs.Runs.{RunResult, RunsScript}
-use Rattle.script.specs.Texts.{AppendsFront, config_line, exit_status, fault_line}
+use Rattle.script.specs.Texts.{config_line, exit_status, fault_line}
 
 -- what is left to read of the input, and what the output and the error output hold
 pub record Streams : Type 0 where
   pub input : Option (List ℕ)
   pub output : Option (List ℕ)
-  pub errors : Option (List ℕ)
+  pub errors : Errors
 
 -- how the end of a run is reported: Ok by status 0, and a fault by its line and its status
-abbrev pub IsReported : RunResult → Option (List ℕ) → Option (List ℕ) → ℕ → Type 0
-IsReported (Ok done) held holds status = (holds ≡ held) × (status ≡ 0)
-IsReported (Err fault) held holds status = AppendsFront held holds (fault_line fault) × (status ≡ exit_status fault)
+abbrev pub IsReported : RunResult → Errors → Errors → ℕ → Type 0
+IsReported (Ok done) old new status = (new ≡ old) × (status ≡ 0)
+IsReported (Err fault) old new status = Writes old new (fault_line fault) × (status ≡ exit_status fault)
 
 -- The configuration fails its check. Its fault is named on the error output. Nothing is read, and nothing else written.
 pub record IsMisuse (config : Config) (old new : Streams) (status : ℕ) : Type 0 where
   pub fault : ConfigFault
   pub found : config_fault config ≡ Some fault
-  pub line : AppendsFront old.errors new.errors (config_line fault)
+  pub line : Writes old.errors new.errors (config_line fault)
   pub unread : new.input ≡ old.input
   pub unwritten : new.output ≡ old.output
   pub ends_with : status ≡ 2

@@ -76,13 +76,14 @@ abbrev pub RunResult : Type 0
 RunResult = Result (Unit {0}) ScriptFault
 
 -- What was taken of the reader: the lines that were run, and then nothing, or a bad line, which has the next number,
--- or part of a line at a fault.
+-- or part of a line at a fault. A writer fails at the answer of the last of them, or while part of the next is read.
 abbrev pub EndsWith : ℕ → List Told → List ℕ → Option (List ℕ) → Result (Unit {0}) ScriptFault → Type 0
 EndsWith backups told taken left (Ok done) = AreLines told taken × IsAtEnd left
 EndsWith backups told taken left (Err (BadLine number)) =
     (number ≡ suc (length told)) × (bad : List ℕ) × (taken ≡ texts_of told ++ bad) × IsBadLine backups number bad left
 EndsWith backups told taken left (Err ReadFailed) = (part : List ℕ) × (taken ≡ texts_of told ++ part) × IsLineText part
-EndsWith backups told taken left (Err WriteFailed) = AreLines told taken
+EndsWith backups told taken left (Err WriteFailed) =
+    AreLines told taken ⊎ ((part : List ℕ) × (taken ≡ texts_of told ++ part) × IsLineText part)
 EndsWith backups told taken left (Err NoMemory) =
     (part : List ℕ) × (taken ≡ texts_of told ++ part) × (length part ≤ 4097)
 

@@ -1,10 +1,9 @@
 -- What is printed. Each line ends with a line feed, byte 10; byte 32 is a space.
-use Rattle.std.specs.Prelude.{◌≡◌, ℕ, ◌/◌, ◌%◌, List, [], ◌∷◌, ◌++◌, length, Bool, true, false, codes, Option, Some}
+use Rattle.std.specs.Prelude.{ℕ, ◌/◌, ◌%◌, List, [], ◌∷◌, ◌++◌, length, Bool, true, false, codes, Option, Some}
 use Rattle.std.specs.Prelude.{None as nothing}
 use Rattle.std.specs.List.{flat_map}
 use Rattle.std.specs.Fmt.{decimal, digit_glyph}
 use Rattle.std.specs.Int.{w64, to_be_bytes}
-use Rattle.std.specs.Io.KnownBytes.{Appends}
 use Rattle.entry.specs.declared.entry.Object.{Object}
 use Rattle.replica.specs.declared.holding.Holding.{Holding}
 use Rattle.replica.specs.declared.op.TakeFault.{TakeFault}
@@ -154,9 +153,3 @@ config_line fault = codes "ramlog: bad configuration " ++ config_fault_name faul
 abbrev pub exit_status : ScriptFault → ℕ
 exit_status (BadLine number) = 2
 exit_status _ = 1
-
--- ---- as far as a writer takes it
-
--- a front of the bytes was written, and nothing else
-abbrev pub AppendsFront : Option (List ℕ) → Option (List ℕ) → List ℕ → Type 0
-AppendsFront held holds bytes = (front : List ℕ) × (rest : List ℕ) × (bytes ≡ front ++ rest) × Appends held holds front

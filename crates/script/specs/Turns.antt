@@ -56,7 +56,7 @@ PrintsText old new text number held holds (Err fault.WriteFailed) = (answer : An
 PrintsText old new text number held holds (Err fault.NoMemory) = Keeps held holds
 
 -- What came of the line with this number. It was run and more may come, it was the last, there was none, or a fault
--- came.
+-- came. If the writer failed, it either took no answer of the line, or was to be flushed before more was read.
 abbrev pub TakesTurn : Session → Session → ℕ → Known → Known → Known → Known → Result Bool ScriptFault → Type 0
 TakesTurn old new number had left held holds (Ok true) =
     (text : List ℕ) × IsLineText text × Consumes had left (text ++ 10 ∷ [])
@@ -70,16 +70,20 @@ TakesTurn old new number had left held holds (Err (fault.BadLine n)) =
 TakesTurn old new number had left held holds (Err fault.ReadFailed) =
     (part : List ℕ) × Consumes had left part × IsLineText part × Keeps held holds
 TakesTurn old new number had left held holds (Err fault.WriteFailed) =
-    (text : List ℕ) × (taken : List ℕ) × IsLineText text × Consumes had left taken × IsTakenLine text taken left
-    × (answer : Answer) × RunsText old text new answer
+    ((text : List ℕ) × (taken : List ℕ) × IsLineText text × Consumes had left taken × IsTakenLine text taken left
+    × (answer : Answer) × RunsText old text new answer)
+    ⊎ ((part : List ℕ) × Consumes had left part × IsLineText part)
 TakesTurn old new number had left held holds (Err fault.NoMemory) =
     (part : List ℕ) × Consumes had left part × (length part ≤ 4097) × Keeps held holds
 
 -- What came after the last line that can have a number.
-abbrev pub IsNoMore : Known → Known → RunResult → Type 0
-IsNoMore had left (Ok done) = Consumes had left [] × IsAtEnd left
-IsNoMore had left (Err (fault.BadLine n)) =
+abbrev pub IsNoMore : Known → Known → Known → Known → RunResult → Type 0
+IsNoMore had left held holds (Ok done) = Consumes had left [] × IsAtEnd left × Keeps held holds
+IsNoMore had left held holds (Err (fault.BadLine n)) =
     (n ≡ 2 ^ 64 - 1) × (bad : List ℕ) × Consumes had left bad × ((backups : ℕ) → IsBadLine backups n bad left)
-IsNoMore had left (Err fault.ReadFailed) = (part : List ℕ) × Consumes had left part × IsLineText part
-IsNoMore had left (Err fault.WriteFailed) = ⊥
-IsNoMore had left (Err fault.NoMemory) = (part : List ℕ) × Consumes had left part × (length part ≤ 4097)
+    × Keeps held holds
+IsNoMore had left held holds (Err fault.ReadFailed) =
+    (part : List ℕ) × Consumes had left part × IsLineText part × Keeps held holds
+IsNoMore had left held holds (Err fault.WriteFailed) = (part : List ℕ) × Consumes had left part × IsLineText part
+IsNoMore had left held holds (Err fault.NoMemory) =
+    (part : List ℕ) × Consumes had left part × (length part ≤ 4097) × Keeps held holds

@@ -1,13 +1,14 @@
 //! Why a run of a script ends early.
 
-ghost use Rattle.std.specs.Prelude.{◌≡◌, ◌++◌, ◌∷◌, [], Some, IsTrue};
-ghost use Rattle.std.specs.Io.KnownBytes.{Appends};
-ghost use Rattle.script.specs.Texts.{AppendsFront, config_line, exit_status, fault_line, number_text, script_fault_text};
+ghost use Rattle.std.specs.Prelude.{◌≡◌, ◌++◌, ◌∷◌, [], Some};
+ghost use Rattle.script.specs.Errors.{Writes};
+ghost use Rattle.script.specs.Texts.{config_line, exit_status, fault_line, number_text, script_fault_text};
 
+use crate::errors::ErrorOutput;
 use master::ConfigFault;
 use std::error::Error;
 use std::fmt;
-use std::io::{ErrorKind, Write};
+use std::io::Write;
 
 /// Why a run of a script ended early. The lines before were run, and their output was handed to the writer.
 #[derive(Clone, Copy, Debug, PartialEq, Eq)]
@@ -36,6 +37,16 @@ impl ScriptFault {
             ScriptFault::NoMemory => ("no memory", None),
         }
     }
+
+    /// The exit status of the program.
+    fn status(&self) -> u8
+        ensures { result ≡ exit_status self.now }
+    {
+        match self {
+            ScriptFault::BadLine(_) => 2,
+            _ => 1,
+        }
+    }
 }
 
 impl fmt::Display for ScriptFault {
@@ -49,90 +60,38 @@ impl fmt::Display for ScriptFault {
     }
 }
 
-/// Writes the line of a fault, as far as the writer takes it, and answers the program's exit status: 2 for a bad line,
-/// else 1. It takes no memory.
-pub fn report<W: Write>(fault: &ScriptFault, writer: &mut W) -> u8
-    ensures line { AppendsFront (W.contents writer.old) (W.contents writer.new) (fault_line fault.now) }
+/// Writes the line of a fault, and answers the program's exit status: 2 for a bad line, else 1. It takes no memory.
+pub fn report<W: Write + Drop>(fault: &ScriptFault, errors: &mut ErrorOutput<W>) -> u8
+    ensures line { Writes errors.old errors.new (fault_line fault.now) }
     ensures status { result ≡ exit_status fault.now }
 {
-    write_fault(writer, fault);
-    let _ = writer.flush();
-    match fault {
-        ScriptFault::BadLine(_) => 2,
-        _ => 1,
-    }
+    write_fault(errors, fault);
+    errors.flush();
+    fault.status()
 }
 
-/// Writes the line of a fault piece by piece, until the writer cuts one.
-fn write_fault<W: Write>(writer: &mut W, fault: &ScriptFault)
-    ensures { AppendsFront (W.contents writer.old) (W.contents writer.new) (fault_line fault.now) }
+/// Writes the line of a fault.
+fn write_fault<W: Write + Drop>(errors: &mut ErrorOutput<W>, fault: &ScriptFault)
+    ensures { Writes errors.old errors.new (fault_line fault.now) }
 {
     let (words, number) = fault.words();
-    if !write_front(writer, b"ramlog: ") {
-        return;
+    errors.write(b"ramlog: ");
+    errors.write(words.as_bytes());
+    if let Some(number) = number {
+        let mut digits = itoa::Buffer::new();
+        errors.write(digits.format(number).as_bytes());
     }
-    if !write_front(writer, words.as_bytes()) {
-        return;
-    }
-    write_end(writer, number);
+    errors.write(b"\n");
 }
 
-/// Writes the line of a bad configuration, as far as the writer takes it, and answers the program's exit status, 2. It
-/// takes no memory.
-pub fn report_config<W: Write>(fault: &ConfigFault, writer: &mut W) -> u8
-    ensures line { AppendsFront (W.contents writer.old) (W.contents writer.new) (config_line fault.now) }
+/// Writes the line of a bad configuration, and answers the program's exit status, 2. It takes no memory.
+pub fn report_config<W: Write + Drop>(fault: &ConfigFault, errors: &mut ErrorOutput<W>) -> u8
+    ensures line { Writes errors.old errors.new (config_line fault.now) }
     ensures status { result ≡ 2 }
 {
-    write_config_fault(writer, fault);
-    let _ = writer.flush();
+    errors.write(b"ramlog: bad configuration ");
+    errors.write(fault.name().as_bytes());
+    errors.write(b"\n");
+    errors.flush();
     2
-}
-
-/// Writes the line of a bad configuration piece by piece, until the writer cuts one.
-fn write_config_fault<W: Write>(writer: &mut W, fault: &ConfigFault)
-    ensures { AppendsFront (W.contents writer.old) (W.contents writer.new) (config_line fault.now) }
-{
-    if !write_front(writer, b"ramlog: bad configuration ") {
-        return;
-    }
-    if !write_front(writer, fault.name().as_bytes()) {
-        return;
-    }
-    write_front(writer, b"\n");
-}
-
-/// Writes the number, if there is one, and a line feed.
-fn write_end<W: Write>(writer: &mut W, number: Option<u64>)
-    ensures { AppendsFront (W.contents writer.old) (W.contents writer.new) (number_text number ++ 10 ∷ []) }
-{
-    let Some(number) = number else {
-        write_front(writer, b"\n");
-        return;
-    };
-    let mut digits = itoa::Buffer::new();
-    if !write_front(writer, digits.format(number).as_bytes()) {
-        return;
-    }
-    write_front(writer, b"\n");
-}
-
-/// Writes the bytes, as far as the writer takes them, and answers whether it took all. It repeats a write that was
-/// interrupted.
-fn write_front<W: Write>(writer: &mut W, bytes: &[u8]) -> bool
-    ensures front { AppendsFront (W.contents writer.old) (W.contents writer.new) bytes.now }
-    ensures whole { IsTrue result → Appends (W.contents writer.old) (W.contents writer.new) bytes.now }
-{
-    let mut rest = bytes;
-    for _ in 0..u64::MAX {
-        if rest.is_empty() {
-            return true;
-        }
-        match writer.write(rest) {
-            Ok(0) => return false,
-            Ok(taken) => rest = &rest[taken..],
-            Err(error) if error.kind() == ErrorKind::Interrupted => {}
-            Err(_) => return false,
-        }
-    }
-    false
 }

@@ -3,6 +3,7 @@
 
 mod answer;
 mod cleaning;
+mod errors;
 mod fault;
 mod node;
 mod program;
@@ -16,6 +17,7 @@ mod will;
 pub use answer::{Answer, write_answer};
 pub use backup::{MemoryBackup, MemoryFleet};
 pub use command_line::{Options, options};
+pub use errors::ErrorOutput;
 pub use fault::{ScriptFault, report, report_config};
 pub use program::{run_options, run_program};
 pub use recovery::{

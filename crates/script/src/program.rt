@@ -6,6 +6,7 @@ ghost use Rattle.clap.specs.Words.{FailsBy};
 ghost use Rattle.command_line.specs.CommandLine.{ramlog_faults, ramlog_matches};
 ghost use Rattle.script.specs.Program.{RunsMatches, RunsOptions, Streams};
 
+use crate::errors::ErrorOutput;
 use crate::fault::{ScriptFault, report, report_config};
 use crate::running::run_script;
 use crate::session::FIRST_MASTER;
@@ -20,22 +21,22 @@ use std::io::{BufRead, Write};
 ///
 /// The error is clap's. Nothing was read then, and nothing was written to either output: the caller prints the error's
 /// text. Its exit code is 2, or 0 if `--help` or `--version` was asked for.
-pub fn run_program<'a, R: BufRead, W: Write, E: Write>(
+pub fn run_program<'a, R: BufRead, W: Write, E: Write + Drop>(
     alloc: Global,
     words: &'a [&'a str],
     reader: &mut R,
     writer: &mut W,
-    errors: &mut E,
+    errors: &mut ErrorOutput<E>,
 ) -> Result<u8, Error>
     // What is done is what the options say that clap finds in the words.
     ensures ran { IfOk result (RunsMatches (ramlog_matches (texts words.entry.now))
-        (record { input = R.remaining reader.old; output = W.contents writer.old; errors = E.contents errors.old })
-        (record { input = R.remaining reader.new; output = W.contents writer.new; errors = E.contents errors.new })) }
+        (record { input = R.remaining reader.old; output = W.contents writer.old; errors = errors.old })
+        (record { input = R.remaining reader.new; output = W.contents writer.new; errors = errors.new })) }
     // The words are refused only for a fault that clap finds in them, or because memory ran out.
     ensures refused { FailsBy (ramlog_faults (texts words.entry.now)) result }
     ensures unread { IfErr result (λ _. R.remaining reader.new ≡ R.remaining reader.old) }
     ensures unwritten { IfErr result (λ _. W.contents writer.new ≡ W.contents writer.old) }
-    ensures unreported { IfErr result (λ _. E.contents errors.new ≡ E.contents errors.old) }
+    ensures unreported { IfErr result (λ _. errors.new ≡ errors.old) }
 {
     match options(alloc, words) {
         Ok(options) => Ok(run_options(alloc, options, reader, writer, errors)),
@@ -44,16 +45,16 @@ pub fn run_program<'a, R: BufRead, W: Write, E: Write>(
 }
 
 /// Checks the configuration of the options, runs the script, and reports how the run ended. Answers the exit status.
-pub fn run_options<R: BufRead, W: Write, E: Write>(
+pub fn run_options<R: BufRead, W: Write, E: Write + Drop>(
     alloc: Global,
     options: Options,
     reader: &mut R,
     writer: &mut W,
-    errors: &mut E,
+    errors: &mut ErrorOutput<E>,
 ) -> u8
     ensures { RunsOptions options
-        (record { input = R.remaining reader.old; output = W.contents writer.old; errors = E.contents errors.old })
-        (record { input = R.remaining reader.new; output = W.contents writer.new; errors = E.contents errors.new })
+        (record { input = R.remaining reader.old; output = W.contents writer.old; errors = errors.old })
+        (record { input = R.remaining reader.new; output = W.contents writer.new; errors = errors.new })
         result }
 {
     let Ok(config) = configuration(alloc, &options, FIRST_MASTER) else {

@@ -13,11 +13,12 @@ use crate::answer::{Answer, write_answer};
 use crate::fault::ScriptFault;
 use crate::session::{LineFault, Session};
 use command_line::Options;
-use lines::{ReadFault, Taken, next_line, one_line, parse_line};
+use lines::{LineReader, ReadFault, Taken, one_line, parse_line};
 use std::alloc::Global;
 use std::io::{BufRead, Write};
 
-/// Runs the lines of the reader in order, up to the first bad line, and hands the answer of each to the writer.
+/// Runs the lines of the reader in order, up to the first bad line, and hands the answer of each to the writer. It
+/// flushes the writer before it waits for more lines.
 pub fn run_script<R: BufRead, W: Write>(
     alloc: Global,
     reader: &mut R,
@@ -67,22 +68,22 @@ fn run_lines<R: BufRead, W: Write>(
         RunsScript options (R.remaining reader.old) (R.remaining reader.new)
         (W.contents writer.old) (W.contents writer.new) result }
 {
-    let mut text = Vec::new(alloc);
+    let mut lines = LineReader::new(alloc);
     for number in 1..u64::MAX {
-        match run_next(reader, writer, &mut text, session, number) {
+        match run_next(reader, writer, &mut lines, session, number) {
             Ok(true) => {}
             Ok(false) => return Ok(()),
             Err(fault) => return Err(fault),
         }
     }
-    no_more(reader, &mut text)
+    no_more(reader, writer, &mut lines)
 }
 
 /// Takes the next line and runs it. It has this number. Answers whether more lines may come.
 fn run_next<R: BufRead, W: Write>(
     reader: &mut R,
     writer: &mut W,
-    text: &mut Vec<u8>,
+    lines: &mut LineReader,
     session: &mut Session,
     number: u64,
 ) -> Result<bool, ScriptFault>
@@ -90,18 +91,19 @@ fn run_next<R: BufRead, W: Write>(
     ensures { TakesTurn session.old session.new number (R.remaining reader.old) (R.remaining reader.new)
         (W.contents writer.old) (W.contents writer.new) result }
 {
-    match next_line(reader, text) {
-        Ok(Taken::Ended) => match run_text(writer, session, text.as_slice(), number) {
+    match lines.next_line(reader, writer) {
+        Ok(Taken::Ended) => match run_text(writer, session, lines.text(), number) {
             Ok(()) => Ok(true),
             Err(fault) => Err(fault),
         },
-        Ok(Taken::Last) => match run_text(writer, session, text.as_slice(), number) {
+        Ok(Taken::Last) => match run_text(writer, session, lines.text(), number) {
             Ok(()) => Ok(false),
             Err(fault) => Err(fault),
         },
         Ok(Taken::Nothing) => Ok(false),
         Ok(Taken::TooLong) => Err(ScriptFault::BadLine(number)),
-        Err(ReadFault::Failed) => Err(ScriptFault::ReadFailed),
+        Err(ReadFault::ReadFailed) => Err(ScriptFault::ReadFailed),
+        Err(ReadFault::WriteFailed) => Err(ScriptFault::WriteFailed),
         Err(ReadFault::NoMemory) => Err(ScriptFault::NoMemory),
     }
 }
@@ -143,13 +145,19 @@ fn print<W: Write>(writer: &mut W, answer: &Answer) -> Result<(), ScriptFault>
 }
 
 /// Once a number can count no more lines, only the end of the input may follow.
-fn no_more<R: BufRead>(reader: &mut R, text: &mut Vec<u8>) -> Result<(), ScriptFault>
-    ensures { IsNoMore (R.remaining reader.old) (R.remaining reader.new) result }
+fn no_more<R: BufRead, W: Write>(
+    reader: &mut R,
+    writer: &mut W,
+    lines: &mut LineReader,
+) -> Result<(), ScriptFault>
+    ensures { IsNoMore (R.remaining reader.old) (R.remaining reader.new)
+        (W.contents writer.old) (W.contents writer.new) result }
 {
-    match next_line(reader, text) {
+    match lines.next_line(reader, writer) {
         Ok(Taken::Nothing) => Ok(()),
         Ok(_) => Err(ScriptFault::BadLine(u64::MAX)),
-        Err(ReadFault::Failed) => Err(ScriptFault::ReadFailed),
+        Err(ReadFault::ReadFailed) => Err(ScriptFault::ReadFailed),
+        Err(ReadFault::WriteFailed) => Err(ScriptFault::WriteFailed),
         Err(ReadFault::NoMemory) => Err(ScriptFault::NoMemory),
     }
 }

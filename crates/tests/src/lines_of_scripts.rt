@@ -145,13 +145,14 @@ fn bad_lines_are_none(rt: HostRuntime) -> Result<(), Fail> {
 type Row<'a> = (&'a str, &'a str);
 
 /// What a call took of the reader, in a word.
-fn taken<R: BufRead>(reader: &mut R, line: &mut Vec<u8>) -> &'static str {
-    match next_line(reader, line) {
+fn taken<R: BufRead>(reader: &mut R, lines: &mut LineReader) -> &'static str {
+    match lines.next_line(reader, &mut io::sink()) {
         Ok(Taken::Ended) => "ended",
         Ok(Taken::Last) => "last",
         Ok(Taken::Nothing) => "nothing",
         Ok(Taken::TooLong) => "too long",
-        Err(ReadFault::Failed) => "failed",
+        Err(ReadFault::ReadFailed) => "cannot read",
+        Err(ReadFault::WriteFailed) => "cannot write",
         Err(ReadFault::NoMemory) => "no memory",
     }
 }
@@ -168,10 +169,10 @@ const LINES: &[Row<'static>] = &[
 #[test]
 fn lines_are_read(rt: HostRuntime) {
     let mut reader: &[u8] = b"crash\n\n# x\r\nlast";
-    let mut line = Vec::new(rt.alloc());
+    let mut lines = LineReader::new(rt.alloc());
     for (want, text) in LINES {
-        assert_eq!(rt; taken(&mut reader, &mut line), *want, "{text}");
-        assert_eq!(rt; line.as_slice(), text.as_bytes());
+        assert_eq!(rt; taken(&mut reader, &mut lines), *want, "{text}");
+        assert_eq!(rt; lines.text(), text.as_bytes());
     }
 }
 
@@ -202,7 +203,7 @@ impl<'a> Read for Failing<'a> {
     }
 }
 
-const FAULTS: &[Row<'static>] = &[("ended", "crash"), ("failed", "rec"), ("failed", "")];
+const FAULTS: &[Row<'static>] = &[("ended", "crash"), ("cannot read", "rec"), ("cannot read", "")];
 
 #[test]
 fn faults_are_told(rt: HostRuntime) -> Result<(), Fail> {
@@ -211,10 +212,10 @@ fn faults_are_told(rt: HostRuntime) -> Result<(), Fail> {
         interrupts: false,
     };
     let mut reader = BufReader::new(rt.alloc(), failing)?;
-    let mut line = Vec::new(rt.alloc());
+    let mut lines = LineReader::new(rt.alloc());
     for (want, text) in FAULTS {
-        assert_eq!(rt; taken(&mut reader, &mut line), *want, "{text}");
-        assert_eq!(rt; line.as_slice(), text.as_bytes());
+        assert_eq!(rt; taken(&mut reader, &mut lines), *want, "{text}");
+        assert_eq!(rt; lines.text(), text.as_bytes());
     }
     Ok(())
 }

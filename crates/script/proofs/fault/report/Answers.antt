@@ -1,5 +1,5 @@
-use Rattle.std.proofs.Common.{refl}
+use Rattle.script.proofs.Fronts.{writes_all}
 use Rattle.script.proofs.fault.report.Goals as goal
 
-pub returns-in-BadLine-clause-status : goal.returns-in-BadLine-clause-status
-returns-in-BadLine-clause-status g c = rw c.in-BadLine.is refl
+pub returns-clause-line : goal.returns-clause-line
+returns-clause-line g c = writes_all _ _ _ _ c.write_fault.ensures c.flush.ensures

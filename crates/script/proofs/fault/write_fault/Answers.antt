@@ -1,7 +1,9 @@
-use Rattle.std.proofs.Common.{◌≡◌, ℕ, List, [], ◌∷◌, ◌++◌, ◌∙◌, ap, refl, sym, subst, append_assoc}
+use Rattle.std.proofs.Common.{◌≡◌, ℕ, List, [], ◌∷◌, ◌++◌, ◌∙◌, ap, sym, subst, append_assoc}
 use Rattle.std.specs.Prelude.{codes}
-use Rattle.script.specs.Texts.{AppendsFront, number_text, script_fault_text}
-use Rattle.script.proofs.Fronts.{cut_there, cut_later}
+use Rattle.script.specs.Errors.{Writes}
+use Rattle.script.specs.Texts.{number_text, script_fault_text}
+use Rattle.script.proofs.Fronts.{writes_more, writes_nothing}
+use Rattle.script.proofs.fault.write_fault.Goals.{in-Some, in_default}
 use Rattle.script.proofs.fault.write_fault.Goals as goal
 
 -- the pieces of the line
@@ -11,27 +13,16 @@ line-is text words bytes number is same =
     ap (λ (l : List ℕ). codes "ramlog: " ++ (l ++ (number ++ 10 ∷ []))) same
     ∙ ap (λ (l : List ℕ). codes "ramlog: " ++ l) (sym (append_assoc words number (10 ∷ [])) ∙ ap (λ (l : List ℕ). l ++ 10 ∷ []) (sym is))
 
-pub returns-then-not-write_front : goal.returns-then-not-write_front
-returns-then-not-write_front g c = cut_there _ _ (codes "ramlog: ") _ c.write_front.ensures.front
-
-pub returns-then-not-write_front-2 : goal.returns-then-not-write_front-2
-returns-then-not-write_front-2 g c =
-    let held = g.W.Write.contents c.args.writer.now in
-    let mid = g.W.Write.contents c.write_front.new.writer in
-    let holds = g.W.Write.contents c.write_front-2.new.writer in
-    let words = c.as_bytes.result.now in
-    let more = number_text c.words-number.result.1 ++ 10 ∷ [] in
-    subst (AppendsFront held holds) (line-is (script_fault_text c.args.fault.now) c.words-number.result.0.now words _ c.words-number.ensures c.as_bytes.ensures.value)
-    (cut_later held mid holds (codes "ramlog: ") (words ++ more) (c.if-not-write_front.ensures.whole refl) (cut_there mid holds words more c.write_front-2.ensures.front))
-
 pub returns : goal.returns
 returns g c =
-    let held = g.W.Write.contents c.args.writer.now in
-    let mid = g.W.Write.contents c.write_front.new.writer in
-    let next = g.W.Write.contents c.write_front-2.new.writer in
-    let holds = g.W.Write.contents c.write_end.new.writer in
-    let words = c.as_bytes.result.now in
-    let more = number_text c.words-number.result.1 ++ 10 ∷ [] in
-    subst (AppendsFront held holds) (line-is (script_fault_text c.args.fault.now) c.words-number.result.0.now words _ c.words-number.ensures c.as_bytes.ensures.value)
-    (cut_later held mid holds (codes "ramlog: ") (words ++ more) (c.if-not-write_front.ensures.whole refl)
-    (cut_later mid next holds words more (c.if-not-write_front-2.ensures.whole refl) c.write_end.ensures))
+    let number = number_text c.words-number.result.1 in
+    let named : Writes c.write-2.new.self c.match-number.errors number = elim c.match-number.branch as (λ _. Writes c.write-2.new.self c.match-number.errors number) [
+      | in-Some w ↦ rw (w.errors-is, w.in-Some.is)
+          (subst (Writes c.write-2.new.self w.write-in-Some.new.self) (w.as_bytes-in-Some.ensures.value ∙ w.format.ensures.text) w.write-in-Some.ensures)
+      | in_default w ↦ rw (w.errors-is, w.in_default.is) (writes_nothing c.write-2.new.self)
+    ] in
+    subst (Writes c.args.errors.now c.write-3.new.self)
+    (line-is (script_fault_text c.args.fault.now) c.words-number.result.0.now c.as_bytes.result.now number c.words-number.ensures c.as_bytes.ensures.value)
+    (writes_more c.args.errors.now c.write.new.self c.write-3.new.self (codes "ramlog: ") (c.as_bytes.result.now ++ (number ++ 10 ∷ [])) c.write.ensures
+    (writes_more c.write.new.self c.write-2.new.self c.write-3.new.self c.as_bytes.result.now (number ++ 10 ∷ []) c.write-2.ensures
+    (writes_more c.write-2.new.self c.match-number.errors c.write-3.new.self number (10 ∷ []) named c.write-3.ensures)))

@@ -1,7 +1,7 @@
 use Rattle.std.proofs.lemmas.List.{take_rest}
 use Rattle.script.proofs.Fronts.{Wrote, wrote_more, wrote_same}
-use Rattle.script.proofs.fault.write_front.Goals.{in-Ok, in-Err}
-use Rattle.script.proofs.fault.write_front.Goals as goal
+use Rattle.script.proofs.errors.fails_to_write.Goals.{in-Ok, in-Err}
+use Rattle.script.proofs.errors.fails_to_write.Goals as goal
 
 pub loop-preserved : goal.loop-preserved
 loop-preserved g c =

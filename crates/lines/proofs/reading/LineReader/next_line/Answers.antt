@@ -1,6 +1,6 @@
 use Rattle.std.proofs.Common.{arith, rules}
 use Rattle.lines.proofs.Taking.{last}
-use Rattle.lines.proofs.reading.next_line.Goals as goal
+use Rattle.lines.proofs.reading.LineReader.next_line.Goals as goal
 
 pub returns-in-None-2-clause-taken : goal.returns-in-None-2-clause-taken
 returns-in-None-2-clause-taken g c =

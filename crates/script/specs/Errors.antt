@@ -1,0 +1,23 @@
+-- What is written to the error output.
+use Rattle.std.specs.Prelude.{◌≡◌, ℕ, List, ◌++◌, Bool, true, false, Option}
+use Rattle.std.specs.Io.KnownBytes.{Appends, Keeps}
+
+-- what an error output holds, and whether writing to it has failed
+pub record Errors : Type 0 where
+  pub holds : Option (List ℕ)
+  pub has_failed : Bool
+
+-- a front of the bytes was written, and nothing else
+abbrev pub AppendsFront : Option (List ℕ) → Option (List ℕ) → List ℕ → Type 0
+AppendsFront held holds bytes = (front : List ℕ) × (rest : List ℕ) × (bytes ≡ front ++ rest) × Appends held holds front
+
+-- what was written of the bytes if writing had failed before, or had not, and has failed now, or has not
+abbrev pub WritesUnless : Bool → Bool → Option (List ℕ) → Option (List ℕ) → List ℕ → Type 0
+WritesUnless false false held holds bytes = Appends held holds bytes
+WritesUnless false true held holds bytes = AppendsFront held holds bytes
+WritesUnless true false held holds bytes = ⊥
+WritesUnless true true held holds bytes = Keeps held holds
+
+-- All of the bytes were written. Only if writing failed, a front of them was. Once it has failed, nothing is written.
+abbrev pub Writes : Errors → Errors → List ℕ → Type 0
+Writes old new bytes = WritesUnless old.has_failed new.has_failed old.holds new.holds bytes
