@@ -1,0 +1,175 @@
+//! Runs of a new master: its steps, the turns of a cleaner, what it tells of a command before it is applied, the sizes
+//! of its live objects, what it frees, and that it does what the plain programs do.
+
+use crate::answers::{Call, passed_by_new};
+use crate::masters::Ask;
+use master::If;
+
+/// Two pushes, a put, a get, and three pushes.
+const STEPS: &[Call] = &[
+    Call::Answers(
+        &[
+            Ask::Push,
+            Ask::Push,
+            Ask::Put(b"a", b'x', If::Any),
+            Ask::Get(b"a"),
+            Ask::Push,
+            Ask::Push,
+            Ask::Push,
+        ],
+        &[
+            ("opened", 1, 1),
+            ("opened", 2, 1),
+            ("applied", 0, 0),
+            ("applied", 1, 0),
+            ("extended", 1, 1),
+            ("extended", 2, 1),
+            ("Nothing", 0, 0),
+        ],
+    ),
+    Call::Counts(1, 2, 2),
+    Call::NoImage(2),
+];
+
+/// Puts `a`, rolls to head 2, puts `a` again, and rolls to head 3. Then there are two closed segments.
+const FILL: &[Ask] = &[
+    Ask::Push,
+    Ask::Push,
+    Ask::Put(b"a", b'x', If::Any),
+    Ask::Push,
+    Ask::Push,
+    Ask::Roll,
+    Ask::Push,
+    Ask::Push,
+    Ask::Push,
+    Ask::Push,
+    Ask::Put(b"a", b'y', If::Any),
+    Ask::Push,
+    Ask::Push,
+    Ask::Roll,
+    Ask::Push,
+    Ask::Push,
+    Ask::Push,
+    Ask::Push,
+];
+
+/// A pass over 1 and 2, one over the head 3 that it closed and its survivor, and the begin of a third. In the first the
+/// tombstone of `a` is carried, because it names a victim; in the second it is dropped.
+const TURNS: &[Call] = &[
+    Call::Run(FILL),
+    Call::Victims(&[1, 2]),
+    Call::Turn(("begun", 4, 0)),
+    Call::Turn(("dropped", 0, 0)),
+    Call::Turn(("carried", 0, 0)),
+    Call::Turn(("moved", 0, 0)),
+    Call::Turn(("sealed", 1, 0)),
+    Call::Turn(("sealed", 2, 0)),
+    Call::Turn(("rolling", 5, 0)),
+    Call::Turn(("opened", 2, 5)),
+    Call::Turn(("opened", 0, 5)),
+    Call::Turn(("closed", 0, 3)),
+    Call::Turn(("closed", 1, 3)),
+    Call::Turn(("freed", 1, 1)),
+    Call::Turn(("freed", 2, 1)),
+    Call::Turn(("freed", 2, 2)),
+    Call::Turn(("freed", 0, 2)),
+    Call::Turn(("begun", 6, 0)),
+    Call::Turn(("dropped", 0, 0)),
+    Call::Turn(("moved", 0, 0)),
+    Call::Turn(("sealed", 0, 0)),
+    Call::Turn(("sealed", 1, 0)),
+    Call::Turn(("rolling", 7, 0)),
+    Call::Turn(("opened", 1, 7)),
+    Call::Turn(("opened", 2, 7)),
+    Call::Turn(("closed", 2, 5)),
+    Call::Turn(("closed", 0, 5)),
+    Call::Turn(("freed", 0, 3)),
+    Call::Turn(("freed", 1, 3)),
+    Call::Turn(("freed", 1, 4)),
+    Call::Turn(("freed", 2, 4)),
+    Call::Turn(("begun", 8, 0)),
+];
+
+/// A new master opens its head, and has nothing to clean.
+const IDLE: &[Call] = &[
+    Call::Turn(("opened", 1, 1)),
+    Call::Turn(("opened", 2, 1)),
+    Call::Rests,
+    Call::Victims(&[]),
+];
+
+/// Before a replica is open, only commands that append nothing pass. Nothing that is told changes the master.
+const QUESTIONS: &[Call] = &[
+    Call::Would(Ask::Get(b"a"), ("none", 0)),
+    Call::Would(Ask::Put(b"a", b'x', If::Any), ("Rolling", 0)),
+    Call::Would(Ask::Put(b"a", b'x', If::Version(1)), ("mismatch", 0)),
+    Call::Run(&[Ask::Push, Ask::Push, Ask::Put(b"a", b'x', If::Any)]),
+    Call::Would(Ask::Get(b"a"), ("found", 1)),
+    Call::Would(Ask::Put(b"a", b'y', If::Any), ("ok", 2)),
+    Call::Would(Ask::Put(b"a", b'y', If::Absent), ("mismatch", 1)),
+    Call::Would(Ask::Delete(b"a"), ("ok", 1)),
+    Call::Would(Ask::Delete(b"b"), ("none", 0)),
+    Call::Would(Ask::Get(b"a"), ("found", 1)),
+    Call::Counts(1, 0, 1),
+];
+
+/// Three keys, of which `a` is put twice and `b` is deleted; the first put lies in a closed segment. What is left has the
+/// places of `a` and of `longer t`, with 23 bytes, those of the key, and one of the value.
+const SIZED: &[Call] = &[
+    Call::Run(&[
+        Ask::Push,
+        Ask::Push,
+        Ask::Put(b"a", b'x', If::Any),
+        Ask::Put(b"b", b'y', If::Any),
+        Ask::Put(b"longer than a place", b'z', If::Any),
+        Ask::Push,
+        Ask::Push,
+        Ask::Push,
+        Ask::Push,
+        Ask::Push,
+        Ask::Push,
+        Ask::Roll,
+        Ask::Push,
+        Ask::Push,
+        Ask::Push,
+        Ask::Push,
+        Ask::Put(b"a", b'w', If::Any),
+        Ask::Delete(b"b"),
+    ]),
+    Call::Sizes(&[(1, 0x6100000000000000, 25), (1, 0x6c6f6e6765722074, 43)]),
+];
+
+/// A master keeps its own replicas.
+const RETIRED: &[Call] = &[
+    Call::Run(&[Ask::Push, Ask::Push]),
+    Call::Retires,
+    Call::Holds(&[(1, 1, 1), (2, 1, 1)]),
+];
+
+/// Commands on a few keys, so that most of them find what an earlier one left.
+const COMPARED: &[Call] = &[Call::Compares(&[
+    Ask::Get(b"a"),
+    Ask::Put(b"a", b'x', If::Any),
+    Ask::Put(b"a", b'y', If::Absent),
+    Ask::Put(b"a", b'y', If::Version(1)),
+    Ask::Put(b"a", b'z', If::Version(7)),
+    Ask::Put(b"b", b'z', If::Version(1)),
+    Ask::Put(b"b", b'p', If::Absent),
+    Ask::Put(b"c", b'q', If::Any),
+    Ask::Get(b"a"),
+    Ask::Delete(b"a"),
+    Ask::Delete(b"a"),
+    Ask::Delete(b"c"),
+    Ask::Put(b"a", b'w', If::Any),
+    Ask::Put(b"b", b'p', If::Any),
+])];
+
+const RUNS: &[&[Call]] = &[STEPS, TURNS, IDLE, QUESTIONS, SIZED, RETIRED, COMPARED];
+
+#[test]
+fn a_master_answers(rt: HostRuntime) {
+    for (run, calls) in RUNS.iter().enumerate() {
+        let passed = passed_by_new(rt.alloc(), calls);
+        assert!(rt; passed == calls.len(), "run {run}: call {passed}");
+    }
+}

@@ -1,0 +1,172 @@
+//! Plans of damaged inventories, and which replicas they take.
+
+use recovery_plan::{Plan, PlanFault, plan};
+use replica::{Bytes, Holding, Inventory};
+use std::alloc::Global;
+
+/// The first head of master 1, empty.
+const FIRST: &[u8] =
+    b"\x01\0\0\0\0\0\0\0\x01\0\0\0\0\0\0\0\x01\0\x02\0\0\0\x01\0\0\0\0\0\0\0\x01\x03\0\0\0\0\0\0\0\x01";
+
+/// That head with an object: table 1, version 1, key `a`, value `x`.
+const FULL: &[u8] =
+    b"\x01\0\0\0\0\0\0\0\x01\0\0\0\0\0\0\0\x01\0\x02\0\0\0\x01\0\0\0\0\0\0\0\x01\x03\0\0\0\0\0\0\0\x01\
+    \x04\0\0\0\0\0\0\0\x01\0\0\0\0\0\0\0\x01\0\x01\0\0\0\x01ax";
+
+/// Head 2 of master 1, whose digest lists 1 and 2.
+const NEXT: &[u8] =
+    b"\x01\0\0\0\0\0\0\0\x01\0\0\0\0\0\0\0\x02\0\x02\0\0\0\x02\0\0\0\0\0\0\0\x01\0\0\0\0\0\0\0\x02\
+    \x03\0\0\0\0\0\0\0\x01";
+
+/// The header of survivor 3 of master 1.
+const SURVIVOR: &[u8] = b"\x01\0\0\0\0\0\0\0\x01\0\0\0\0\0\0\0\x03\x01";
+
+/// A replica: its backup, master and segment, its bytes, and whether it is open.
+type Replica<'a> = (u64, u64, u64, &'a [u8], bool);
+
+/// The length of each segment of a plan, or why there is none.
+type Want = Result<&'static [usize], PlanFault>;
+
+fn holding_of(alloc: Global, replica: &Replica<'_>) -> Option<Holding> {
+    let (backup, master, segment, bytes, is_open) = *replica;
+    let bytes = Vec::from_slice(alloc, bytes).ok()?;
+    Some(Holding {
+        backup,
+        master,
+        segment,
+        bytes: Bytes::new(bytes),
+        is_open,
+    })
+}
+
+fn inventory_of(alloc: Global, replicas: &[Replica<'_>]) -> Option<Inventory> {
+    let mut holdings = Vec::new(alloc);
+    for replica in replicas {
+        holdings.push(holding_of(alloc, replica)?).ok()?;
+    }
+    Some(Inventory::new(holdings))
+}
+
+fn has_lens(plan: &Plan, want: &Want) -> bool {
+    let Ok(lens) = *want else {
+        return false;
+    };
+    let segments = plan.segments.as_slice();
+    let mut are_same = segments.len() == lens.len();
+    for (segment, len) in segments.iter().zip(lens) {
+        are_same = are_same && segment.bytes_len() == *len;
+    }
+    are_same
+}
+
+fn is_planned(alloc: Global, replicas: &[Replica<'_>], master: u64, want: &Want) -> bool {
+    let Some(inventory) = inventory_of(alloc, replicas) else {
+        return false;
+    };
+    match &plan(alloc, &inventory, master) {
+        Ok(plan) => has_lens(plan, want),
+        Err(fault) => *want == Err(*fault),
+    }
+}
+
+#[test]
+fn a_front_of_a_head_is_a_plan_or_bad(rt: HostRuntime) {
+    for len in 0..66 {
+        let want: Want = match len {
+            40 => Ok(&[40]),
+            65 => Ok(&[65]),
+            _ => Err(PlanFault::BadReplica(1, 1)),
+        };
+        let replicas = &[(1, 1, 1, FULL.split_at(len).0, true)];
+        assert!(rt; is_planned(rt.alloc(), replicas, 1, &want), "{len}");
+    }
+}
+
+/// Replicas, the master that is to be recovered, and its plan.
+struct Row {
+    replicas: &'static [Replica<'static>],
+    master: u64,
+    want: Want,
+}
+
+const ROWS: &[Row] = &[
+    // damage
+    Row {
+        replicas: &[(1, 1, 2, FIRST, true)],
+        master: 1,
+        want: Err(PlanFault::BadReplica(1, 2)),
+    },
+    Row {
+        replicas: &[(1, 1, 1, FIRST, false)],
+        master: 1,
+        want: Err(PlanFault::HeadClosed(1)),
+    },
+    Row {
+        replicas: &[(0, 1, 3, SURVIVOR, false)],
+        master: 1,
+        want: Err(PlanFault::NoHead),
+    },
+    Row {
+        replicas: &[(0, 7, 1, b"\xff", true)],
+        master: 1,
+        want: Err(PlanFault::NoHead),
+    },
+    Row {
+        replicas: &[(1, 2, 1, FIRST, true)],
+        master: 2,
+        want: Err(PlanFault::BadReplica(1, 1)),
+    },
+    Row {
+        replicas: &[(1, 1, 2, NEXT, true)],
+        master: 1,
+        want: Err(PlanFault::Missing(1)),
+    },
+    // the longest replica of the head
+    Row {
+        replicas: &[(1, 1, 1, FIRST, true), (2, 1, 1, FULL, true)],
+        master: 1,
+        want: Ok(&[65]),
+    },
+    // a replica that is shown twice is taken once
+    Row {
+        replicas: &[(1, 1, 1, FIRST, true), (1, 1, 1, FIRST, true)],
+        master: 1,
+        want: Ok(&[40]),
+    },
+    // of another segment than the head, a closed replica
+    Row {
+        replicas: &[
+            (0, 1, 1, FULL, true),
+            (1, 1, 1, FIRST, false),
+            (1, 1, 2, NEXT, true),
+        ],
+        master: 1,
+        want: Ok(&[40, 48]),
+    },
+    // the replica of the lowest backup
+    Row {
+        replicas: &[
+            (2, 1, 1, FULL, false),
+            (1, 1, 1, FIRST, false),
+            (1, 1, 2, NEXT, true),
+        ],
+        master: 1,
+        want: Ok(&[40, 48]),
+    },
+    // no segment that the digest doesn't list
+    Row {
+        replicas: &[(0, 1, 3, SURVIVOR, false), (1, 1, 1, FIRST, true)],
+        master: 1,
+        want: Ok(&[40]),
+    },
+];
+
+#[test]
+fn replicas_are_planned(rt: HostRuntime) {
+    for (place, row) in ROWS.iter().enumerate() {
+        assert!(rt;
+            is_planned(rt.alloc(), row.replicas, row.master, &row.want),
+            "row {place}"
+        );
+    }
+}
