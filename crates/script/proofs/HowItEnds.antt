@@ -27,7 +27,7 @@ use Rattle.script.specs.Recoveries.{adopted_answer, after_answer, fault_answer}
 use Rattle.script.specs.Lives.{Left}
 use Rattle.script.specs.Served.{IsNodeAt, IsOf, fleet_of, is_up, world_of}
 use Rattle.script.specs.Told.{Position}
-use Rattle.script.proofs.Retired.{others_gone, retire_keeps_end}
+use Rattle.script.proofs.Retired.{others_gone, retire_keeps_end, spent_retire}
 
 -- ---- where a node stands
 
@@ -122,7 +122,10 @@ cut_over f r config m adopted on new a (why, next, frees, told, down) = record {
   next = next;
   succeeds = succeeds f r config m adopted on (Err why) next frees;
   told = told;
-  stands = subst (λ (x : Answer). IsDownOn (after_answer x next.fleet) new) told down;
+  stands = (
+    subst (λ (x : Answer). IsDownOn (after_answer x next.fleet) new) told down,
+    spent_retire (fleet_state m.fleet) next.fleet m.knows.config.master why frees.retires,
+  );
 }
 
 -- ---- the limit
@@ -162,7 +165,7 @@ module _ (old new : Node) (f : FleetState) (was : fleet_of old ≡ Some f) where
       go (Err why) s told stands =
           let same : over.next.fleet.end ≡ f.end = retire_keeps_end s.taken over.next.fleet config.master (Err why) s.retires ∙ s.on.end in
           subst (λ (y : Answer). MakesLimit old new y) (sym told)
-          (limit_down (fault_answer why) over.next.fleet same stands)
+          (limit_down (fault_answer why) over.next.fleet same stands.0)
 
 pub limit_made : (old new : Node) (options : Options) (a : Asked) (used : ℕ) (x : Answer) (number : ℕ)
     → Ends old options a used new x number → MakesLimit old new x

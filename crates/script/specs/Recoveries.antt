@@ -11,6 +11,7 @@ use Rattle.master.specs.Valid.{IsValid}
 use Rattle.master.specs.World.{MasterValue, World}
 use Rattle.master_core.specs.declared.config.Config.{Config}
 use Rattle.master_core.specs.declared.step.Refusal.{Refusal}
+use Rattle.master_core.specs.declared.step.Refusal.TheVariants.{Spent}
 use Rattle.master_core.specs.Data.{MasterData}
 use Rattle.recovery.specs.declared.order.GroupOrder.{GroupOrder}
 use Rattle.recovery.specs.declared.order.GroupOrder.TheVariants as group_order
@@ -113,6 +114,7 @@ pub record IsDeclined (f : FleetState) (r : Rebuilt) (config : Config) (new : No
   pub left : FleetState
   pub declines : DeclinesList config r f why left
   pub on : IsAdoptedOn config.master f left
+  pub spent : why ≡ Spent → IsSpent left
   pub told : answer ≡ refusal_answer why
   pub down : IsDownOn (after_answer answer left) new
 
@@ -169,6 +171,7 @@ adopted_answer table (Err fault) = fault_answer fault
 abbrev pub StandsAfter : World → Result Unit TakeFault → Node → Type 0
 StandsAfter next (Ok u) new = (world_of new ≡ Some next) × HasNoOther next.fleet next.knows.config.master
 StandsAfter next (Err fault) new = IsDownOn (after_answer (fault_answer fault) next.fleet) new
+    × (fault ≡ take_fault.Spent → IsSpent next.fleet)
 
 -- A master of this configuration adopted the table over this fleet, and freed the replicas of all others, or that was
 -- cut short.

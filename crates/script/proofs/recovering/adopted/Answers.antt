@@ -14,6 +14,7 @@ returns-in-Spent c =
       left = fleet_state e.left;
       declines = e.ensures.refused;
       on = e.ensures.left;
+      spent = e.ensures.spent;
       told = ap refusal_answer (sym c.in-Spent.is);
       down = (refl, ap (λ (f : FleetState). Some f) c.limit.ensures);
     }
@@ -26,6 +27,7 @@ returns-in_default c =
       left = fleet_state e.left;
       declines = e.ensures.refused;
       on = e.ensures.left;
+      spent = e.ensures.spent;
       told = sym (unspent_answer e.refusal c.in_default.not-Spent);
       down = (refl, refl);
     }
