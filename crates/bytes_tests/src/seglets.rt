@@ -1,7 +1,7 @@
 //! Images in memory: each call, an image added between two others, and a run of heads whose sum is counted anew after
 //! each step.
 
-ghost use Rattle.std.specs.Prelude.{◌≡◌, true, IfSome};
+ghost use Rattle.std.specs.Prelude.{◌≡◌, ◌<◌, true, IfSome};
 ghost use Rattle.images.specs.Sorted.{IsWhole};
 ghost use Rattle.images.specs.Steps.{HasData};
 
@@ -25,8 +25,8 @@ enum Call {
     },
     Trim(u64),
     Drop(u64),
-    /// A head without objects is put in the place of an image: whether it is taken.
-    Replace(u64, bool),
+    /// A head of another number, without objects, is put in the place of an image: whether it is taken.
+    Replace(u64, u64, bool),
     /// How many seglets are counted, and how many are left.
     Counts(u64, u64),
     /// Whether an object lies at an offset of an image.
@@ -44,7 +44,7 @@ const RUNS: &[&[Call]] = &[
         Call::Add(2, 3, Some(3)),
         Call::Trim(2),
         Call::Counts(10, 30),
-        Call::Replace(1, true),
+        Call::Replace(1, 3, true),
         Call::Counts(3, 37),
         Call::Drop(2),
         Call::Counts(1, 39),
@@ -161,8 +161,8 @@ fn replace(images: &mut Images, id: u64, head: Segment) -> bool {
 }
 
 /// Puts a new head in the place of an image.
-fn renew(alloc: Global, images: &mut Images, id: u64) -> bool {
-    match new_head(alloc, 3) {
+fn renew(alloc: Global, images: &mut Images, id: u64, by: u64) -> bool {
+    match new_head(alloc, by) {
         Some(head) => replace(images, id, head),
         None => false,
     }
@@ -197,7 +197,7 @@ fn is_answered(alloc: Global, images: &mut Images, object: &[u8], call: &Call) -
             images.drop_segment(*id);
             true
         }
-        Call::Replace(id, is_taken) => renew(alloc, images, *id) == *is_taken,
+        Call::Replace(id, by, is_taken) => renew(alloc, images, *id, *by) == *is_taken,
         Call::Counts(used, free) => are_counted(images, *used, *free),
         Call::Has(id, at, has) => object_len(images, *id, *at).is_some() == *has,
         Call::Are(ids) => are(images, ids),
@@ -229,9 +229,11 @@ fn each_call_counts(rt: HostRuntime) -> Result<(), Fail> {
 }
 
 /// One step of a run: a head is added and filled, if there is room, and another image is trimmed or dropped.
-fn step(alloc: Global, images: &mut Images, id: u64, object: &[u8], random: u64) {
+fn step(alloc: Global, images: &mut Images, id: u64, object: &[u8], random: u64)
+    requires { id < 200 }
+{
     let _ = begin(alloc, images, id, object, random % 20);
-    let other = random / 32 % id.max(1);
+    let other = random / 32 % (id + 1);
     match random % 3 {
         0 => images.trim(other),
         1 => images.drop_segment(other),
