@@ -104,76 +104,83 @@ const BAD: &[&[u8]] = &[
     b"g\xfft 1 a",
 ];
 
+/// Whether the line of this text is shown so.
+fn is_shown(alloc: Global, text: &str, want: &str) -> bool {
+    match format!(in alloc; "{:?}", parse_line(text.as_bytes())) {
+        Ok(shown) => shown.as_str() == want,
+        Err(_) => false,
+    }
+}
+
 #[test]
-fn good_lines_are_parsed(rt: HostRuntime) -> Result<(), Fail> {
+fn good_lines_are_parsed(rt: HostRuntime) {
     for (text, want) in GOOD {
-        let said = format!(in rt.alloc(); "{:?}", parse_line(text.as_bytes()))?;
-        assert_eq!(rt; said.as_str(), *want, "{text}");
-    }
-    Ok(())
-}
-
-/// The segments of a line that has several.
-fn segments(alloc: Global, text: &str) -> Result<Vec<u64>, Fail> {
-    match parse_line(text.as_bytes()) {
-        Some(Line::Begin { segments }) | Some(Line::Clean { segments }) => Ok(segments.collect(
-            alloc,
-        )?),
-        _ => Ok(Vec::new(alloc)),
+        assert!(rt; is_shown(rt.alloc(), text, want), "{text}");
     }
 }
 
-const SEGMENTS: &[u64] = &[30, 4, u64::MAX, 4];
-
-#[test]
-fn segments_come_in_order(rt: HostRuntime) -> Result<(), Fail> {
-    let ids = segments(rt.alloc(), "begin 30 4 18446744073709551615 4")?;
-    assert_eq!(rt; ids.as_slice(), SEGMENTS);
-    Ok(())
+/// Whether a line has these segments.
+fn has_segments(alloc: Global, text: &[u8], want: &[u64]) -> bool {
+    match parse_line(text) {
+        Some(Line::Begin { segments }) => match segments.collect::<Vec<u64>>(alloc) {
+            Ok(ids) => ids.as_slice() == want,
+            Err(_) => false,
+        },
+        _ => false,
+    }
 }
 
 #[test]
-fn bad_lines_are_none(rt: HostRuntime) -> Result<(), Fail> {
+fn segments_come_in_order(rt: HostRuntime) {
+    let text = b"begin 30 4 18446744073709551615 4";
+    assert!(rt; has_segments(rt.alloc(), text, &[30, 4, u64::MAX, 4]));
+}
+
+#[test]
+fn bad_lines_are_none(rt: HostRuntime) {
     for text in BAD {
-        let said = format!(in rt.alloc(); "{:?}", parse_line(text))?;
-        assert_eq!(rt; said.as_str(), "None", "{text:?}");
-    }
-    Ok(())
-}
-
-/// What a call took of the reader, in a word, and the bytes of the line.
-type Row<'a> = (&'a str, &'a str);
-
-/// What a call took of the reader, in a word.
-fn taken<R: BufRead>(reader: &mut R, lines: &mut LineReader) -> &'static str {
-    match lines.next_line(reader, &mut io::sink()) {
-        Ok(Taken::Ended) => "ended",
-        Ok(Taken::Last) => "last",
-        Ok(Taken::Nothing) => "nothing",
-        Ok(Taken::TooLong) => "too long",
-        Err(ReadFault::ReadFailed) => "cannot read",
-        Err(ReadFault::WriteFailed) => "cannot write",
-        Err(ReadFault::NoMemory) => "no memory",
+        assert!(rt; parse_line(text).is_none(), "{text:?}");
     }
 }
 
-const LINES: &[Row<'static>] = &[
-    ("ended", "crash"),
-    ("ended", ""),
-    ("ended", "# x\r"),
-    ("last", "last"),
-    ("nothing", ""),
-    ("nothing", ""),
+/// What a call takes of the reader, or why it takes no line; and the bytes of the line.
+type Row = (Result<Taken, ReadFault>, &'static [u8]);
+
+/// Whether the next line of the reader is taken so, and has these bytes.
+fn is_taken<R: BufRead>(
+    reader: &mut R,
+    lines: &mut LineReader,
+    want: &Result<Taken, ReadFault>,
+    text: &[u8],
+) -> bool {
+    let taken = lines.next_line(reader, &mut io::sink());
+    taken == *want && lines.text() == text
+}
+
+/// The first row of which the next line of the reader differs.
+fn first_other<R: BufRead>(reader: &mut R, lines: &mut LineReader, rows: &[Row]) -> Option<usize> {
+    for (number, (want, text)) in rows.iter().enumerate() {
+        if !is_taken(reader, lines, want, text) {
+            return Some(number);
+        }
+    }
+    None
+}
+
+const LINES: &[Row] = &[
+    (Ok(Taken::Ended), b"crash"),
+    (Ok(Taken::Ended), b""),
+    (Ok(Taken::Ended), b"# x\r"),
+    (Ok(Taken::Last), b"last"),
+    (Ok(Taken::Nothing), b""),
+    (Ok(Taken::Nothing), b""),
 ];
 
 #[test]
 fn lines_are_read(rt: HostRuntime) {
     let mut reader: &[u8] = b"crash\n\n# x\r\nlast";
     let mut lines = LineReader::new(rt.alloc());
-    for (want, text) in LINES {
-        assert_eq!(rt; taken(&mut reader, &mut lines), *want, "{text}");
-        assert_eq!(rt; lines.text(), text.as_bytes());
-    }
+    assert_eq!(rt; first_other(&mut reader, &mut lines, LINES), None);
 }
 
 /// A reader that is interrupted before each byte, and fails after its bytes.
@@ -203,7 +210,11 @@ impl<'a> Read for Failing<'a> {
     }
 }
 
-const FAULTS: &[Row<'static>] = &[("ended", "crash"), ("cannot read", "rec"), ("cannot read", "")];
+const FAULTS: &[Row] = &[
+    (Ok(Taken::Ended), b"crash"),
+    (Err(ReadFault::ReadFailed), b"rec"),
+    (Err(ReadFault::ReadFailed), b""),
+];
 
 #[test]
 fn faults_are_told(rt: HostRuntime) -> Result<(), Fail> {
@@ -213,9 +224,6 @@ fn faults_are_told(rt: HostRuntime) -> Result<(), Fail> {
     };
     let mut reader = BufReader::new(rt.alloc(), failing)?;
     let mut lines = LineReader::new(rt.alloc());
-    for (want, text) in FAULTS {
-        assert_eq!(rt; taken(&mut reader, &mut lines), *want, "{text}");
-        assert_eq!(rt; lines.text(), text.as_bytes());
-    }
+    assert_eq!(rt; first_other(&mut reader, &mut lines, FAULTS), None);
     Ok(())
 }
