@@ -83,8 +83,8 @@ IsWant (fault.Replay refused) = IsReplayWant refused
 
 -- ---- any inventory, whatever it shows
 
--- What the log of a plan of the inventory stands for. The will divides the log, and sends each key somewhere. The groups
--- are replayed in the order, which names each once: it is what they have, in their turn, that is rebuilt.
+-- What the log of a plan of the inventory stands for. The will divides the log, and sends each key somewhere. The
+-- groups are replayed in the order, which names each once: it is what they have, in their turn, that is rebuilt.
 pub record IsRebuiltFrom (inventory : List Holding) (master : ℕ) (will : List Part) (order : GroupOrder)
     (r : Rebuilt) : Type 0 where
   pub plan : Plan

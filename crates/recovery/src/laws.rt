@@ -26,7 +26,8 @@ pub fn acknowledged_outlive()
     ensures { AcknowledgedOutlive }
 {}
 
-/// Lives that `run_lives` lived follow one another, and the life that goes on follows them. So the laws above hold of them.
+/// Lives that `run_lives` lived follow one another, and the life that goes on follows them. So the laws above hold of
+/// them.
 pub fn drilled_are_lives()
     ensures { DrilledAreLives }
 {}

@@ -79,7 +79,8 @@ FindsTable fleet config r = (d : MasterData) (at : Position) → IsNodeAt (Down 
     (l : Left) × (at.left ≡ Some l) × IsFoundAt config (life_of d) at l r
 
 -- A table was found, and a configuration for a master with a greater number. The fleet holds no replica of that one.
-pub record IsFoundIn (fleet : MemoryFleet) (options : Options) (master : ℕ) (r : Rebuilt) (config : Config) : Type 0 where
+pub record IsFoundIn (fleet : MemoryFleet) (options : Options) (master : ℕ) (r : Rebuilt)
+    (config : Config) : Type 0 where
   pub table : FindsTable fleet (config_of options master) r
   pub configured : config ≡ config_of options config.master
   pub greater : master < config.master
@@ -107,8 +108,8 @@ abbrev pub after_answer : Answer → FleetState → FleetState
 after_answer Stopped f = limited f no_limit
 after_answer answer f = f
 
--- No master of this configuration adopted the table over this fleet, and the answer tells why. The node has the fleet as
--- the adoption left it.
+-- No master of this configuration adopted the table over this fleet, and the answer tells why. The node has the fleet
+-- as the adoption left it.
 pub record IsDeclined (f : FleetState) (r : Rebuilt) (config : Config) (new : Node) (answer : Answer) : Type 0 where
   pub why : Refusal
   pub left : FleetState

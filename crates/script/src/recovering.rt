@@ -136,7 +136,8 @@ impl Node {
         requires covers { Covers (tables_to options.now.tables) will.now }
         requires order { (hs : List HoldingValue) → NamesGroups hs master will.now order.now }
         requires stands { (d : MasterData) × (at : Position) × IsNodeAt self.old (config_of options.now master) d at }
-        ensures recovers { (asked : ReplayOrder) → Recovers self.old options.now master asked self.new result.answer result.master }
+        ensures recovers { (asked : ReplayOrder) →
+            Recovers self.old options.now master asked self.new result.answer result.master }
         ensures ends { Ends self.old options.now (ask master used will.now order.now) result.used self.new
             result.answer result.master }
         ensures numbers { Renumbers master used result.master result.used }
@@ -186,8 +187,8 @@ impl Node {
         }
     }
 
-    /// Makes a master of this configuration that begins with the table. If it can't, it answers why; if the fleet took no
-    /// more ops, it lifts the limit.
+    /// Makes a master of this configuration that begins with the table. If it can't, it answers why; if the fleet took
+    /// no more ops, it lifts the limit.
     fn adopt(&mut self, alloc: Global, rebuilt: &Rebuilt, config: Config) -> Option<Answer>
         requires config { config_fault config ≡ None }
         requires fleet { (fleet : FleetValue) × (self.old ≡ Down fleet)
@@ -233,8 +234,8 @@ impl Node {
     }
 }
 
-/// The node that an adoption leaves, and why it has no master if it has none. If the fleet took no more ops, the limit is
-/// lifted.
+/// The node that an adoption leaves, and why it has no master if it has none. If the fleet took no more ops, the limit
+/// is lifted.
 fn adopted(
     alloc: Global,
     rebuilt: &Rebuilt,
