@@ -157,7 +157,7 @@ struct Held<'a> {
 
 impl Write for Held<'_> {
     fn write(&mut self, bytes: &[u8]) -> io::Result<usize> {
-        self.held += bytes.len();
+        self.held = self.held.saturating_add(bytes.len());
         Ok(bytes.len())
     }
 
