@@ -4,54 +4,58 @@ use script::*;
 use std::alloc::Global;
 use std::cell::Cell;
 use std::io::{self, BufRead, BufReader, ErrorKind, Read, Write};
-use std::str;
 use std::test::Fail;
 
-/// What the program writes to its output, then to its error output, and then its exit status.
-pub fn ran<R: BufRead>(alloc: Global, words: &[&str], reader: &mut R) -> Result<String, Fail> {
-    let mut output = Vec::new(alloc);
+/// The line that a run writes to its error output, and its exit status.
+type End = (&'static str, u8);
+
+const WELL: End = ("", 0);
+
+const CANNOT_READ: End = ("ramlog: cannot read\n", 1);
+
+const CANNOT_WRITE: End = ("ramlog: cannot write\n", 1);
+
+/// Whether the run of the default options ends so.
+fn ends<R: BufRead, W: Write>(alloc: Global, reader: &mut R, writer: &mut W, want: End) -> bool {
     let mut errors = ErrorOutput::new(Vec::new(alloc));
-    let Ok(status) = run_program(alloc, words, reader, &mut output, &mut errors) else {
-        return Err("refused words")?;
-    };
-    let output = str::from_utf8(output.as_slice()).unwrap_or("?");
-    let errors = str::from_utf8(errors.writer().as_slice()).unwrap_or("?");
-    Ok(format!(in alloc; "{output}{errors}{status}")?)
+    match run_program(alloc, &["ramlog"], reader, writer, &mut errors) {
+        Ok(status) => (errors.writer().as_slice(), status) == (want.0.as_bytes(), want.1),
+        Err(_) => false,
+    }
 }
 
-/// The command line of the default options.
-pub const RAMLOG: &[&str] = &["ramlog"];
+/// Whether the run writes this output, and ends so.
+fn prints<R: BufRead>(alloc: Global, reader: &mut R, output: &[u8], want: End) -> bool {
+    let mut written = Vec::new(alloc);
+    ends(alloc, reader, &mut written, want) && written.as_slice() == output
+}
 
 #[test]
-fn a_script_prints_its_answers(rt: HostRuntime) -> Result<(), Fail> {
+fn a_script_prints_its_answers(rt: HostRuntime) {
     let mut script: &[u8] = b"put 1 a x\ncrash\nrecover";
-    let ran = ran(rt.alloc(), RAMLOG, &mut script)?;
-    assert!(rt; ran.as_str() == "ok 1\ncrashed\n1 a 1 x\nrecovered 1\n0");
-    Ok(())
+    let output: &[u8] = b"ok 1\ncrashed\n1 a 1 x\nrecovered 1\n";
+    assert!(rt; prints(rt.alloc(), &mut script, output, WELL));
 }
 
 /// Faults, and the line and the exit status of each.
-const FAULTS: &[(ScriptFault, &str)] = &[
-    (ScriptFault::BadLine(7), "ramlog: bad line 7\n2"),
-    (ScriptFault::ReadFailed, "ramlog: cannot read\n1"),
-    (ScriptFault::WriteFailed, "ramlog: cannot write\n1"),
-    (ScriptFault::NoMemory, "ramlog: no memory\n1"),
+const FAULTS: &[(ScriptFault, End)] = &[
+    (ScriptFault::BadLine(7), ("ramlog: bad line 7\n", 2)),
+    (ScriptFault::ReadFailed, CANNOT_READ),
+    (ScriptFault::WriteFailed, CANNOT_WRITE),
+    (ScriptFault::NoMemory, ("ramlog: no memory\n", 1)),
 ];
 
-/// The line of a fault, and the status.
-fn reported(alloc: Global, fault: &ScriptFault) -> Result<String, Fail> {
+fn is_reported(alloc: Global, fault: &ScriptFault, want: End) -> bool {
     let mut errors = ErrorOutput::new(Vec::new(alloc));
     let status = report(fault, &mut errors);
-    let line = str::from_utf8(errors.writer().as_slice()).unwrap_or("?");
-    Ok(format!(in alloc; "{line}{status}")?)
+    errors.writer().as_slice() == want.0.as_bytes() && status == want.1
 }
 
 #[test]
-fn each_fault_has_its_line(rt: HostRuntime) -> Result<(), Fail> {
-    for (fault, want) in FAULTS {
-        assert_eq!(rt; reported(rt.alloc(), fault)?.as_str(), *want);
+fn each_fault_has_its_line(rt: HostRuntime) {
+    for (place, (fault, want)) in FAULTS.iter().enumerate() {
+        assert!(rt; is_reported(rt.alloc(), fault, *want), "fault {place}");
     }
-    Ok(())
 }
 
 /// A reader that gives some bytes, and then fails.
@@ -102,28 +106,15 @@ fn a_reader_fails_in_mid_stream(rt: HostRuntime) -> Result<(), Fail> {
         bytes: b"put 1 a x\nput 1",
     };
     let mut reader = BufReader::new(rt.alloc(), torn)?;
-    let ran = ran(rt.alloc(), RAMLOG, &mut reader)?;
-    assert_eq!(rt; ran.as_str(), "ok 1\nramlog: cannot read\n1");
+    assert!(rt; prints(rt.alloc(), &mut reader, b"ok 1\n", CANNOT_READ));
     Ok(())
-}
-
-/// How a run ends if the writer takes this many bytes.
-fn ran_into(alloc: Global, room: usize, script: &str) -> Result<String, Fail> {
-    let mut writer = Full { room };
-    let mut errors = ErrorOutput::new(Vec::new(alloc));
-    let mut reader = script.as_bytes();
-    let Ok(status) = run_program(alloc, RAMLOG, &mut reader, &mut writer, &mut errors) else {
-        return Err("refused words")?;
-    };
-    let errors = str::from_utf8(errors.writer().as_slice()).unwrap_or("?");
-    Ok(format!(in alloc; "{errors}{status}")?)
 }
 
 #[test]
-fn a_writer_fails_in_mid_stream(rt: HostRuntime) -> Result<(), Fail> {
-    let ran = ran_into(rt.alloc(), 5, "put 1 a x\nput 1 a y\n")?;
-    assert_eq!(rt; ran.as_str(), "ramlog: cannot write\n1");
-    Ok(())
+fn a_writer_fails_in_mid_stream(rt: HostRuntime) {
+    let mut writer = Full { room: 5 };
+    let mut script: &[u8] = b"put 1 a x\nput 1 a y\n";
+    assert!(rt; ends(rt.alloc(), &mut script, &mut writer, CANNOT_WRITE));
 }
 
 /// A reader that shows one line at a time, and whose lines each wait until this many bytes have come.
@@ -181,8 +172,8 @@ const PIECES: &[(&[u8], usize)] = &[
     (b"over\n", 22),
 ];
 
-/// How the run of the pieces ends if the writer can be flushed this often, and how many bytes came.
-fn asked(alloc: Global, flushes: usize) -> Result<String, Fail> {
+/// Whether the run of the pieces ends so if the writer can be flushed this often, and whether so many bytes came.
+fn is_asked(alloc: Global, flushes: usize, bytes: usize, want: End) -> bool {
     let shown = Cell::new(0);
     let asking = Asking {
         rows: PIECES,
@@ -193,31 +184,25 @@ fn asked(alloc: Global, flushes: usize) -> Result<String, Fail> {
         shown: &shown,
         flushes,
     };
-    let mut reader = BufReader::new(alloc, asking)?;
-    let mut errors = ErrorOutput::new(Vec::new(alloc));
-    let Ok(status) = run_program(alloc, RAMLOG, &mut reader, &mut writer, &mut errors) else {
-        return Err("refused words")?;
-    };
-    let errors = str::from_utf8(errors.writer().as_slice()).unwrap_or("?");
-    let shown = shown.get();
-    Ok(format!(in alloc; "{shown} {errors}{status}")?)
+    match BufReader::new(alloc, asking) {
+        Ok(mut reader) => ends(alloc, &mut reader, &mut writer, want) && shown.get() == bytes,
+        Err(_) => false,
+    }
 }
 
-/// How often the writer can be flushed, and how the run of the pieces ends.
-const FLUSHES: &[(usize, &str)] = &[
-    (0, "0 ramlog: cannot write\n1"),
-    (3, "9 ramlog: cannot write\n1"),
-    (6, "22 ramlog: cannot write\n1"),
+/// How often the writer can be flushed, how many bytes come, and how the run of the pieces ends.
+const FLUSHES: &[(usize, usize, End)] = &[
+    (0, 0, CANNOT_WRITE),
+    (3, 9, CANNOT_WRITE),
+    (6, 22, CANNOT_WRITE),
     // only the last flush fails
-    (7, "42 ramlog: cannot write\n1"),
-    (8, "42 0"),
+    (7, 42, CANNOT_WRITE),
+    (8, 42, WELL),
 ];
 
 #[test]
-fn answers_are_flushed_before_more_is_read(rt: HostRuntime) -> Result<(), Fail> {
-    for (flushes, want) in FLUSHES {
-        let ended = asked(rt.alloc(), *flushes)?;
-        assert_eq!(rt; ended.as_str(), *want, "{flushes}");
+fn answers_are_flushed_before_more_is_read(rt: HostRuntime) {
+    for (flushes, bytes, want) in FLUSHES {
+        assert!(rt; is_asked(rt.alloc(), *flushes, *bytes, *want), "{flushes}");
     }
-    Ok(())
 }
