@@ -117,24 +117,34 @@ fn a_writer_fails_in_mid_stream(rt: HostRuntime) {
     assert!(rt; ends(rt.alloc(), &mut script, &mut writer, CANNOT_WRITE));
 }
 
-/// A reader that shows one line at a time, and whose lines each wait until this many bytes have come.
+/// Pieces of a script that are read one by one, and how many bytes of answers must have come before each.
+const PIECES: &[(&[u8], usize)] = &[
+    (b"put 1 a x\n", 0),
+    (b"get 1 a\nge", 5),
+    (b"t 1 b\n# nothing\n", 9),
+    (b"crash", 14),
+    (b"\nrec", 14),
+    (b"over\n", 22),
+];
+
+/// A reader of the pieces from this place on. It fails at a piece if the answers before it have not come.
 #[derive(Drop)]
 struct Asking<'a> {
-    rows: &'static [(&'static [u8], usize)],
+    place: usize,
     shown: &'a Cell<usize>,
 }
 
 impl Read for Asking<'_> {
     fn read(&mut self, buffer: &mut [u8]) -> io::Result<usize> {
-        let Some(((line, answered), rest)) = self.rows.split_first() else {
+        let Some((piece, answered)) = PIECES.get(self.place) else {
             return Ok(0);
         };
-        if self.shown.get() != *answered || buffer.len() < line.len() {
+        if self.shown.get() != *answered || buffer.len() < piece.len() {
             return Err(io::Error::from(ErrorKind::Other));
         }
-        buffer[..line.len()].copy_from_slice(line);
-        self.rows = rest;
-        Ok(line.len())
+        buffer[..piece.len()].copy_from_slice(piece);
+        self.place = self.place.saturating_add(1);
+        Ok(piece.len())
     }
 }
 
@@ -162,32 +172,25 @@ impl Write for Held<'_> {
     }
 }
 
-/// Pieces of a script that are read one by one, and how many bytes of answers must have come before each.
-const PIECES: &[(&[u8], usize)] = &[
-    (b"put 1 a x\n", 0),
-    (b"get 1 a\nge", 5),
-    (b"t 1 b\n# nothing\n", 9),
-    (b"crash", 14),
-    (b"\nrec", 14),
-    (b"over\n", 22),
-];
-
-/// Whether the run of the pieces ends so if the writer can be flushed this often, and whether so many bytes came.
-fn is_asked(alloc: Global, flushes: usize, bytes: usize, want: End) -> bool {
-    let shown = Cell::new(0);
-    let asking = Asking {
-        rows: PIECES,
-        shown: &shown,
-    };
+/// Whether the run of the pieces ends so if the writer can be flushed this often.
+fn ends_over(alloc: Global, shown: &Cell<usize>, flushes: usize, want: End) -> bool {
+    let asking = Asking { place: 0, shown };
     let mut writer = Held {
         held: 0,
-        shown: &shown,
+        shown,
         flushes,
     };
-    match BufReader::new(alloc, asking) {
-        Ok(mut reader) => ends(alloc, &mut reader, &mut writer, want) && shown.get() == bytes,
-        Err(_) => false,
-    }
+    let Ok(mut reader) = BufReader::new(alloc, asking) else {
+        return false;
+    };
+    ends(alloc, &mut reader, &mut writer, want)
+}
+
+/// Whether it ends so, and so many bytes came.
+fn is_asked(alloc: Global, flushes: usize, bytes: usize, want: End) -> bool {
+    let shown = Cell::new(0);
+    let is_end = ends_over(alloc, &shown, flushes, want);
+    is_end && shown.get() == bytes
 }
 
 /// How often the writer can be flushed, how many bytes come, and how the run of the pieces ends.
