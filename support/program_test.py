@@ -206,6 +206,22 @@ def a_terminal_shows_each_answer(program):
             want(it.read(len(answer)), answer)
 
 
+def a_terminal_shows_why(program):
+    """At a terminal a second line of the errors says why."""
+    whys = (
+        ((), b"put 1 a\n", b"ramlog: bad line 1\nramlog: put has a table, a key and a value\n"),
+        (("--seglets=31",), b"", b"ramlog: bad configuration BadBudget\nramlog: --seglets is less than those of four segments by 1\n"),
+    )
+    for words, script, why in whys:
+        screen, keys = pty.openpty()
+        try:
+            output, _, status = run(program, script, words, stderr=keys)
+            want((output, os.read(screen, BLOCK).replace(b"\r\n", b"\n"), status), (b"", why, 2))
+        finally:
+            os.close(screen)
+            os.close(keys)
+
+
 def an_end_is_not_asked_for_again(program):
     """At a terminal control-D ends the input once: a program that asks again would wait for more."""
     with Terminal(program) as it:
@@ -296,7 +312,7 @@ def memory_is_taken_and_given_back(program):
 
 TESTS = [
     help_is_printed, version_is_printed, words_are_text, lines_have_limits, a_reader_fails, a_writer_fails,
-    input_comes_in_parts, pipes_show_each_answer, output_goes_in_blocks, a_terminal_shows_each_answer, an_end_is_not_asked_for_again,
+    input_comes_in_parts, pipes_show_each_answer, output_goes_in_blocks, a_terminal_shows_each_answer, a_terminal_shows_why, an_end_is_not_asked_for_again,
     memory_is_taken_and_given_back,
 ]
 

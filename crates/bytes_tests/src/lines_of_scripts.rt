@@ -7,101 +7,154 @@ use std::test::Fail;
 
 /// Lines, and what each says.
 const GOOD: &[(&str, &str)] = &[
-    ("", "Some(Idle)"),
-    ("#", "Some(Idle)"),
-    ("# any\ttext  ", "Some(Idle)"),
-    (
-        "put 1 a x",
-        "Some(Put { table: 1, key: [97], value: [120] })",
-    ),
-    (
-        "put 0 ! ~",
-        "Some(Put { table: 0, key: [33], value: [126] })",
-    ),
-    ("get 2 put", "Some(Get { table: 2, key: [112, 117, 116] })"),
+    ("", "Ok(Idle)"),
+    ("#", "Ok(Idle)"),
+    ("# any\ttext  ", "Ok(Idle)"),
+    ("put 1 a x", "Ok(Put { table: 1, key: [97], value: [120] })"),
+    ("put 0 ! ~", "Ok(Put { table: 0, key: [33], value: [126] })"),
+    ("get 2 put", "Ok(Get { table: 2, key: [112, 117, 116] })"),
     (
         "get 18446744073709551615 #",
-        "Some(Get { table: 18446744073709551615, key: [35] })",
+        "Ok(Get { table: 18446744073709551615, key: [35] })",
     ),
-    ("hex 10", "Some(Hex { segment: 10 })"),
-    ("room", "Some(Room)"),
-    ("stop 0", "Some(Stop { takes: 0 })"),
-    ("stop 20", "Some(Stop { takes: 20 })"),
-    ("crash", "Some(Crash)"),
-    ("lose 3", "Some(Lose { backup: 3 })"),
-    ("lose 64", "Some(Lose { backup: 64 })"),
-    ("compact 2", "Some(Compact { segment: 2 })"),
-    ("will", "Some(Will)"),
-    ("recover", "Some(Recover { order: Forward })"),
-    ("recover reverse", "Some(Recover { order: Reverse })"),
-    ("clean 1", "Some(Clean { segments: [1] })"),
-    ("clean 3 0 2", "Some(Clean { segments: [3, 0, 2] })"),
+    ("hex 10", "Ok(Hex { segment: 10 })"),
+    ("room", "Ok(Room)"),
+    ("stop 0", "Ok(Stop { takes: 0 })"),
+    ("stop 20", "Ok(Stop { takes: 20 })"),
+    ("crash", "Ok(Crash)"),
+    ("lose 3", "Ok(Lose { backup: 3 })"),
+    ("lose 64", "Ok(Lose { backup: 64 })"),
+    ("compact 2", "Ok(Compact { segment: 2 })"),
+    ("will", "Ok(Will)"),
+    ("recover", "Ok(Recover { order: Forward })"),
+    ("recover reverse", "Ok(Recover { order: Reverse })"),
+    ("clean 1", "Ok(Clean { segments: [1] })"),
+    ("clean 3 0 2", "Ok(Clean { segments: [3, 0, 2] })"),
     (
         "begin 18446744073709551615",
-        "Some(Begin { segments: [18446744073709551615] })",
+        "Ok(Begin { segments: [18446744073709551615] })",
     ),
-    ("begin 2 2 10", "Some(Begin { segments: [2, 2, 10] })"),
-    ("copy", "Some(Copy)"),
-    ("seal", "Some(Seal)"),
-    ("free", "Some(Free)"),
+    ("begin 2 2 10", "Ok(Begin { segments: [2, 2, 10] })"),
+    ("copy", "Ok(Copy)"),
+    ("seal", "Ok(Seal)"),
+    ("free", "Ok(Free)"),
 ];
 
-/// Bad lines.
-const BAD: &[&[u8]] = &[
-    b"hex 00",
-    b"hex 01",
-    b"hex +1",
-    b"hex -1",
-    b"hex 0x1",
-    b"hex 18446744073709551616",
-    b"get 01 a",
-    b"put 1  a x",
-    b"put 1 a  x",
-    b"put  1 a x",
-    b" crash",
-    b"crash ",
-    b"recover\r",
-    b"recover forward",
-    b"recover reverse ",
-    b"recover reverse reverse",
-    b"reverse",
-    b"will 1",
-    b"put 1 a x ",
-    b"put 1 a x\r",
-    b"put 1 a\0 x",
-    b"put 1 a \x7f",
-    b"put 1 \xc3\xa4 x",
-    b"get\t1 a",
-    b"get 1 a\n",
-    b"puts 1 a x",
-    b"PUT 1 a x",
-    b"put 1 a",
-    b"put 1 a x y",
-    b"get 1",
-    b"hex",
-    b"hex 1 2",
-    b"compact",
-    b"compact 1 2",
-    b"crash 1",
-    b"clean",
-    b"clean ",
-    b"clean x",
-    b"clean 1  2",
-    b"clean 1 2 ",
-    b"clean 1 18446744073709551616",
-    b"begin",
-    b"begin  1",
-    b"begin 01",
-    b"begin 1 x",
-    b"begin 1 -2",
-    b"copy 1",
-    b"seal 1",
-    b"free 1",
-    b"frees",
-    b"recover backwards",
-    b" # no comment",
-    b"get 1 \xff",
-    b"g\xfft 1 a",
+/// Bad lines, and why each is bad.
+const BAD: &[(&[u8], &str)] = &[
+    (
+        b"hex 00",
+        "a number has digits, no sign and no leading zero, and is below 2^64",
+    ),
+    (
+        b"hex 01",
+        "a number has digits, no sign and no leading zero, and is below 2^64",
+    ),
+    (
+        b"hex +1",
+        "a number has digits, no sign and no leading zero, and is below 2^64",
+    ),
+    (
+        b"hex 0x1",
+        "a number has digits, no sign and no leading zero, and is below 2^64",
+    ),
+    (
+        b"hex 18446744073709551616",
+        "a number has digits, no sign and no leading zero, and is below 2^64",
+    ),
+    (
+        b"get 01 a",
+        "a number has digits, no sign and no leading zero, and is below 2^64",
+    ),
+    (
+        b"cas 1 a 01 x",
+        "a number has digits, no sign and no leading zero, and is below 2^64",
+    ),
+    (
+        b"clean x",
+        "a number has digits, no sign and no leading zero, and is below 2^64",
+    ),
+    (
+        b"begin 1 -2",
+        "a number has digits, no sign and no leading zero, and is below 2^64",
+    ),
+    (
+        b"clean 1 18446744073709551616",
+        "a number has digits, no sign and no leading zero, and is below 2^64",
+    ),
+    (
+        b"put 1  a x",
+        "one space stands between two words, and none at an end",
+    ),
+    (
+        b"put 1 a  x",
+        "one space stands between two words, and none at an end",
+    ),
+    (
+        b" crash",
+        "one space stands between two words, and none at an end",
+    ),
+    (
+        b"crash ",
+        "one space stands between two words, and none at an end",
+    ),
+    (
+        b"clean ",
+        "one space stands between two words, and none at an end",
+    ),
+    (b"recover\r", "a carriage return ends the line"),
+    (b"put 1 a x\r", "a carriage return ends the line"),
+    (
+        b"put 1 a\0 x",
+        "a word has visible characters, and not the byte 0",
+    ),
+    (
+        b"put 1 a \x7f",
+        "a word has visible characters, and not the byte 127",
+    ),
+    (
+        b"put 1 \xc3\xa4 x",
+        "a word has visible characters, and not the byte 195",
+    ),
+    (
+        b"get\t1 a",
+        "a word has visible characters, and not the byte 9",
+    ),
+    (
+        b"get 1 a\n",
+        "a word has visible characters, and not the byte 10",
+    ),
+    (b"reverse", "the first word is no command"),
+    (b"puts 1 a x", "the first word is no command"),
+    (b"PUT 1 a x", "the name of a command has lower case letters"),
+    (b"put 1 a", "put has a table, a key and a value"),
+    (b"put 1 a x y", "put has a table, a key and a value"),
+    (b"put 01 a", "put has a table, a key and a value"),
+    (b"new 1 a", "new has a table, a key and a value"),
+    (
+        b"cas 1 a x",
+        "cas has a table, a key, a version and a value",
+    ),
+    (b"get 1", "get has a table and a key"),
+    (b"del 1 a x", "del has a table and a key"),
+    (b"hex", "hex has the number of a segment"),
+    (b"hex 1 2", "hex has the number of a segment"),
+    (b"compact", "compact has the number of a segment"),
+    (b"stop", "stop has a number of ops"),
+    (b"lose 1 2", "lose has the number of a backup"),
+    (b"clean", "clean has the numbers of one segment or more"),
+    (b"begin", "begin has the numbers of one segment or more"),
+    (
+        b"recover forward",
+        "recover has nothing behind it, or reverse",
+    ),
+    (
+        b"recover reverse reverse",
+        "recover has nothing behind it, or reverse",
+    ),
+    (b"will 1", "will has nothing behind it"),
+    (b"crash 1", "crash has nothing behind it"),
+    (b"copy 1", "copy has nothing behind it"),
 ];
 
 /// Whether the line of this text is shown so.
@@ -122,7 +175,7 @@ fn good_lines_are_parsed(rt: HostRuntime) {
 /// Whether a line has these segments.
 fn has_segments(alloc: Global, text: &[u8], want: &[u64]) -> bool {
     match parse_line(text) {
-        Some(Line::Begin { segments }) => match segments.collect::<Vec<u64>>(alloc) {
+        Ok(Line::Begin { segments }) => match segments.collect::<Vec<u64>>(alloc) {
             Ok(ids) => ids.as_slice() == want,
             Err(_) => false,
         },
@@ -136,10 +189,21 @@ fn segments_come_in_order(rt: HostRuntime) {
     assert!(rt; has_segments(rt.alloc(), text, &[30, 4, u64::MAX, 4]));
 }
 
+/// Whether the line is bad for this reason.
+fn is_bad(alloc: Global, text: &[u8], want: &str) -> bool {
+    let Err(reason) = parse_line(text) else {
+        return false;
+    };
+    match format!(in alloc; "{reason}") {
+        Ok(said) => said.as_str() == want,
+        Err(_) => false,
+    }
+}
+
 #[test]
-fn bad_lines_are_none(rt: HostRuntime) {
-    for text in BAD {
-        assert!(rt; parse_line(text).is_none(), "{text:?}");
+fn bad_lines_have_a_reason(rt: HostRuntime) {
+    for (text, want) in BAD {
+        assert!(rt; is_bad(rt.alloc(), text, want), "{text:?}");
     }
 }
 

@@ -1,3 +1,4 @@
+pub mod Among
 pub mod Cutting
 pub mod Digits
 pub mod Names

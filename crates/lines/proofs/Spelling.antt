@@ -93,15 +93,13 @@ cut_or_idle text line says = inr (record {
 })
 
 -- the line that is read of the words is that of the text
-pub read_is_said : (text : List ℕ) (words : List (List ℕ)) (result : Option Line) → words ≡ slice_split is_space text
-    → ReadsWords words result → IfSome result (λ line. Says text (shown_line line))
-read_is_said text words (Some line) split reads = said text (shown_line line) (subst (λ ws. AreWordsOf ws (shown_line line)) split reads)
-read_is_said text words None split reads = search rules
+pub read_is_said : (text : List ℕ) (words : List (List ℕ)) (line : Line) → words ≡ slice_split is_space text
+    → ReadsWords words (Some line) → Says text (shown_line line)
+read_is_said text words line split reads = said text (shown_line line) (subst (λ ws. AreWordsOf ws (shown_line line)) split reads)
 
-pub unread_is_unsaid : (text : List ℕ) (words : List (List ℕ)) (result : Option Line) → words ≡ slice_split is_space text
-    → (IsIdle text → ⊥) → ReadsWords words result → IsNone result → (line : LineValue) → Says text line → ⊥
-unread_is_unsaid text words (Some line) split busy reads none other says = absurd (cc)
-unread_is_unsaid text words None split busy reads none line says =
+pub unread_is_unsaid : (text : List ℕ) (words : List (List ℕ)) → words ≡ slice_split is_space text → (IsIdle text → ⊥) → ReadsWords words None
+    → (line : LineValue) → Says text line → ⊥
+unread_is_unsaid text words split busy reads line says =
     elim (cut_or_idle text line says) [
       | inl idle ↦ busy (subst (Says text) idle says)
       | inr are ↦ reads line (subst (λ ws. AreWordsOf ws line) (sym split) are)

@@ -2,4 +2,6 @@ pub mod Cutting
 pub mod Grammar
 pub mod Numbers
 pub mod Reading
+pub mod Reasons
+pub mod Texts
 pub mod Words

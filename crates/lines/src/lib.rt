@@ -10,6 +10,8 @@ mod line;
 mod numbers;
 mod parse;
 mod reading;
+mod reason;
+mod why;
 mod words;
 
 pub use laws::one_line;
@@ -17,3 +19,4 @@ pub use line::{Line, ReplayOrder};
 pub use numbers::Numbers;
 pub use parse::parse_line;
 pub use reading::{LineReader, ReadFault, Taken};
+pub use reason::{Reason, Shape};

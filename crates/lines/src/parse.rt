@@ -1,25 +1,32 @@
 //! Parsing lines.
 
-ghost use Rattle.std.specs.Prelude.{◌≡◌, ◌≢◌, ◌∷◌, ◌↔◌, ℕ, IfSome, IsNone, IsTrue, codes};
+ghost use Rattle.std.specs.Prelude.{◌≡◌, ◌≢◌, ◌∷◌, ◌↔◌, ℕ, IfErr, IfOk, IfSome, IsErr, IsNone, IsTrue, codes};
+ghost use Rattle.lines.specs.Reasons.{HasReason};
 ghost use Rattle.lines.specs.Grammar.{IsIdle, LineValue, Says, order_words, shown_line};
 ghost use Rattle.lines.specs.Words.{AreNumber, IsNoLongName, ReadsWords};
 ghost use Rattle.lines.specs.declared.line.ReplayOrder.{ReplayOrder};
 
 use crate::line::{Line, ReplayOrder};
+use crate::reason::Reason;
+use crate::why::reason_of;
 use crate::words::Words;
 
-/// Parses a line, given without its line feed. `None` is a bad line.
+/// Parses a line, given without its line feed. The fault is why it is bad.
 ///
 /// It takes no memory: a key and a value are parts of the text. It doesn't look at the length of the text, which
 /// `next_line` bounds.
-pub fn parse_line(text: &[u8]) -> Option<Line<'_>>
-    ensures sound { IfSome result (λ line. Says text.entry.now (shown_line line)) }
-    ensures complete { IsNone result → (line : LineValue) → ¬ Says text.entry.now line }
+pub fn parse_line(text: &[u8]) -> Result<Line<'_>, Reason>
+    ensures sound { IfOk result (λ line. Says text.entry.now (shown_line line)) }
+    ensures complete { IsErr result → (line : LineValue) → ¬ Says text.entry.now line }
+    ensures reason { IfErr result (HasReason text.entry.now) }
 {
     if is_idle(text) {
-        return Some(Line::Idle);
+        return Ok(Line::Idle);
     }
-    parse_words(Words::of(text))
+    match parse_words(Words::of(text)) {
+        Some(line) => Ok(line),
+        None => Err(reason_of(text)),
+    }
 }
 
 /// Whether a line with this text does nothing.

@@ -13,7 +13,7 @@ use crate::numbers::Numbers;
 use std::marker::Model;
 
 /// The most bytes of a key.
-const MAX_KEY_LEN: usize = 1024;
+pub(crate) const MAX_KEY_LEN: usize = 1024;
 
 /// The words of a text that are still to be read. A space ends each word but the last.
 #[derive(Drop)]
@@ -33,6 +33,13 @@ impl<'a> Words<'a> {
         ensures { result ≡ slice_split is_space text.entry.now }
     {
         Words { rest: Some(text) }
+    }
+
+    /// The words that are left of a text.
+    pub(crate) fn left(rest: Option<&'a [u8]>) -> Self
+        ensures { result ≡ words_left rest.entry }
+    {
+        Words { rest }
     }
 
     /// The next word. It is empty if two spaces have no byte between them.
@@ -182,7 +189,7 @@ fn are_numbers(text: &[u8]) -> bool
 }
 
 /// Whether the word is a number.
-fn is_number(word: &[u8]) -> bool
+pub(crate) fn is_number(word: &[u8]) -> bool
     ensures { IsTrue result ↔ IsNumberWord word.now }
 {
     parse_number(word).is_some()

@@ -8,7 +8,7 @@ use clap::Error;
 use clap::error::ErrorKind;
 use script::{ErrorOutput, ScriptFault, report, run_program};
 use std::env;
-use std::io::{self, BufReader, BufWriter};
+use std::io::{self, BufReader, BufWriter, IsTerminal};
 use std::process::ExitCode;
 use until_end::UntilEnd;
 
@@ -17,7 +17,7 @@ const MISUSE: u8 = 2;
 
 /// Writes the line of a fault to standard error, and answers the exit status.
 fn fail(rt: &HostRuntime, fault: ScriptFault) -> ExitCode {
-    let mut errors = ErrorOutput::new(rt.stderr().lock());
+    let mut errors = ErrorOutput::new(rt.stderr().lock(), rt.stderr().is_terminal());
     ExitCode::from(report(&fault, &mut errors))
 }
 
@@ -54,7 +54,7 @@ fn refuse(rt: &HostRuntime, error: &Error) -> ExitCode {
 /// Runs the program from standard input to standard output. It writes in blocks, and writes what it answered before it
 /// waits for more input.
 fn run(rt: &HostRuntime, words: &[&str]) -> Result<u8, Error> {
-    let mut errors = ErrorOutput::new(rt.stderr().lock());
+    let mut errors = ErrorOutput::new(rt.stderr().lock(), rt.stderr().is_terminal());
     let Ok(mut reader) = BufReader::new(rt.alloc(), UntilEnd::new(rt.reader())) else {
         return Ok(report(&ScriptFault::NoMemory, &mut errors));
     };

@@ -36,17 +36,32 @@ writes_on true true true held mid holds bytes more kept next = Keeps-trans held 
 
 -- some bytes were written, and then more
 pub writes_more : (a b c : Errors) (bytes more : List ℕ) → Writes a b bytes → Writes b c more → Writes a c (bytes ++ more)
-writes_more a b c = writes_on a.has_failed b.has_failed c.has_failed a.holds b.holds c.holds
+writes_more a b c bytes more first next = record {
+  written = writes_on a.has_failed b.has_failed c.has_failed a.holds b.holds c.holds bytes more first.written next.written;
+  explains = next.explains ∙ first.explains;
+}
 
 -- some bytes were written, and then the output was flushed
 pub writes_all : (a b c : Errors) (bytes : List ℕ) → Writes a b bytes → Writes b c [] → Writes a c bytes
-writes_all a b c bytes first then = subst (Writes a c) (append-nil bytes) (writes_more a b c bytes [] first then)
+writes_all a b c bytes first next = subst (Writes a c) (append-nil bytes) (writes_more a b c bytes [] first next)
 
 pub writes_nothing : (e : Errors) → Writes e e []
-writes_nothing e = go e.has_failed where
+writes_nothing e = record { written = go e.has_failed; explains = refl } where
   go : (failed : Bool) → WritesUnless failed failed e.holds e.holds []
   go false = Appends-nil e.holds
   go true = Keeps-refl e.holds
+
+-- a line was written, then perhaps another, and the output was flushed
+pub writes_lines : (a b c d : Errors) (line : List ℕ) (more : Bool → List ℕ) → Writes a b line → Writes b c (more b.explains) → Writes c d []
+    → Writes a d (line ++ more a.explains)
+writes_lines a b c d line more first next flushed =
+    writes_all a c d (line ++ more a.explains)
+    (writes_more a b c line (more a.explains) first (subst (λ (e : Bool). Writes b c (more e)) first.explains next)) flushed
+
+-- the pieces of a line
+pub line_pieces : (before words more number after : List ℕ) → before ++ (words ++ (more ++ (number ++ after))) ≡ before ++ ((words ++ more ++ number) ++ after)
+line_pieces before words more number after =
+    ap (λ (l : List ℕ). before ++ l) (sym (append_assoc words more (number ++ after)) ∙ sym (append_assoc (words ++ more) number after))
 
 -- the front of the bytes that was written so far, where `rest` is left
 abbrev pub Wrote : Option (List ℕ) → Option (List ℕ) → List ℕ → List ℕ → Type 0

@@ -10,6 +10,7 @@ use Rattle.std.specs.List.{All}
 use Rattle.lines.specs.Reading.{IsLineText, StopsIn, TakesLine}
 use Rattle.lines.specs.declared.reading.ReadFault.{ReadFault}
 use Rattle.lines.specs.declared.reading.Taken.{Taken}
+use Rattle.lines.specs.declared.reason.Reason.{Reason}
 use Rattle.versioned_map.specs.declared.command.Record.{Record}
 use Rattle.master_core.specs.declared.config.Config.{Config}
 use Rattle.master_core.specs.Data.{Origin, MasterData, no_origin}
@@ -19,7 +20,7 @@ use Rattle.script.specs.declared.answer.Answer.{Answer}
 use Rattle.script.specs.declared.fault.ScriptFault.{ScriptFault}
 use Rattle.script.specs.declared.fault.ScriptFault.TheVariants as fault
 use Rattle.script.specs.declared.session.Session.{Session}
-use Rattle.script.specs.Runs.{AreRunOn, IsOfFleet, IsScriptLine, texts_of, answers_of, AreLines, IsTakenLine, IsBadLine, EndsWith, Prints, RunsScript}
+use Rattle.script.specs.Runs.{AreRunOn, IsOfFleet, IsScriptLine, texts_of, answers_of, AreLines, IsTakenLine, IsBadLine, IsReasonFor, EndsWith, Prints, RunsScript}
 use Rattle.command_line.specs.declared.settings.Options.{Options}
 use Rattle.lines.specs.Grammar.{LineValue, Recover}
 use Rattle.script.specs.Configuration.{config_of}
@@ -63,7 +64,7 @@ kept_first (Some xs) (Some ys) (Some zs) bytes kept more = more ∙ ap (λ l. l 
 pub flushed_first : (old new : Session) (text : List ℕ) (number : ℕ) (held wrote holds : Option (List ℕ)) (r : Result (Unit {0}) ScriptFault)
     → Keeps held wrote → PrintsText old new text number wrote holds r → PrintsText old new text number held holds r
 flushed_first old new text number held wrote holds (Ok done) kept p = (p.0, p.1, kept_first held wrote holds (answer_text p.0) kept p.2)
-flushed_first old new text number held wrote holds (Err (fault.BadLine n)) kept p = (p.0, p.1, Keeps-trans held wrote holds kept p.2)
+flushed_first old new text number held wrote holds (Err (fault.BadLine n why)) kept p = (p.0, p.1, Keeps-trans held wrote holds kept p.2, p.3)
 flushed_first old new text number held wrote holds (Err fault.ReadFailed) kept p = absurd p
 flushed_first old new text number held wrote holds (Err fault.WriteFailed) kept p = p
 flushed_first old new text number held wrote holds (Err fault.NoMemory) kept p = Keeps-trans held wrote holds kept p
@@ -72,8 +73,8 @@ flushed_first old new text number held wrote holds (Err fault.NoMemory) kept p =
 
 pub turn_fault : (old new : Session) (number : ℕ) (had left held holds : Option (List ℕ)) (text taken : List ℕ) (f : ScriptFault) → IsLineText text
     → Consumes had left taken → IsTakenLine text taken left → PrintsText old new text number held holds (Err f) → TakesTurn old new number had left held holds (Err f)
-turn_fault old new number had left held holds text taken (fault.BadLine n) whole consumed is p =
-    (p.0, taken, consumed, inr (text, whole, is, inr p.1), p.2)
+turn_fault old new number had left held holds text taken (fault.BadLine n why) whole consumed is p =
+    (p.0, taken, consumed, inr (text, whole, is, inr p.1), p.2, inl (text, is, p.3))
 turn_fault old new number had left held holds text taken fault.ReadFailed whole consumed is p = absurd p
 turn_fault old new number had left held holds text taken fault.WriteFailed whole consumed is p = inl (text, taken, whole, consumed, is, p.0, p.1)
 turn_fault old new number had left held holds text taken fault.NoMemory whole consumed is p =
@@ -339,9 +340,13 @@ module _ (options : Options) (old : Session) (had mid left held wrote holds : Op
   bad_here : (n : ℕ) (bad : List ℕ) → n ≡ number → IsBadLine old.options.backups number bad left → IsBadLine options.backups n bad left
   bad_here n bad is line = subst (λ (k : ℕ). IsBadLine k n bad left) fleet (subst (λ (k : ℕ). IsBadLine old.options.backups k bad left) (sym is) line)
 
+  reason_here : (n : ℕ) (bad : List ℕ) (why : Reason) → n ≡ number → IsReasonFor old.options.backups number bad left why → IsReasonFor options.backups n bad left why
+  reason_here n bad why is reason =
+      subst (λ (k : ℕ). IsReasonFor k n bad left why) fleet (subst (λ (k : ℕ). IsReasonFor old.options.backups k bad left why) (sym is) reason)
+
   pub fails : (new : Session) (f : ScriptFault) → TakesTurn old new number mid left wrote holds (Err f) → RunsScript options had left held holds (Err f)
-  fails new (fault.BadLine n) t =
-      closes t.1 (Err (fault.BadLine n)) t.2 (t.0 ∙ sym r.count, t.1, refl, bad_here n t.1 t.0 t.3) (kept_answers t.4)
+  fails new (fault.BadLine n why) t =
+      closes t.1 (Err (fault.BadLine n why)) t.2 (t.0 ∙ sym r.count, t.1, refl, bad_here n t.1 t.0 t.3, reason_here n t.1 why t.0 t.5) (kept_answers t.4)
   fails new fault.ReadFailed t = closes t.0 (Err fault.ReadFailed) t.1 (t.0, refl, t.2) (kept_answers t.3)
   fails new fault.WriteFailed (inl t) = fails_to_write new t.0 t.5 t.6 t.2 t.1 t.3 t.4
   fails new fault.WriteFailed (inr t) = closes t.0 (Err fault.WriteFailed) t.1 (inr (t.0, refl, t.2)) tt
@@ -365,9 +370,9 @@ module _ (options : Options) (old : Session) (had mid left held wrote holds : Op
 pub runs_dry : (options : Options) (old : Session) (had mid left held wrote holds : Option (List ℕ)) (number : ℕ) → number ≡ 2 ^ 64 - 1 → (r : Running options old had mid held wrote number)
     (result : Result (Unit {0}) ScriptFault) → IsNoMore mid left wrote holds result → RunsScript options had left held holds result
 runs_dry options old had mid left held wrote holds number is r (Ok done) n = runs_out options old had mid left held wrote holds number r n.0 n.1 n.2
-runs_dry options old had mid left held wrote holds number is r (Err (fault.BadLine n)) none =
-    fails options old had mid left held wrote holds number r old (fault.BadLine n)
-    (none.0 ∙ sym is, none.1, none.2, subst (λ (k : ℕ). IsBadLine old.options.backups k none.1 left) (none.0 ∙ sym is) (none.3 old.options.backups), none.4)
+runs_dry options old had mid left held wrote holds number is r (Err (fault.BadLine n why)) none =
+    fails options old had mid left held wrote holds number r old (fault.BadLine n why)
+    (none.0 ∙ sym is, none.1, none.2, subst (λ (k : ℕ). IsBadLine old.options.backups k none.1 left) (none.0 ∙ sym is) (none.3 old.options.backups), none.4, inr (inr (none.5, is)))
 runs_dry options old had mid left held wrote holds number is r (Err fault.ReadFailed) none =
     fails options old had mid left held wrote holds number r old fault.ReadFailed none
 runs_dry options old had mid left held wrote holds number is r (Err fault.WriteFailed) none =
@@ -390,7 +395,7 @@ module _ (options : Options) (had left held wrote holds : Option (List ℕ)) (ke
   } where
     flushed : (result : Result (Unit {0}) ScriptFault) → Prints held wrote r.told result → Prints held holds r.told result
     flushed (Ok done) p = Appends-kept held wrote holds (answers_of r.told) p kept
-    flushed (Err (fault.BadLine n)) p = Appends-kept held wrote holds (answers_of r.told) p kept
+    flushed (Err (fault.BadLine n why)) p = Appends-kept held wrote holds (answers_of r.told) p kept
     flushed (Err fault.ReadFailed) p = Appends-kept held wrote holds (answers_of r.told) p kept
     flushed (Err fault.WriteFailed) p = tt
     flushed (Err fault.NoMemory) p = Appends-kept held wrote holds (answers_of r.told) p kept

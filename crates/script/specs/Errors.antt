@@ -2,10 +2,11 @@
 use Rattle.std.specs.Prelude.{◌≡◌, ℕ, List, ◌++◌, Bool, true, false, Option}
 use Rattle.std.specs.Io.KnownBytes.{Appends, Keeps}
 
--- what an error output holds, and whether writing to it has failed
+-- what an error output holds, whether writing to it has failed, and whether it is to explain faults
 pub record Errors : Type 0 where
   pub holds : Option (List ℕ)
   pub has_failed : Bool
+  pub explains : Bool
 
 -- a front of the bytes was written, and nothing else
 abbrev pub AppendsFront : Option (List ℕ) → Option (List ℕ) → List ℕ → Type 0
@@ -19,5 +20,6 @@ WritesUnless true false held holds bytes = ⊥
 WritesUnless true true held holds bytes = Keeps held holds
 
 -- All of the bytes were written. Only if writing failed, a front of them was. Once it has failed, nothing is written.
-abbrev pub Writes : Errors → Errors → List ℕ → Type 0
-Writes old new bytes = WritesUnless old.has_failed new.has_failed old.holds new.holds bytes
+pub record Writes (old new : Errors) (bytes : List ℕ) : Type 0 where
+  pub written : WritesUnless old.has_failed new.has_failed old.holds new.holds bytes
+  pub explains : new.explains ≡ old.explains

@@ -10,7 +10,7 @@ use Rattle.script.specs.declared.fault.ScriptFault.TheVariants.{NoMemory}
 use Rattle.script.specs.Configuration.{config_of}
 use Rattle.script.specs.Errors.{Errors, Writes}
 use Rattle.script.specs.Runs.{RunResult, RunsScript}
-use Rattle.script.specs.Texts.{config_line, exit_status, fault_line}
+use Rattle.script.specs.Texts.{config_lines, exit_status, fault_lines}
 
 -- what is left to read of the input, and what the output and the error output hold
 pub record Streams : Type 0 where
@@ -18,16 +18,16 @@ pub record Streams : Type 0 where
   pub output : Option (List ℕ)
   pub errors : Errors
 
--- how the end of a run is reported: Ok by status 0, and a fault by its line and its status
+-- how the end of a run is reported: Ok by status 0, and a fault by its lines and its status
 abbrev pub IsReported : RunResult → Errors → Errors → ℕ → Type 0
 IsReported (Ok done) old new status = (new ≡ old) × (status ≡ 0)
-IsReported (Err fault) old new status = Writes old new (fault_line fault) × (status ≡ exit_status fault)
+IsReported (Err fault) old new status = Writes old new (fault_lines old.explains fault) × (status ≡ exit_status fault)
 
 -- The configuration fails its check. Its fault is named on the error output. Nothing is read, and nothing else written.
 pub record IsMisuse (config : Config) (old new : Streams) (status : ℕ) : Type 0 where
   pub fault : ConfigFault
   pub found : config_fault config ≡ Some fault
-  pub line : Writes old.errors new.errors (config_line fault)
+  pub lines : Writes old.errors new.errors (config_lines old.errors.explains config fault)
   pub unread : new.input ≡ old.input
   pub unwritten : new.output ≡ old.output
   pub ends_with : status ≡ 2

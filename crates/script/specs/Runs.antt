@@ -5,6 +5,9 @@ use Rattle.std.specs.Io.KnownBytes.{Appends, Consumes, IsAtEnd}
 use Rattle.command_line.specs.declared.settings.Options.{Options}
 use Rattle.lines.specs.Grammar.{LineValue, Says, Lose}
 use Rattle.lines.specs.Reading.{IsUnbroken, IsLineText}
+use Rattle.lines.specs.Reasons.{HasReason}
+use Rattle.lines.specs.declared.reason.Reason.{Reason}
+use Rattle.lines.specs.declared.reason.Reason.TheVariants.{NoBackup, TooLong, TooMany}
 use Rattle.script.specs.declared.fault.ScriptFault.{ScriptFault}
 use Rattle.script.specs.declared.fault.ScriptFault.TheVariants.{BadLine, ReadFailed, WriteFailed, NoMemory}
 use Rattle.script.specs.declared.session.Session.{Session}
@@ -69,6 +72,16 @@ pub record AreRun (options : Options) (told : List Told) : Type 0 where
   pub begins : BeginsSession options first
   pub run : AreRunOn first told last
 
+-- what is said of a bad text: why it says no line, or how many backups the fleet has
+abbrev pub IsReasonOf : ℕ → List ℕ → Reason → Type 0
+IsReasonOf backups text why = HasReason text why ⊎ (why ≡ NoBackup backups)
+
+-- why a line is bad
+abbrev pub IsReasonFor : ℕ → ℕ → List ℕ → Option (List ℕ) → Reason → Type 0
+IsReasonFor backups number taken left why =
+    ((text : List ℕ) × IsTakenLine text taken left × IsReasonOf backups text why)
+    ⊎ ((why ≡ TooLong) × (length taken ≡ 4097)) ⊎ ((why ≡ TooMany) × (number ≡ 2 ^ 64 - 1))
+
 -- ---- a run
 
 -- how a run ends
@@ -79,8 +92,9 @@ RunResult = Result (Unit {0}) ScriptFault
 -- or part of a line at a fault. A writer fails at the answer of the last of them, or while part of the next is read.
 abbrev pub EndsWith : ℕ → List Told → List ℕ → Option (List ℕ) → Result (Unit {0}) ScriptFault → Type 0
 EndsWith backups told taken left (Ok done) = AreLines told taken × IsAtEnd left
-EndsWith backups told taken left (Err (BadLine number)) =
+EndsWith backups told taken left (Err (BadLine number why)) =
     (number ≡ suc (length told)) × (bad : List ℕ) × (taken ≡ texts_of told ++ bad) × IsBadLine backups number bad left
+    × IsReasonFor backups number bad left why
 EndsWith backups told taken left (Err ReadFailed) = (part : List ℕ) × (taken ≡ texts_of told ++ part) × IsLineText part
 EndsWith backups told taken left (Err WriteFailed) =
     AreLines told taken ⊎ ((part : List ℕ) × (taken ≡ texts_of told ++ part) × IsLineText part)

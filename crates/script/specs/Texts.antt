@@ -1,5 +1,5 @@
 -- What is printed. Each line ends with a line feed, byte 10; byte 32 is a space.
-use Rattle.std.specs.Prelude.{ℕ, ◌/◌, ◌%◌, List, [], ◌∷◌, ◌++◌, length, Bool, true, false, codes, Option, Some}
+use Rattle.std.specs.Prelude.{ℕ, ◌-◌, ◌*◌, ◌/◌, ◌%◌, List, [], ◌∷◌, ◌++◌, length, Bool, true, false, codes, Option, Some}
 use Rattle.std.specs.Prelude.{None as nothing}
 use Rattle.std.specs.List.{flat_map}
 use Rattle.std.specs.Fmt.{decimal, digit_glyph}
@@ -12,7 +12,10 @@ use Rattle.replay.specs.declared.rebuilt.Rebuilt.{Rebuilt}
 use Rattle.recovery.specs.Texts.{recovery_fault_text}
 use Rattle.versioned_map.specs.declared.command.Reply.{Reply}
 use Rattle.versioned_map.specs.declared.command.Reply.TheVariants as reply
+use Rattle.lines.specs.Texts.{reason_text}
+use Rattle.master_core.specs.declared.config.Config.{Config}
 use Rattle.master_core.specs.declared.config.ConfigFault.{ConfigFault}
+use Rattle.master_core.specs.declared.config.ConfigFault.TheVariants.{BadBackups, BadSegment, BadBudget}
 use Rattle.master_core.specs.Names.{refusal_text, config_fault_name}
 use Rattle.tablet_will.specs.declared.part.Part.{Part}
 use Rattle.tablet_will.specs.Parts.{partitions_of}
@@ -131,25 +134,45 @@ answer_text answer.Up = codes "refused Up" ++ 10 ∷ []
 -- ---- faults of a run
 
 abbrev pub script_fault_text : ScriptFault → List ℕ
-script_fault_text (BadLine number) = codes "bad line " ++ decimal number
+script_fault_text (BadLine number why) = codes "bad line " ++ decimal number
 script_fault_text ReadFailed = codes "cannot read"
 script_fault_text WriteFailed = codes "cannot write"
 script_fault_text NoMemory = codes "no memory"
 
--- the number after a fault's words, if there is one
-abbrev pub number_text : Option ℕ → List ℕ
-number_text nothing = []
-number_text (Some number) = decimal number
+-- a line of the error output
+abbrev pub error_line : List ℕ → List ℕ
+error_line text = codes "ramlog: " ++ text ++ 10 ∷ []
 
--- the line of a fault
-abbrev pub fault_line : ScriptFault → List ℕ
-fault_line fault = codes "ramlog: " ++ script_fault_text fault ++ 10 ∷ []
+-- the second line of a fault, if faults are explained
+abbrev pub why_line : Bool → ScriptFault → List ℕ
+why_line true (BadLine number why) = error_line (reason_text why)
+why_line _ _ = []
 
--- the line of a bad configuration
-abbrev pub config_line : ConfigFault → List ℕ
-config_line fault = codes "ramlog: bad configuration " ++ config_fault_name fault ++ 10 ∷ []
+-- the lines of a fault
+abbrev pub fault_lines : Bool → ScriptFault → List ℕ
+fault_lines explains fault = error_line (script_fault_text fault) ++ why_line explains fault
+
+-- which options disagree, and by how much
+abbrev pub config_why : Config → ConfigFault → List ℕ
+config_why c BadBackups = codes "--replicas is more than --backups by " ++ decimal (c.replicas - c.backups)
+config_why c BadSegment = codes "--segment is more than a multiple of --seglet by " ++ decimal (c.segment % c.seglet)
+config_why c BadBudget =
+    codes "--seglets is less than those of four segments by " ++ decimal (4 * (c.segment / c.seglet) - c.seglets)
+config_why c _ = []
+
+-- the second line of a bad configuration, if faults are explained; options can't make it bad in another way
+abbrev pub config_why_line : Bool → Config → ConfigFault → List ℕ
+config_why_line true c BadBackups = error_line (config_why c BadBackups)
+config_why_line true c BadSegment = error_line (config_why c BadSegment)
+config_why_line true c BadBudget = error_line (config_why c BadBudget)
+config_why_line _ _ _ = []
+
+-- the lines of a bad configuration
+abbrev pub config_lines : Bool → Config → ConfigFault → List ℕ
+config_lines explains c fault =
+    error_line (codes "bad configuration " ++ config_fault_name fault) ++ config_why_line explains c fault
 
 -- the exit status of a fault
 abbrev pub exit_status : ScriptFault → ℕ
-exit_status (BadLine number) = 2
+exit_status (BadLine number why) = 2
 exit_status _ = 1

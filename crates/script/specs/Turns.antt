@@ -3,13 +3,14 @@ use Rattle.std.specs.Prelude.{◌≡◌, ◌⊎◌, ◌<◌, ◌≤◌, ◌-◌,
 use Rattle.std.specs.Io.KnownBytes.{Appends, Consumes, IsAtEnd, Keeps}
 use Rattle.lines.specs.Grammar.{LineValue, Says, Put, New, Cas}
 use Rattle.lines.specs.Reading.{IsLineText}
+use Rattle.lines.specs.declared.reason.Reason.TheVariants.{TooMany}
 use Rattle.script.specs.declared.answer.Answer.{Answer}
 use Rattle.script.specs.declared.fault.ScriptFault.{ScriptFault}
 use Rattle.script.specs.declared.fault.ScriptFault.TheVariants as fault
 use Rattle.script.specs.declared.session.LineFault.{LineFault}
 use Rattle.script.specs.declared.session.LineFault.TheVariants as line_fault
 use Rattle.script.specs.declared.session.Session.{Session}
-use Rattle.script.specs.Runs.{IsOfFleet, IsTakenLine, IsBadLine, RunResult}
+use Rattle.script.specs.Runs.{IsOfFleet, IsTakenLine, IsBadLine, IsReasonFor, IsReasonOf, RunResult}
 use Rattle.script.specs.Recoveries.{RunsLine}
 use Rattle.script.specs.Texts.{answer_text}
 
@@ -49,8 +50,9 @@ IsPrinted held holds answer (Err e) = e ≡ fault.WriteFailed
 -- the line was run and its answer written; or the line is bad, or the writer failed, or memory ran out
 abbrev pub PrintsText : Session → Session → List ℕ → ℕ → Known → Known → RunResult → Type 0
 PrintsText old new text number held holds (Ok done) = AnswersText old text new held holds
-PrintsText old new text number held holds (Err (fault.BadLine n)) =
+PrintsText old new text number held holds (Err (fault.BadLine n why)) =
     (n ≡ number) × ((line : LineValue) → Says text line → IsOfFleet old.options.backups line → ⊥) × Keeps held holds
+    × IsReasonOf old.options.backups text why
 PrintsText old new text number held holds (Err fault.ReadFailed) = ⊥
 PrintsText old new text number held holds (Err fault.WriteFailed) = (answer : Answer) × RunsText old text new answer
 PrintsText old new text number held holds (Err fault.NoMemory) = Keeps held holds
@@ -65,8 +67,9 @@ TakesTurn old new number had left held holds (Ok false) =
     ((text : List ℕ) × IsLineText text × Consumes had left text × IsAtEnd left × (0 < length text)
     × AnswersText old text new held holds)
     ⊎ (Consumes had left [] × IsAtEnd left × Keeps held holds)
-TakesTurn old new number had left held holds (Err (fault.BadLine n)) =
+TakesTurn old new number had left held holds (Err (fault.BadLine n why)) =
     (n ≡ number) × (bad : List ℕ) × Consumes had left bad × IsBadLine old.options.backups number bad left × Keeps held holds
+    × IsReasonFor old.options.backups number bad left why
 TakesTurn old new number had left held holds (Err fault.ReadFailed) =
     (part : List ℕ) × Consumes had left part × IsLineText part × Keeps held holds
 TakesTurn old new number had left held holds (Err fault.WriteFailed) =
@@ -79,9 +82,9 @@ TakesTurn old new number had left held holds (Err fault.NoMemory) =
 -- What came after the last line that can have a number.
 abbrev pub IsNoMore : Known → Known → Known → Known → RunResult → Type 0
 IsNoMore had left held holds (Ok done) = Consumes had left [] × IsAtEnd left × Keeps held holds
-IsNoMore had left held holds (Err (fault.BadLine n)) =
+IsNoMore had left held holds (Err (fault.BadLine n why)) =
     (n ≡ 2 ^ 64 - 1) × (bad : List ℕ) × Consumes had left bad × ((backups : ℕ) → IsBadLine backups n bad left)
-    × Keeps held holds
+    × Keeps held holds × (why ≡ TooMany)
 IsNoMore had left held holds (Err fault.ReadFailed) =
     (part : List ℕ) × Consumes had left part × IsLineText part × Keeps held holds
 IsNoMore had left held holds (Err fault.WriteFailed) = (part : List ℕ) × Consumes had left part × IsLineText part

@@ -11,22 +11,36 @@ use std::marker::Model;
 pub struct ErrorOutput<W: Write + Drop> {
     writer: W,
     has_failed: bool,
+    explains: bool,
 }
 
 impl<W: Write + Drop> Model for ErrorOutput<W> {
     ghost Value = { Errors };
 
-    ghost view = { λ e. record { holds = W.contents e.writer; has_failed = e.has_failed } };
+    ghost view = { λ e. record {
+      holds = W.contents e.writer;
+      has_failed = e.has_failed;
+      explains = e.explains;
+    } };
 }
 
 impl<W: Write + Drop> ErrorOutput<W> {
-    pub fn new(writer: W) -> ErrorOutput<W>
-        ensures { result ≡ record { holds = W.contents writer; has_failed = false } }
+    /// An output that tells what is wrong. If it `explains`, for a reader at a terminal, a second line says why.
+    pub fn new(writer: W, explains: bool) -> ErrorOutput<W>
+        ensures { result ≡ record { holds = W.contents writer; has_failed = false; explains = explains } }
     {
         ErrorOutput {
             writer,
             has_failed: false,
+            explains,
         }
+    }
+
+    /// Whether a second line is to say why.
+    pub fn explains(&self) -> bool
+        ensures { result ≡ self.now.explains }
+    {
+        self.explains
     }
 
     /// What it writes to.

@@ -1,11 +1,14 @@
 //! Why a run of a script ends early.
 
-ghost use Rattle.std.specs.Prelude.{◌≡◌, ◌++◌, ◌∷◌, [], Some};
+ghost use Rattle.std.specs.Prelude.{◌≡◌, ◌++◌, Some};
 ghost use Rattle.script.specs.Errors.{Writes};
-ghost use Rattle.script.specs.Texts.{config_line, exit_status, fault_line, number_text, script_fault_text};
+ghost use Rattle.lines.specs.Texts.{number_text};
+ghost use Rattle.master_core.specs.Config.{config_fault};
+ghost use Rattle.script.specs.Texts.{config_lines, config_why_line, error_line, exit_status, fault_lines, script_fault_text, why_line};
 
 use crate::errors::ErrorOutput;
-use master::ConfigFault;
+use lines::Reason;
+use master::{Config, ConfigFault};
 use std::error::Error;
 use std::fmt;
 use std::io::Write;
@@ -13,8 +16,8 @@ use std::io::Write;
 /// Why a run of a script ended early. The lines before were run, and their output was handed to the writer.
 #[derive(Clone, Copy, Debug, PartialEq, Eq)]
 pub enum ScriptFault {
-    /// 1: a line is bad. This is its number, from 1.
-    BadLine(u64),
+    /// 1: a line is bad. This is its number, from 1, and why it is bad.
+    BadLine(u64, Reason),
     /// 2: the reader failed.
     ReadFailed,
     /// 3: the writer failed.
@@ -31,7 +34,7 @@ impl ScriptFault {
         ensures { script_fault_text self.now ≡ result.0.now ++ number_text result.1 }
     {
         match self {
-            ScriptFault::BadLine(number) => ("bad line ", Some(*number)),
+            ScriptFault::BadLine(number, _) => ("bad line ", Some(*number)),
             ScriptFault::ReadFailed => ("cannot read", None),
             ScriptFault::WriteFailed => ("cannot write", None),
             ScriptFault::NoMemory => ("no memory", None),
@@ -43,7 +46,7 @@ impl ScriptFault {
         ensures { result ≡ exit_status self.now }
     {
         match self {
-            ScriptFault::BadLine(_) => 2,
+            ScriptFault::BadLine(..) => 2,
             _ => 1,
         }
     }
@@ -60,23 +63,44 @@ impl fmt::Display for ScriptFault {
     }
 }
 
-/// Writes the line of a fault, and answers the program's exit status: 2 for a bad line, else 1. It takes no memory.
+/// Writes the line of a fault and, if the output explains faults, one that says why. Answers the program's exit status:
+/// 2 for a bad line, else 1. It takes no memory.
 pub fn report<W: Write + Drop>(fault: &ScriptFault, errors: &mut ErrorOutput<W>) -> u8
-    ensures line { Writes errors.old errors.new (fault_line fault.now) }
+    ensures lines { Writes errors.old errors.new (fault_lines errors.old.explains fault.now) }
     ensures status { result ≡ exit_status fault.now }
 {
-    write_fault(errors, fault);
+    let (words, number) = fault.words();
+    write_line(errors, words, "", number);
+    write_why(errors, fault);
     errors.flush();
     fault.status()
 }
 
-/// Writes the line of a fault.
-fn write_fault<W: Write + Drop>(errors: &mut ErrorOutput<W>, fault: &ScriptFault)
-    ensures { Writes errors.old errors.new (fault_line fault.now) }
+/// Writes why a line is bad, if the output explains faults.
+fn write_why<W: Write + Drop>(errors: &mut ErrorOutput<W>, fault: &ScriptFault)
+    ensures { Writes errors.old errors.new (why_line errors.old.explains fault.now) }
 {
-    let (words, number) = fault.words();
+    if !errors.explains() {
+        return;
+    }
+    if let ScriptFault::BadLine(_, reason) = fault {
+        let (words, more, number) = reason.words();
+        write_line(errors, words, more, number);
+    }
+}
+
+/// Writes a line: words, and then a number, if there is one.
+fn write_line<W: Write + Drop>(
+    errors: &mut ErrorOutput<W>,
+    words: &str,
+    more: &str,
+    number: Option<u64>,
+)
+    ensures { Writes errors.old errors.new (error_line (words.now ++ more.now ++ number_text number)) }
+{
     errors.write(b"ramlog: ");
     errors.write(words.as_bytes());
+    errors.write(more.as_bytes());
     if let Some(number) = number {
         let mut digits = itoa::Buffer::new();
         errors.write(digits.format(number).as_bytes());
@@ -84,14 +108,64 @@ fn write_fault<W: Write + Drop>(errors: &mut ErrorOutput<W>, fault: &ScriptFault
     errors.write(b"\n");
 }
 
-/// Writes the line of a bad configuration, and answers the program's exit status, 2. It takes no memory.
-pub fn report_config<W: Write + Drop>(fault: &ConfigFault, errors: &mut ErrorOutput<W>) -> u8
-    ensures line { Writes errors.old errors.new (config_line fault.now) }
+/// Writes the line of a bad configuration and, if the output explains faults, one that says which options disagree.
+/// Answers the program's exit status, 2. It takes no memory.
+pub fn report_config<W: Write + Drop>(
+    config: &Config,
+    fault: ConfigFault,
+    errors: &mut ErrorOutput<W>,
+) -> u8
+    requires { config_fault config.now ≡ Some fault }
+    ensures lines { Writes errors.old errors.new (config_lines errors.old.explains config.now fault) }
     ensures status { result ≡ 2 }
 {
-    errors.write(b"ramlog: bad configuration ");
-    errors.write(fault.name().as_bytes());
-    errors.write(b"\n");
+    write_line(errors, "bad configuration ", fault.name(), None);
+    write_config_why(errors, config, fault);
     errors.flush();
     2
+}
+
+/// Writes which options disagree, and by how much, if the output explains faults.
+fn write_config_why<W: Write + Drop>(
+    errors: &mut ErrorOutput<W>,
+    config: &Config,
+    fault: ConfigFault,
+)
+    requires { config_fault config.now ≡ Some fault }
+    ensures { Writes errors.old errors.new (config_why_line errors.old.explains config.now fault) }
+{
+    if !errors.explains() {
+        return;
+    }
+    match fault {
+        ConfigFault::BadBackups => {
+            let by = config.replicas.saturating_sub(config.backups);
+            write_line(
+                errors,
+                "--replicas is more than --backups by ",
+                "",
+                Some(by),
+            );
+        }
+        ConfigFault::BadSegment => {
+            let by = config.segment % config.seglet;
+            write_line(
+                errors,
+                "--segment is more than a multiple of --seglet by ",
+                "",
+                Some(by),
+            );
+        }
+        ConfigFault::BadBudget => {
+            let least = 4 * (config.segment / config.seglet);
+            let by = least.saturating_sub(config.seglets);
+            write_line(
+                errors,
+                "--seglets is less than those of four segments by ",
+                "",
+                Some(by),
+            );
+        }
+        _ => {}
+    }
 }

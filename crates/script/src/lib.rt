@@ -19,6 +19,7 @@ pub use backup::{MemoryBackup, MemoryFleet};
 pub use command_line::{Options, options};
 pub use errors::ErrorOutput;
 pub use fault::{ScriptFault, report, report_config};
+pub use lines::Reason;
 pub use program::{run_options, run_program};
 pub use recovery::{
     Drill, Plan, PlanFault, Rebuilt, RecoveryFault, ReplayFault, acknowledged_recovered,

@@ -61,7 +61,7 @@ pub fn run_options<R: BufRead, W: Write, E: Write + Drop>(
         return report(&ScriptFault::NoMemory, errors);
     };
     match config.check() {
-        Err(fault) => report_config(&fault, errors),
+        Err(fault) => report_config(&config, fault, errors),
         Ok(()) => match run_script(alloc, reader, writer, options) {
             Ok(()) => 0,
             Err(fault) => report(&fault, errors),

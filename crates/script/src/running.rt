@@ -13,7 +13,7 @@ use crate::answer::{Answer, write_answer};
 use crate::fault::ScriptFault;
 use crate::session::{LineFault, Session};
 use command_line::Options;
-use lines::{LineReader, ReadFault, Taken, one_line, parse_line};
+use lines::{LineReader, ReadFault, Reason, Taken, one_line, parse_line};
 use std::alloc::Global;
 use std::io::{BufRead, Write};
 
@@ -101,7 +101,7 @@ fn run_next<R: BufRead, W: Write>(
             Err(fault) => Err(fault),
         },
         Ok(Taken::Nothing) => Ok(false),
-        Ok(Taken::TooLong) => Err(ScriptFault::BadLine(number)),
+        Ok(Taken::TooLong) => Err(ScriptFault::BadLine(number, Reason::TooLong)),
         Err(ReadFault::ReadFailed) => Err(ScriptFault::ReadFailed),
         Err(ReadFault::WriteFailed) => Err(ScriptFault::WriteFailed),
         Err(ReadFault::NoMemory) => Err(ScriptFault::NoMemory),
@@ -120,15 +120,17 @@ fn run_text<W: Write>(
     ensures { PrintsText session.old session.new text.now number
         (W.contents writer.old) (W.contents writer.new) result }
 {
-    let Some(line) = parse_line(text) else {
-        return Err(ScriptFault::BadLine(number));
+    let line = match parse_line(text) {
+        Ok(line) => line,
+        Err(reason) => return Err(ScriptFault::BadLine(number, reason)),
     };
+    let backups = session.backups();
     match session.run_line(line) {
         Ok(answer) => print(writer, &answer),
         Err(LineFault::Bad) => {
             // This text says no other line.
             one_line();
-            Err(ScriptFault::BadLine(number))
+            Err(ScriptFault::BadLine(number, Reason::NoBackup(backups)))
         }
         Err(LineFault::NoMemory) => Err(ScriptFault::NoMemory),
     }
@@ -155,7 +157,7 @@ fn no_more<R: BufRead, W: Write>(
 {
     match lines.next_line(reader, writer) {
         Ok(Taken::Nothing) => Ok(()),
-        Ok(_) => Err(ScriptFault::BadLine(u64::MAX)),
+        Ok(_) => Err(ScriptFault::BadLine(u64::MAX, Reason::TooMany)),
         Err(ReadFault::ReadFailed) => Err(ScriptFault::ReadFailed),
         Err(ReadFault::WriteFailed) => Err(ScriptFault::WriteFailed),
         Err(ReadFault::NoMemory) => Err(ScriptFault::NoMemory),

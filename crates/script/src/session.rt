@@ -90,6 +90,13 @@ impl Session {
         })
     }
 
+    /// How many backups there are.
+    pub fn backups(&self) -> u64
+        ensures { result ≡ self.now.options.backups }
+    {
+        self.options.backups
+    }
+
     /// Runs one line.
     #[inline(always)]
     pub fn run_line(&mut self, line: Line<'_>) -> Result<Answer, LineFault>

@@ -17,7 +17,7 @@ const CANNOT_WRITE: End = ("ramlog: cannot write\n", 1);
 
 /// Whether the run of the default options ends so.
 fn ends<R: BufRead, W: Write>(alloc: Global, reader: &mut R, writer: &mut W, want: End) -> bool {
-    let mut errors = ErrorOutput::new(Vec::new(alloc));
+    let mut errors = ErrorOutput::new(Vec::new(alloc), true);
     match run_program(alloc, &["ramlog"], reader, writer, &mut errors) {
         Ok(status) => (errors.writer().as_slice(), status) == (want.0.as_bytes(), want.1),
         Err(_) => false,
@@ -39,14 +39,20 @@ fn a_script_prints_its_answers(rt: HostRuntime) {
 
 /// Faults, and the line and the exit status of each.
 const FAULTS: &[(ScriptFault, End)] = &[
-    (ScriptFault::BadLine(7), ("ramlog: bad line 7\n", 2)),
+    (
+        ScriptFault::BadLine(7, Reason::LongKey),
+        (
+            "ramlog: bad line 7\nramlog: a key has at most 1024 bytes\n",
+            2,
+        ),
+    ),
     (ScriptFault::ReadFailed, CANNOT_READ),
     (ScriptFault::WriteFailed, CANNOT_WRITE),
     (ScriptFault::NoMemory, ("ramlog: no memory\n", 1)),
 ];
 
 fn is_reported(alloc: Global, fault: &ScriptFault, want: End) -> bool {
-    let mut errors = ErrorOutput::new(Vec::new(alloc));
+    let mut errors = ErrorOutput::new(Vec::new(alloc), true);
     let status = report(fault, &mut errors);
     errors.writer().as_slice() == want.0.as_bytes() && status == want.1
 }
@@ -55,6 +61,52 @@ fn is_reported(alloc: Global, fault: &ScriptFault, want: End) -> bool {
 fn each_fault_has_its_line(rt: HostRuntime) {
     for (place, (fault, want)) in FAULTS.iter().enumerate() {
         assert!(rt; is_reported(rt.alloc(), fault, *want), "fault {place}");
+    }
+}
+
+/// Words, a script, and what is said of them at a terminal.
+const EXPLAINED: &[(&[&str], &[u8], &str)] = &[
+    (
+        &["ramlog"],
+        b"lose 3\n",
+        "ramlog: bad line 1\nramlog: backups count from 0, and there are 3\n",
+    ),
+    (
+        &["ramlog"],
+        b"put 1 a\n",
+        "ramlog: bad line 1\nramlog: put has a table, a key and a value\n",
+    ),
+    (
+        &["ramlog", "--replicas", "5"],
+        b"",
+        "ramlog: bad configuration BadBackups\nramlog: --replicas is more than --backups by 2\n",
+    ),
+    (
+        &["ramlog", "--segment", "600"],
+        b"",
+        "ramlog: bad configuration BadSegment\nramlog: --segment is more than a multiple of --seglet by 24\n",
+    ),
+    (
+        &["ramlog", "--seglets", "31"],
+        b"",
+        "ramlog: bad configuration BadBudget\nramlog: --seglets is less than those of four segments by 1\n",
+    ),
+];
+
+/// Whether these lines are written to the error output.
+fn is_explained(alloc: Global, words: &[&str], script: &[u8], want: &str) -> bool {
+    let mut reader = script;
+    let mut errors = ErrorOutput::new(Vec::new(alloc), true);
+    match run_program(alloc, words, &mut reader, &mut io::sink(), &mut errors) {
+        Ok(_) => errors.writer().as_slice() == want.as_bytes(),
+        Err(_) => false,
+    }
+}
+
+#[test]
+fn faults_are_explained(rt: HostRuntime) {
+    for (words, script, want) in EXPLAINED {
+        assert!(rt; is_explained(rt.alloc(), words, script, want), "{want}");
     }
 }
 

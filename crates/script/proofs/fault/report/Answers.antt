@@ -1,5 +1,14 @@
-use Rattle.script.proofs.Fronts.{writes_all}
+use Rattle.std.proofs.Common.{Bool, ◌++◌, ◌∙◌, ap, append-nil, subst, sym, List, ℕ}
+use Rattle.lines.specs.Texts.{number_text}
+use Rattle.script.specs.Errors.{Writes}
+use Rattle.script.specs.Texts.{error_line, why_line}
+use Rattle.script.proofs.Fronts.{writes_lines}
 use Rattle.script.proofs.fault.report.Goals as goal
 
-pub returns-clause-line : goal.returns-clause-line
-returns-clause-line g c = writes_all _ _ _ _ c.write_fault.ensures c.flush.ensures
+pub returns-clause-lines : goal.returns-clause-lines
+returns-clause-lines g c =
+    let number = number_text c.words-number.result.1 in
+    let text = ap (λ (l : List ℕ). l ++ number) (append-nil c.words-number.result.0.now) ∙ sym c.words-number.ensures in
+    writes_lines _ _ _ _ _ (λ (explains : Bool). why_line explains c.args.fault.now)
+    (subst (λ (l : List ℕ). Writes c.args.errors.now c.write_line.new.errors (error_line l)) text c.write_line.ensures)
+    c.write_why.ensures c.flush.ensures

@@ -1,17 +1,13 @@
-use Rattle.std.proofs.Common.{List, ℕ, [], ◌∷◌, ◌++◌, ◌∙◌, subst}
+use Rattle.std.proofs.Common.{Bool, ◌++◌, ◌∙◌, ap, append-nil, subst, List, ℕ}
 use Rattle.std.specs.Prelude.{codes}
 use Rattle.script.specs.Errors.{Writes}
-use Rattle.script.proofs.Fronts.{writes_all, writes_more}
+use Rattle.script.specs.Texts.{config_why_line, error_line}
+use Rattle.script.proofs.Fronts.{writes_lines}
 use Rattle.script.proofs.fault.report_config.Goals as goal
 
--- what comes before the fault's name
-abbrev before : List ℕ
-before = codes "ramlog: bad configuration "
-
-pub returns-clause-line : goal.returns-clause-line
-returns-clause-line g c =
-    let name = c.as_bytes.result.now in
-    let line = subst (λ (l : List ℕ). Writes c.args.errors.now c.write-3.new.self (before ++ (l ++ 10 ∷ []))) (c.as_bytes.ensures.value ∙ c.name.ensures)
-    (writes_more c.args.errors.now c.write.new.self c.write-3.new.self before (name ++ 10 ∷ []) c.write.ensures
-    (writes_more c.write.new.self c.write-2.new.self c.write-3.new.self name (10 ∷ []) c.write-2.ensures c.write-3.ensures)) in
-    writes_all _ _ _ _ line c.flush.ensures
+pub returns-clause-lines : goal.returns-clause-lines
+returns-clause-lines g c =
+    let text = append-nil (codes "bad configuration " ++ c.name.result.now) ∙ ap (λ (l : List ℕ). codes "bad configuration " ++ l) c.name.ensures in
+    writes_lines _ _ _ _ _ (λ (explains : Bool). config_why_line explains c.args.config.now c.args.fault)
+    (subst (λ (l : List ℕ). Writes c.args.errors.now c.write_line.new.errors (error_line l)) text c.write_line.ensures)
+    c.write_config_why.ensures c.flush.ensures

@@ -35,7 +35,7 @@ returns-in-Ok-Nothing g c =
 pub returns-in-Ok-TooLong : goal.returns-in-Ok-TooLong
 returns-in-Ok-TooLong g c =
     let there = taken_as _ _ _ _ _ TooLong c.in-Ok-TooLong.field-0-is refl c.in-Ok-TooLong.ensures.taken in
-    (refl, c.next_line.new.self, there.0, inl (there.1, there.2), c.next_line.ensures.flushed)
+    (refl, c.next_line.new.self, there.0, inl (there.1, there.2), c.next_line.ensures.flushed, inr (inl (refl, there.2)))
 
 pub returns-in-Err-ReadFailed : goal.returns-in-Err-ReadFailed
 returns-in-Err-ReadFailed g c =

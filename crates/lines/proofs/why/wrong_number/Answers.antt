@@ -1,0 +1,5 @@
+use Rattle.lines.proofs.Among.{one_read}
+use Rattle.lines.proofs.why.wrong_number.Goals as goal
+
+pub loop-word-preserved : goal.loop-word-preserved
+loop-word-preserved c = one_read _ _ _ c.in-Some.word.now c.loop-word.invariant c.in-Some.ensures

@@ -1,0 +1,37 @@
+-- What is printed of a reason.
+use Rattle.std.specs.Prelude.{ℕ, List, [], ◌++◌, codes, Option, None, Some}
+use Rattle.std.specs.Fmt.{decimal}
+use Rattle.lines.specs.declared.reason.Reason.{Reason}
+use Rattle.lines.specs.declared.reason.Reason.TheVariants as reason
+use Rattle.lines.specs.declared.reason.Shape.{Shape}
+use Rattle.lines.specs.declared.reason.Shape.TheVariants as shape
+
+-- the number behind a text, if there is one
+abbrev pub number_text : Option ℕ → List ℕ
+number_text None = []
+number_text (Some number) = decimal number
+
+-- what a command has behind its name
+abbrev pub shape_text : Shape → List ℕ
+shape_text shape.Key = codes " has a table and a key"
+shape_text shape.Value = codes " has a table, a key and a value"
+shape_text shape.Version = codes " has a table, a key, a version and a value"
+shape_text shape.Segment = codes " has the number of a segment"
+shape_text shape.Segments = codes " has the numbers of one segment or more"
+shape_text shape.Ops = codes " has a number of ops"
+shape_text shape.Backup = codes " has the number of a backup"
+shape_text shape.Order = codes " has nothing behind it, or reverse"
+shape_text shape.Alone = codes " has nothing behind it"
+
+abbrev pub reason_text : Reason → List ℕ
+reason_text reason.CarriageReturn = codes "a carriage return ends the line"
+reason_text (reason.Byte byte) = codes "a word has visible characters, and not the byte " ++ decimal byte
+reason_text reason.Spaces = codes "one space stands between two words, and none at an end"
+reason_text reason.Capital = codes "the name of a command has lower case letters"
+reason_text reason.Unknown = codes "the first word is no command"
+reason_text (reason.Shape name s) = name.now ++ shape_text s
+reason_text reason.Number = codes "a number has digits, no sign and no leading zero, and is below 2^64"
+reason_text reason.LongKey = codes "a key has at most 1024 bytes"
+reason_text reason.TooLong = codes "a line has at most 4096 bytes"
+reason_text reason.TooMany = codes "a script has at most 2^64 - 2 lines"
+reason_text (reason.NoBackup count) = codes "backups count from 0, and there are " ++ decimal count

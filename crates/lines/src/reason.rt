@@ -1,0 +1,109 @@
+//! Why a line is bad.
+
+ghost use Rattle.std.specs.Prelude.{◌≡◌, ◌++◌, Some};
+ghost use Rattle.lines.specs.Texts.{number_text, reason_text, shape_text};
+
+use std::fmt;
+
+/// Why a line is bad.
+#[derive(Clone, Copy, Debug, PartialEq, Eq)]
+pub enum Reason {
+    /// A carriage return ends it.
+    CarriageReturn,
+    /// It has this byte, which is neither a space nor visible.
+    Byte(u8),
+    /// Two of its spaces come together, or one is at an end.
+    Spaces,
+    /// Its first word has a capital letter.
+    Capital,
+    /// Its first word names no command.
+    Unknown,
+    /// Behind the name of its command are not the words that it has.
+    Shape(&'static str, Shape),
+    /// A word that stands for a number isn't one.
+    Number,
+    /// Its key is too long.
+    LongKey,
+    /// It is too long itself.
+    TooLong,
+    /// It comes after the last line that a script may have.
+    TooMany,
+    /// It names a backup that isn't there. This is how many there are, from number 0.
+    NoBackup(u64),
+}
+
+/// The words that a command has behind its name.
+#[derive(Clone, Copy, Debug, PartialEq, Eq)]
+pub enum Shape {
+    Key,
+    Value,
+    Version,
+    Segment,
+    Segments,
+    Ops,
+    Backup,
+    Order,
+    Alone,
+}
+
+impl Shape {
+    /// What the command has.
+    fn words(self) -> &'static str
+        ensures { result.now ≡ shape_text self }
+    {
+        match self {
+            Shape::Key => " has a table and a key",
+            Shape::Value => " has a table, a key and a value",
+            Shape::Version => " has a table, a key, a version and a value",
+            Shape::Segment => " has the number of a segment",
+            Shape::Segments => " has the numbers of one segment or more",
+            Shape::Ops => " has a number of ops",
+            Shape::Backup => " has the number of a backup",
+            Shape::Order => " has nothing behind it, or reverse",
+            Shape::Alone => " has nothing behind it",
+        }
+    }
+}
+
+impl Reason {
+    /// The text of the reason, in two parts, and the number behind them, if there is one.
+    pub fn words(&self) -> (&'static str, &'static str, Option<u64>)
+        ensures { reason_text self.now ≡ result.0.now ++ result.1.now ++ number_text result.2 }
+    {
+        let text = match self {
+            Reason::CarriageReturn => "a carriage return ends the line",
+            Reason::Byte(byte) => {
+                return (
+                    "a word has visible characters, and not the byte ",
+                    "",
+                    Some(u64::from(*byte)),
+                );
+            }
+            Reason::Spaces => "one space stands between two words, and none at an end",
+            Reason::Capital => "the name of a command has lower case letters",
+            Reason::Unknown => "the first word is no command",
+            Reason::Shape(name, shape) => return (name, shape.words(), None),
+            Reason::Number => "a number has digits, no sign and no leading zero, and is below 2^64",
+            Reason::LongKey => "a key has at most 1024 bytes",
+            Reason::TooLong => "a line has at most 4096 bytes",
+            Reason::TooMany => "a script has at most 2^64 - 2 lines",
+            Reason::NoBackup(count) => return (
+                "backups count from 0, and there are ",
+                "",
+                Some(*count),
+            ),
+        };
+        (text, "", None)
+    }
+}
+
+impl fmt::Display for Reason {
+    ghost output = { λ reason. Some (reason_text reason) };
+
+    fn fmt<W: fmt::Write>(&self, f: &mut fmt::Formatter<W>) -> fmt::Result {
+        match self.words() {
+            (first, second, Some(number)) => write!(f, "{first}{second}{number}"),
+            (first, second, None) => write!(f, "{first}{second}"),
+        }
+    }
+}
