@@ -1,7 +1,7 @@
-use Rattle.std.proofs.Common.{◌≡◌, ℕ, List, [], ◌∷◌, ◌++◌, ◌∙◌, subst}
+use Rattle.std.proofs.Common.{[], ◌∷◌, ◌++◌, ◌∙◌, subst}
 use Rattle.std.specs.Prelude.{codes}
 use Rattle.lines.specs.Texts.{number_text}
-use Rattle.script.specs.Errors.{Errors, Writes}
+use Rattle.script.specs.Errors.{Writes}
 use Rattle.script.proofs.Fronts.{line_pieces, writes_more, writes_nothing}
 use Rattle.script.proofs.fault.write_line.Goals.{in-Some, in_default}
 use Rattle.script.proofs.fault.write_line.Goals as goal
