@@ -1,0 +1,32 @@
+//! What a cell keeps of a record.
+
+ghost use Rattle.std.specs.Prelude.{◌≡◌};
+ghost use Rattle.std.specs.Borrow.{ftrue};
+ghost use Rattle.versioned_map.specs.declared.command.Record.{Record};
+
+use std::marker::Model;
+use versioned_map::Record;
+
+/// A record as clauses see it. It takes no bytes: the record itself is in the history.
+#[derive(Drop)]
+pub struct Kept {
+    pub ghost what: { Record },
+}
+
+impl Model for Kept {
+    ghost also_owns = { λ _. ftrue };
+}
+
+// A struct with `also_owns` has neither by itself. This one owns nothing.
+unsafe impl Send for Kept {}
+
+unsafe impl Sync for Kept {}
+
+impl Kept {
+    /// What is known of a record.
+    pub fn of(_record: &Record) -> Kept
+        ensures { result.what ≡ _record.now }
+    {
+        Kept {}
+    }
+}

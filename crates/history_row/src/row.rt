@@ -1,0 +1,122 @@
+//! The cells of a history, in order.
+
+ghost use Rattle.std.specs.Prelude.{◌≡◌, ◌<◌, List, length, slice_get, slice_set, Some, None, IfOk, MatchBool, replicate};
+ghost use Rattle.history_row.specs.Rows.{IsRowOf};
+ghost use Rattle.versioned_map.specs.declared.command.Record.{Record};
+
+use crate::kept::Kept;
+use crate::labels::Labels;
+use crate::receipt::Receipt;
+use crate::slot::Slot;
+use std::alloc::{AllocError, Global};
+use std::marker::{Model, PhantomData};
+use versioned_map::Record;
+
+/// Cells that no type names yet. Contracts see what they are called, and which record each is known to have.
+#[derive(Drop)]
+pub struct Cells {
+    slots: Vec<Slot>,
+}
+
+impl Model for Cells {
+    ghost use Rattle.history_row.specs.Rows.{CellsValue, names, row_of};
+
+    ghost Value = { CellsValue };
+
+    ghost view = { λ c. record { names = names c.slots.items; row = row_of c.slots.items } };
+}
+
+/// The cells of a history. Contracts see which record each is known to have.
+#[derive(Drop)]
+pub struct Row<B: Labels> {
+    slots: Vec<Slot>,
+    of: PhantomData<B>,
+}
+
+impl<B: Labels> Model for Row<B> {
+    ghost use Rattle.std.specs.Prelude.{◌≡◌, List};
+    ghost use Rattle.std.specs.declared.option.Option.{Option};
+    ghost use Rattle.versioned_map.specs.declared.command.Record.{Record};
+    ghost use Rattle.history_row.specs.Rows.{names, row_of};
+
+    ghost Value = { List (Option Record) };
+
+    ghost view = { λ r. row_of r.slots.items };
+
+    ghost invariant = { λ r. names r.slots.items ≡ B.cells };
+}
+
+impl Cells {
+    /// So many empty cells.
+    pub fn new(alloc: Global, count: usize) -> Result<Cells, AllocError>
+        ensures { IfOk result (λ c. c.row ≡ replicate count None) }
+    {
+        let mut slots = Vec::with_capacity(alloc, count)?;
+        for _i in 0..count {
+            slots.push(Slot::new(alloc))?;
+        }
+        Ok(Cells { slots })
+    }
+
+    /// The cells under their name.
+    pub fn named<B: Labels>(self) -> Row<B>
+        requires { self.names ≡ B.cells }
+        ensures { result ≡ self.row }
+    {
+        let Cells { slots } = self;
+        Row {
+            slots,
+            of: PhantomData,
+        }
+    }
+}
+
+impl<B: Labels> Row<B> {
+    /// How many cells there are.
+    #[tactic(auto, using(std::proofs::lemmas::Grind::common_steps))]
+    pub fn len(&self) -> usize
+        ensures { result ≡ length self.now }
+    {
+        self.slots.len()
+    }
+
+    /// Sets a cell to this record, and answers whether it took it. If it did not, nothing changes.
+    pub fn set(&mut self, alloc: Global, place: usize, what: &Record) -> bool
+        requires { place < length self.old }
+        ensures { MatchBool result (self.new ≡ slice_set self.old place (Some what.now)) (self.new ≡ self.old) }
+    {
+        // A box of no bytes takes no memory, so this is never refused.
+        let Ok(kept) = Box::new(alloc, Kept::of(what)) else {
+            return false;
+        };
+        let slot = &mut self.slots[place];
+        slot.set(kept)
+    }
+
+    /// A receipt of a place.
+    pub fn receipt(&mut self, place: usize) -> Receipt<B>
+        requires { place < length self.old }
+        ensures same { self.new ≡ self.old }
+        ensures receipt { (result.place ≡ place) × (slice_get self.old place ≡ Some result.what) }
+    {
+        let slot = &mut self.slots[place];
+        Receipt {
+            place: place as u64,
+            note: slot.again(),
+            of: PhantomData,
+        }
+    }
+
+    /// Tells that a history that this is the row of has the receipt's record at its place. Nothing changes.
+    pub fn tell(&mut self, receipt: &mut Receipt<B>)
+        requires { receipt.old.place < length self.old }
+        ensures same { (self.new ≡ self.old) × (receipt.new ≡ receipt.old) }
+        ensures history { (h : List Record) (r : Record) → IsRowOf self.old h → receipt.old.place < length h →
+            receipt.old.what ≡ Some r → slice_get h receipt.old.place ≡ Some r }
+        ensures told { (r : Record) (q : Record) → receipt.old.what ≡ Some r →
+            slice_get self.old receipt.old.place ≡ Some (Some q) → q ≡ r }
+    {
+        let slot = &mut self.slots[receipt.place as usize];
+        slot.compare(receipt.note.again());
+    }
+}

@@ -1,0 +1,148 @@
+-- What a command under the lock did, from its step and from how its record was filed.
+use Rattle.std.proofs.Common.{◌≡◌, ℕ, ◌+◌, List, [], ◌∷◌, ◌++◌, Option, Some, true, false, length, get_or, refl, sym, ap, ◌∙◌, subst, arith, inr}
+use Rattle.std.specs.Prelude.{slice_get, slice_set, Result, Ok, Err}
+use Rattle.replica.specs.Picture.{FleetState}
+use Rattle.versioned_map.specs.declared.command.Command.{Command}
+use Rattle.versioned_map.specs.declared.command.Record.{Record}
+use Rattle.versioned_map.specs.declared.command.Reply.{Reply}
+use Rattle.history_row.specs.Rows.{IsRowOf}
+use Rattle.master_core.specs.declared.step.Refusal.{Refusal}
+use Rattle.master_core.specs.declared.step.Step.TheVariants.{Apply}
+use Rattle.master_core.specs.declared.step.StepAnswer.TheVariants.{Applied}
+use Rattle.master.specs.Keeps.{Keeps}
+use Rattle.master.specs.Steps.{Accepts, Declines}
+use Rattle.master.specs.Valid.{IsValid}
+use Rattle.master.specs.World.{World, world}
+use Rattle.locked_log.specs.declared.fault.CallFault.{CallFault}
+use Rattle.locked_log.specs.declared.fault.CallFault.TheVariants.{CellRefused}
+use Rattle.locked_log.specs.Applies.{AppliesHeld, Counts}
+use Rattle.locked_log.specs.Held.{StateValue, Held, held, history}
+use Rattle.locked_log.specs.Made.{Made}
+use Rattle.locked_log.specs.Seats.{SeatValue, record_by, told, noted, unnoted}
+use Rattle.locked_log.specs.States.{account, IsState, Knows, Lasts}
+use Rattle.locked_log.proofs.Adding.{place_is, history_is}
+use Rattle.locked_log.proofs.Filing.{filed, filed_lasts}
+use Rattle.locked_log.proofs.Refiling.{get_last, get_there}
+use Rattle.locked_log.proofs.Writing.{row_whole, row_short}
+
+module _ (s t : Held) (m : SeatValue) (command : Command) (place : ℕ) (reply : Reply) (made : Made)
+    (st : IsState s made) (known : Knows s.book m) (off : s.is_refused ≡ false)
+    (accepted : Accepts s.world (Apply m.number command) (Applied place reply) t.world) where
+  at_end : place ≡ length (history s)
+  at_end = place_is s.world t.world m.number command place reply accepted
+
+  pub counts : t.book ≡ slice_set s.book m.number (account m.first (m.count + 1)) → t.total ≡ s.total + 1
+      → Counts s m command place reply t
+  counts book total = record {
+    known = known;
+    first = omega (arith, at_end, st.firsts m.number (account m.first m.count) known, st.valid.durable.counted.within);
+    accepted = accepted;
+    book = book;
+    total = total;
+  }
+
+  -- what lies in the history at its place
+  pub what_is : (what : Record) → what ≡ get_or (history t) place what → what ≡ record_by m.number command reply
+  what_is what is = get_there (history t) place what (record_by m.number command reply) there is
+    where
+      there : slice_get (history t) place ≡ Some (record_by m.number command reply)
+      there =
+          ap (λ (l : List Record). slice_get l place) (history_is s.world t.world m.number command place reply accepted)
+          ∙ ap (slice_get (history s ++ record_by m.number command reply ∷ [])) at_end
+          ∙ get_last (history s) (record_by m.number command reply)
+
+  pub writes : (what : Record) (n : SeatValue) → Counts s m command place reply t → what ≡ get_or (history t) place what
+      → t.row ≡ slice_set s.row place (Some what) → t.is_refused ≡ false → n ≡ noted m (told place what)
+      → AppliesHeld s m command (Ok (place, reply)) t n
+  writes what n counted is row refused seat = record {
+    counts = counted;
+    row = row ∙ ap (λ (w : Record). slice_set s.row place (Some w)) (what_is what is);
+    refused = refused;
+    seat = seat ∙ ap (λ (w : Record). noted m (told place w)) (what_is what is);
+  }
+
+  pub loses : (n : SeatValue) → Counts s m command place reply t → t.row ≡ s.row → t.is_refused ≡ true → n ≡ unnoted m
+      → AppliesHeld s m command (Err CellRefused) t n
+  loses n counted row refused seat = inr (
+    place,
+    reply,
+    record {
+      counts = counted;
+      row = row;
+      short = λ whole. row_short s.row (history s) (record_by m.number command reply) (row_whole s.row (history s) s.is_refused st.written off)
+          (subst (λ (l : List Record). IsRowOf s.row l) (history_is s.world t.world m.number command place reply accepted) (subst (λ (r : List (Option Record)). IsRowOf r (history t)) row whole));
+      refused = refused;
+      seat = seat;
+    },
+  )
+
+-- ---- from what the calls of the body ensure
+
+-- what a command under the lock ensures
+pub record Done (s : Held) (m : SeatValue) (command : Command) (r : Result (ℕ × Reply) CallFault) (t : Held) (n : SeatValue) (made : Made) : Type 0 where
+  pub applies : AppliesHeld s m command r t n
+  pub lasts : Lasts 1 s t
+  pub valid : IsState t made
+
+-- a value under the lock and a seat, as the body finds them
+module _ {F : Type 0} (state : F → FleetState) (v x : StateValue F) (same : v ≡ x) (k m : SeatValue) (seat : k ≡ m) (command : Command) where
+  pub declines_at : (r : Refusal) (w : World) → Declines (world state v.master) (Apply k.number command) r w
+      → Declines (world state x.master) (Apply m.number command) r w
+  declines_at r w d =
+      subst (λ (z : SeatValue). Declines (world state x.master) (Apply z.number command) r w) seat
+      (subst (λ (y : StateValue F). Declines (world state y.master) (Apply k.number command) r w) same d)
+
+  module _ (place : ℕ) (reply : Reply) (t : Held) (made : Made) (what : Record)
+      (st : IsState (held state v) made) (known : Knows x.book m) (off : v.is_refused ≡ false)
+      (gives : Accepts (world state v.master) (Apply k.number command) (Applied place reply) t.world)
+      (keeps : Keeps 1 (world state v.master) t.world) (valid : IsValid t.world.knows t.world.fleet)
+      (is : what ≡ get_or (history t) place what)
+      (book : t.book ≡ slice_set v.book m.number (account m.first (m.count + 1))) (total : t.total ≡ v.total + 1) where
+    abbrev s : Held
+    s = held state x
+
+    st_at : IsState s made
+    st_at = subst (λ (y : StateValue F). IsState (held state y) made) same st
+
+    off_at : s.is_refused ≡ false
+    off_at = ap (λ (y : StateValue F). y.is_refused) (sym same) ∙ off
+
+    gives_at : Accepts s.world (Apply m.number command) (Applied place reply) t.world
+    gives_at =
+        subst (λ (z : SeatValue). Accepts s.world (Apply z.number command) (Applied place reply) t.world) seat
+        (subst (λ (y : StateValue F). Accepts (world state y.master) (Apply k.number command) (Applied place reply) t.world) same gives)
+
+    keeps_at : Keeps 1 s.world t.world
+    keeps_at = subst (λ (y : StateValue F). Keeps 1 (world state y.master) t.world) same keeps
+
+    counted : Counts s m command place reply t
+    counted = counts s t m command place reply made st_at known off_at gives_at
+        (book ∙ ap (λ (y : StateValue F). slice_set y.book m.number (account m.first (m.count + 1))) same)
+        (total ∙ ap (λ (y : StateValue F). y.total + 1) same)
+
+    own : what ≡ record_by m.number command reply
+    own = what_is s t m command place reply made st_at known off_at gives_at what is
+
+    pub took : (n : SeatValue) → t.row ≡ slice_set v.row place (Some what) → t.is_refused ≡ v.is_refused
+        → n ≡ noted m (told place what) → Done s m command (Ok (place, reply)) t n made
+    took n row flag noted_is =
+        let row_at : t.row ≡ slice_set s.row place (Some what) = row ∙ ap (λ (y : StateValue F). slice_set y.row place (Some what)) same in record {
+          applies = writes s t m command place reply made st_at known off_at gives_at what n counted is row_at (flag ∙ off) noted_is;
+          lasts = filed_lasts s t m command place reply counted keeps_at (λ on. absurd (both on));
+          valid = filed s t m command place reply counted made st_at keeps_at valid true off_at
+              (row_at ∙ ap (λ (w : Record). slice_set s.row place (Some w)) own) (λ c. refl);
+        }
+      where
+        both : s.is_refused ≡ true → ⊥
+        both on = let no = sym off_at ∙ on in cc
+
+    pub missed : (n : SeatValue) → t.row ≡ v.row → t.is_refused ≡ true → n ≡ unnoted m → Done s m command (Err CellRefused) t n made
+    missed n row flag unnoted_is =
+        let row_at : t.row ≡ s.row = row ∙ ap (λ (y : StateValue F). y.row) same in record {
+          applies = loses s t m command place reply made st_at known off_at gives_at n counted row_at flag unnoted_is;
+          lasts = filed_lasts s t m command place reply counted keeps_at (λ on. flag);
+          valid = filed s t m command place reply counted made st_at keeps_at valid false off_at row_at (λ c. absurd (both c));
+        }
+      where
+        both : t.is_refused ≡ false → ⊥
+        both c = let no = sym flag ∙ c in cc

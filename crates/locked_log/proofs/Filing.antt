@@ -1,0 +1,85 @@
+-- One record more: in the history, in the row and in the book.
+use Rattle.std.proofs.Common.{◌≡◌, ◌≢◌, ◌<◌, ◌⊎◌, ⊎_elim, ℕ, ◌+◌, List, [], ◌∷◌, ◌++◌, Option, Some, Bool, true, false, MatchBool, length, refl, sym, ap, ◌∙◌, subst, arith, length-append, length-set}
+use Rattle.std.specs.Prelude.{slice_get, slice_set}
+use Rattle.versioned_map.specs.declared.command.Command.{Command}
+use Rattle.versioned_map.specs.declared.command.Record.{Record}
+use Rattle.versioned_map.specs.declared.command.Reply.{Reply}
+use Rattle.master_core.specs.declared.config.Config.{Config}
+use Rattle.master.specs.Keeps.{Keeps}
+use Rattle.master.specs.Valid.{IsValid}
+use Rattle.locked_log.specs.declared.state.Account.{Account}
+use Rattle.locked_log.specs.Applies.{Counts}
+use Rattle.locked_log.specs.Held.{Held, history}
+use Rattle.locked_log.specs.Made.{Made}
+use Rattle.locked_log.specs.Seats.{SeatValue, record_by}
+use Rattle.locked_log.specs.States.{account, count_of, IsState, Lasts}
+use Rattle.locked_log.proofs.Adding.{place_is, history_is}
+use Rattle.locked_log.proofs.Counting.{get_set, in_book, count_mine, count_other, all_push}
+use Rattle.locked_log.proofs.Lasting.{firsts_set, made_lasts}
+use Rattle.locked_log.proofs.Writing.{written_push}
+
+same_length : (took : Bool) (row next : List (Option Record)) (i : ℕ) (v : Option Record)
+    → MatchBool took (next ≡ slice_set row i v) (next ≡ row) → length next ≡ length row
+same_length true row next i v e = ap length e ∙ length-set row i v
+same_length false row next i v e = ap length e
+
+module _ (s t : Held) (m : SeatValue) (command : Command) (place : ℕ) (reply : Reply) (c : Counts s m command place reply t) where
+  abbrev pub what : Record
+  what = record_by m.number command reply
+
+  abbrev mine : Account
+  mine = account m.first m.count
+
+  abbrev next : Account
+  next = account m.first (m.count + 1)
+
+  grown : history t ≡ history s ++ what ∷ []
+  grown = history_is s.world t.world m.number command place reply c.accepted
+
+  pub at_end : place ≡ length (history s)
+  at_end = place_is s.world t.world m.number command place reply c.accepted
+
+  longer : length (history t) ≡ length (history s) + 1
+  longer = ap length grown ∙ length-append (history s) (what ∷ [])
+
+  pub filed_lasts : Keeps 1 s.world t.world → (s.is_refused ≡ true → t.is_refused ≡ true) → Lasts 1 s t
+  filed_lasts keeps on = record {
+    keeps = keeps;
+    accounts = ap length c.book ∙ length-set s.book m.number next;
+    firsts = λ k a b e f. firsts_set s.book m.number mine next c.known (omega arith) k a b e (ap (λ l. slice_get l k) (sym c.book) ∙ f);
+    refused = on;
+  }
+
+  module _ (made : Made) (st : IsState s made) (keeps : Keeps 1 s.world t.world) (valid : IsValid t.world.knows t.world.fleet) where
+    config : t.world.knows.config ≡ made.config
+    config = keeps.config ∙ st.master.config
+
+    -- there is a cell for it
+    pub has_cell : place < length s.row
+    has_cell = omega (arith, at_end, st.cells, valid.history, longer, ap (λ (x : Config). x.history) config)
+
+    pub filed : (took : Bool) → s.is_refused ≡ false
+        → MatchBool took (t.row ≡ slice_set s.row place (Some what)) (t.row ≡ s.row)
+        → (t.is_refused ≡ false → took ≡ true) → IsState t made
+    filed took off e when = record {
+      valid = valid;
+      master = made_lasts 1 s.world t.world made keeps st.master;
+      cells = same_length took s.row t.row place (Some what) e ∙ st.cells;
+      written = written_push took s.row t.row (history s) (history t) what s.is_refused t.is_refused off grown
+          (omega (arith, has_cell, at_end)) st.written
+          (subst (λ (n : ℕ). MatchBool took (t.row ≡ slice_set s.row n (Some what)) (t.row ≡ s.row)) at_end e) when;
+      accounts = ap length c.book ∙ length-set s.book m.number next ∙ st.accounts;
+      firsts = λ k a got. ⊎_elim
+          (λ (x : (k ≡ m.number) × (next ≡ a)). omega (arith, ap (λ (y : Account). y.first) x.1, st.firsts m.number mine c.known, keeps.durable))
+          (λ (x : (k ≢ m.number) × (slice_get s.book k ≡ Some a)). omega (arith, st.firsts k a x.1, keeps.durable))
+          (there k a got);
+      counts = λ k a got. ⊎_elim
+          (λ (x : (k ≡ m.number) × (next ≡ a)). sym (ap (λ (y : Account). y.count) x.1) ∙ ap (λ n. n + 1) (st.counts m.number mine c.known) ∙ sym (count_mine m.number (history s) what refl) ∙ ap (λ l. count_of m.number l) (sym grown) ∙ ap (λ n. count_of n (history t)) (sym x.0))
+          (λ (x : (k ≢ m.number) × (slice_get s.book k ≡ Some a)). st.counts k a x.1 ∙ sym (count_other k (history s) what (λ q. x.0 (sym q))) ∙ ap (λ l. count_of k l) (sym grown))
+          (there k a got);
+      no_others = rw grown (all_push made.seats (history s) what st.no_others (omega (arith, in_book s.book m.number mine c.known, st.accounts)));
+      total = c.total ∙ ap (λ n. n + 1) st.total ∙ sym longer;
+    }
+      where
+        there : (k : ℕ) (a : Account) → slice_get t.book k ≡ Some a → ((k ≡ m.number) × (next ≡ a)) ⊎ ((k ≢ m.number) × (slice_get s.book k ≡ Some a))
+        there k a got = get_set s.book m.number k next a (ap (λ l. slice_get l k) (sym c.book) ∙ got)

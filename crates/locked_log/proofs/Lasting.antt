@@ -1,0 +1,52 @@
+-- What stays, whatever is done under the lock.
+use Rattle.std.proofs.Common.{◌≡◌, ◌≤◌, ⊎_elim, ℕ, List, [], ◌++◌, Some, refl, sym, ap, ◌∙◌, arith, append_assoc}
+use Rattle.std.specs.Prelude.{slice_get, slice_set}
+use Rattle.std.proofs.lemmas.List.{append-nil}
+use Rattle.master.specs.Keeps.{Keeps}
+use Rattle.master.specs.World.{World}
+use Rattle.master_core.specs.Data.{MasterData}
+use Rattle.locked_log.specs.declared.state.Account.{Account}
+use Rattle.locked_log.specs.Held.{Held}
+use Rattle.locked_log.specs.Made.{Made, IsMade, made_now}
+use Rattle.locked_log.specs.States.{Lasts, RaisesFirsts}
+use Rattle.locked_log.proofs.Counting.{some_is, get_set}
+
+pub keeps_same : (most : ℕ) (w : World) → Keeps most w w
+keeps_same most w = record {
+  config = refl;
+  origin = refl;
+  takes = (omega arith, omega arith);
+  others = λ b m s other. refl;
+  durable = omega arith;
+  history = ([], sym (append-nil w.knows.history));
+}
+
+pub firsts_same : (book : List Account) → RaisesFirsts book book
+firsts_same book k a b e f = let same : a ≡ b = some_is (sym e ∙ f) in omega (arith, ap (λ (x : Account). x.first) same)
+
+-- one account is set, to a first number that is no lower
+pub firsts_set : (book : List Account) (i : ℕ) (c d : Account) → slice_get book i ≡ Some c → c.first ≤ d.first
+    → RaisesFirsts book (slice_set book i d)
+firsts_set book i c d at up k a b e f =
+    ⊎_elim
+    (λ (x : (k ≡ i) × (d ≡ b)). let same : a ≡ c = some_is (sym e ∙ ap (λ n. slice_get book n) x.0 ∙ at) in omega (arith, ap (λ (y : Account). y.first) same, ap (λ (y : Account). y.first) x.1, up))
+    (λ x. firsts_same book k a b e x.1)
+    (get_set book i k d b f)
+
+pub lasts_same : (most : ℕ) (h : Held) → Lasts most h h
+lasts_same most h =
+    record { keeps = keeps_same most h.world; accounts = refl; firsts = firsts_same h.book; refused = λ on. on }
+
+-- it stays the master that the store was made of
+pub made_lasts : (most : ℕ) (s t : World) (made : Made) → Keeps most s t → IsMade made s.knows → IsMade made t.knows
+made_lasts most s t made keeps is = record {
+  config = keeps.config ∙ is.config;
+  origin = keeps.origin ∙ is.origin;
+  begun = (is.begun.0 ++ keeps.history.0, keeps.history.1 ∙ ap (λ l. l ++ keeps.history.0) is.begun.1 ∙ append_assoc made.begun is.begun.0 keeps.history.0);
+  durable = omega (arith, is.durable, keeps.durable);
+}
+
+-- at first it is
+pub made_at_first : (seats : ℕ) (d : MasterData) → IsMade (made_now seats d) d
+made_at_first seats d =
+    record { config = refl; origin = refl; begun = ([], sym (append-nil d.history)); durable = omega arith }

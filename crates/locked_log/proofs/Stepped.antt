@@ -1,0 +1,197 @@
+-- A step that is no command adds no record.
+use Rattle.std.proofs.Common.{◌≡◌, ℕ, suc, inl, inr, Bool, true, false, [], Option, Some, None, refl, sym, ap, ◌∙◌, subst, arith}
+use Rattle.std.specs.Prelude.{Result, Ok, Err, ◌==◌, ◌&&◌, not, nat_lt, drop, length, if◌then◌else◌}
+use Rattle.std.proofs.lemmas.List.{append-nil}
+use Rattle.std.specs.Option.{option_map_or}
+use Rattle.replica.specs.Picture.{FleetState}
+use Rattle.cleaner.specs.declared.pass.Pass.{Pass}
+use Rattle.cleaner.specs.Passes.{is_at_end}
+use Rattle.log_head.specs.Head.{is_open}
+use Rattle.log_model.specs.Ops.{LogOp}
+use Rattle.master_core.specs.declared.step.Refusal.{Refusal}
+use Rattle.master_core.specs.declared.step.Refusal.TheVariants as refusal
+use Rattle.master_core.specs.declared.step.Step.{Step}
+use Rattle.master_core.specs.declared.step.Step.TheVariants.{Apply, Push, BeginRoll, Compact, BeginClean, Copy, Seal, Free}
+use Rattle.master_core.specs.declared.step.StepAnswer.{StepAnswer}
+use Rattle.master_core.specs.Budget.{may_clean}
+use Rattle.master_core.specs.Choosing.{chosen, pass_step, step_without, next_step}
+use Rattle.master_core.specs.Data.{MasterData}
+use Rattle.master_core.specs.Steps.{freed_data}
+use Rattle.master.specs.Keeps.{Keeps}
+use Rattle.master.specs.Passes.{IsSealOp, IsFreeOp}
+use Rattle.master.specs.Steps.{FailsTake, IsPushOp, Steps}
+use Rattle.master.specs.Valid.{IsValid}
+use Rattle.master.specs.World.{World, world, limited_world}
+use Rattle.master.proofs.Keeping.{take_failed}
+use Rattle.master.proofs.Pushed.{same_rest}
+use Rattle.locked_log.specs.declared.turn.CleanTurn.{CleanTurn}
+use Rattle.locked_log.specs.declared.turn.CleanTurn.TheVariants as turn
+use Rattle.locked_log.specs.Held.{StateValue, Held, held, history}
+use Rattle.locked_log.specs.Made.{Made}
+use Rattle.locked_log.specs.States.{IsState, Lasts, count_of}
+use Rattle.locked_log.specs.Steps.{step_of, StepsAs, Turns}
+use Rattle.locked_log.proofs.Idle.{next_works}
+use Rattle.locked_log.proofs.Lasting.{firsts_same, made_lasts}
+
+-- ---- the step that a turn asks for
+
+abbrev pub IsOther : Step → Type 0
+IsOther (Apply seat command) = ⊥
+IsOther _ = Unit {0}
+
+abbrev pub IsOtherIn : Option Step → Type 0
+IsOtherIn None = Unit {0}
+IsOtherIn (Some step) = IsOther step
+
+pass_other : (d : MasterData) (p : Pass) → IsOther (pass_step d p)
+pass_other d p = go (not (is_at_end p)) (nat_lt p.sealed d.config.replicas) (is_open d.head) where
+  picks : Bool → Bool → Bool → Step
+  picks a b c = if a then Copy else if b then Seal else if c then BeginRoll else Push
+
+  go : (a b c : Bool) → IsOther (picks a b c)
+  go true b c = tt
+  go false true c = tt
+  go false false true = tt
+  go false false false = tt
+
+without_other : (d : MasterData) → IsOtherIn (step_without d)
+without_other d = go (not (is_open d.head)) (not (length d.waiting == 0)) (may_clean d (length (chosen d)) && not (length (chosen d) == 0)) where
+  picks : Bool → Bool → Bool → Option Step
+  picks a b c = if a then Some Push else if b then Some Free else if c then Some (BeginClean (chosen d)) else None
+
+  go : (a b c : Bool) → IsOtherIn (picks a b c)
+  go true b c = tt
+  go false true c = tt
+  go false false true = tt
+  go false false false = tt
+
+next_other : (d : MasterData) → IsOtherIn (next_step d)
+next_other d = go d.pass where
+  gives : Option Pass → Option Step
+  gives o = option_map_or (λ (p : Pass). Some (pass_step d p)) o (step_without d)
+
+  go : (o : Option Pass) → IsOtherIn (gives o)
+  go None = without_other d
+  go (Some p) = pass_other d p
+
+turn_other : (d : MasterData) (t : CleanTurn) → IsOtherIn (step_of d t)
+turn_other d turn.Next = next_other d
+turn_other d turn.Push = tt
+turn_other d turn.BeginRoll = tt
+turn_other d (turn.Compact id) = tt
+turn_other d (turn.BeginClean ids) = tt
+turn_other d turn.Copy = tt
+turn_other d turn.Seal = tt
+turn_other d turn.Free = tt
+
+pub asked_other : (d : MasterData) (t : CleanTurn) (step : Step) → step_of d t ≡ Some step → IsOther step
+asked_other d t step e = subst IsOtherIn e (turn_other d t)
+
+-- ---- the history
+
+freed_history : (d : MasterData) → (freed_data d).history ≡ d.history
+freed_history d = go (suc d.freed == d.config.replicas) where
+  gives : Bool → MasterData
+  gives t = if t then record d { waiting = drop 1 d.waiting; freed = 0 } else record d { freed = suc d.freed }
+
+  go : (t : Bool) → (gives t).history ≡ d.history
+  go true = refl
+  go false = refl
+
+module _ (old new : World) where
+  unchanged : new ≡ old → new.knows.history ≡ old.knows.history
+  unchanged e = ap (λ (w : World). w.knows.history) e
+
+  failed : (IsOp : LogOp → Type 0) (r : Refusal) → FailsTake IsOp old r new → new.knows.history ≡ old.knows.history
+  failed IsOp r t = take_failed IsOp old new r t unchanged (λ (h : FailsTake IsOp old refusal.Halted new). ap (λ (d : MasterData). d.history) h.0)
+
+  pub steps_history : (step : Step) (result : Result StepAnswer Refusal) → IsOther step → Steps old step result new
+      → new.knows.history ≡ old.knows.history
+  steps_history (Apply seat command) result other t = absurd other
+  steps_history BeginRoll (Ok answer) other t = ap (λ (d : MasterData). d.history) t.0.rest
+  steps_history BeginRoll (Err r) other t = unchanged t.0
+  steps_history (Compact id) (Ok answer) other t = ap (λ (d : MasterData). d.history) t.0.rest
+  steps_history (Compact id) (Err r) other t = unchanged t.0
+  steps_history (BeginClean ids) (Ok answer) other t = ap (λ (d : MasterData). d.history) t.0.rest
+  steps_history (BeginClean ids) (Err r) other t = unchanged t.0
+  steps_history Copy (Ok answer) other t = ap (λ (d : MasterData). d.history) t.0.rest
+  steps_history Copy (Err r) other t = unchanged t.0
+  steps_history Push (Ok answer) other t = ap (λ (d : MasterData). d.history) t.rest ∙ (same_rest old.knows t.push).1
+  steps_history Push (Err r) other (inl t) = unchanged t.1
+  steps_history Push (Err r) other (inr t) = failed (IsPushOp old) r t.1
+  steps_history Seal (Ok answer) other t = ap (λ (d : MasterData). d.history) t.rest
+  steps_history Seal (Err r) other (inl t) = unchanged t.1
+  steps_history Seal (Err r) other (inr t) = failed (IsSealOp old.knows) r t.1
+  steps_history Free (Ok answer) other t = ap (λ (d : MasterData). d.history) t.rest ∙ freed_history old.knows
+  steps_history Free (Err r) other (inl t) = unchanged t.1
+  steps_history Free (Err r) other (inr t) = failed (IsFreeOp old.knows) r t.1
+
+-- ---- the value under the lock
+
+-- with another world that has the same history, and in which no less is durable
+module _ (s : Held) (w : World) where
+  abbrev pub moved : Held
+  moved = record s { world = w }
+
+  pub moved_lasts : (most : ℕ) → Keeps most s.world w → Lasts most s moved
+  moved_lasts most keeps =
+      record { keeps = keeps; accounts = refl; firsts = firsts_same s.book; refused = λ on. on }
+
+  pub moved_state : (most : ℕ) (made : Made) → IsState s made → Keeps most s.world w → IsValid w.knows w.fleet
+      → w.knows.history ≡ history s → IsState moved made
+  moved_state most made st keeps valid same = record {
+    valid = valid;
+    master = made_lasts most s.world w made keeps st.master;
+    cells = st.cells;
+    written = rw same st.written;
+    accounts = st.accounts;
+    firsts = λ k a e. omega (arith, st.firsts k a e, keeps.durable);
+    counts = λ k a e. st.counts k a e ∙ ap (count_of k) (sym same);
+    no_others = rw same st.no_others;
+    total = rw same st.total;
+  }
+
+-- the fleet takes another number of ops
+module _ (s : Held) (n : ℕ) (w : World) (is : w ≡ limited_world s.world n) (valid : IsValid w.knows w.fleet) where
+  keeps : Keeps 0 s.world w
+  keeps = rw is (record {
+    config = refl;
+    origin = refl;
+    takes = (omega arith, omega arith);
+    others = λ b m k other. refl;
+    durable = omega arith;
+    history = ([], sym (append-nil s.world.knows.history));
+  })
+
+  pub limited_state : (made : Made) → IsState s made → IsState (record s { world = w }) made
+  limited_state made st = moved_state s w 0 made st keeps valid (ap (λ (v : World). v.knows.history) is)
+
+-- ---- from what the step ensures
+
+module _ {F : Type 0} (state : F → FleetState) (v x : StateValue F) (same : v ≡ x) (asked : CleanTurn) (step : Step)
+    (answer : Result StepAnswer Refusal) (w : World) (made : Made)
+    (st : IsState (held state v) made) (is : step_of v.master.knows asked ≡ Some step)
+    (gives : Steps (world state v.master) step answer w) (kept : Keeps 1 (world state v.master) w) (valid : IsValid w.knows w.fleet) where
+  stays : w.knows.history ≡ v.master.knows.history
+  stays = steps_history (world state v.master) w step answer (asked_other v.master.knows asked step is) gives
+
+  abbrev after_step : Held
+  after_step = record { world = w; book = v.book; total = v.total; row = v.row; is_refused = v.is_refused }
+
+  pub turned : Turns (held state x) asked answer (record { world = w; book = v.book; total = v.total; row = v.row; is_refused = v.is_refused })
+  turned = subst (λ (y : StateValue F). Turns (held state y) asked answer after_step) same (record {
+    steps = inl (subst (λ (o : Option Step). StepsAs o (held state v) answer after_step) (sym is) gives);
+    history = stays;
+    book = refl;
+    row = refl;
+    total = refl;
+    refused = refl;
+  })
+
+  pub turned_state : IsState (record { world = w; book = v.book; total = v.total; row = v.row; is_refused = v.is_refused }) made
+  turned_state = moved_state (held state v) w 1 made st kept valid stays
+
+  pub turned_nothing : asked ≡ turn.Next → answer ≡ Err refusal.Nothing → next_step x.master.knows ≡ None
+  turned_nothing next nothing =
+      absurd (next_works (world state v.master) w step (ap (step_of v.master.knows) (sym next) ∙ is)
+      (subst (λ (r : Result StepAnswer Refusal). Steps (world state v.master) step r w) nothing gives))

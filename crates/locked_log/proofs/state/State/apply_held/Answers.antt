@@ -1,0 +1,70 @@
+use Rattle.std.proofs.Common.{◌≡◌, rules, refl, ap, ◌∙◌, Ok, Err, true, List, get_or, subst}
+use Rattle.versioned_map.specs.declared.command.Record.{Record}
+use Rattle.master_core.specs.declared.step.Step.TheVariants.{Apply}
+use Rattle.master_core.specs.declared.step.StepAnswer.{StepAnswer}
+use Rattle.master.specs.Steps.{Accepts}
+use Rattle.master.specs.World.{world}
+use Rattle.locked_log.specs.declared.fault.CallFault.TheVariants.{CellRefused}
+use Rattle.locked_log.specs.Held.{StateValue, held}
+use Rattle.locked_log.specs.States.{IsState, Knows}
+use Rattle.locked_log.proofs.Applied.{Done, declines_at, took, missed}
+use Rattle.locked_log.proofs.Few.{small}
+use Rattle.locked_log.proofs.state.State.apply_held.Given.{Over}
+use Rattle.locked_log.proofs.state.State.apply_held.Goals as goal
+
+pub returns-in-Err-clause-applies : goal.returns-in-Err-clause-applies
+returns-in-Err-clause-applies g c =
+    let known : Knows c.args.self.now.book c.args.seat.now = c.knows.ensures.0 (search rules) in
+    let d = declines_at g.F.Fleet.state _ c.args.self.now c.self.view_is _ c.args.seat.now c.seat.view_is c.args.command c.in-Err.refusal _ c.in-Err.ensures.gives in
+    let same : world g.F.Fleet.state c.step.new.self ≡ world g.F.Fleet.state c.self.inside.master = c.in-Err.ensures.gives.0 in
+    (d, known, (λ i. record { world = same i; book = c.self.inside.book.items; total = c.self.inside.total.total; row = c.self.inside.row; is_refused = c.self.inside.is_refused }) ∙ ap (λ (y : StateValue _). held g.F.Fleet.state y) c.self.view_is, refl)
+
+pub file-requires-clause-room : goal.file-requires-clause-room
+file-requires-clause-room g c =
+    let known : Knows c.args.self.now.book c.args.seat.now = c.knows.ensures.0 (search rules) in
+    small (held g.F.Fleet.state c.args.self.now) g.B.Naming.made c.args.seat.now
+    (subst (λ (y : StateValue _). IsState (held g.F.Fleet.state y) g.B.Naming.made) c.self.view_is c.self.invariant) known
+
+done-missed : (g : Over) (c : goal.Joined-reply g)
+    → Done (held g.F.Fleet.state c.args.self.now) c.args.seat.now c.args.command (Err CellRefused)
+    (record { world = world g.F.Fleet.state c.step.new.self; book = c.file.new.book.items; total = c.file.new.total.total; row = c.file.new.row; is_refused = true }) c.file.new.seat g.B.Naming.made
+done-missed g c =
+    let known : Knows c.args.self.now.book c.args.seat.now = c.knows.ensures.0 (search rules) in
+    missed g.F.Fleet.state _ c.args.self.now c.self.view_is _ c.args.seat.now c.seat.view_is c.args.command c.in-Ok-Applied.place c.in-Ok-Applied.reply _ g.B.Naming.made c.index-history-place.result
+    c.self.invariant known c.if-self.false (subst (λ (a : StepAnswer). Accepts (world g.F.Fleet.state c.self.inside.master) (Apply c.seat.inside.number c.args.command) a (world g.F.Fleet.state c.step.new.self)) c.in-Ok-Applied.field-0-is c.in-Ok-Applied.ensures.gives) c.step.ensures.keeps c.step.ensures.valid
+    (c.index-history-place.is ∙ ap (λ (h : List Record). get_or h c.in-Ok-Applied.place c.index-history-place.result) c.history.ensures)
+    c.file.ensures.book c.file.ensures.total c.file.new.seat c.if-not-file.ensures.row refl c.if-not-file.ensures.seat
+
+pub invariant_of-self-then-not-file : goal.invariant_of-self-then-not-file
+invariant_of-self-then-not-file g c = (done-missed g c).valid
+
+pub returns-then-not-file-clause-applies : goal.returns-then-not-file-clause-applies
+returns-then-not-file-clause-applies g c = (done-missed g c).applies
+
+pub returns-then-not-file-clause-lasts : goal.returns-then-not-file-clause-lasts
+returns-then-not-file-clause-lasts g c = (done-missed g c).lasts
+
+pub returns-then-not-file-clause-valid : goal.returns-then-not-file-clause-valid
+returns-then-not-file-clause-valid g c = (done-missed g c).valid
+
+done-took : (g : Over) (c : goal.Else-not-file g)
+    → Done (held g.F.Fleet.state c.args.self.now) c.args.seat.now c.args.command (Ok (c.in-Ok-Applied.place, c.in-Ok-Applied.reply))
+    (record { world = world g.F.Fleet.state c.step.new.self; book = c.file.new.book.items; total = c.file.new.total.total; row = c.file.new.row; is_refused = c.self.inside.is_refused }) c.file.new.seat g.B.Naming.made
+done-took g c =
+    let known : Knows c.args.self.now.book c.args.seat.now = c.knows.ensures.0 (search rules) in
+    took g.F.Fleet.state _ c.args.self.now c.self.view_is _ c.args.seat.now c.seat.view_is c.args.command c.in-Ok-Applied.place c.in-Ok-Applied.reply _ g.B.Naming.made c.index-history-place.result
+    c.self.invariant known c.if-self.false (subst (λ (a : StepAnswer). Accepts (world g.F.Fleet.state c.self.inside.master) (Apply c.seat.inside.number c.args.command) a (world g.F.Fleet.state c.step.new.self)) c.in-Ok-Applied.field-0-is c.in-Ok-Applied.ensures.gives) c.step.ensures.keeps c.step.ensures.valid
+    (c.index-history-place.is ∙ ap (λ (h : List Record). get_or h c.in-Ok-Applied.place c.index-history-place.result) c.history.ensures)
+    c.file.ensures.book c.file.ensures.total c.file.new.seat c.if-not-file.ensures.row refl c.if-not-file.ensures.seat
+
+pub invariant_of-self-else-not-file : goal.invariant_of-self-else-not-file
+invariant_of-self-else-not-file g c = (done-took g c).valid
+
+pub returns-clause-applies : goal.returns-clause-applies
+returns-clause-applies g c = (done-took g c).applies
+
+pub returns-clause-lasts : goal.returns-clause-lasts
+returns-clause-lasts g c = (done-took g c).lasts
+
+pub returns-clause-valid : goal.returns-clause-valid
+returns-clause-valid g c = (done-took g c).valid

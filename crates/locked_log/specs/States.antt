@@ -1,0 +1,59 @@
+-- What is true whenever the lock is free.
+use Rattle.std.specs.Prelude.{◌≡◌, ◌<◌, ◌≤◌, ◌==◌, ℕ, Bool, true, false, Option, Some, List, length, take, count_by, All, slice_get}
+use Rattle.versioned_map.specs.declared.command.Record.{Record}
+use Rattle.history_row.specs.Rows.{IsRowOf}
+use Rattle.master.specs.Keeps.{Keeps}
+use Rattle.master.specs.Valid.{IsValid}
+use Rattle.locked_log.specs.declared.state.Account.{Account}
+use Rattle.locked_log.specs.Held.{Held, history, durable}
+use Rattle.locked_log.specs.Made.{Made, IsMade}
+use Rattle.locked_log.specs.Seats.{SeatValue}
+
+abbrev pub account : ℕ → ℕ → Account
+account first count = record { first = first; count = count }
+
+-- how many records are a seat's
+abbrev pub count_of : ℕ → List Record → ℕ
+count_of seat records = count_by (λ (r : Record). r.seat == seat) records
+
+-- The row is the history, record by record, up to a cell that refused its record.
+pub record IsWritten (row : List (Option Record)) (records : List Record) (is_refused : Bool) : Type 0 where
+  pub count : ℕ
+  pub within : count ≤ length records
+  pub whole : is_refused ≡ false → count ≡ length records
+  pub is : IsRowOf row (take count records)
+
+-- Row, book and total are each tied to the master alone, to its history and its durable count.
+pub record IsState (h : Held) (made : Made) : Type 0 where
+  -- the history is legal, the log is covered, and the picture is sound
+  pub valid : IsValid h.world.knows h.world.fleet
+  -- the configuration and the opening are those that the store was made with
+  pub master : IsMade made h.world.knows
+  -- there is a cell for each record that the history may have
+  pub cells : length h.row ≡ made.config.history
+  pub written : IsWritten h.row (history h) h.is_refused
+  -- each seat has an account
+  pub accounts : length h.book ≡ made.seats
+  -- its first number is at most the durable count
+  pub firsts : (k : ℕ) (a : Account) → slice_get h.book k ≡ Some a → a.first ≤ durable h
+  -- its second number is the count of its records
+  pub counts : (k : ℕ) (a : Account) → slice_get h.book k ≡ Some a → a.count ≡ count_of k (history h)
+  -- the history has no records of others
+  pub no_others : All (λ (r : Record). r.seat < made.seats) (history h)
+  -- and is as long as the ledger's total
+  pub total : h.total ≡ length (history h)
+
+-- the book's numbers of the seat are the seat's own
+abbrev pub Knows : List Account → SeatValue → Type 0
+Knows book m = slice_get book m.number ≡ Some (account m.first m.count)
+
+-- the first number of each account is no lower
+abbrev pub RaisesFirsts : List Account → List Account → Type 0
+RaisesFirsts old new = (k : ℕ) (a b : Account) → slice_get old k ≡ Some a → slice_get new k ≡ Some b → a.first ≤ b.first
+
+-- What whatever is done under the lock keeps: no first number and no durable count falls, and no record changes.
+pub record Lasts (most : ℕ) (s t : Held) : Type 0 where
+  pub keeps : Keeps most s.world t.world
+  pub accounts : length t.book ≡ length s.book
+  pub firsts : RaisesFirsts s.book t.book
+  pub refused : s.is_refused ≡ true → t.is_refused ≡ true

@@ -1,0 +1,146 @@
+//! How a store is made over a master that has a history, and how the master is taken back.
+
+ghost use Rattle.std.specs.Prelude.{◌≡◌, ◌≤◌, ◌<◌, ◌+◌, None, Some, IfSome, OnOk, MatchResult, length, replicate, slice_get, take, true, ◌^◌};
+ghost use Rattle.locked_log.specs.Made.{IsMade};
+ghost use Rattle.locked_log.specs.declared.sharing.ShareFault.TheVariants as share_fault;
+ghost use Rattle.locked_log.specs.Sharing.{AreSeatsAfter, AreFiled};
+
+use crate::applying::file;
+use crate::blank::{Blank, open_book, seat_all};
+use crate::naming::Naming;
+use crate::seat::Seat;
+use crate::state::{Account, State};
+use crate::store::Store;
+use entry::NoMemory;
+use history_row::Row;
+use master::{Master, Record};
+use replica::Fleet;
+use std::alloc::{AllocError, Global};
+use std::sync::Mutex;
+use std::sync::ledger::Book;
+
+/// Why a store was not made over a master with a history.
+#[derive(Clone, Copy)]
+pub enum ShareFault {
+    NoMemory,
+    /// A new cell did not take its record. Tests alone show that this never comes.
+    CellRefused,
+    /// A record is of a seat that the store doesn't have.
+    StrangeSeat,
+}
+
+impl From<NoMemory> for ShareFault {
+    ghost from_gives = { λ _ e. e ≡ share_fault.NoMemory };
+
+    fn from(_fault: NoMemory) -> ShareFault {
+        ShareFault::NoMemory
+    }
+}
+
+impl<F: Fleet, B: Naming> Store<F, B> {
+    /// A store over a master that has a history, and its seats, each with the count of its records. If it can't be made,
+    /// the master comes back as it was.
+    pub fn share(
+        alloc: Global,
+        blank: Blank,
+        master: Master<F>,
+    ) -> Result<(Store<F, B>, Vec<Seat<B>>), (ShareFault, Master<F>)>
+        requires empty { blank.row ≡ replicate master.knows.config.history None }
+        requires seats { (1 ≤ blank.seats) × (blank.seats ≤ 64) }
+        // The brand is the one that names the blank and the master, with the history that it has.
+        requires cells { (blank.cells ≡ B.cells) × (blank.seats ≡ B.made.seats) }
+        requires ledger { (blank.name ≡ B.name) × (blank.parts ≡ B.parts) }
+        requires mark { blank.table ≡ B.table }
+        requires made { IsMade B.made master.knows }
+        ensures { MatchResult result (λ r. AreSeatsAfter master.knows.history blank.seats r.1.items)
+            (λ e. e.1 ≡ master) }
+    {
+        master.show_valid();
+        let Blank {
+            cells,
+            ledger,
+            mark,
+            pen,
+            seats,
+        } = blank;
+        let (mut total, share) = ledger.open::<B>();
+        let Ok(mut book) = open_book(alloc, seats) else {
+            return Err((ShareFault::NoMemory, master));
+        };
+        let Ok(mut given) = seat_all::<B>(alloc, &mark, pen, share, seats) else {
+            return Err((ShareFault::NoMemory, master));
+        };
+        let mut row = cells.named::<B>();
+        if let Err(fault) = file_all(
+            alloc,
+            master.history(),
+            seats,
+            &mut row,
+            &mut book,
+            &mut total,
+            &mut given,
+        ) {
+            return Err((fault, master));
+        }
+        let state = State {
+            alloc,
+            master,
+            book,
+            total,
+            row,
+            is_refused: false,
+        };
+        let store = Store {
+            state: Mutex::new(state),
+            mark,
+        };
+        Ok((store, given))
+    }
+}
+
+/// Files all records of a history.
+fn file_all<B: Naming>(
+    alloc: Global,
+    history: &[Record],
+    count: u64,
+    row: &mut Row<B>,
+    book: &mut Vec<Account>,
+    total: &mut Book<B>,
+    seats: &mut Vec<Seat<B>>,
+) -> Result<(), ShareFault>
+    requires count { count ≡ B.made.seats }
+    requires room { (length history.now ≤ B.made.config.history) × (length history.now < 2 ^ 62) }
+    requires none { AreFiled B.made (take 0 history.now) row.old book.old.items total.old.total seats.old.items }
+    ensures { OnOk result (AreFiled B.made history.now row.new book.new.items total.new.total seats.new.items) }
+{
+    for i in 0..history.len() {
+        if history[i].seat >= count {
+            return Err(ShareFault::StrangeSeat);
+        }
+        if !file_next(alloc, history, i, row, book, total, seats) {
+            return Err(ShareFault::CellRefused);
+        }
+    }
+    Ok(())
+}
+
+/// Files the next record of a history. Answers whether its cell took it.
+fn file_next<B: Naming>(
+    alloc: Global,
+    history: &[Record],
+    i: usize,
+    row: &mut Row<B>,
+    book: &mut Vec<Account>,
+    total: &mut Book<B>,
+    seats: &mut Vec<Seat<B>>,
+) -> bool
+    requires within { i < length history.now }
+    requires seat { IfSome (slice_get history.now i) (λ r. r.seat < B.made.seats) }
+    requires room { (length history.now ≤ B.made.config.history) × (length history.now < 2 ^ 62) }
+    requires filed { AreFiled B.made (take i history.now) row.old book.old.items total.old.total seats.old.items }
+    ensures { result ≡ true → AreFiled B.made (take (i + 1) history.now) row.new book.new.items total.new.total seats.new.items }
+{
+    let what = &history[i];
+    let seat = &mut seats[what.seat as usize];
+    file(alloc, row, book, total, seat, i as u64, what)
+}

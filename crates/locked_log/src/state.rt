@@ -1,0 +1,100 @@
+//! What lies under the lock.
+
+ghost use Rattle.std.specs.Prelude.{◌≡◌, ◌↔◌, IsTrue, IfOk, OnErr};
+ghost use Rattle.master.specs.Shown.{IsShown, NeedsMemory};
+ghost use Rattle.master.specs.World.{limited_world, world};
+ghost use Rattle.locked_log.specs.Held.{Held, held};
+ghost use Rattle.locked_log.specs.States.{IsState, Knows};
+
+use crate::closing::is_known;
+use crate::naming::Naming;
+use crate::seat::Seat;
+use entry::NoMemory;
+use history_row::Row;
+use master::{Look, Master, Shown};
+use replica::{Bench, Fleet};
+use std::alloc::Global;
+use std::marker::Model;
+use std::sync::ledger::Book;
+
+/// What the book has of a seat.
+#[derive(Clone, Copy)]
+pub struct Account {
+    /// The last place that the seat was acknowledged or met, plus 1.
+    pub first: u64,
+    /// How many records of the seat there are.
+    pub count: u64,
+}
+
+/// The master with the book of the seats, the ledger's book and the row of the history's cells.
+#[derive(Drop)]
+pub struct State<F: Fleet, B: Naming> {
+    pub(crate) alloc: Global,
+    pub(crate) master: Master<F>,
+    pub(crate) book: Vec<Account>,
+    pub(crate) total: Book<B>,
+    pub(crate) row: Row<B>,
+    /// Some cell did not take its record, or the book had other numbers of a seat after its record.
+    pub(crate) is_refused: bool,
+}
+
+impl<F: Fleet, B: Naming> Model for State<F, B> {
+    ghost use Rattle.master.specs.World.{world};
+    ghost use Rattle.locked_log.specs.Held.{StateValue};
+    ghost use Rattle.locked_log.specs.States.{IsState};
+
+    ghost Value = { StateValue F };
+
+    ghost view = { λ s. record {
+      master = s.master;
+      book = s.book.items;
+      total = s.total.total;
+      row = s.row;
+      is_refused = s.is_refused;
+    } };
+
+    ghost invariant = { λ s. IsState (record {
+      world = world F.state s.master;
+      book = s.book.items;
+      total = s.total.total;
+      row = s.row;
+      is_refused = s.is_refused;
+    }) B.made };
+}
+
+impl<F: Fleet, B: Naming> State<F, B> {
+    /// What is true whenever the lock is free. The master is valid: its history is legal, memory and the replicas hold
+    /// its map, and whichever backups are left, they hold a prefix with each durable record. The row is the history up
+    /// to a cell that refused its record, each account is of the history, and the ledger's total is its length.
+    pub fn show_valid(&self)
+        ensures { IsState (held F.state self.now) B.made }
+    {
+        let _is_refused = self.is_refused;
+    }
+
+    /// Whether the book's numbers of the seat are the seat's own.
+    pub(crate) fn knows(&self, seat: &Seat<B>) -> bool
+        ensures { IsTrue result ↔ Knows self.now.book seat.now }
+    {
+        is_known(&self.book, seat)
+    }
+
+    /// Shows what the look asks for. Nothing changes.
+    pub fn look_held(&self, look: Look) -> Result<Shown, NoMemory>
+        ensures shown { IfOk result (λ shown. IsShown (world F.state self.now.master) look shown) }
+        ensures refused { OnErr result (NeedsMemory self.now.master.knows look) }
+    {
+        self.master.look(look)
+    }
+}
+
+impl<F: Bench, B: Naming> State<F, B> {
+    /// Lets the fleet take `n` more ops.
+    pub fn limit_held(&mut self, n: u64)
+        ensures limited { held F.Fleet.state self.new ≡ record (held F.Fleet.state self.old) {
+          world = limited_world (held F.Fleet.state self.old).world n;
+        } }
+    {
+        self.master.limit(n)
+    }
+}
