@@ -135,7 +135,7 @@ const SHORT: &[Ask] = &[
     Ask::Push,
 ];
 
-/// Versions rise, and a new key gets the safe version. The replicas of master 1 are freed.
+/// Versions rise, and a new key gets the safe version. The replicas of master 1 are there until they are freed.
 const AFTER: &[Call] = &[
     Call::Replies(Ask::Get(b"a"), ("found", 2)),
     Call::Replies(Ask::Get(b"b"), ("found", 2)),
@@ -144,9 +144,13 @@ const AFTER: &[Call] = &[
     Call::Replies(Ask::Delete(b"b"), ("ok", 2)),
     Call::Replies(Ask::Get(b"b"), ("none", 0)),
     Call::Counts(1, 2, 6),
+    Call::Holds(&[(1, 1, 1), (1, 2, 1), (2, 1, 1), (2, 2, 1)]),
     Call::Retires,
     Call::Holds(&[(1, 2, 1), (2, 2, 1)]),
 ];
+
+/// A value of which four fill a segment.
+const QUARTER: &[u8] = &[b'x'; 76];
 
 /// Nine long puts, and a roll before each third.
 const NINE: &[Ask] = &[
@@ -157,27 +161,13 @@ const NINE: &[Ask] = &[
     Ask::Push,
     Ask::Push,
     Ask::Push,
-    Ask::Long(b"a"),
+    Ask::Write(1, b"a", QUARTER),
     Ask::Push,
     Ask::Push,
-    Ask::Long(b"b"),
+    Ask::Write(1, b"b", QUARTER),
     Ask::Push,
     Ask::Push,
-    Ask::Long(b"c"),
-    Ask::Push,
-    Ask::Push,
-    Ask::Roll,
-    Ask::Push,
-    Ask::Push,
-    Ask::Push,
-    Ask::Push,
-    Ask::Long(b"d"),
-    Ask::Push,
-    Ask::Push,
-    Ask::Long(b"e"),
-    Ask::Push,
-    Ask::Push,
-    Ask::Long(b"f"),
+    Ask::Write(1, b"c", QUARTER),
     Ask::Push,
     Ask::Push,
     Ask::Roll,
@@ -185,13 +175,27 @@ const NINE: &[Ask] = &[
     Ask::Push,
     Ask::Push,
     Ask::Push,
-    Ask::Long(b"g"),
+    Ask::Write(1, b"d", QUARTER),
     Ask::Push,
     Ask::Push,
-    Ask::Long(b"h"),
+    Ask::Write(1, b"e", QUARTER),
     Ask::Push,
     Ask::Push,
-    Ask::Long(b"i"),
+    Ask::Write(1, b"f", QUARTER),
+    Ask::Push,
+    Ask::Push,
+    Ask::Roll,
+    Ask::Push,
+    Ask::Push,
+    Ask::Push,
+    Ask::Push,
+    Ask::Write(1, b"g", QUARTER),
+    Ask::Push,
+    Ask::Push,
+    Ask::Write(1, b"h", QUARTER),
+    Ask::Push,
+    Ask::Push,
+    Ask::Write(1, b"i", QUARTER),
     Ask::Push,
     Ask::Push,
 ];

@@ -1,10 +1,10 @@
 //! Calls of a master, and their answers.
 
-use crate::comparisons::is_the_plain_map;
-use crate::masters::{Ask, command_of, new_master, steps_of};
+use crate::comparisons::{is_the_plain_map, value};
+use crate::masters::{Ask, SEAT, command_of, new_master, steps_of};
 use backup::MemoryFleet;
 use entry::Size;
-use master::{Command, Look, Master, Refusal, Reply, Shown, Step, StepAnswer};
+use master::{Command, Look, Master, Record, Refusal, Reply, Shown, Step, StepAnswer};
 use replica::Holding;
 use std::alloc::Global;
 
@@ -50,6 +50,9 @@ pub fn told(reply: &Reply) -> Told {
     }
 }
 
+/// What a record says: the key and the value of its command, its reply, and the value that was found.
+pub type Said = (&'static [u8], &'static [u8], Told, &'static [u8]);
+
 /// A call of a master, and its answer.
 pub enum Call {
     /// A run of steps, whose answers are not looked at.
@@ -74,8 +77,10 @@ pub enum Call {
     Sizes(&'static [(u64, u64, u64)]),
     /// The replicas of other masters are freed.
     Retires,
-    /// The backup, the master and the segment of each replica.
+    /// The backup, the master and the segment of each replica, of all masters.
     Holds(&'static [(u64, u64, u64)]),
+    /// What copies of the records say.
+    Copies(&'static [Said]),
     /// It does what the plain programs do, if these are its first commands.
     Compares(&'static [Ask]),
 }
@@ -174,9 +179,9 @@ fn are_sizes(sizes: &[Size], want: &[(u64, u64, u64)]) -> bool {
 }
 
 fn has_sizes(master: &Master<MemoryFleet>, want: &[(u64, u64, u64)]) -> bool {
-    match &master.sizes() {
-        Ok(sizes) => are_sizes(sizes.as_slice(), want),
-        Err(_) => false,
+    match &master.look(Look::Sizes) {
+        Ok(Shown::Sizes(sizes)) => are_sizes(sizes.as_slice(), want),
+        _ => false,
     }
 }
 
@@ -188,11 +193,42 @@ fn are_places(holdings: &[Holding], want: &[(u64, u64, u64)]) -> bool {
     are_same
 }
 
-fn holds(alloc: Global, fleet: &MemoryFleet, want: &[(u64, u64, u64)]) -> bool {
-    match &fleet.inventory(alloc) {
-        Ok(inventory) => are_places(inventory.as_slice(), want),
+fn holds(master: &Master<MemoryFleet>, want: &[(u64, u64, u64)]) -> bool {
+    match &master.look(Look::Holdings) {
+        Ok(Shown::Holdings(inventory)) => are_places(inventory.as_slice(), want),
+        _ => false,
+    }
+}
+
+/// The value of a put.
+fn given(command: &Command) -> &[u8] {
+    match command {
+        Command::Put(_, value, _) => value.as_slice(),
+        _ => &[],
+    }
+}
+
+fn says(record: &Record, want: &Said) -> bool {
+    let (key, put, reply, found) = want;
+    let is_key = record.command.key().bytes.as_slice() == *key;
+    let is_put = given(&record.command) == *put;
+    let is_found = value(&record.reply) == *found;
+    record.seat == SEAT && is_key && is_put && is_found && told(&record.reply) == *reply
+}
+
+fn is_copied(record: &Record, want: &Said) -> bool {
+    match &record.copy() {
+        Ok(copy) => says(copy, want),
         Err(_) => false,
     }
+}
+
+fn are_copied(records: &[Record], want: &[Said]) -> bool {
+    let mut are_same = records.len() == want.len();
+    for (record, want) in records.iter().zip(want) {
+        are_same = are_same && is_copied(record, want);
+    }
+    are_same
 }
 
 /// Makes the call. Whether that is its answer.
@@ -209,7 +245,8 @@ fn is_answered(alloc: Global, master: &mut Master<MemoryFleet>, call: &Call) -> 
         Call::NoImage(id) => has_no_image(master, *id),
         Call::Sizes(want) => has_sizes(master, want),
         Call::Retires => master.retire().is_ok(),
-        Call::Holds(want) => holds(alloc, master.fleet(), want),
+        Call::Holds(want) => holds(master, want),
+        Call::Copies(want) => are_copied(master.history(), want),
         Call::Compares(asks) => is_the_plain_map(alloc, master, asks),
     }
 }

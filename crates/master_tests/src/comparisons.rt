@@ -12,7 +12,8 @@ use segment::SegmentRef;
 use std::alloc::Global;
 use versioned_map::{VersionedMap, meaning};
 
-fn value(reply: &Reply) -> &[u8] {
+/// What was found.
+pub fn value(reply: &Reply) -> &[u8] {
     match reply {
         Reply::Found(_, value) => value.as_slice(),
         _ => &[],

@@ -5,7 +5,7 @@ ghost use Rattle.backup.specs.State.{fleet_state};
 ghost use Rattle.master_core.specs.Config.{config_fault};
 
 use backup::MemoryFleet;
-use entry::{Key, Tablet, Tablets, Value};
+use entry::{Key, MAX_VALUE_LEN, Tablet, Tablets, Value};
 use master::{Command, Config, If, Master, Step};
 use std::alloc::Global;
 
@@ -78,17 +78,20 @@ pub fn new_master(alloc: Global) -> Option<Master<MemoryFleet>> {
     }
 }
 
-/// A push, the begin of a roll, or a command on a key of table 1.
+/// A push, the begin of a roll, or a command on a key. The key is of table 1, if no table is named.
 pub enum Ask {
     Push,
     Roll,
     Get(&'static [u8]),
     /// A put of one byte.
     Put(&'static [u8], u8, If),
-    /// A put of a value of which four fill a segment.
-    Long(&'static [u8]),
+    /// A put in this table, of a key and a value.
+    Write(u64, &'static [u8], &'static [u8]),
     Delete(&'static [u8]),
 }
+
+/// Who asks.
+pub const SEAT: u64 = 7;
 
 fn key_of(alloc: Global, bytes: &[u8]) -> Option<Key> {
     Key::new(alloc, 1, bytes).ok()
@@ -99,9 +102,13 @@ fn put(alloc: Global, key: &[u8], byte: u8, when: If) -> Option<Command> {
     Some(Command::Put(key_of(alloc, key)?, Value::new(bytes), when))
 }
 
-fn long_put(alloc: Global, key: &[u8]) -> Option<Command> {
-    let bytes = Vec::from_slice(alloc, &[b'x'; 76]).ok()?;
-    Some(Command::Put(key_of(alloc, key)?, Value::new(bytes), If::Any))
+fn write(alloc: Global, table: u64, key: &[u8], value: &[u8]) -> Option<Command> {
+    if value.len() > MAX_VALUE_LEN {
+        return None;
+    }
+    let value = Value::from_slice(alloc, value).ok()?;
+    let key = Key::new(alloc, table, key).ok()?;
+    Some(Command::Put(key, value, If::Any))
 }
 
 /// The command of an ask.
@@ -109,7 +116,7 @@ pub fn command_of(alloc: Global, ask: &Ask) -> Option<Command> {
     match ask {
         Ask::Get(key) => Some(Command::Get(key_of(alloc, key)?)),
         Ask::Put(key, byte, when) => put(alloc, key, *byte, *when),
-        Ask::Long(key) => long_put(alloc, key),
+        Ask::Write(table, key, value) => write(alloc, *table, key, value),
         Ask::Delete(key) => Some(Command::Delete(key_of(alloc, key)?)),
         _ => None,
     }
@@ -119,7 +126,7 @@ fn step_of(alloc: Global, ask: &Ask) -> Option<Step> {
     match ask {
         Ask::Push => Some(Step::Push),
         Ask::Roll => Some(Step::BeginRoll),
-        _ => Some(Step::Apply(0, command_of(alloc, ask)?)),
+        _ => Some(Step::Apply(SEAT, command_of(alloc, ask)?)),
     }
 }
 

@@ -113,8 +113,8 @@ const QUESTIONS: &[Call] = &[
     Call::Counts(1, 0, 1),
 ];
 
-/// Three keys, of which `a` is put twice and `b` is deleted; the first put lies in a closed segment. What is left has the
-/// places of `a` and of `longer t`, with 23 bytes, those of the key, and one of the value.
+/// Four keys, of which `a` is put twice and `b` is deleted; the first put lies in a closed segment. What is left has the
+/// places of `a`, of `longer t`, and of `A` in table 2, each with 23 bytes, those of the key, and those of the value.
 const SIZED: &[Call] = &[
     Call::Run(&[
         Ask::Push,
@@ -133,10 +133,31 @@ const SIZED: &[Call] = &[
         Ask::Push,
         Ask::Push,
         Ask::Push,
+        Ask::Write(2, b"A", b"four"),
         Ask::Put(b"a", b'w', If::Any),
         Ask::Delete(b"b"),
     ]),
-    Call::Sizes(&[(1, 0x6100000000000000, 25), (1, 0x6c6f6e6765722074, 43)]),
+    Call::Sizes(&[
+        (1, 0x6100000000000000, 25),
+        (1, 0x6c6f6e6765722074, 43),
+        (2, 0x4100000000000000, 28),
+    ]),
+];
+
+const TWENTY: &[u8] = b"a value of 20 bytes.";
+
+/// Two records with a value that is too long to be kept in place.
+const COPIED: &[Call] = &[
+    Call::Run(&[
+        Ask::Push,
+        Ask::Push,
+        Ask::Write(1, b"a", TWENTY),
+        Ask::Get(b"a"),
+    ]),
+    Call::Copies(&[
+        (b"a", TWENTY, ("ok", 1), b""),
+        (b"a", b"", ("found", 1), TWENTY),
+    ]),
 ];
 
 /// A master keeps its own replicas.
@@ -164,7 +185,9 @@ const COMPARED: &[Call] = &[Call::Compares(&[
     Ask::Put(b"b", b'p', If::Any),
 ])];
 
-const RUNS: &[&[Call]] = &[STEPS, TURNS, IDLE, QUESTIONS, SIZED, RETIRED, COMPARED];
+const RUNS: &[&[Call]] = &[
+    STEPS, TURNS, IDLE, QUESTIONS, SIZED, COPIED, RETIRED, COMPARED,
+];
 
 #[test]
 fn a_master_answers(rt: HostRuntime) {
