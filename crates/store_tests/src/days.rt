@@ -1,0 +1,138 @@
+//! Days of a store with one seat or two: what a seat is answered, a record that is left without an answer, receipts that
+//! another seat is shown, the mark, and a cleaner that makes room.
+
+use crate::asks::{Act, Do};
+use crate::stores::run_day;
+use master::If;
+use std::test::Fail;
+
+/// Puts and a delete whose conditions hold or don't.
+const CONDITIONS: &[(usize, Act)] = &[
+    (0, Act::Calls(Do::Put(b"a", 1, If::Absent), 0, ("ok", 1))),
+    (0, Act::Calls(Do::Put(b"a", 1, If::Absent), 1, ("mismatch", 1))),
+    (0, Act::Calls(Do::Put(b"a", 1, If::Version(1)), 2, ("ok", 2))),
+    (0, Act::Calls(Do::Put(b"a", 1, If::Version(1)), 3, ("mismatch", 2))),
+    (0, Act::Calls(Do::Put(b"b", 1, If::Version(1)), 4, ("mismatch", 0))),
+    (0, Act::Calls(Do::Delete(b"b"), 5, ("none", 0))),
+    (0, Act::Counts(6, 6)),
+];
+
+/// A refused command leaves no record. One that the fleet has no take for leaves its record; the seat's next call pushes
+/// it, and is answered behind it.
+const UNSURE: &[(usize, Act)] = &[
+    (0, Act::Calls(Do::Put(b"a", 1, If::Any), 0, ("ok", 1))),
+    (0, Act::Fails(Do::Put(b"a", 200, If::Any), ("refused", 0, "TooBig"))),
+    (0, Act::Limits(1)),
+    (0, Act::Fails(Do::Put(b"b", 1, If::Any), ("unsure", 1, "Spent"))),
+    (0, Act::Counts(1, 2)),
+    (0, Act::Limits(u64::MAX)),
+    (0, Act::Calls(Do::Get(b"b"), 2, ("found", 2))),
+    (0, Act::Counts(3, 3)),
+];
+
+/// One seat makes two calls. Another is shown both receipts, the later first, and its own call is above them. Then both
+/// read the mark.
+const MET: &[(usize, Act)] = &[
+    (0, Act::Calls(Do::Put(b"a", 1, If::Any), 0, ("ok", 1))),
+    (0, Act::Calls(Do::Put(b"a", 1, If::Any), 1, ("ok", 2))),
+    (1, Act::Reads(0)),
+    (1, Act::Meets(1)),
+    (1, Act::Counts(2, 0)),
+    (1, Act::Meets(0)),
+    (1, Act::Counts(2, 0)),
+    (1, Act::Calls(Do::Put(b"a", 1, If::Any), 2, ("ok", 3))),
+    (1, Act::Raises(2)),
+    (0, Act::Raises(1)),
+    (0, Act::Reads(2)),
+    (1, Act::Reads(2)),
+];
+
+const X: Do = Do::Put(b"a", 76, If::Any);
+
+/// Four rolls make the log full. A cleaner frees four segments in 39 turns, and a put has room.
+const TURNED: &[(usize, Act)] = &[
+    (0, Act::Calls(X, 0, ("ok", 1))),
+    (0, Act::Calls(X, 1, ("ok", 2))),
+    (0, Act::Calls(X, 2, ("ok", 3))),
+    (0, Act::Calls(X, 3, ("ok", 4))),
+    (0, Act::Calls(X, 4, ("ok", 5))),
+    (0, Act::Calls(X, 5, ("ok", 6))),
+    (0, Act::Calls(X, 6, ("ok", 7))),
+    (0, Act::Calls(X, 7, ("ok", 8))),
+    (0, Act::Calls(X, 8, ("ok", 9))),
+    (0, Act::Calls(X, 9, ("ok", 10))),
+    (0, Act::Calls(X, 10, ("ok", 11))),
+    (0, Act::Calls(X, 11, ("ok", 12))),
+    (0, Act::Calls(X, 12, ("ok", 13))),
+    (0, Act::Calls(X, 13, ("ok", 14))),
+    (0, Act::Calls(X, 14, ("ok", 15))),
+    (0, Act::Fails(X, ("refused", 0, "Full"))),
+    (0, Act::Turns(("begun", 6, 0))),
+    (0, Act::Turns(("dropped", 0, 0))),
+    (0, Act::Turns(("carried", 0, 0))),
+    (0, Act::Turns(("dropped", 0, 0))),
+    (0, Act::Turns(("carried", 0, 0))),
+    (0, Act::Turns(("dropped", 0, 0))),
+    (0, Act::Turns(("carried", 0, 0))),
+    (0, Act::Turns(("dropped", 0, 0))),
+    (0, Act::Turns(("carried", 0, 0))),
+    (0, Act::Turns(("dropped", 0, 0))),
+    (0, Act::Turns(("carried", 0, 0))),
+    (0, Act::Turns(("dropped", 0, 0))),
+    (0, Act::Turns(("carried", 0, 0))),
+    (0, Act::Turns(("dropped", 0, 0))),
+    (0, Act::Turns(("carried", 0, 0))),
+    (0, Act::Turns(("dropped", 0, 0))),
+    (0, Act::Turns(("carried", 0, 0))),
+    (0, Act::Turns(("dropped", 0, 0))),
+    (0, Act::Turns(("carried", 0, 0))),
+    (0, Act::Turns(("dropped", 0, 0))),
+    (0, Act::Turns(("carried", 0, 0))),
+    (0, Act::Turns(("dropped", 0, 0))),
+    (0, Act::Turns(("carried", 0, 0))),
+    (0, Act::Turns(("dropped", 0, 0))),
+    (0, Act::Turns(("sealed", 0, 0))),
+    (0, Act::Turns(("sealed", 1, 0))),
+    (0, Act::Turns(("rolling", 7, 0))),
+    (0, Act::Turns(("opened", 1, 7))),
+    (0, Act::Turns(("opened", 2, 7))),
+    (0, Act::Turns(("closed", 2, 5))),
+    (0, Act::Turns(("closed", 0, 5))),
+    (0, Act::Turns(("freed", 1, 1))),
+    (0, Act::Turns(("freed", 1, 2))),
+    (0, Act::Turns(("freed", 2, 2))),
+    (0, Act::Turns(("freed", 2, 0))),
+    (0, Act::Turns(("freed", 3, 0))),
+    (0, Act::Turns(("freed", 3, 1))),
+    (0, Act::Turns(("freed", 4, 1))),
+    (0, Act::Turns(("freed", 4, 2))),
+    (0, Act::Calls(X, 15, ("ok", 16))),
+];
+
+#[test]
+fn one_seat(rt: HostRuntime) -> Result<(), Fail> {
+    let came = run_day(&rt, rt.alloc(), 1, CONDITIONS)?;
+    assert_eq!(rt; came, (CONDITIONS.len(), 6));
+    Ok(())
+}
+
+#[test]
+fn unsure(rt: HostRuntime) -> Result<(), Fail> {
+    let came = run_day(&rt, rt.alloc(), 1, UNSURE)?;
+    assert_eq!(rt; came, (UNSURE.len(), 2));
+    Ok(())
+}
+
+#[test]
+fn met(rt: HostRuntime) -> Result<(), Fail> {
+    let came = run_day(&rt, rt.alloc(), 2, MET)?;
+    assert_eq!(rt; came, (MET.len(), 3));
+    Ok(())
+}
+
+#[test]
+fn turned(rt: HostRuntime) -> Result<(), Fail> {
+    let came = run_day(&rt, rt.alloc(), 1, TURNED)?;
+    assert_eq!(rt; came, (TURNED.len(), 16));
+    Ok(())
+}
