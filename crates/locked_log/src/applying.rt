@@ -1,6 +1,8 @@
 //! A command under the lock.
 
-ghost use Rattle.std.specs.Prelude.{◌≡◌, ◌<◌, ◌+◌, ◌^◌, length, Some, MatchBool, slice_set};
+ghost use Rattle.std.specs.Prelude.{◌≡◌, ◌<◌, ◌+◌, ◌^◌, length, true, Some, MatchBool, slice_set};
+ghost use Rattle.master_core.specs.Causes.{command_refusal};
+ghost use Rattle.master_core.specs.declared.step.Refusal.TheVariants as refusal;
 ghost use Rattle.locked_log.specs.Applies.{AppliesHeld, Attempts};
 ghost use Rattle.locked_log.specs.Held.{held};
 ghost use Rattle.locked_log.specs.Seats.{told, noted, unnoted};
@@ -79,7 +81,9 @@ impl<F: Fleet, B: Naming> State<F, B> {
     }
 
     /// Whether the command of this seat would be applied but for a roll that has to come first.
-    fn waits_for_roll(&self, seat: &Seat<B>, command: &Command) -> bool {
+    fn waits_for_roll(&self, seat: &Seat<B>, command: &Command) -> bool
+        ensures { result ≡ true → command_refusal self.now.master.knows command.now ≡ Some refusal.Rolling }
+    {
         if self.is_refused || !self.knows(seat) {
             return false;
         }

@@ -1,16 +1,16 @@
 //! What the tests ask of a store, and what they are answered.
 
 use backup::MemoryFleet;
-use entry::{Key, Value};
+use entry::{Key, MAX_VALUE_LEN, Value};
 use locked_log::{CallFault, CleanTurn, Naming, Receipt, Seat, Store};
 use master::{Command, If, Refusal, Reply, StepAnswer};
 use std::alloc::Global;
 use std::sync::Wait;
 
-/// A command of the tests. A value is so many letters.
+/// A command of the tests. A put has a key and a value.
 pub enum Do {
     Get(&'static [u8]),
-    Put(&'static [u8], usize, If),
+    Put(&'static [u8], &'static [u8], If),
     Delete(&'static [u8]),
 }
 
@@ -40,15 +40,17 @@ pub enum Act {
 fn command_of(alloc: Global, what: &Do) -> Option<Command> {
     match what {
         Do::Get(key) => Some(Command::Get(Key::new(alloc, 1, key).ok()?)),
-        Do::Put(key, len, when) => put(alloc, key, *len, *when),
+        Do::Put(key, value, when) => put(alloc, key, value, *when),
         Do::Delete(key) => Some(Command::Delete(Key::new(alloc, 1, key).ok()?)),
     }
 }
 
-fn put(alloc: Global, key: &[u8], len: usize, when: If) -> Option<Command> {
+fn put(alloc: Global, key: &[u8], value: &[u8], when: If) -> Option<Command> {
+    if value.len() > MAX_VALUE_LEN {
+        return None;
+    }
     let key = Key::new(alloc, 1, key).ok()?;
-    let value = Value::new(Vec::from_elem(alloc, b'x', len).ok()?);
-    Some(Command::Put(key, value, when))
+    Some(Command::Put(key, Value::from_slice(alloc, value).ok()?, when))
 }
 
 fn told(reply: &Reply) -> Told {

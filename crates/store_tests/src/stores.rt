@@ -1,6 +1,8 @@
 //! Days of a store, and how they end.
 
-ghost use Rattle.std.specs.Prelude.{◌≡◌, ◌≤◌, [], IfOk};
+ghost use Rattle.std.specs.Prelude.{◌≡◌, ◌≤◌, ℕ, [], None, IfSome};
+ghost use Rattle.backup.specs.State.{fleet_state};
+ghost use Rattle.master_core.specs.Config.{config_fault};
 ghost use Rattle.locked_log.specs.Ends.{IsFresh};
 ghost use Rattle.locked_log.specs.Made.{IsMade};
 
@@ -12,25 +14,28 @@ use master::{Config, Master};
 use std::alloc::Global;
 use std::marker::Brand;
 use std::sync::Wait;
-use std::test::Fail;
 
-/// How many were answered as wanted up to the first that was not, and how many receipts the row told at the end.
+/// How many were answered as wanted up to the first that was not, and the place behind the last receipt that the row told.
 pub type Evening = (usize, usize);
 
-/// How many records its history may have.
+/// How many records a history may have.
 const RECORDS: u64 = 32;
 
-/// A master of three backups and two replicas, with one table.
-fn small_master(alloc: Global) -> Result<Master<MemoryFleet>, Fail>
-    ensures records { IfOk result (λ m. m.knows.config.history ≡ 32) }
-    ensures empty { IfOk result (λ m. m.knows.history ≡ []) }
+/// One table.
+const TABLETS: &[Tablet] = &[Tablet {
+    table: 1,
+    first: 0,
+    last: u64::MAX,
+}];
+
+/// A configuration of three backups and two replicas, with one table.
+fn small_config(alloc: Global) -> Option<Config>
+    ensures checked { IfSome result (λ config. config_fault config ≡ None) }
+    ensures named { IfSome result (λ config. (config.master ≡ 1) × (config.backups ≡ 3) × (config.history ≡ 32)) }
 {
-    let mut tablets = Vec::new(alloc);
-    tablets.push(Tablet {
-        table: 1,
-        first: 0,
-        last: u64::MAX,
-    })?;
+    let Ok(tablets) = Vec::from_slice(alloc, TABLETS) else {
+        return None;
+    };
     let config = Config {
         master: 1,
         backups: 3,
@@ -42,11 +47,32 @@ fn small_master(alloc: Global) -> Result<Master<MemoryFleet>, Fail>
         tablets: Tablets::new(tablets),
         history: RECORDS,
     };
-    config.check()?;
-    let fleet = MemoryFleet::new(alloc, config.backups)?;
+    match config.check() {
+        Ok(()) => Some(config),
+        Err(_) => None,
+    }
+}
+
+/// A fleet of three backups, which hold nothing.
+fn small_fleet(alloc: Global) -> Option<MemoryFleet>
+    ensures backups { IfSome result (λ fleet. (fleet_state fleet).backups ≡ 3) }
+    ensures none { IfSome result (λ fleet. (b m s : ℕ) → (fleet_state fleet).picture b m s ≡ None) }
+{
+    match MemoryFleet::new(alloc, 3) {
+        Ok(fleet) => Some(fleet),
+        Err(_) => None,
+    }
+}
+
+/// Master 1, over a fleet that holds nothing.
+fn small_master(alloc: Global) -> Option<Master<MemoryFleet>>
+    ensures { IfSome result (λ m. (m.knows.config.history ≡ 32) × (m.knows.history ≡ [])) }
+{
+    let config = small_config(alloc)?;
+    let fleet = small_fleet(alloc)?;
     match Master::new(alloc, config, fleet) {
-        Ok(master) => Ok(master),
-        Err(_) => Err("no memory")?,
+        Ok(master) => Some(master),
+        Err(_) => None,
     }
 }
 
@@ -75,15 +101,14 @@ fn answered<B: Naming, R: Wait>(
 fn told_by<B: Naming>(
     master: &Master<MemoryFleet>,
     row: &mut Row<B>,
-    receipts: &mut Vec<Receipt<B>>,
+    receipts: Vec<Receipt<B>>,
 ) -> usize {
     let mut told = 0;
-    for i in 0..receipts.len() {
-        let receipt = &mut receipts[i];
+    for mut receipt in receipts {
         let place = receipt.place() as usize;
         if place < row.len() && place < master.history().len() {
-            row.tell(receipt);
-            told = i + 1;
+            row.tell(&mut receipt);
+            told = place + 1;
         }
     }
     told
@@ -91,7 +116,7 @@ fn told_by<B: Naming>(
 
 fn told_at_close<B: Naming>(
     closed: &mut Result<(Master<MemoryFleet>, Row<B>), Master<MemoryFleet>>,
-    receipts: &mut Vec<Receipt<B>>,
+    receipts: Vec<Receipt<B>>,
 ) -> usize {
     match closed {
         Ok((master, row)) => told_by(master, row, receipts),
@@ -109,7 +134,7 @@ fn evening<B: Naming, R: Wait>(
     let mut receipts = Vec::new(alloc);
     let answered = answered(rt, alloc, &store, &mut seats, &mut receipts, asks);
     let mut closed = store.close(seats);
-    (answered, told_at_close(&mut closed, &mut receipts))
+    (answered, told_at_close(&mut closed, receipts))
 }
 
 fn day<B: Naming, R: Wait>(
@@ -132,11 +157,13 @@ fn day<B: Naming, R: Wait>(
     }
 }
 
-/// Does what the day asks.
-pub fn run_day<R: Wait>(rt: &R, alloc: Global, seats: u64, asks: &[(usize, Act)]) -> Result<Evening, Fail>
+/// Does what is asked of a store with so many seats.
+pub fn run_day<R: Wait>(rt: &R, alloc: Global, seats: u64, asks: &[(usize, Act)]) -> Option<Evening>
     requires { (1 ≤ seats) × (seats ≤ 64) }
 {
     let master = small_master(alloc)?;
-    let blank = Blank::make(alloc, RECORDS, seats)?;
-    Ok(day::<Brand, R>(rt, alloc, blank, master, asks).ok_or("no memory")?)
+    match Blank::make(alloc, RECORDS, seats) {
+        Ok(blank) => day::<Brand, R>(rt, alloc, blank, master, asks),
+        Err(_) => None,
+    }
 }
