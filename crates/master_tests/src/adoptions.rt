@@ -7,8 +7,10 @@ ghost use Rattle.master_core.specs.Config.{config_fault};
 ghost use Rattle.replica.specs.declared.holding.Holding.{Holding as HoldingValue};
 
 use crate::answers::{Call, passed, run};
+use crate::asks::Ask;
+use crate::asks::Ask::{Delete, Get, Push, Put, Roll, Write};
 use crate::comparisons::rebuilt;
-use crate::masters::{Ask, config_of, new_master};
+use crate::masters::{config_of, new_master};
 use backup::MemoryFleet;
 use master::{Config, If, Master, Refusal};
 use replay::{Rebuilt, adopt};
@@ -122,27 +124,21 @@ fn is_lived(alloc: Global, row: &Row) -> bool {
 
 /// Two keys, of which `a` is put twice.
 const SHORT: &[Ask] = &[
-    Ask::Push,
-    Ask::Push,
-    Ask::Put(b"a", b'x', If::Any),
-    Ask::Put(b"b", b'y', If::Any),
-    Ask::Put(b"a", b'z', If::Any),
-    Ask::Push,
-    Ask::Push,
-    Ask::Push,
-    Ask::Push,
-    Ask::Push,
-    Ask::Push,
+    Push(2),
+    Put(b"a", b'x', If::Any),
+    Put(b"b", b'y', If::Any),
+    Put(b"a", b'z', If::Any),
+    Push(6),
 ];
 
 /// Versions rise, and a new key gets the safe version. The replicas of master 1 are there until they are freed.
 const AFTER: &[Call] = &[
-    Call::Replies(Ask::Get(b"a"), ("found", 2)),
-    Call::Replies(Ask::Get(b"b"), ("found", 2)),
-    Call::Replies(Ask::Put(b"a", b'w', If::Version(2)), ("ok", 3)),
-    Call::Replies(Ask::Put(b"c", b'w', If::Absent), ("ok", 3)),
-    Call::Replies(Ask::Delete(b"b"), ("ok", 2)),
-    Call::Replies(Ask::Get(b"b"), ("none", 0)),
+    Call::Replies(Get(b"a"), ("found", 2)),
+    Call::Replies(Get(b"b"), ("found", 2)),
+    Call::Replies(Put(b"a", b'w', If::Version(2)), ("ok", 3)),
+    Call::Replies(Put(b"c", b'w', If::Absent), ("ok", 3)),
+    Call::Replies(Delete(b"b"), ("ok", 2)),
+    Call::Replies(Get(b"b"), ("none", 0)),
     Call::Counts(1, 2, 6),
     Call::Holds(&[(1, 1, 1), (1, 2, 1), (2, 1, 1), (2, 2, 1)]),
     Call::Retires,
@@ -154,50 +150,31 @@ const QUARTER: &[u8] = &[b'x'; 76];
 
 /// Nine long puts, and a roll before each third.
 const NINE: &[Ask] = &[
-    Ask::Push,
-    Ask::Push,
-    Ask::Roll,
-    Ask::Push,
-    Ask::Push,
-    Ask::Push,
-    Ask::Push,
-    Ask::Write(1, b"a", QUARTER),
-    Ask::Push,
-    Ask::Push,
-    Ask::Write(1, b"b", QUARTER),
-    Ask::Push,
-    Ask::Push,
-    Ask::Write(1, b"c", QUARTER),
-    Ask::Push,
-    Ask::Push,
-    Ask::Roll,
-    Ask::Push,
-    Ask::Push,
-    Ask::Push,
-    Ask::Push,
-    Ask::Write(1, b"d", QUARTER),
-    Ask::Push,
-    Ask::Push,
-    Ask::Write(1, b"e", QUARTER),
-    Ask::Push,
-    Ask::Push,
-    Ask::Write(1, b"f", QUARTER),
-    Ask::Push,
-    Ask::Push,
-    Ask::Roll,
-    Ask::Push,
-    Ask::Push,
-    Ask::Push,
-    Ask::Push,
-    Ask::Write(1, b"g", QUARTER),
-    Ask::Push,
-    Ask::Push,
-    Ask::Write(1, b"h", QUARTER),
-    Ask::Push,
-    Ask::Push,
-    Ask::Write(1, b"i", QUARTER),
-    Ask::Push,
-    Ask::Push,
+    Push(2),
+    Roll,
+    Push(4),
+    Write(1, b"a", QUARTER),
+    Push(2),
+    Write(1, b"b", QUARTER),
+    Push(2),
+    Write(1, b"c", QUARTER),
+    Push(2),
+    Roll,
+    Push(4),
+    Write(1, b"d", QUARTER),
+    Push(2),
+    Write(1, b"e", QUARTER),
+    Push(2),
+    Write(1, b"f", QUARTER),
+    Push(2),
+    Roll,
+    Push(4),
+    Write(1, b"g", QUARTER),
+    Push(2),
+    Write(1, b"h", QUARTER),
+    Push(2),
+    Write(1, b"i", QUARTER),
+    Push(2),
 ];
 
 const ROWS: &[Row] = &[

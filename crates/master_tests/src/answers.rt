@@ -1,7 +1,8 @@
 //! Calls of a master, and their answers.
 
+use crate::asks::{Ask, SEAT, command_of, steps_of};
 use crate::comparisons::{is_the_plain_map, value};
-use crate::masters::{Ask, SEAT, command_of, new_master, steps_of};
+use crate::masters::new_master;
 use backup::MemoryFleet;
 use entry::Size;
 use master::{Command, Look, Master, Record, Refusal, Reply, Shown, Step, StepAnswer};
@@ -79,8 +80,8 @@ pub enum Call {
     Retires,
     /// The backup, the master and the segment of each replica, of all masters.
     Holds(&'static [(u64, u64, u64)]),
-    /// What copies of the records say.
-    Copies(&'static [Said]),
+    /// What a copy of the record at this place says.
+    Copy(usize, Said),
     /// It does what the plain programs do, if these are its first commands.
     Compares(&'static [Ask]),
 }
@@ -216,19 +217,14 @@ fn says(record: &Record, want: &Said) -> bool {
     record.seat == SEAT && is_key && is_put && is_found && told(&record.reply) == *reply
 }
 
-fn is_copied(record: &Record, want: &Said) -> bool {
+fn is_copied(records: &[Record], place: usize, want: &Said) -> bool {
+    let Some(record) = records.get(place) else {
+        return false;
+    };
     match &record.copy() {
         Ok(copy) => says(copy, want),
         Err(_) => false,
     }
-}
-
-fn are_copied(records: &[Record], want: &[Said]) -> bool {
-    let mut are_same = records.len() == want.len();
-    for (record, want) in records.iter().zip(want) {
-        are_same = are_same && is_copied(record, want);
-    }
-    are_same
 }
 
 /// Makes the call. Whether that is its answer.
@@ -246,7 +242,7 @@ fn is_answered(alloc: Global, master: &mut Master<MemoryFleet>, call: &Call) -> 
         Call::Sizes(want) => has_sizes(master, want),
         Call::Retires => master.retire().is_ok(),
         Call::Holds(want) => holds(master, want),
-        Call::Copies(want) => are_copied(master.history(), want),
+        Call::Copy(place, want) => is_copied(master.history(), *place, want),
         Call::Compares(asks) => is_the_plain_map(alloc, master, asks),
     }
 }

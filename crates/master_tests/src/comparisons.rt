@@ -1,8 +1,8 @@
 //! The store does what the plain slow programs do.
 
 use crate::answers::{reply, told};
+use crate::asks::{Ask, command_of};
 use crate::drills::will_of;
-use crate::masters::{Ask, command_of};
 use backup::MemoryFleet;
 use entry::{Entry, EntryRef, Object};
 use master::{Command, Look, Master, Reply, Shown, Step};

@@ -1,6 +1,8 @@
 //! A master's whole life on a small fleet, and its recovery from the backups that are kept, in several orders.
 
-use crate::masters::{Ask, TABLETS, new_master, steps_of};
+use crate::asks::Ask::{Get, Push, Put, Roll};
+use crate::asks::{Ask, steps_of};
+use crate::masters::{TABLETS, new_master};
 use backup::MemoryFleet;
 use entry::{NoMemory, Object, Row, Size};
 use master::{If, Master};
@@ -125,44 +127,26 @@ fn is_lived(alloc: Global, life: &Life, want: &Recovered) -> bool {
 
 /// Opens the head on backups 1 and 2, puts `a` on both, and puts `b` on backup 1 alone.
 const ONE_BEHIND: &[Ask] = &[
-    Ask::Push,
-    Ask::Push,
-    Ask::Put(b"a", b'x', If::Any),
-    Ask::Push,
-    Ask::Push,
-    Ask::Put(b"b", b'x', If::Any),
-    Ask::Push,
+    Push(2),
+    Put(b"a", b'x', If::Any),
+    Push(2),
+    Put(b"b", b'x', If::Any),
+    Push(1),
 ];
 
 /// Puts `a`, and gets it.
-const READ: &[Ask] = &[
-    Ask::Push,
-    Ask::Push,
-    Ask::Put(b"a", b'x', If::Any),
-    Ask::Get(b"a"),
-    Ask::Push,
-    Ask::Push,
-    Ask::Push,
-];
+const READ: &[Ask] = &[Push(2), Put(b"a", b'x', If::Any), Get(b"a"), Push(3)];
 
 /// Puts `a` and `b`, rolls to head 2, and puts `a` again.
 const TWO_SEGMENTS: &[Ask] = &[
-    Ask::Push,
-    Ask::Push,
-    Ask::Put(b"a", b'x', If::Any),
-    Ask::Put(b"b", b'y', If::Any),
-    Ask::Push,
-    Ask::Push,
-    Ask::Push,
-    Ask::Push,
-    Ask::Roll,
-    Ask::Push,
-    Ask::Push,
-    Ask::Push,
-    Ask::Push,
-    Ask::Put(b"a", b'z', If::Any),
-    Ask::Push,
-    Ask::Push,
+    Push(2),
+    Put(b"a", b'x', If::Any),
+    Put(b"b", b'y', If::Any),
+    Push(4),
+    Roll,
+    Push(4),
+    Put(b"a", b'z', If::Any),
+    Push(2),
 ];
 
 /// The places of `a` and `b`.

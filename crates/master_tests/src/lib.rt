@@ -7,6 +7,8 @@ mod adoptions;
 #[cfg(test)]
 mod answers;
 #[cfg(test)]
+mod asks;
+#[cfg(test)]
 mod comparisons;
 #[cfg(test)]
 mod drills;

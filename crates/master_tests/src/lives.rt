@@ -4,8 +4,10 @@ ghost use Rattle.std.specs.Prelude.{◌≡◌, IfSome};
 ghost use Rattle.backup.specs.State.{fleet_state};
 ghost use Rattle.recovery.specs.Succession.{IsNewest};
 
+use crate::asks::Ask;
+use crate::asks::Ask::{Push, Put};
 use crate::drills::{Life, Order, Recovered, course_of, is_rebuilt};
-use crate::masters::{Ask, config_of, new_fleet};
+use crate::masters::{config_of, new_fleet};
 use backup::MemoryFleet;
 use entry::Tablets;
 use master::{Config, If, Master};
@@ -111,14 +113,10 @@ fn are_lived(alloc: Global, row: &Row) -> bool {
 /// The first life puts `a` and `b`, and the second one puts `a` again and `c`.
 const FIRST: Life = (
     &[
-        Ask::Push,
-        Ask::Push,
-        Ask::Put(b"a", b'x', If::Any),
-        Ask::Put(b"b", b'x', If::Any),
-        Ask::Push,
-        Ask::Push,
-        Ask::Push,
-        Ask::Push,
+        Push(2),
+        Put(b"a", b'x', If::Any),
+        Put(b"b", b'x', If::Any),
+        Push(4),
     ],
     &[0, 1, 2],
     &[],
@@ -126,12 +124,9 @@ const FIRST: Life = (
 );
 
 const SECOND: &[Ask] = &[
-    Ask::Put(b"a", b'y', If::Version(1)),
-    Ask::Put(b"c", b'y', If::Absent),
-    Ask::Push,
-    Ask::Push,
-    Ask::Push,
-    Ask::Push,
+    Put(b"a", b'y', If::Version(1)),
+    Put(b"c", b'y', If::Absent),
+    Push(4),
 ];
 
 /// A life begins with what was recovered of the one before it.

@@ -2,21 +2,14 @@
 //! of its live objects, what it frees, and that it does what the plain programs do.
 
 use crate::answers::{Call, passed_by_new};
-use crate::masters::Ask;
+use crate::asks::Ask;
+use crate::asks::Ask::{Delete, Get, Push, Put, Roll, Write};
 use master::If;
 
 /// Two pushes, a put, a get, and three pushes.
 const STEPS: &[Call] = &[
     Call::Answers(
-        &[
-            Ask::Push,
-            Ask::Push,
-            Ask::Put(b"a", b'x', If::Any),
-            Ask::Get(b"a"),
-            Ask::Push,
-            Ask::Push,
-            Ask::Push,
-        ],
+        &[Push(2), Put(b"a", b'x', If::Any), Get(b"a"), Push(3)],
         &[
             ("opened", 1, 1),
             ("opened", 2, 1),
@@ -33,24 +26,15 @@ const STEPS: &[Call] = &[
 
 /// Puts `a`, rolls to head 2, puts `a` again, and rolls to head 3. Then there are two closed segments.
 const FILL: &[Ask] = &[
-    Ask::Push,
-    Ask::Push,
-    Ask::Put(b"a", b'x', If::Any),
-    Ask::Push,
-    Ask::Push,
-    Ask::Roll,
-    Ask::Push,
-    Ask::Push,
-    Ask::Push,
-    Ask::Push,
-    Ask::Put(b"a", b'y', If::Any),
-    Ask::Push,
-    Ask::Push,
-    Ask::Roll,
-    Ask::Push,
-    Ask::Push,
-    Ask::Push,
-    Ask::Push,
+    Push(2),
+    Put(b"a", b'x', If::Any),
+    Push(2),
+    Roll,
+    Push(4),
+    Put(b"a", b'y', If::Any),
+    Push(2),
+    Roll,
+    Push(4),
 ];
 
 /// A pass over 1 and 2, one over the head 3 that it closed and its survivor, and the begin of a third. In the first the
@@ -100,16 +84,16 @@ const IDLE: &[Call] = &[
 
 /// Before a replica is open, only commands that append nothing pass. Nothing that is told changes the master.
 const QUESTIONS: &[Call] = &[
-    Call::Would(Ask::Get(b"a"), ("none", 0)),
-    Call::Would(Ask::Put(b"a", b'x', If::Any), ("Rolling", 0)),
-    Call::Would(Ask::Put(b"a", b'x', If::Version(1)), ("mismatch", 0)),
-    Call::Run(&[Ask::Push, Ask::Push, Ask::Put(b"a", b'x', If::Any)]),
-    Call::Would(Ask::Get(b"a"), ("found", 1)),
-    Call::Would(Ask::Put(b"a", b'y', If::Any), ("ok", 2)),
-    Call::Would(Ask::Put(b"a", b'y', If::Absent), ("mismatch", 1)),
-    Call::Would(Ask::Delete(b"a"), ("ok", 1)),
-    Call::Would(Ask::Delete(b"b"), ("none", 0)),
-    Call::Would(Ask::Get(b"a"), ("found", 1)),
+    Call::Would(Get(b"a"), ("none", 0)),
+    Call::Would(Put(b"a", b'x', If::Any), ("Rolling", 0)),
+    Call::Would(Put(b"a", b'x', If::Version(1)), ("mismatch", 0)),
+    Call::Run(&[Push(2), Put(b"a", b'x', If::Any)]),
+    Call::Would(Get(b"a"), ("found", 1)),
+    Call::Would(Put(b"a", b'y', If::Any), ("ok", 2)),
+    Call::Would(Put(b"a", b'y', If::Absent), ("mismatch", 1)),
+    Call::Would(Delete(b"a"), ("ok", 1)),
+    Call::Would(Delete(b"b"), ("none", 0)),
+    Call::Would(Get(b"a"), ("found", 1)),
     Call::Counts(1, 0, 1),
 ];
 
@@ -117,25 +101,16 @@ const QUESTIONS: &[Call] = &[
 /// places of `a`, of `longer t`, and of `A` in table 2, each with 23 bytes, those of the key, and those of the value.
 const SIZED: &[Call] = &[
     Call::Run(&[
-        Ask::Push,
-        Ask::Push,
-        Ask::Put(b"a", b'x', If::Any),
-        Ask::Put(b"b", b'y', If::Any),
-        Ask::Put(b"longer than a place", b'z', If::Any),
-        Ask::Push,
-        Ask::Push,
-        Ask::Push,
-        Ask::Push,
-        Ask::Push,
-        Ask::Push,
-        Ask::Roll,
-        Ask::Push,
-        Ask::Push,
-        Ask::Push,
-        Ask::Push,
-        Ask::Write(2, b"A", b"four"),
-        Ask::Put(b"a", b'w', If::Any),
-        Ask::Delete(b"b"),
+        Push(2),
+        Put(b"a", b'x', If::Any),
+        Put(b"b", b'y', If::Any),
+        Put(b"longer than a place", b'z', If::Any),
+        Push(6),
+        Roll,
+        Push(4),
+        Write(2, b"A", b"four"),
+        Put(b"a", b'w', If::Any),
+        Delete(b"b"),
     ]),
     Call::Sizes(&[
         (1, 0x6100000000000000, 25),
@@ -148,41 +123,34 @@ const TWENTY: &[u8] = b"a value of 20 bytes.";
 
 /// Two records with a value that is too long to be kept in place.
 const COPIED: &[Call] = &[
-    Call::Run(&[
-        Ask::Push,
-        Ask::Push,
-        Ask::Write(1, b"a", TWENTY),
-        Ask::Get(b"a"),
-    ]),
-    Call::Copies(&[
-        (b"a", TWENTY, ("ok", 1), b""),
-        (b"a", b"", ("found", 1), TWENTY),
-    ]),
+    Call::Run(&[Push(2), Write(1, b"a", TWENTY), Get(b"a")]),
+    Call::Copy(0, (b"a", TWENTY, ("ok", 1), b"")),
+    Call::Copy(1, (b"a", b"", ("found", 1), TWENTY)),
 ];
 
 /// A master keeps its own replicas.
 const RETIRED: &[Call] = &[
-    Call::Run(&[Ask::Push, Ask::Push]),
+    Call::Run(&[Push(2)]),
     Call::Retires,
     Call::Holds(&[(1, 1, 1), (2, 1, 1)]),
 ];
 
 /// Commands on a few keys, so that most of them find what an earlier one left.
 const COMPARED: &[Call] = &[Call::Compares(&[
-    Ask::Get(b"a"),
-    Ask::Put(b"a", b'x', If::Any),
-    Ask::Put(b"a", b'y', If::Absent),
-    Ask::Put(b"a", b'y', If::Version(1)),
-    Ask::Put(b"a", b'z', If::Version(7)),
-    Ask::Put(b"b", b'z', If::Version(1)),
-    Ask::Put(b"b", b'p', If::Absent),
-    Ask::Put(b"c", b'q', If::Any),
-    Ask::Get(b"a"),
-    Ask::Delete(b"a"),
-    Ask::Delete(b"a"),
-    Ask::Delete(b"c"),
-    Ask::Put(b"a", b'w', If::Any),
-    Ask::Put(b"b", b'p', If::Any),
+    Get(b"a"),
+    Put(b"a", b'x', If::Any),
+    Put(b"a", b'y', If::Absent),
+    Put(b"a", b'y', If::Version(1)),
+    Put(b"a", b'z', If::Version(7)),
+    Put(b"b", b'z', If::Version(1)),
+    Put(b"b", b'p', If::Absent),
+    Put(b"c", b'q', If::Any),
+    Get(b"a"),
+    Delete(b"a"),
+    Delete(b"a"),
+    Delete(b"c"),
+    Put(b"a", b'w', If::Any),
+    Put(b"b", b'p', If::Any),
 ])];
 
 const RUNS: &[&[Call]] = &[
