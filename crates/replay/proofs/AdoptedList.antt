@@ -2,6 +2,7 @@
 use Rattle.std.proofs.Common.{◌≡◌, ℕ, zero, suc, Bool, true, false, List, [], ◌∷◌, length, refl, sym, ap, subst, inl, inr, ◌∙◌, arith}
 use Rattle.std.specs.Prelude.{Some, None, if◌then◌else◌, ◌==◌, ◌&&◌, is_none}
 use Rattle.std.proofs.lemmas.Bool.{and_parts}
+use Rattle.entry.specs.declared.entry.Entry.TheVariants as entry
 use Rattle.entry.specs.declared.entry.Object.{Object}
 use Rattle.entry.specs.declared.key.Key.{Key}
 use Rattle.entry.specs.Meaning.{contents_of}
@@ -14,16 +15,17 @@ use Rattle.log_head.proofs.Rolls.{zeros_length}
 use Rattle.master_core.specs.declared.config.Config.{Config}
 use Rattle.master_core.specs.declared.step.Refusal.{Refusal}
 use Rattle.master_core.specs.declared.step.Refusal.TheVariants as refusal
-use Rattle.master_core.specs.declared.step.Step.TheVariants.{Push, BeginRoll}
+use Rattle.master_core.specs.declared.step.Step.TheVariants.{BeginRoll}
 use Rattle.master_core.specs.Causes.{is_pushed}
 use Rattle.master_core.specs.Data.{MasterData}
 use Rattle.master_core.specs.Loading.{restored_data, Settles}
+use Rattle.master.specs.Loading.{DeclinesLoad}
 use Rattle.master.specs.Steps.{Declines}
-use Rattle.master.specs.World.{World}
+use Rattle.master.specs.World.{World, world_of}
 use Rattle.replay.specs.declared.rebuilt.Rebuilt.{Rebuilt}
-use Rattle.replay.specs.Adopting.{HasLoaded, DeclinesFirst, IsStuck, Stops, IsAdopted, IsAdoptedOn}
+use Rattle.replay.specs.Adopting.{PushesUntil, LoadsAll, IsStuck, Stops, IsAdopted, IsAdoptedOn, AdoptsList}
 use Rattle.replay.proofs.LoadList.{contents_loaded}
-use Rattle.replay.proofs.LoadSteps.{has_kept, stacked}
+use Rattle.replay.proofs.LoadSteps.{all_keeps, nothing_waits, stacked}
 
 -- ---- a head that is settled
 
@@ -41,10 +43,28 @@ settled_pushed h opened =
 
 -- ---- what is adopted
 
+all_pushed : (os : List Object) (old new : World) → LoadsAll os old new → is_pushed new.knows.head ≡ true
+all_pushed os old new (mid, loaded, (count, last, pushes, declines)) = (nothing_waits last new declines).1
+
+pub adopts : (c : Config) (r : Rebuilt) (os : List Object) (f : FleetState) (start now new : World) → start.knows ≡ restored_data c r.safe
+    → start.fleet ≡ f → os ≡ r.objects → LoadsAll os start now → Settles now.knows new.knows → new.fleet ≡ now.fleet
+    → AdoptsList c r f new
+adopts c r os f start now new made fleet listed loads settles same = record {
+  last = now;
+  loads = subst (λ (ps : List Object). LoadsAll ps (world_of (restored_data c r.safe) f) now) listed
+      (subst (λ (w : World). LoadsAll os w now) begins loads);
+  settles = settles;
+  fleet = same;
+}
+  where
+    begins : start ≡ world_of (restored_data c r.safe) f
+    begins = λ i. record { knows = made i; fleet = fleet i }
+
 pub adopted_is : (c : Config) (r : Rebuilt) (os : List Object) (start now : World) (m : MasterData) → start.knows ≡ restored_data c r.safe
-    → os ≡ r.objects → HasLoaded os start now → is_pushed now.knows.head ≡ true → Settles now.knows m → IsAdopted c r m
-adopted_is c r os start now m made listed steps pushed settles =
-    let kept = has_kept os start now steps in
+    → os ≡ r.objects → LoadsAll os start now → Settles now.knows m → IsAdopted c r m
+adopted_is c r os start now m made listed loads settles =
+    let kept = all_keeps os start now loads in
+    let pushed = all_pushed os start now loads in
     let opened = (and_parts (is_open now.knows.head) _ pushed).0 in
     let objects : m.origin.objects ≡ stacked r.objects [] =
     ap (λ (d : MasterData). d.origin.objects) settles.rest ∙ kept.objects
@@ -72,9 +92,17 @@ adopted_from c safe start f g h made fleet is same =
 
 -- ---- spent
 
-spent_first : (os : List Object) (old new : World) → DeclinesFirst os old refusal.Spent new → ⊥
-spent_first [] old new h = h
-spent_first (o ∷ os) old new ((same, inl test), fleet) = tested _ _ _ _ test
+until_spent : (old new : World) → PushesUntil old refusal.Spent new → new.fleet.takes ≡ new.fleet.end
+until_spent old new (count, mid, pushes, inl h) = absurd (tested mid.knows.is_halted (is_pushed mid.knows.head) h.0)
+  where
+    tested : (halted pushed : Bool) → (if halted then Some refusal.Halted else if pushed then Some refusal.Nothing else None) ≡ Some refusal.Spent → ⊥
+    tested true pushed e = cc
+    tested false true e = cc
+    tested false false e = cc
+until_spent old new (count, mid, pushes, inr h) = subst (λ (w : World). w.fleet.takes ≡ w.fleet.end) (sym h.1.1) h.1.0
+
+spent_load : (o : Object) (old new : World) → DeclinesLoad old.knows (entry.Object o) refusal.Spent new.knows → ⊥
+spent_load o old new (same, inl test) = tested _ _ _ _ test
   where
     tested : (big tablet full room : Bool) → (if big then Some refusal.TooBig else if tablet then Some refusal.NoTablet
         else if full then Some refusal.Full else if room then Some refusal.Rolling else None) ≡ Some refusal.Spent → ⊥
@@ -83,16 +111,7 @@ spent_first (o ∷ os) old new ((same, inl test), fleet) = tested _ _ _ _ test
     tested false false true room e = cc
     tested false false false true e = cc
     tested false false false false e = cc
-spent_first (o ∷ os) old new ((same, inr memory), fleet) = let none = memory.1 in cc
-
-spent_push : (old new : World) → Declines old Push refusal.Spent new → new.fleet.takes ≡ new.fleet.end
-spent_push old new (inl h) = absurd (tested old.knows.is_halted (is_pushed old.knows.head) h.0)
-  where
-    tested : (halted pushed : Bool) → (if halted then Some refusal.Halted else if pushed then Some refusal.Nothing else None) ≡ Some refusal.Spent → ⊥
-    tested true pushed e = cc
-    tested false true e = cc
-    tested false false e = cc
-spent_push old new (inr h) = subst (λ (w : World). w.fleet.takes ≡ w.fleet.end) (sym h.1.1) h.1.0
+spent_load o old new (same, inr memory) = let none = memory.1 in cc
 
 spent_roll : (old new : World) → Declines old BeginRoll refusal.Spent new → ⊥
 spent_roll old new (same, inl test) = tested _ _ _ _ test
@@ -106,11 +125,13 @@ spent_roll old new (same, inl test) = tested _ _ _ _ test
     tested false false false false e = cc
 spent_roll old new (same, inr memory) = let none = memory.1 in cc
 
+stuck_spent : (os : List Object) (old new : World) → IsStuck os old refusal.Spent new → new.fleet.takes ≡ new.fleet.end
+stuck_spent [] old new until = until_spent old new until
+stuck_spent (o ∷ os) old new (rooms, mid, made, inl (declines, fleet)) = absurd (spent_load o mid new declines)
+stuck_spent (o ∷ os) old new (rooms, mid, made, inr (waits, inl declines)) = absurd (spent_roll mid new declines)
+stuck_spent (o ∷ os) old new (rooms, mid, made, inr (waits, inr (later, rolling, until))) = until_spent later new until
+
 -- only a fleet that is spent refuses as Spent
 pub stops_spent : (os : List Object) (a c : World) (r : Refusal) → Stops os a r c → r ≡ refusal.Spent → c.fleet.takes ≡ c.fleet.end
-stops_spent os a c r stops is = go (subst (λ (x : Refusal). IsStuck stops.left stops.mid x c) is stops.cause)
-  where
-    go : IsStuck stops.left stops.mid refusal.Spent c → c.fleet.takes ≡ c.fleet.end
-    go (inl h) = absurd (spent_first stops.left stops.mid c h)
-    go (inr (inl h)) = spent_push stops.mid c h
-    go (inr (inr h)) = absurd (spent_roll stops.mid c h)
+stops_spent os a c r stops is =
+    stuck_spent stops.left stops.mid c (subst (λ (x : Refusal). IsStuck stops.left stops.mid x c) is stops.cause)

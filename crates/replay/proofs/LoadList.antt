@@ -19,14 +19,15 @@ use Rattle.master_core.specs.declared.config.Config.{Config}
 use Rattle.master_core.specs.declared.step.Refusal.{Refusal}
 use Rattle.master_core.specs.declared.step.Refusal.TheVariants as refusal
 use Rattle.master_core.specs.Data.{MasterData}
-use Rattle.master_core.specs.Loading.{restored_data, IsNewObject}
+use Rattle.master_core.specs.Loading.{restored_data, IsNewObject, Loads}
 use Rattle.master.specs.Loading.{DeclinesLoad}
 use Rattle.master.specs.World.{World}
 use Rattle.replay.specs.declared.rebuilt.Rebuilt.{Rebuilt}
-use Rattle.replay.specs.Adopting.{HasLoaded, Stops}
+use Rattle.replay.specs.Adopting.{PushesUntil, IsRolled, IsNotRolled, HasToWait, HasRoomMade, LoadsOne, HasLoaded, LoadsAll}
+use Rattle.replay.specs.Adopting.{IsStuck, IsFinal, Stops}
 use Rattle.replay.specs.Fresh.{AreNew}
 use Rattle.replay.specs.Listed.{AreOrdered}
-use Rattle.replay.proofs.LoadSteps.{KeepsLoaded, stacked, loads_further, stops_later, stops_of_more}
+use Rattle.replay.proofs.LoadSteps.{KeepsLoaded, stacked, room_keeps}
 
 -- ---- keys
 
@@ -147,6 +148,43 @@ load_not_nothing o d e r h is = go (subst (λ (x : Refusal). DeclinesLoad d (ent
     go (same, inl test) = tested _ _ _ _ test
     go (same, inr memory) = let none = memory.1 in cc
 
+-- the load of the object has to wait
+waits_now : (o : Object) (old new : World) (r : Refusal) → DeclinesLoad old.knows (entry.Object o) r new.knows → r ≡ refusal.Rolling
+    → HasToWait o old
+waits_now o old new r (same, inl test) is = test ∙ ap (λ (x : Refusal). Some x) is
+waits_now o old new r (same, inr memory) is = absurd (let other = sym memory.1 ∙ is in cc)
+
+-- room was made for the object
+abbrev pub HasRoom : Object → World → World → Type 0
+HasRoom o old new = (rooms : ℕ) × HasRoomMade rooms o old new
+
+pub room_kept : (o : Object) (old new : World) → HasRoom o old new → KeepsLoaded [] old new
+room_kept o old new (rooms, made) = room_keeps rooms o old new made
+
+pub one_loaded : (o : Object) (a b c : World) → HasRoom o a b → Loads b.knows o c.knows → c.fleet ≡ b.fleet → LoadsOne o a c
+one_loaded o a b c (rooms, made) loads fleet = (rooms, b, made, loads, fleet)
+
+pub one_declined : (o : Object) (a b c : World) (r : Refusal) → HasRoom o a b → DeclinesLoad b.knows (entry.Object o) r c.knows
+    → c.fleet ≡ b.fleet → IsStuck (o ∷ []) a r c
+one_declined o a b c r (rooms, made) declines fleet = (rooms, b, made, inl (declines, fleet))
+
+-- what becomes of a load that has to wait
+module _ (o : Object) (a b m c : World) (r : Refusal) (made : HasRoom o a b) (declines : DeclinesLoad b.knows (entry.Object o) r m.knows)
+    (fleet : m.fleet ≡ b.fleet) (is : r ≡ refusal.Rolling) where
+  pub more_room : IsRolled m c → HasRoom o a c
+  more_room rolled = (
+    suc made.0,
+    (b, made.1, waits_now o b m r declines is, subst (λ (w : World). IsRolled w c) (load_same o b m r declines fleet) rolled),
+  )
+
+  pub no_room : (why : Refusal) → IsNotRolled m why c → IsStuck (o ∷ []) a why c
+  no_room why h = (
+    made.0,
+    b,
+    made.1,
+    inr (waits_now o b m r declines is, subst (λ (w : World). IsNotRolled w why c) (load_same o b m r declines fleet) h),
+  )
+
 -- ---- the object at a place
 
 pub drop_at : (os : List Object) (i : ℕ) (o : Object) → i < length os → o ≡ get_or os i o → drop i os ≡ o ∷ drop (i + 1) os
@@ -159,23 +197,37 @@ take_at os i o lt is =
     let one : i + 1 ≡ suc i = omega arith in
     ap (λ (n : ℕ). take n os) one ∙ take-suc os i o lt ∙ ap (λ (x : Object). take i os ++ x ∷ []) (sym is)
 
-pub stops_in_list : (os : List Object) (i : ℕ) (o : Object) (rest : List Object) (a b c : World) (r : Refusal) → drop i os ≡ o ∷ rest
-    → HasLoaded (take i os) a b → Stops (o ∷ []) b r c → Stops os a r c
-stops_in_list os i o rest a b c r is before stops =
-    subst (λ (ps : List Object). Stops ps a r c) (ap (λ (ps : List Object). take i os ++ ps) (sym is) ∙ take-append-drop i os)
-    (stops_later (take i os) (o ∷ rest) a b c r before (stops_of_more (o ∷ []) rest b c r stops))
+-- ---- a list
 
--- ---- the end of the list
+pub stops_in_list : (os : List Object) (i : ℕ) (o : Object) (rest : List Object) (a b c : World) (r : Refusal) → drop i os ≡ o ∷ rest
+    → HasLoaded (take i os) a b → IsStuck (o ∷ []) b r c × IsFinal r → Stops os a r c
+stops_in_list os i o rest a b c r is before (stuck, final) = record {
+  loaded = take i os;
+  left = o ∷ rest;
+  parts = sym (ap (λ (ps : List Object). take i os ++ ps) (sym is) ∙ take-append-drop i os);
+  mid = b;
+  steps = before;
+  cause = stuck;
+  final = final;
+}
 
 module _ (os : List Object) (i : ℕ) (a b c : World) (past : length os ≤ i) (before : HasLoaded (take i os) a b) where
   whole : HasLoaded os a b
   whole = subst (λ (ps : List Object). HasLoaded ps a b) (take_all i os past) before
 
-  pub list_loaded : (result : Result (Unit {0}) Refusal) → OnOk result (HasLoaded [] b c) → OnOk result (HasLoaded os a c)
-  list_loaded (Ok u) steps = subst (λ (ps : List Object). HasLoaded ps a c) (append-nil os) (loads_further os [] a b c whole steps)
-  list_loaded (Err r) steps = tt
+  pub list_loaded : (result : Result (Unit {0}) Refusal) → OnOk result (PushesUntil b refusal.Nothing c) → OnOk result (LoadsAll os a c)
+  list_loaded (Ok u) pushes = (b, whole, pushes)
+  list_loaded (Err r) pushes = tt
 
-  pub list_stopped : (result : Result (Unit {0}) Refusal) → IfErr result (λ r. Stops [] b r c) → IfErr result (λ r. Stops os a r c)
+  pub list_stopped : (result : Result (Unit {0}) Refusal) → IfErr result (λ r. PushesUntil b r c × IsFinal r)
+      → IfErr result (λ r. Stops os a r c)
   list_stopped (Ok u) stops = tt
-  list_stopped (Err r) stops =
-      subst (λ (ps : List Object). Stops ps a r c) (append-nil os) (stops_later os [] a b c r whole stops)
+  list_stopped (Err r) (until, final) = record {
+    loaded = os;
+    left = [];
+    parts = sym (append-nil os);
+    mid = b;
+    steps = whole;
+    cause = until;
+    final = final;
+  }

@@ -1,5 +1,5 @@
 -- What the steps of a master that is loaded keep.
-use Rattle.std.proofs.Common.{◌≡◌, ◌<◌, ℕ, zero, suc, ◌+◌, Bool, true, false, List, [], ◌∷◌, ◌++◌, refl, sym, ap, subst, inl, inr, ◌∙◌, arith, append_assoc}
+use Rattle.std.proofs.Common.{◌≡◌, ◌<◌, ℕ, zero, suc, ◌+◌, Bool, true, false, List, [], ◌∷◌, ◌++◌, refl, sym, ap, subst, inl, inr, ◌∙◌, arith}
 use Rattle.std.proofs.lemmas.List.{append-nil}
 use Rattle.std.specs.Prelude.{Option, Some, None, if◌then◌else◌, nat_lt, unwrap_or}
 use Rattle.entry.specs.declared.entry.Object.{Object}
@@ -10,14 +10,17 @@ use Rattle.replica.specs.declared.op.TakeFault.TheVariants as take_fault
 use Rattle.log_model.specs.Ops.{op_of}
 use Rattle.master_core.specs.declared.step.Refusal.{Refusal}
 use Rattle.master_core.specs.declared.step.Refusal.TheVariants as refusal
-use Rattle.master_core.specs.declared.step.Step.TheVariants.{Push}
+use Rattle.master_core.specs.declared.step.Step.TheVariants.{Push, BeginRoll}
 use Rattle.master_core.specs.declared.step.StepAnswer.{StepAnswer}
+use Rattle.master_core.specs.Causes.{is_pushed}
 use Rattle.master_core.specs.Data.{MasterData}
+use Rattle.master_core.specs.Loading.{Loads}
 use Rattle.master.specs.Steps.{Accepts, Declines, FailsTake, IsPushOp}
 use Rattle.master.specs.World.{World}
 use Rattle.master.proofs.Keeping.{taken_beside, fault_beside, take_failed}
 use Rattle.master.proofs.Pushed.{same_rest}
-use Rattle.replay.specs.Adopting.{IsLoadStep, AreLoaded, HasLoaded, DeclinesFirst, IsStuck, Stops, IsAdoptedOn, ops_left}
+use Rattle.replay.specs.Adopting.{ArePushed, PushesUntil, GoesRolling, IsRolled, IsNotRolled, IsAdoptedOn, ops_left}
+use Rattle.replay.specs.Adopting.{HasRoomMade, LoadsOne, HasLoaded, LoadsAll, DeclinesOne, IsStuck, Stops}
 
 -- ---- the fleet
 
@@ -95,16 +98,6 @@ module _ (old new : World) where
   declined_adopts r (inl t) = same_adopts t.1
   declined_adopts r (inr t) = take_failed (IsPushOp old) old new r t.1 same_adopts halted_adopts
 
-  first_adopts : (os : List Object) (r : Refusal) → DeclinesFirst os old r new → IsAdoptedOn old.knows.config.master old.fleet new.fleet
-  first_adopts [] r h = absurd h
-  first_adopts (o ∷ os) r h =
-      subst (IsAdoptedOn old.knows.config.master old.fleet) (sym h.1) (adopted_same old.knows.config.master old.fleet)
-
-  pub stuck_adopts : (os : List Object) (r : Refusal) → IsStuck os old r new → IsAdoptedOn old.knows.config.master old.fleet new.fleet
-  stuck_adopts os r (inl h) = first_adopts os r h
-  stuck_adopts os r (inr (inl h)) = declined_adopts r h
-  stuck_adopts os r (inr (inr h)) = same_adopts h.0
-
 -- ---- what is loaded
 
 -- the objects on top of others, the last one first
@@ -142,12 +135,15 @@ keeps_further os ps a b c first later = record {
       (subst (λ (m : ℕ). IsAdoptedOn m b.fleet c.fleet) (ap (λ c. c.master) first.config) later.fleet);
 }
 
+keeps_at : (old new : World) → new ≡ old → KeepsLoaded [] old new
+keeps_at old new same = subst (KeepsLoaded [] old) (sym same) (keeps_same old)
+
 module _ (old new : World) where
   quiet : new.fleet ≡ old.fleet → IsAdoptedOn old.knows.config.master old.fleet new.fleet
   quiet same = subst (IsAdoptedOn old.knows.config.master old.fleet) (sym same) (adopted_same old.knows.config.master old.fleet)
 
-  step_keeps : (last : List Object) → IsLoadStep last old new → KeepsLoaded last old new
-  step_keeps [] (inl (a, p)) =
+  push_keeps : (a : StepAnswer) → Accepts old Push a new → KeepsLoaded [] old new
+  push_keeps a p =
       let same = same_rest old.knows p.push in
       record {
         config = ap (λ (d : MasterData). d.config) p.rest ∙ same.0;
@@ -156,96 +152,110 @@ module _ (old new : World) where
         objects = ap (λ (d : MasterData). d.origin.objects) p.rest ∙ ap (λ o. o.objects) same.3;
         fleet = push_adopts old new a p;
       }
-  step_keeps [] (inr (a, h)) = record {
+
+  roll_keeps : (a : StepAnswer) → Accepts old BeginRoll a new → KeepsLoaded [] old new
+  roll_keeps a h = record {
     config = ap (λ (d : MasterData). d.config) h.0.rest;
     history = ap (λ (d : MasterData). d.history) h.0.rest;
     safe = ap (λ (d : MasterData). d.origin.safe) h.0.rest;
     objects = ap (λ (d : MasterData). d.origin.objects) h.0.rest;
     fleet = quiet h.1;
   }
-  step_keeps (o ∷ []) (h, fleet) = record {
+
+  load_keeps : (o : Object) → Loads old.knows o new.knows → new.fleet ≡ old.fleet → KeepsLoaded (o ∷ []) old new
+  load_keeps o h fleet = record {
     config = ap (λ (d : MasterData). d.config) h.rest;
     history = ap (λ (d : MasterData). d.history) h.rest;
     safe = ap (λ (d : MasterData). d.origin.safe) h.rest;
     objects = ap (λ (d : MasterData). d.origin.objects) h.rest;
     fleet = quiet fleet;
   }
-  step_keeps (o ∷ p ∷ os) h = absurd h
 
-loaded_keeps : (count : ℕ) (os : List Object) (old new : World) → AreLoaded count os old new → KeepsLoaded os old new
-loaded_keeps zero os old new (none, same) =
-    subst (λ (ps : List Object). KeepsLoaded ps old new) (sym none)
-    (subst (λ (w : World). KeepsLoaded [] old w) (sym same) (keeps_same old))
-loaded_keeps (suc count) os old new (mid, before, last, parts, steps, step) =
-    subst (λ (ps : List Object). KeepsLoaded ps old new) (sym parts)
-    (keeps_further before last old mid new (loaded_keeps count before old mid steps) (step_keeps mid new last step))
+-- nothing waits
+pub nothing_waits : (old new : World) → Declines old Push refusal.Nothing new → (new ≡ old) × (is_pushed new.knows.head ≡ true)
+nothing_waits old new (inl h) =
+    (h.1, ap (λ (w : World). is_pushed w.knows.head) h.1 ∙ tested old.knows.is_halted (is_pushed old.knows.head) h.0)
+  where
+    tested : (halted pushed : Bool)
+        → (if halted then Some refusal.Halted else if pushed then Some refusal.Nothing else None) ≡ Some refusal.Nothing → pushed ≡ true
+    tested true pushed e = absurd (cc)
+    tested false true e = refl
+    tested false false e = absurd (cc)
+nothing_waits old new (inr h) = absurd h.1
 
-pub has_kept : (os : List Object) (old new : World) → HasLoaded os old new → KeepsLoaded os old new
-has_kept os old new (count, steps) = loaded_keeps count os old new steps
+pushed_keeps : (count : ℕ) (old new : World) → ArePushed count old new → KeepsLoaded [] old new
+pushed_keeps zero old new same = keeps_at old new same
+pushed_keeps (suc count) old new (mid, before, a, push) =
+    keeps_further [] [] old mid new (pushed_keeps count old mid before) (push_keeps mid new a push)
 
--- ---- one run after another
+until_keeps : (old new : World) → PushesUntil old refusal.Nothing new → KeepsLoaded [] old new
+until_keeps old new (count, mid, pushes, declines) =
+    keeps_further [] [] old mid new (pushed_keeps count old mid pushes) (keeps_at mid new (nothing_waits mid new declines).0)
+
+rolling_keeps : (old new : World) → GoesRolling old new → KeepsLoaded [] old new
+rolling_keeps old new (inl (opened, a, roll)) = roll_keeps old new a roll
+rolling_keeps old new (inr (shut, same)) = keeps_at old new same
+
+rolled_keeps : (old new : World) → IsRolled old new → KeepsLoaded [] old new
+rolled_keeps old new (mid, rolling, pushes) =
+    keeps_further [] [] old mid new (rolling_keeps old mid rolling) (until_keeps mid new pushes)
+
+pub room_keeps : (count : ℕ) (o : Object) (old new : World) → HasRoomMade count o old new → KeepsLoaded [] old new
+room_keeps zero o old new same = keeps_at old new same
+room_keeps (suc count) o old new (mid, before, waits, rolled) =
+    keeps_further [] [] old mid new (room_keeps count o old mid before) (rolled_keeps mid new rolled)
+
+pub one_keeps : (o : Object) (old new : World) → LoadsOne o old new → KeepsLoaded (o ∷ []) old new
+one_keeps o old new (rooms, mid, made, loads, fleet) =
+    keeps_further [] (o ∷ []) old mid new (room_keeps rooms o old mid made) (load_keeps mid new o loads fleet)
+
+loaded_keeps : (os : List Object) (old new : World) → HasLoaded os old new → KeepsLoaded os old new
+loaded_keeps [] old new same = keeps_at old new same
+loaded_keeps (o ∷ os) old new (mid, one, rest) =
+    keeps_further (o ∷ []) os old mid new (one_keeps o old mid one) (loaded_keeps os mid new rest)
+
+pub all_keeps : (os : List Object) (old new : World) → LoadsAll os old new → KeepsLoaded os old new
+all_keeps os old new (mid, loaded, pushes) =
+    subst (λ (ps : List Object). KeepsLoaded ps old new) (append-nil os)
+    (keeps_further os [] old mid new (loaded_keeps os old mid loaded) (until_keeps mid new pushes))
+
+-- ---- one object after another
 
 pub loads_none : (w : World) → HasLoaded [] w w
-loads_none w = (0, (refl, refl))
+loads_none w = refl
 
-pub loads_none_at : (old new : World) → new ≡ old → HasLoaded [] old new
-loads_none_at old new same = (0, (refl, same))
-
-pub loads_more : (os last : List Object) (old mid new : World) → HasLoaded os old mid → IsLoadStep last mid new → HasLoaded (os ++ last) old new
-loads_more os last old mid new (count, steps) step = (suc count, (mid, os, last, refl, steps, step))
-
-loads_on : (count : ℕ) (os ps : List Object) (a b c : World) → HasLoaded os a b → AreLoaded count ps b c → HasLoaded (os ++ ps) a c
-loads_on zero os ps a b c first (none, same) =
-    subst (λ (qs : List Object). HasLoaded (os ++ qs) a c) (sym none)
-    (subst (λ (qs : List Object). HasLoaded qs a c) (sym (append-nil os)) (subst (HasLoaded os a) (sym same) first))
-loads_on (suc count) os ps a b c first (mid, before, last, parts, steps, step) =
-    subst (λ (qs : List Object). HasLoaded qs a c) (append_assoc os before last ∙ ap (λ (qs : List Object). os ++ qs) (sym parts))
-    (loads_more (os ++ before) last a mid c (loads_on count os before a b mid first steps) step)
-
-pub loads_further : (os ps : List Object) (a b c : World) → HasLoaded os a b → HasLoaded ps b c → HasLoaded (os ++ ps) a c
-loads_further os ps a b c first (count, steps) = loads_on count os ps a b c first steps
+pub loads_more : (os : List Object) (o : Object) (a b c : World) → HasLoaded os a b → LoadsOne o b c → HasLoaded (os ++ o ∷ []) a c
+loads_more [] o a b c same one = (c, subst (λ (w : World). LoadsOne o w c) same one, refl)
+loads_more (p ∷ os) o a b c (mid, first, rest) one = (mid, first, loads_more os o mid b c rest one)
 
 -- ---- where it ends
 
-pub stops_at : (os left : List Object) (a b c : World) (r : Refusal) → HasLoaded os a b → IsStuck left b r c
-    → (r ≡ refusal.Rolling → ⊥) → (r ≡ refusal.Nothing → ⊥) → Stops (os ++ left) a r c
-stops_at os left a b c r steps stuck rolling nothing =
-    record { loaded = os; left = left; parts = refl; mid = b; steps = steps; cause = stuck; final = (rolling, nothing) }
+then_adopts : (os : List Object) (a b c : World) → KeepsLoaded os a b → IsAdoptedOn b.knows.config.master b.fleet c.fleet
+    → IsAdoptedOn a.knows.config.master a.fleet c.fleet
+then_adopts os a b c kept later =
+    adopted_further a.knows.config.master a.fleet b.fleet c.fleet kept.fleet
+    (subst (λ (m : ℕ). IsAdoptedOn m b.fleet c.fleet) (ap (λ c. c.master) kept.config) later)
 
-pub stops_later : (os ps : List Object) (a b c : World) (r : Refusal) → HasLoaded os a b → Stops ps b r c → Stops (os ++ ps) a r c
-stops_later os ps a b c r first stops = record {
-  loaded = os ++ stops.loaded;
-  left = stops.left;
-  parts = ap (λ (qs : List Object). os ++ qs) stops.parts ∙ sym (append_assoc os stops.loaded stops.left);
-  mid = stops.mid;
-  steps = loads_further os stops.loaded a b stops.mid first stops.steps;
-  cause = stops.cause;
-  final = stops.final;
-}
+until_adopts : (old new : World) (r : Refusal) → PushesUntil old r new → IsAdoptedOn old.knows.config.master old.fleet new.fleet
+until_adopts old new r (count, mid, pushes, declines) =
+    then_adopts [] old mid new (pushed_keeps count old mid pushes) (declined_adopts mid new r declines)
 
-first_of_more : (os more : List Object) (old new : World) (r : Refusal) → DeclinesFirst os old r new → DeclinesFirst (os ++ more) old r new
-first_of_more [] more old new r h = absurd h
-first_of_more (o ∷ os) more old new r h = h
+unrolled_adopts : (old new : World) (r : Refusal) → IsNotRolled old r new → IsAdoptedOn old.knows.config.master old.fleet new.fleet
+unrolled_adopts old new r (inl h) = same_adopts old new h.0
+unrolled_adopts old new r (inr (mid, rolling, until)) =
+    then_adopts [] old mid new (rolling_keeps old mid rolling) (until_adopts mid new r until)
 
-stuck_of_more : (os more : List Object) (old new : World) (r : Refusal) → IsStuck os old r new → IsStuck (os ++ more) old r new
-stuck_of_more os more old new r (inl h) = inl (first_of_more os more old new r h)
-stuck_of_more os more old new r (inr h) = inr h
+one_adopts : (o : Object) (old new : World) (r : Refusal) → DeclinesOne o old r new → IsAdoptedOn old.knows.config.master old.fleet new.fleet
+one_adopts o old new r (inl (declines, fleet)) = quiet old new fleet
+one_adopts o old new r (inr (waits, h)) = unrolled_adopts old new r h
 
--- whatever objects are left besides
-pub stops_of_more : (os more : List Object) (a c : World) (r : Refusal) → Stops os a r c → Stops (os ++ more) a r c
-stops_of_more os more a c r stops = record {
-  loaded = stops.loaded;
-  left = stops.left ++ more;
-  parts = ap (λ (qs : List Object). qs ++ more) stops.parts ∙ append_assoc stops.loaded stops.left more;
-  mid = stops.mid;
-  steps = stops.steps;
-  cause = stuck_of_more stops.left more stops.mid c r stops.cause;
-  final = stops.final;
-}
+stuck_adopts : (os : List Object) (old new : World) (r : Refusal) → IsStuck os old r new
+    → IsAdoptedOn old.knows.config.master old.fleet new.fleet
+stuck_adopts [] old new r until = until_adopts old new r until
+stuck_adopts (o ∷ os) old new r (rooms, mid, made, h) =
+    then_adopts [] old mid new (room_keeps rooms o old mid made) (one_adopts o mid new r h)
 
 pub stops_adopts : (os : List Object) (a c : World) (r : Refusal) → Stops os a r c → IsAdoptedOn a.knows.config.master a.fleet c.fleet
 stops_adopts os a c r stops =
-    let kept = has_kept stops.loaded a stops.mid stops.steps in
-    adopted_further a.knows.config.master a.fleet stops.mid.fleet c.fleet kept.fleet
-    (subst (λ (m : ℕ). IsAdoptedOn m stops.mid.fleet c.fleet) (ap (λ c. c.master) kept.config)
-    (stuck_adopts stops.mid c stops.left r stops.cause))
+    then_adopts stops.loaded a stops.mid c (loaded_keeps stops.loaded a stops.mid stops.steps)
+    (stuck_adopts stops.left stops.mid c r stops.cause)

@@ -1,5 +1,5 @@
 -- How a master adopts a rebuilt list.
-use Rattle.std.specs.Prelude.{◌≡◌, ◌⊎◌, ◌≤◌, ℕ, zero, suc, ◌-◌, List, [], ◌∷◌, ◌++◌, true}
+use Rattle.std.specs.Prelude.{◌≡◌, ◌⊎◌, ◌≤◌, ℕ, zero, suc, ◌-◌, List, [], ◌∷◌, ◌++◌, true, false, Some}
 use Rattle.entry.specs.declared.entry.Entry.TheVariants as entry
 use Rattle.entry.specs.declared.entry.Object.{Object}
 use Rattle.entry.specs.Meaning.{contents_of}
@@ -12,40 +12,77 @@ use Rattle.master_core.specs.declared.step.Step.TheVariants.{Push, BeginRoll}
 use Rattle.master_core.specs.declared.step.StepAnswer.{StepAnswer}
 use Rattle.master_core.specs.Causes.{is_pushed}
 use Rattle.master_core.specs.Data.{MasterData}
-use Rattle.master_core.specs.Loading.{restored_data, Loads}
+use Rattle.master_core.specs.Loading.{load_refusal, restored_data, Loads, Settles}
 use Rattle.master_core.specs.Log.{opening_of}
 use Rattle.master.specs.Loading.{DeclinesLoad}
 use Rattle.master.specs.Steps.{Accepts, Declines}
 use Rattle.master.specs.World.{World, world_of}
 use Rattle.replay.specs.declared.rebuilt.Rebuilt.{Rebuilt}
 
+-- ---- pushes and rolls
+
+-- so many pushes were accepted, one after another
+abbrev pub ArePushed : ℕ → World → World → Type 0
+ArePushed zero old new = new ≡ old
+ArePushed (suc count) old new =
+    (mid : World) × ArePushed count old mid × (answer : StepAnswer) × Accepts mid Push answer new
+
+-- pushes were made until one was refused; if it was refused as Nothing, nothing waits any more
+abbrev pub PushesUntil : World → Refusal → World → Type 0
+PushesUntil old r new = (count : ℕ) × (mid : World) × ArePushed count old mid × Declines mid Push r new
+
+-- a roll began if the head was open, and nothing was done if it wasn't
+abbrev pub GoesRolling : World → World → Type 0
+GoesRolling old new =
+    ((is_open old.knows.head ≡ true) × (answer : StepAnswer) × Accepts old BeginRoll answer new)
+    ⊎ ((is_open old.knows.head ≡ false) × (new ≡ old))
+
+-- a roll began if the head was open, and then pushes were made until nothing waited
+abbrev pub IsRolled : World → World → Type 0
+IsRolled old new = (mid : World) × GoesRolling old mid × PushesUntil mid refusal.Nothing new
+
+-- the roll couldn't begin, or one of the pushes was refused
+abbrev pub IsNotRolled : World → Refusal → World → Type 0
+IsNotRolled old r new =
+    Declines old BeginRoll r new ⊎ ((mid : World) × GoesRolling old mid × PushesUntil mid r new)
+
 -- ---- a master that is loaded
 
--- One step of it was accepted: a push, the begin of a roll, or the load of an object. These objects were loaded.
-abbrev pub IsLoadStep : List Object → World → World → Type 0
-IsLoadStep [] old new =
-    ((answer : StepAnswer) × Accepts old Push answer new) ⊎ ((answer : StepAnswer) × Accepts old BeginRoll answer new)
-IsLoadStep (o ∷ []) old new = Loads old.knows o new.knows × (new.fleet ≡ old.fleet)
-IsLoadStep (o ∷ p ∷ os) old new = ⊥
+-- The object can't be loaded before a head has room for it.
+abbrev pub HasToWait : Object → World → Type 0
+HasToWait o w = load_refusal w.knows o ≡ Some refusal.Rolling
 
--- So many such steps were accepted, one after another. They loaded these objects, in this order.
-abbrev pub AreLoaded : ℕ → List Object → World → World → Type 0
-AreLoaded zero os old new = (os ≡ []) × (new ≡ old)
-AreLoaded (suc count) os old new =
-    (mid : World) × (before last : List Object) × (os ≡ before ++ last) × AreLoaded count before old mid
-    × IsLoadStep last mid new
+-- So many times the object had to wait, and room was made for it.
+abbrev pub HasRoomMade : ℕ → Object → World → World → Type 0
+HasRoomMade zero o old new = new ≡ old
+HasRoomMade (suc count) o old new =
+    (mid : World) × HasRoomMade count o old mid × HasToWait o mid × IsRolled mid new
 
+-- The object was loaded, once room was made for it as often as it had to wait.
+abbrev pub LoadsOne : Object → World → World → Type 0
+LoadsOne o old new = (rooms : ℕ) × (mid : World) × HasRoomMade rooms o old mid
+    × Loads mid.knows o new.knows × (new.fleet ≡ mid.fleet)
+
+-- These objects were loaded, in this order.
 abbrev pub HasLoaded : List Object → World → World → Type 0
-HasLoaded os old new = (count : ℕ) × AreLoaded count os old new
+HasLoaded [] old new = new ≡ old
+HasLoaded (o ∷ os) old new = (mid : World) × LoadsOne o old mid × HasLoaded os mid new
 
--- The first of these objects is not loaded.
-abbrev pub DeclinesFirst : List Object → World → Refusal → World → Type 0
-DeclinesFirst [] old r new = ⊥
-DeclinesFirst (o ∷ os) old r new = DeclinesLoad old.knows (entry.Object o) r new.knows × (new.fleet ≡ old.fleet)
+-- They were loaded, and then pushes were made until nothing waited.
+abbrev pub LoadsAll : List Object → World → World → Type 0
+LoadsAll os old new = (mid : World) × HasLoaded os old mid × PushesUntil mid refusal.Nothing new
 
--- It went no further, with these objects left: the next one, a push or the begin of a roll was refused.
+-- The object is not loaded: its load is refused, or it has to wait and no room is made for it.
+abbrev pub DeclinesOne : Object → World → Refusal → World → Type 0
+DeclinesOne o old r new = (DeclinesLoad old.knows (entry.Object o) r new.knows × (new.fleet ≡ old.fleet))
+    ⊎ (HasToWait o old × IsNotRolled old r new)
+
+-- It went no further, with these objects left. The first of them was not loaded, though room may have been made for
+-- it before. If none was left, a push was refused.
 abbrev pub IsStuck : List Object → World → Refusal → World → Type 0
-IsStuck os old r new = DeclinesFirst os old r new ⊎ Declines old Push r new ⊎ Declines old BeginRoll r new
+IsStuck [] old r new = PushesUntil old r new
+IsStuck (o ∷ os) old r new =
+    (rooms : ℕ) × (mid : World) × HasRoomMade rooms o old mid × DeclinesOne o mid r new
 
 -- after these refusals it goes on: a roll makes room, and then its pushes are made until nothing waits
 abbrev pub IsFinal : Refusal → Type 0
@@ -82,6 +119,15 @@ pub record IsAdoptedOn (master : ℕ) (old new : FleetState) : Type 0 where
   pub end : new.end ≡ old.end
   -- no replica of another master changed
   pub others : (b m s : ℕ) → (m ≡ master → ⊥) → new.picture b m s ≡ old.picture b m s
+
+-- A master was restored over this fleet and loaded with the list, and this is the master that it became. A roll began
+-- only if the next object had to wait and the head was open. Pushes were made only for an object that had to wait, or
+-- once no object was left; and then until nothing waited.
+pub record AdoptsList (c : Config) (r : Rebuilt) (old : FleetState) (new : World) : Type 0 where
+  pub last : World
+  pub loads : LoadsAll r.objects (world_of (restored_data c r.safe) old) last
+  pub settles : Settles last.knows new.knows
+  pub fleet : new.fleet ≡ last.fleet
 
 -- The list is not adopted: there was no memory for a master, or the master that was loaded with it went no further.
 abbrev pub DeclinesList : Config → Rebuilt → FleetState → Refusal → FleetState → Type 0

@@ -1,12 +1,12 @@
 //! A master that goes on with what a log stands for.
 
-ghost use Rattle.std.specs.Prelude.{◌≡◌, ◌≤◌, ◌<◌, ℕ, [], ◌∷◌, true, false, None, IfOk, IfErr, OnOk};
-ghost use Rattle.master_core.specs.Causes.{is_pushed};
+ghost use Rattle.std.specs.Prelude.{◌≡◌, ◌≤◌, ℕ, [], ◌∷◌, None, IfOk, IfErr, OnOk};
 ghost use Rattle.master_core.specs.Config.{config_fault};
 ghost use Rattle.master_core.specs.Loading.{IsNewObject};
 ghost use Rattle.master.specs.Valid.{IsValid};
 ghost use Rattle.master.specs.World.{world};
-ghost use Rattle.replay.specs.Adopting.{HasLoaded, Stops, ops_left, IsAdopted, IsAdoptedOn, DeclinesList};
+ghost use Rattle.replay.specs.Adopting.{PushesUntil, IsRolled, IsNotRolled, IsFinal, LoadsOne, IsStuck, LoadsAll, Stops};
+ghost use Rattle.replay.specs.Adopting.{IsAdopted, IsAdoptedOn, AdoptsList, DeclinesList};
 ghost use Rattle.replay.specs.Fresh.{AreNew};
 
 use crate::rebuilt::Rebuilt;
@@ -18,11 +18,10 @@ use std::alloc::Global;
 
 /// Pushes until nothing waits.
 fn push_all<F: Fleet>(loading: &mut Loading<F>) -> Result<(), Refusal>
-    ensures went_on { OnOk result (HasLoaded [] (world F.state loading.old) (world F.state loading.new)) }
-    ensures pushed { OnOk result (is_pushed loading.new.knows.head ≡ true) }
-    ensures took { OnOk result (is_pushed loading.old.knows.head ≡ false →
-        ops_left (F.state loading.new.fleet) < ops_left (F.state loading.old.fleet)) }
-    ensures stopped { IfErr result (λ r. Stops [] (world F.state loading.old) r (world F.state loading.new)) }
+    ensures pushed { OnOk result (
+        PushesUntil (world F.state loading.old) Refusal.Nothing (world F.state loading.new)) }
+    ensures stopped { IfErr result (λ r.
+        PushesUntil (world F.state loading.old) r (world F.state loading.new) × IsFinal r) }
 {
     loop {
         if let Err(refusal) = loading.push() {
@@ -36,9 +35,9 @@ fn push_all<F: Fleet>(loading: &mut Loading<F>) -> Result<(), Refusal>
 
 /// Begins a roll if the head is open, and pushes until nothing waits.
 fn make_room<F: Fleet>(loading: &mut Loading<F>) -> Result<(), Refusal>
-    ensures went_on { OnOk result (HasLoaded [] (world F.state loading.old) (world F.state loading.new)) }
-    ensures took { OnOk result (ops_left (F.state loading.new.fleet) < ops_left (F.state loading.old.fleet)) }
-    ensures stopped { IfErr result (λ r. Stops [] (world F.state loading.old) r (world F.state loading.new)) }
+    ensures rolled { OnOk result (IsRolled (world F.state loading.old) (world F.state loading.new)) }
+    ensures stopped { IfErr result (λ r.
+        IsNotRolled (world F.state loading.old) r (world F.state loading.new) × IsFinal r) }
 {
     match loading.begin_roll() {
         Ok(_) => push_all(loading),
@@ -52,10 +51,10 @@ fn make_room<F: Fleet>(loading: &mut Loading<F>) -> Result<(), Refusal>
 /// Loads one object, into a new head if the one in force has no room for it.
 fn load_one<F: Fleet>(loading: &mut Loading<F>, object: &Object) -> Result<(), Refusal>
     requires { IsNewObject loading.old.knows object.now }
-    ensures loaded { OnOk result (HasLoaded (object.now ∷ []) (world F.state loading.old)
-        (world F.state loading.new)) }
+    ensures loaded { OnOk result (
+        LoadsOne object.now (world F.state loading.old) (world F.state loading.new)) }
     ensures stopped { IfErr result (λ r.
-        Stops (object.now ∷ []) (world F.state loading.old) r (world F.state loading.new)) }
+        IsStuck (object.now ∷ []) (world F.state loading.old) r (world F.state loading.new) × IsFinal r) }
 {
     loop {
         match loading.load_object(object) {
@@ -71,8 +70,7 @@ fn load_one<F: Fleet>(loading: &mut Loading<F>, object: &Object) -> Result<(), R
 /// Loads the objects in order, and pushes until nothing waits.
 fn load_all<F: Fleet>(loading: &mut Loading<F>, objects: &[Object]) -> Result<(), Refusal>
     requires { AreNew loading.old.knows objects.now }
-    ensures loaded { OnOk result (HasLoaded objects.now (world F.state loading.old) (world F.state loading.new)) }
-    ensures pushed { OnOk result (is_pushed loading.new.knows.head ≡ true) }
+    ensures loaded { OnOk result (LoadsAll objects.now (world F.state loading.old) (world F.state loading.new)) }
     ensures stopped { IfErr result (λ r.
         Stops objects.now (world F.state loading.old) r (world F.state loading.new)) }
 {
@@ -83,8 +81,9 @@ fn load_all<F: Fleet>(loading: &mut Loading<F>, objects: &[Object]) -> Result<()
 }
 
 /// A master whose history begins with the list, under a number that has no replicas. No replica of another master
-/// changes. It loads what the head takes, and only then pushes. If it is refused, the fleet comes back with what was
-/// taken so far; NoMemory also comes before the first take.
+/// changes. It begins a roll only if the next object has to wait for one. It pushes only for that, or once no object is
+/// left, and then until nothing waits. If it is refused, the fleet comes back with what was taken so far; NoMemory also
+/// comes before the first take.
 pub fn adopt_list<F: Fleet>(
     alloc: Global,
     rebuilt: &Rebuilt,
@@ -95,6 +94,7 @@ pub fn adopt_list<F: Fleet>(
     requires backups { config.backups ≤ (F.state fleet).backups }
     requires none { (b s : ℕ) → (F.state fleet).picture b config.master s ≡ None }
     ensures adopted { IfOk result (λ m. IsAdopted config rebuilt.now m.knows) }
+    ensures steps { IfOk result (λ m. AdoptsList config rebuilt.now (F.state fleet) (world F.state m)) }
     ensures valid { IfOk result (λ m. IsValid m.knows (F.state m.fleet)) }
     ensures fleet { IfOk result (λ m. IsAdoptedOn config.master (F.state fleet) (F.state m.fleet)) }
     ensures refused { IfErr result (λ e. DeclinesList config rebuilt.now (F.state fleet) e.0 (F.state e.1)) }
@@ -124,6 +124,7 @@ pub fn adopt<F: Fleet>(
     requires backups { config.backups ≤ (F.state fleet).backups }
     requires none { (b s : ℕ) → (F.state fleet).picture b config.master s ≡ None }
     ensures adopted { IfOk result (λ m. IsAdopted config rebuilt m.knows) }
+    ensures steps { IfOk result (λ m. AdoptsList config rebuilt (F.state fleet) (world F.state m)) }
     ensures valid { IfOk result (λ m. IsValid m.knows (F.state m.fleet)) }
     ensures fleet { IfOk result (λ m. IsAdoptedOn config.master (F.state fleet) (F.state m.fleet)) }
     ensures list { IfErr result (λ e. e.1 ≡ rebuilt) }

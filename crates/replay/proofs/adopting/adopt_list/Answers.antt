@@ -1,8 +1,8 @@
 use Rattle.std.proofs.Common.{ap}
 use Rattle.master.specs.World.{world}
-use Rattle.replay.proofs.AdoptedList.{adopted_is, adopted_from, stops_spent}
+use Rattle.replay.proofs.AdoptedList.{adopted_is, adopts, adopted_from, stops_spent}
 use Rattle.replay.proofs.LoadList.{new_list}
-use Rattle.replay.proofs.LoadSteps.{has_kept, stops_adopts}
+use Rattle.replay.proofs.LoadSteps.{all_keeps, stops_adopts}
 use Rattle.replay.proofs.adopting.adopt_list.Goals as goal
 
 pub load_all-requires : goal.load_all-requires
@@ -13,14 +13,20 @@ pub returns-in-Ok-finish-clause-adopted : goal.returns-in-Ok-finish-clause-adopt
 returns-in-Ok-finish-clause-adopted g c =
     adopted_is c.args.config c.args.rebuilt.now c.as_slice.result.now (world g.F.Fleet.state c.in-Ok.loading)
     (world g.F.Fleet.state c.load_all.new.loading) c.in-Ok-finish.master.knows c.in-Ok.ensures.made.0 c.as_slice.ensures
-    c.in-Ok-load_all.ensures.loaded c.in-Ok-load_all.ensures.pushed c.in-Ok-finish.ensures.settled.0
+    c.in-Ok-load_all.ensures.loaded c.in-Ok-finish.ensures.settled.0
+
+pub returns-in-Ok-finish-clause-steps : goal.returns-in-Ok-finish-clause-steps
+returns-in-Ok-finish-clause-steps g c =
+    adopts c.args.config c.args.rebuilt.now c.as_slice.result.now _ (world g.F.Fleet.state c.in-Ok.loading)
+    (world g.F.Fleet.state c.load_all.new.loading) _ c.in-Ok.ensures.made.0 (ap g.F.Fleet.state c.in-Ok.ensures.made.1) c.as_slice.ensures
+    c.in-Ok-load_all.ensures.loaded c.in-Ok-finish.ensures.settled.0 (ap g.F.Fleet.state c.in-Ok-finish.ensures.settled.1)
 
 pub returns-in-Ok-finish-clause-fleet : goal.returns-in-Ok-finish-clause-fleet
 returns-in-Ok-finish-clause-fleet g c =
     let start = world g.F.Fleet.state c.in-Ok.loading in
     let now = world g.F.Fleet.state c.load_all.new.loading in
     adopted_from c.args.config c.args.rebuilt.now.safe start _ now.fleet _ c.in-Ok.ensures.made.0 (ap g.F.Fleet.state c.in-Ok.ensures.made.1)
-    (has_kept c.as_slice.result.now start now c.in-Ok-load_all.ensures.loaded).fleet (ap g.F.Fleet.state c.in-Ok-finish.ensures.settled.1)
+    (all_keeps c.as_slice.result.now start now c.in-Ok-load_all.ensures.loaded).fleet (ap g.F.Fleet.state c.in-Ok-finish.ensures.settled.1)
 
 pub returns-in-Err-load_all-clause-left : goal.returns-in-Err-load_all-clause-left
 returns-in-Err-load_all-clause-left g c =

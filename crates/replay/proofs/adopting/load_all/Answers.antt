@@ -1,8 +1,8 @@
-use Rattle.std.proofs.Common.{rules, ◌<◌, ◌≤◌, ◌+◌, [], ◌∷◌, length, take, drop, sym, subst, arith}
+use Rattle.std.proofs.Common.{rules, ◌<◌, ◌≤◌, ◌+◌, length, take, drop, sym, subst, arith}
 use Rattle.master.specs.World.{world}
 use Rattle.replay.specs.Adopting.{HasLoaded, Stops}
 use Rattle.replay.proofs.LoadList.{new_first, new_rest, drop_at, take_at, stops_in_list, list_loaded, list_stopped}
-use Rattle.replay.proofs.LoadSteps.{has_kept, loads_further}
+use Rattle.replay.proofs.LoadSteps.{one_keeps, loads_more}
 use Rattle.replay.proofs.adopting.load_all.Goals as goal
 
 pub load_one-requires : goal.load_one-requires
@@ -39,8 +39,8 @@ loop-object-preserved g c =
     let after = world g.F.Fleet.state c.load_one.new.loading in
     let loaded = c.in_ok-load_one.ensures.loaded in (
       subst (λ ps. HasLoaded ps before after) (sym (take_at os i o within c.object-item.is))
-          (loads_further (take i os) (o ∷ []) before now after c.loop-object.invariant.0 loaded),
-      new_rest o (drop i os) (drop (i + 1) os) now after (drop_at os i o within c.object-item.is) (has_kept (o ∷ []) now after loaded)
+          (loads_more (take i os) o before now after c.loop-object.invariant.0 loaded),
+      new_rest o (drop i os) (drop (i + 1) os) now after (drop_at os i o within c.object-item.is) (one_keeps o now after loaded)
           c.loop-object.invariant.1,
     )
 
@@ -49,7 +49,7 @@ returns-clause-loaded g c =
     let os = c.args.objects.now in
     let past : length os ≤ c.loop-object.object-index = omega arith in
     list_loaded os c.loop-object.object-index (world g.F.Fleet.state c.args.loading.now) (world g.F.Fleet.state c.loop-object.loading)
-    (world g.F.Fleet.state c.push_all.new.loading) past c.loop-object.invariant.0 c.push_all.result c.push_all.ensures.went_on
+    (world g.F.Fleet.state c.push_all.new.loading) past c.loop-object.invariant.0 c.push_all.result c.push_all.ensures.pushed
 
 pub returns-clause-stopped : goal.returns-clause-stopped
 returns-clause-stopped g c =

@@ -1,56 +1,58 @@
-use Rattle.std.proofs.Common.{rules, [], ◌∷◌, ap, inl}
+use Rattle.std.proofs.Common.{◌<◌, ap, refl, subst}
+use Rattle.std.proofs.lemmas.Result.{err_from_is_err_and}
 use Rattle.master.specs.World.{world}
-use Rattle.replay.specs.Adopting.{Stops}
-use Rattle.replay.proofs.LoadList.{new_still, load_same, load_not_nothing}
-use Rattle.replay.proofs.LoadSteps.{has_kept, loads_more, loads_further, loads_none_at, stops_at, stops_later, stops_of_more}
+use Rattle.replay.specs.Adopting.{ops_left}
+use Rattle.replay.proofs.LoadList.{new_still, load_not_nothing, room_kept, one_loaded, one_declined, more_room, no_room}
+use Rattle.replay.proofs.LoadRoom.{rolled_fewer}
 use Rattle.replay.proofs.adopting.load_one.Goals as goal
 
 pub load_object-requires : goal.load_object-requires
 load_object-requires g c =
     let before = world g.F.Fleet.state c.args.loading.now in
     let now = world g.F.Fleet.state c.loop-refusal.loading in
-    record { object = new_still c.args.object.now before now (has_kept [] before now c.loop-refusal.invariant) c.requires }
+    record { object = new_still c.args.object.now before now (room_kept c.args.object.now before now c.loop-refusal.invariant) c.requires }
+
+pub loop-refusal-init : goal.loop-refusal-init
+loop-refusal-init g c = (0, refl)
 
 pub returns-in-Ok-clause-loaded : goal.returns-in-Ok-clause-loaded
 returns-in-Ok-clause-loaded g c =
-    let before = world g.F.Fleet.state c.args.loading.now in
-    let now = world g.F.Fleet.state c.loop-refusal.loading in
-    let after = world g.F.Fleet.state c.load_object.new.self in
-    loads_more [] (c.args.object.now ∷ []) before now after c.loop-refusal.invariant
-    (c.in-Ok.ensures.loaded, ap g.F.Fleet.state c.in-Ok.ensures.fleet)
+    one_loaded _ _ _ _ c.loop-refusal.invariant c.in-Ok.ensures.loaded (ap g.F.Fleet.state c.in-Ok.ensures.fleet)
 
 pub loop-refusal-preserved : goal.loop-refusal-preserved
 loop-refusal-preserved g c =
-    let before = world g.F.Fleet.state c.args.loading.now in
+    more_room _ _ _ _ _ c.in-Err.refusal c.loop-refusal.invariant c.in-Err.ensures.refused (ap g.F.Fleet.state c.in-Err.ensures.fleet)
+    c.in-Rolling.is c.in_ok-make_room-in-Rolling.ensures.rolled
+
+pub loop-refusal-smaller : goal.loop-refusal-smaller
+loop-refusal-smaller g c =
     let now = world g.F.Fleet.state c.loop-refusal.loading in
     let mid = world g.F.Fleet.state c.load_object.new.self in
     let after = world g.F.Fleet.state c.make_room.new.loading in
-    let same = load_same c.args.object.now now mid c.in-Err.refusal c.in-Err.ensures.refused (ap g.F.Fleet.state c.in-Err.ensures.fleet) in
-    loads_further [] [] before mid after (loads_further [] [] before now mid c.loop-refusal.invariant (loads_none_at now mid same))
-    c.in_ok-make_room-in-Rolling.ensures.went_on
+    subst (λ f. ops_left after.fleet < ops_left f) (ap g.F.Fleet.state c.in-Err.ensures.fleet)
+    (rolled_fewer mid after c.in_ok-make_room-in-Rolling.ensures.rolled)
 
 pub returns-in_err-make_room-in-Rolling-clause-stopped : goal.returns-in_err-make_room-in-Rolling-clause-stopped
 returns-in_err-make_room-in-Rolling-clause-stopped g c =
-    let before = world g.F.Fleet.state c.args.loading.now in
-    let now = world g.F.Fleet.state c.loop-refusal.loading in
-    let mid = world g.F.Fleet.state c.load_object.new.self in
-    let after = world g.F.Fleet.state c.make_room.new.loading in
-    let same = load_same c.args.object.now now mid c.in-Err.refusal c.in-Err.ensures.refused (ap g.F.Fleet.state c.in-Err.ensures.fleet) in
-    let r = c.in_err-make_room-in-Rolling.field-0.0 in
-    let stops : Stops (c.args.object.now ∷ []) before r after =
-    stops_of_more [] (c.args.object.now ∷ []) before after r
-    (stops_later [] [] before mid after r (loads_further [] [] before now mid c.loop-refusal.invariant (loads_none_at now mid same))
-    c.in_err-make_room-in-Rolling.ensures.stopped) in
-    search (rules, stops)
+    let ends = c.in_err-make_room-in-Rolling.ensures.stopped in
+    let failed = err_from_is_err_and c.from_residual.result c.from_residual.ensures.1 in
+    rw (failed.1, failed.2) (
+      no_room _ _ _ _ _ c.in-Err.refusal c.loop-refusal.invariant c.in-Err.ensures.refused (ap g.F.Fleet.state c.in-Err.ensures.fleet)
+          c.in-Rolling.is _ ends.0,
+      ends.1,
+    )
 
 pub returns-in_default : goal.returns-in_default
 returns-in_default g c =
-    let before = world g.F.Fleet.state c.args.loading.now in
     let now = world g.F.Fleet.state c.loop-refusal.loading in
     let after = world g.F.Fleet.state c.load_object.new.self in
     record {
       loaded = tt;
-      stopped = stops_at [] (c.args.object.now ∷ []) before now after c.in-Err.refusal c.loop-refusal.invariant
-          (inl (c.in-Err.ensures.refused, ap g.F.Fleet.state c.in-Err.ensures.fleet)) c.in_default.not-Rolling
-          (load_not_nothing c.args.object.now now.knows after.knows c.in-Err.refusal c.in-Err.ensures.refused);
+      stopped = (
+        one_declined _ _ _ _ _ c.loop-refusal.invariant c.in-Err.ensures.refused (ap g.F.Fleet.state c.in-Err.ensures.fleet),
+        (
+          c.in_default.not-Rolling,
+          load_not_nothing c.args.object.now now.knows after.knows c.in-Err.refusal c.in-Err.ensures.refused,
+        ),
+      );
     }
