@@ -1,5 +1,5 @@
 //! Runs of a new master: its steps, the turns of a cleaner, what it tells of a command before it is applied, the sizes
-//! of its live objects, what it frees, and that it does what the plain programs do.
+//! of its live objects, copies of its records, what it frees, and that it does what the plain programs do.
 
 use crate::answers::{Call, passed_by_new};
 use crate::asks::Ask;
@@ -97,8 +97,8 @@ const QUESTIONS: &[Call] = &[
     Call::Counts(1, 0, 1),
 ];
 
-/// Four keys, of which `a` is put twice and `b` is deleted; the first put lies in a closed segment. What is left has the
-/// places of `a`, of `longer t`, and of `A` in table 2, each with 23 bytes, those of the key, and those of the value.
+/// Four keys, of which `a` is put twice and `b` is deleted; the first put lies in a closed segment. What is left has
+/// the places of `a`, of `longer t`, and of `A` in table 2. Each has 23 bytes, those of its key and its value's.
 const SIZED: &[Call] = &[
     Call::Run(&[
         Push(2),
@@ -121,7 +121,7 @@ const SIZED: &[Call] = &[
 
 const TWENTY: &[u8] = b"a value of 20 bytes.";
 
-/// Two records with a value that is too long to be kept in place.
+/// Two records with a value of more than 15 bytes.
 const COPIED: &[Call] = &[
     Call::Run(&[Push(2), Write(1, b"a", TWENTY), Get(b"a")]),
     Call::Copy(0, (b"a", TWENTY, ("ok", 1), b"")),
