@@ -2,6 +2,7 @@
 use Rattle.std.proofs.Common.{◌≡◌, ℕ, inl, inr, ⊎_elim, Bool, true, false, cond, Option, Some, None, List, refl, sym, ap, ◌∙◌, subst}
 use Rattle.std.specs.Prelude.{◌^◌, ◌==◌, ◌&&◌, not, nat_lt, length}
 use Rattle.std.specs.Option.{option_map_or}
+use Rattle.std.proofs.lemmas.Bool.{and_from, and_left, not-true}
 use Rattle.cleaner.specs.declared.fault.PassFault.{PassFault}
 use Rattle.cleaner.specs.declared.pass.Pass.{Pass as OpenPass}
 use Rattle.cleaner.specs.Passes.{is_at_end}
@@ -59,25 +60,12 @@ not_memory e = absurd (cc)
 
 -- ---- the next step
 
-not_true : (b : Bool) → not b ≡ true → b ≡ false
-not_true true e = absurd (cc)
-not_true false e = refl
-
-both : (a b : Bool) → a ≡ true → b ≡ true → (a && b) ≡ true
-both true true ea eb = refl
-both true false ea eb = absurd (cc)
-both false b ea eb = absurd (cc)
-
-closed_not : (a b : Bool) → a ≡ false → (a && b) ≡ false
-closed_not true b e = absurd (cc)
-closed_not false b e = refl
-
 module _ (s t : World) where
   abbrev Never : Step → Type 0
   Never step = Declines s step Nothing t → ⊥
 
   pushes : is_open s.knows.head ≡ false → Never Push
-  pushes closed (inl x) = awake s.knows.is_halted _ (closed_not (is_open s.knows.head) (fewest (length s.knows.head.units) s.knows.head.taken == length s.knows.head.units) closed) x.0
+  pushes closed (inl x) = awake s.knows.is_halted _ (and_left (is_open s.knows.head) (fewest (length s.knows.head.units) s.knows.head.taken == length s.knows.head.units) closed) x.0
   pushes closed (inr x) = x.1
 
   rolls : Never BeginRoll
@@ -93,7 +81,7 @@ module _ (s t : World) where
     copies more x = ⊎_elim (λ e. busy s.knows.is_halted _ (in_pass (λ (q : OpenPass). not (is_at_end q)) more) e) (λ e. not_memory (sym e.1)) x.1
 
     seals : not (is_at_end p) ≡ false → nat_lt p.sealed s.knows.config.replicas ≡ true → Never Seal
-    seals done more (inl x) = busy s.knows.is_halted _ (in_pass (λ (q : OpenPass). is_at_end q && nat_lt q.sealed s.knows.config.replicas) (both _ _ (at_end (is_at_end p) done) more)) x.0
+    seals done more (inl x) = busy s.knows.is_halted _ (in_pass (λ (q : OpenPass). is_at_end q && nat_lt q.sealed s.knows.config.replicas) (and_from _ _ (at_end (is_at_end p) done) more)) x.0
       where
         at_end : (b : Bool) → not b ≡ false → b ≡ true
         at_end true e = refl
@@ -112,7 +100,7 @@ module _ (s t : World) where
       go false false false ea eb ec = pushes ec
 
   frees : not (length s.knows.waiting == 0) ≡ true → Never Free
-  frees waits (inl x) = awake s.knows.is_halted _ (not_true (length s.knows.waiting == 0) waits) x.0
+  frees waits (inl x) = awake s.knows.is_halted _ (not-true (length s.knows.waiting == 0) waits) x.0
   frees waits (inr x) = x.1
 
   begins : (ids : List ℕ) → Never (BeginClean ids)
@@ -128,7 +116,7 @@ module _ (s t : World) where
     picks a b c = cond a (Some Push) (cond b (Some Free) (cond c (Some (BeginClean (chosen s.knows))) None))
 
     go : (a b c : Bool) → not (is_open s.knows.head) ≡ a → not (length s.knows.waiting == 0) ≡ b → NeverIn (picks a b c)
-    go true b c ea eb = pushes (not_true (is_open s.knows.head) ea)
+    go true b c ea eb = pushes (not-true (is_open s.knows.head) ea)
     go false true c ea eb = frees eb
     go false false true ea eb = begins (chosen s.knows)
     go false false false ea eb = tt

@@ -30,11 +30,6 @@ get_at [] i x l h = absurd (omega arith)
 get_at (y ∷ ys) zero x l h = ap Some (sym h)
 get_at (y ∷ ys) (suc i) x l h = get_at ys i x (omega (arith, l)) h
 
-pub in_list : {X : Type 0} (xs : List X) (i : ℕ) (a : X) → slice_get xs i ≡ Some a → i < length xs
-in_list [] i a e = absurd (cc)
-in_list (x ∷ xs) zero a e = omega arith
-in_list (x ∷ xs) (suc i) a e = omega (arith, in_list xs i a e)
-
 set_there : {X : Type 0} (xs : List X) (i : ℕ) (a : X) → i < length xs → slice_get (set xs i a) i ≡ Some a
 set_there [] i a l = absurd (omega arith)
 set_there (x ∷ xs) zero a l = refl
