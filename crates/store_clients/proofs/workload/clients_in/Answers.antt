@@ -1,0 +1,28 @@
+use Rattle.std.proofs.Common.{ℕ, arith, ap, refl, sym, subst}
+use Rattle.locked_log.specs.Made.{Made, IsMade}
+use Rattle.locked_log.specs.Sharing.{AreOfSeats, AreSeatsAfter}
+use Rattle.locked_log.proofs.Lasting.{made_at_first}
+use Rattle.store_clients.proofs.Counts.{accepted, fits}
+use Rattle.store_clients.proofs.workload.clients_in.Goals as goal
+
+pub share-requires-clause-made : goal.share-requires-clause-made
+share-requires-clause-made g c =
+    let d = c.args.master.knows in
+    subst (λ (m : Made). IsMade m d) (sym c.requires.made) (made_at_first 64 d)
+
+pub overflow_mul-result-in-Ok-outcome : goal.overflow_mul-result-in-Ok-outcome
+overflow_mul-result-in-Ok-outcome g c =
+    omega (arith, fits c.args.work.rounds c.args.work.clients c.requires.rounds c.requires.clients)
+
+pub returns-in-Ok-outcome-clause-accepted : goal.returns-in-Ok-outcome-clause-accepted
+returns-in-Ok-outcome-clause-accepted g c =
+    let old = c.args.master.knows.history in
+    let d = c.take_back-master.result.0.knows in
+    let given = c.in-Ok.pair.1.items in
+    let seats = ap (λ (m : Made). m.seats) c.requires.made in
+    let back = c.in-Ok-outcome.ensures in
+    accepted c.args.work.clients c.args.work.rounds old d.history d refl given back.0 c.run_seats-outcome.new.seats.items
+    (omega (arith, c.requires.clients))
+    (subst (λ (n : ℕ). AreSeatsAfter old n given) c.requires.seats c.in-Ok.ensures)
+    back.1 back.2 (c.take_back-master.ensures.known c.if-is_known.true)
+    (subst (λ (n : ℕ). AreOfSeats n d.history) seats c.take_back-master.ensures.no_others)

@@ -1,0 +1,11 @@
+use Rattle.locked_log.specs.Made.{made_now}
+use Rattle.store_clients.proofs.workload.clients_over.Given as goal
+
+abbrev pub ghosts-clients_in-B-Naming : goal.ghosts-clients_in-B-Naming
+ghosts-clients_in-B-Naming g a = record { table = a.blank.table; made = made_now 64 a.master.knows }
+
+abbrev pub ghosts-clients_in-B-Labels : goal.ghosts-clients_in-B-Labels
+ghosts-clients_in-B-Labels g a = record { cells = a.blank.cells }
+
+abbrev pub ghosts-clients_in-B-Ledger : goal.ghosts-clients_in-B-Ledger
+ghosts-clients_in-B-Ledger g a = record { name = a.blank.name; parts = a.blank.parts }

@@ -1,0 +1,9 @@
+use Rattle.std.proofs.Common.{◌≡◌, List, ◌++◌}
+use Rattle.locked_log.specs.Seats.{SeatValue}
+use Rattle.store_clients.specs.Clients.{Matches}
+use Rattle.store_clients.specs.Workloads.{IsBack}
+use Rattle.store_clients.proofs.workload.gather.Given as goal
+
+abbrev pub invariant-loop-one : goal.invariant-loop-one
+invariant-loop-one g l =
+    (served : List SeatValue) × (l.seats.items ≡ l.fn.seats.items ++ served) × Matches IsBack l.yielded served

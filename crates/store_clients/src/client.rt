@@ -1,0 +1,105 @@
+//! A client: its rounds over a store.
+
+ghost use Rattle.std.specs.Prelude.{◌≡◌, ◌+◌, ◌*◌, ◌≤◌, ◌<◌, ◌^◌, IfOk, OnOk};
+
+use crate::task::Task;
+use entry::NoMemory;
+use gate::Gate;
+use locked_log::{CallFault, Naming, Seat, Store};
+use master::{Command, Refusal};
+use replica::Fleet;
+use std::sync::Wait;
+use std::thread::Promise;
+
+/// What a client hands back.
+#[derive(Drop)]
+pub struct Client<B: Naming> {
+    /// Its seat, or `None` if its thread could not be started.
+    pub seat: Option<Seat<B>>,
+    /// How many of its calls were accepted, or its first refusal.
+    pub calls: Result<u64, CallFault>,
+}
+
+/// What a client's thread ends with.
+#[derive(Drop)]
+pub(crate) struct Ended<B: Naming> {
+    pub(crate) seat: Seat<B>,
+    pub(crate) calls: Result<u64, CallFault>,
+}
+
+/// What a client's thread promises: so many rounds by the seat of this number, which has made so many records before.
+#[derive(Clone, Copy)]
+pub(crate) struct Rounds {
+    pub(crate) rounds: u64,
+    pub(crate) number: u64,
+    pub(crate) count: u64,
+}
+
+impl<B: Naming> Promise<Ended<B>> for Rounds {
+    ghost use Rattle.std.specs.Prelude.{◌≡◌, ◌*◌, ◌+◌, ◌≤◌, IfOk};
+
+    ghost kept_by = { λ p r. (r.seat.number ≡ p.number) × (p.count ≤ r.seat.count)
+        × IfOk r.calls (λ n. (n ≡ 2 * p.rounds) × (r.seat.count ≡ p.count + n)) };
+}
+
+/// All rounds of a client. The gate is told when its first put was answered, and of its end.
+pub(crate) fn serve<F: Fleet, B: Naming, R: Wait, G: Gate>(
+    rt: &R,
+    store: &Store<F, B>,
+    seat: Seat<B>,
+    task: Task,
+    gate: &G,
+) -> Ended<B>
+    requires { task.rounds < 2 ^ 62 }
+    ensures number { result.seat.number ≡ seat.number }
+    ensures count { seat.count ≤ result.seat.count }
+    ensures calls { IfOk result.calls (λ n. (n ≡ 2 * task.rounds) × (result.seat.count ≡ seat.count + n)) }
+{
+    let mut seat = seat;
+    let calls = serve_all(rt, store, &mut seat, task, gate);
+    gate.leave(task.client);
+    Ended { seat, calls }
+}
+
+/// All rounds of a client, up to the first refusal.
+fn serve_all<F: Fleet, B: Naming, R: Wait, G: Gate>(
+    rt: &R,
+    store: &Store<F, B>,
+    seat: &mut Seat<B>,
+    task: Task,
+    gate: &G,
+) -> Result<u64, CallFault>
+    requires { task.rounds < 2 ^ 62 }
+    ensures number { seat.new.number ≡ seat.old.number }
+    ensures count { seat.old.count ≤ seat.new.count }
+    ensures calls { IfOk result (λ n. (n ≡ 2 * task.rounds) × (seat.new.count ≡ seat.old.count + n)) }
+{
+    for round in 0..task.rounds {
+        call(rt, store, seat, task.put(round + 1))?;
+        if round == 0 {
+            gate.enter(task.client);
+        }
+        call(rt, store, seat, task.get())?;
+    }
+    Ok(2 * task.rounds)
+}
+
+/// One call, if there was memory for the command. The reply isn't looked at.
+fn call<F: Fleet, B: Naming, R: Wait>(
+    rt: &R,
+    store: &Store<F, B>,
+    seat: &mut Seat<B>,
+    command: Result<Command, NoMemory>,
+) -> Result<(), CallFault>
+    ensures number { seat.new.number ≡ seat.old.number }
+    ensures count { seat.old.count ≤ seat.new.count }
+    ensures one { OnOk result (seat.new.count ≡ seat.old.count + 1) }
+{
+    let Ok(command) = command else {
+        return Err(CallFault::Refused(Refusal::NoMemory));
+    };
+    if let Err(fault) = store.call(rt, seat, command) {
+        return Err(fault);
+    }
+    Ok(())
+}
