@@ -1,14 +1,17 @@
 -- What a call does to its seat, from what it did under the lock.
-use Rattle.std.proofs.Common.{◌≡◌, ◌≤◌, ◌+◌, ℕ, Ok, Err, refl, sym, ap, ◌∙◌, arith, ⊎_elim, inl, inr}
-use Rattle.std.specs.Prelude.{Result}
+use Rattle.std.proofs.Common.{◌≡◌, ◌≤◌, ◌+◌, ℕ, Bool, true, false, Some, Ok, Err, refl, sym, ap, ◌∙◌, arith, ⊎_elim, inl, inr}
+use Rattle.std.specs.Prelude.{Result, MatchBool}
 use Rattle.versioned_map.specs.declared.command.Command.{Command}
 use Rattle.versioned_map.specs.declared.command.Reply.{Reply}
+use Rattle.std.proofs.lemmas.Bool.{le-ltb}
+use Rattle.history_row.specs.Receipts.{Told}
 use Rattle.locked_log.specs.declared.fault.CallFault.{CallFault}
 use Rattle.locked_log.specs.declared.fault.CallFault.TheVariants.{Refused, Unsure, SeatUnknown, CellRefused}
-use Rattle.locked_log.specs.Applies.{AppliesHeld}
-use Rattle.locked_log.specs.Calls.{AppliesSeat, Calls, IsLeft, LeavesRefused}
+use Rattle.locked_log.specs.Applies.{AppliesHeld, Settles, DoesNotSettle}
+use Rattle.locked_log.specs.Calls.{AppliesSeat, Answers, Calls, IsLeft, LeavesRefused, met}
 use Rattle.locked_log.specs.Held.{Held}
-use Rattle.locked_log.specs.Seats.{SeatValue, record_by, told, noted, unnoted}
+use Rattle.locked_log.specs.Seats.{SeatValue, record_by, told, noted, unnoted, answered}
+use Rattle.locked_log.proofs.Counting.{some_is}
 
 -- what is done under the lock, as the seat sees it
 pub seat_of : (s t : Held) (m n : SeatValue) (command : Command) (r : Result (ℕ × Reply) CallFault) → AppliesHeld s m command r t n
@@ -62,3 +65,25 @@ left_call m n k command reply place (Unsure at e) first is same left = record {
 left_call m n k command reply place SeatUnknown first is same left = absurd left
 left_call m n k command reply place CellRefused first is same left =
     left_more m (noted m (told place (record_by m.number command reply))) k (same ∙ is) refl refl refl refl refl refl
+
+-- a record that was answered, whose receipt the seat gives
+pub answered_call : (m n k v : SeatValue) (command : Command) (reply : Reply) (place : ℕ) (t q r : Told) → m.first ≤ place
+    → n ≡ noted m (told place (record_by m.number command reply)) → k ≡ answered n place → v ≡ k → v.last ≡ Some t → q ≡ t → r ≡ t
+    → Answers m command reply r (record v { last = Some q })
+answered_call m n k v command reply place t q r first is done same last kept given =
+    let w = told place (record_by m.number command reply) in
+    let whole : v ≡ answered (noted m w) place = same ∙ done ∙ ap (λ (x : SeatValue). answered x place) is in
+    let note : t ≡ w = some_is (sym last ∙ ap (λ (x : SeatValue). x.last) whole) in
+    let q_is : q ≡ w = kept ∙ note in
+    let r_is : r ≡ w = given ∙ note in
+    record {
+      receipt_is = r_is ∙ ap (λ (p : ℕ). told p (record_by m.number command reply)) (sym (ap (λ (x : Told). x.place) r_is));
+      above = omega (arith, first, ap (λ (x : Told). x.place) r_is);
+      seat = (λ i. record (whole i) { last = Some (q_is i) }) ∙ ap (λ (x : Told). answered (noted m x) x.place) (sym r_is);
+    }
+
+-- a seat that is shown a place above all that it was answered
+pub meets : (r : Bool) (s t : Held) (m n : SeatValue) (place : ℕ) → m.first ≤ place
+    → MatchBool r (Settles s m place t n) (DoesNotSettle s m place t n) → MatchBool r (n ≡ met m place) ((n ≡ m) × (m.first ≤ place))
+meets true s t m n place above h = rw (le-ltb place m.first above) h.3
+meets false s t m n place above h = (h.2, above)

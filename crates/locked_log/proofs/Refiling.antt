@@ -30,7 +30,7 @@ get_at [] i x l h = absurd (omega arith)
 get_at (y ∷ ys) zero x l h = ap Some (sym h)
 get_at (y ∷ ys) (suc i) x l h = get_at ys i x (omega (arith, l)) h
 
-set_there : {X : Type 0} (xs : List X) (i : ℕ) (a : X) → i < length xs → slice_get (set xs i a) i ≡ Some a
+pub set_there : {X : Type 0} (xs : List X) (i : ℕ) (a : X) → i < length xs → slice_get (set xs i a) i ≡ Some a
 set_there [] i a l = absurd (omega arith)
 set_there (x ∷ xs) zero a l = refl
 set_there (x ∷ xs) (suc i) a l = set_there xs i a (omega arith)

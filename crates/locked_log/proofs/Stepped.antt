@@ -191,6 +191,9 @@ module _ {F : Type 0} (state : F → FleetState) (v x : StateValue F) (same : v 
   pub turned_state : IsState (record { world = w; book = v.book; total = v.total; row = v.row; is_refused = v.is_refused }) made
   turned_state = moved_state (held state v) w 1 made st kept valid stays
 
+  pub turned_lasts : Lasts 1 (held state x) (record { world = w; book = v.book; total = v.total; row = v.row; is_refused = v.is_refused })
+  turned_lasts = subst (λ (y : StateValue F). Lasts 1 (held state y) after_step) same (moved_lasts (held state v) w 1 kept)
+
   pub turned_nothing : asked ≡ turn.Next → answer ≡ Err refusal.Nothing → next_step x.master.knows ≡ None
   turned_nothing next nothing =
       absurd (next_works (world state v.master) w step (ap (step_of v.master.knows) (sym next) ∙ is)
