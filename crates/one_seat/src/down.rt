@@ -1,0 +1,202 @@
+//! Lines while there is no master: the fleet is limited, loses backups, and is recovered.
+
+ghost use Rattle.std.specs.Prelude.{◌≡◌, IfOk, IfSome};
+ghost use Rattle.backup.specs.State.{fleet_state};
+ghost use Rattle.one_seat.specs.Lives.{CanBegin, IsOpening};
+
+use crate::coordinator::{Coordinator, Found};
+use backup::MemoryFleet;
+use entry::NoMemory;
+use lines::{Line, parse_line};
+use master::{Config, Master, Refusal};
+use recovery::Rebuilt;
+use replay::adopt_list;
+use replica::{Bench, TakeFault};
+use script::{Answer, Options};
+use std::alloc::Global;
+use std::io::{BufRead, Write};
+use std::sync::Wait;
+use store_lines::{Dialogue, LineFault, tell};
+
+/// Runs lines until a recovery gives a master. None if no line follows.
+pub fn wait<R: Wait, I: BufRead + Drop, O: Write + Drop>(
+    rt: &R,
+    alloc: Global,
+    dialogue: &mut Dialogue<I, O>,
+    options: &Options,
+    coordinator: &mut Coordinator,
+    fleet: MemoryFleet,
+) -> Option<Master<MemoryFleet>>
+    ensures { IfSome result (λ m. IsOpening options.now m.knows) }
+{
+    let mut fleet = fleet;
+    for _ in rt.forever() {
+        let found = find_next(rt, alloc, dialogue, options, coordinator, &mut fleet)?;
+        match succeed(alloc, dialogue, options, coordinator, found, fleet) {
+            Ok(master) => return Some(master),
+            Err(left) => fleet = left,
+        }
+    }
+    unreachable!()
+}
+
+/// Runs lines until the table of the last master is found. None if no line follows.
+fn find_next<R: Wait, I: BufRead + Drop, O: Write + Drop>(
+    rt: &R,
+    alloc: Global,
+    dialogue: &mut Dialogue<I, O>,
+    options: &Options,
+    coordinator: &Coordinator,
+    fleet: &mut MemoryFleet,
+) -> Option<Found>
+    ensures { IfSome result (λ f. CanBegin options.now (fleet_state fleet.new) f.config) }
+{
+    for _ in rt.forever() {
+        if !dialogue.advance() {
+            return None;
+        }
+        if let Some(found) = run_text(alloc, dialogue, options, coordinator, fleet) {
+            return Some(found);
+        }
+    }
+    unreachable!()
+}
+
+/// Runs the line that was read. It answers the table of the last master, if it asks for that.
+fn run_text<I: BufRead + Drop, O: Write + Drop>(
+    alloc: Global,
+    dialogue: &mut Dialogue<I, O>,
+    options: &Options,
+    coordinator: &Coordinator,
+    fleet: &mut MemoryFleet,
+) -> Option<Found>
+    ensures { IfSome result (λ f. CanBegin options.now (fleet_state fleet.new) f.config) }
+{
+    let line = match parse_line(dialogue.lines.text()) {
+        Ok(line) => line,
+        Err(reason) => {
+            dialogue.refuse_line(reason);
+            return None;
+        }
+    };
+    if let Line::Recover { order } = line {
+        return match coordinator.find(alloc, options, fleet, order) {
+            Ok(found) => Some(found),
+            Err(answer) => {
+                dialogue.print(&answer);
+                None
+            }
+        };
+    }
+    match answer_of(alloc, options, fleet, line) {
+        Ok(answer) => dialogue.print(&answer),
+        Err(fault) => tell(dialogue, fault),
+    }
+    None
+}
+
+/// What a line answers while there is no master.
+fn answer_of(
+    alloc: Global,
+    options: &Options,
+    fleet: &mut MemoryFleet,
+    line: Line<'_>,
+) -> Result<Answer, LineFault> {
+    match line {
+        Line::Idle => Ok(Answer::Silent),
+        Line::Stop { takes } => {
+            fleet.limit(takes);
+            Ok(Answer::Stop(takes))
+        }
+        Line::Lose { backup } if backup >= options.backups => {
+            Err(LineFault::NoBackup(options.backups))
+        }
+        Line::Lose { backup } => {
+            fleet.lose(backup);
+            Ok(Answer::Lost(backup))
+        }
+        Line::Holdings => match fleet.inventory(alloc) {
+            Ok(inventory) => Ok(Answer::Holdings(inventory)),
+            Err(NoMemory) => Ok(Answer::Refused(Refusal::NoMemory)),
+        },
+        _ => Ok(Answer::Down),
+    }
+}
+
+/// Has the next master adopt the table, and frees the replicas of all others. If that fails, the fleet comes back.
+fn succeed<I: BufRead + Drop, O: Write + Drop>(
+    alloc: Global,
+    dialogue: &mut Dialogue<I, O>,
+    options: &Options,
+    coordinator: &mut Coordinator,
+    found: Found,
+    fleet: MemoryFleet,
+) -> Result<Master<MemoryFleet>, MemoryFleet>
+    requires { CanBegin options.now (fleet_state fleet) found.config }
+    ensures { IfOk result (λ m. IsOpening options.now m.knows) }
+{
+    let Found {
+        rebuilt,
+        config,
+        will,
+    } = found;
+    let number = config.master;
+    coordinator.used = number;
+    let mut master = adopt(alloc, dialogue, options, &rebuilt, config, fleet)?;
+    coordinator.master = number;
+    coordinator.will = will;
+    if !retire(dialogue, &mut master) {
+        return Err(master.crash());
+    }
+    dialogue.print(&Answer::Recovered(rebuilt));
+    Ok(master)
+}
+
+/// A master that begins with the table.
+fn adopt<I: BufRead + Drop, O: Write + Drop>(
+    alloc: Global,
+    dialogue: &mut Dialogue<I, O>,
+    options: &Options,
+    rebuilt: &Rebuilt,
+    config: Config,
+    fleet: MemoryFleet,
+) -> Result<Master<MemoryFleet>, MemoryFleet>
+    requires { CanBegin options.now (fleet_state fleet) config }
+    ensures { IfOk result (λ m. IsOpening options.now m.knows) }
+{
+    match adopt_list(alloc, rebuilt, config, fleet) {
+        Ok(master) => Ok(master),
+        Err((refusal, left)) => {
+            let mut left = left;
+            match refusal {
+                Refusal::Spent => {
+                    left.limit(u64::MAX);
+                    dialogue.print(&Answer::Stopped);
+                }
+                _ => dialogue.print(&Answer::Refused(refusal)),
+            }
+            Err(left)
+        }
+    }
+}
+
+/// Frees the replicas of all other masters. Answers whether that was done; if not, it was said why.
+fn retire<I: BufRead + Drop, O: Write + Drop>(
+    dialogue: &mut Dialogue<I, O>,
+    master: &mut Master<MemoryFleet>,
+) -> bool
+    ensures { master.new.knows ≡ master.old.knows }
+{
+    match master.retire() {
+        Ok(()) => true,
+        Err(TakeFault::Spent) => {
+            master.limit(u64::MAX);
+            dialogue.print(&Answer::Stopped);
+            false
+        }
+        Err(fault) => {
+            dialogue.print(&Answer::NotRetired(fault));
+            false
+        }
+    }
+}

@@ -1,0 +1,233 @@
+//! A life of a master, behind a store of one seat.
+
+use backup::MemoryFleet;
+use entry::NoMemory;
+use lines::Line;
+use locked_log::{CallFault, Naming, Receipt, Row, Seat, Store};
+use master::{Command, Record, Reply};
+use script::{Answer, Options};
+use std::alloc::Global;
+use std::io::{BufRead, Write};
+use std::sync::Wait;
+use store_lines::{Dialogue, LineFault, command_of, look_line, refuse, renew, turn_line};
+use tablet_will::Will;
+
+/// A store of one seat, and what the seat was answered.
+#[derive(Drop)]
+pub struct Life<B: Naming> {
+    alloc: Global,
+    pub store: Store<MemoryFleet, B>,
+    seats: Vec<Seat<B>>,
+    /// The receipts of all calls that were answered.
+    receipts: Vec<Receipt<B>>,
+    /// The replies that were printed. The last may be missing.
+    replies: Vec<Reply>,
+    /// How many calls made a record.
+    calls: usize,
+}
+
+impl<B: Naming> Life<B> {
+    /// A life in which no call was made.
+    pub fn new(alloc: Global, store: Store<MemoryFleet, B>, seats: Vec<Seat<B>>) -> Life<B> {
+        Life {
+            alloc,
+            store,
+            seats,
+            receipts: Vec::new(alloc),
+            replies: Vec::new(alloc),
+            calls: 0,
+        }
+    }
+
+    /// Runs one line. If it ends the life, it answers Crashed or Stopped.
+    pub fn run_line<R: Wait>(
+        &mut self,
+        rt: &R,
+        options: &Options,
+        will: &mut Will,
+        line: Line<'_>,
+    ) -> Result<Answer, LineFault> {
+        if let Some(command) = command_of(self.alloc, line)? {
+            return self.call(rt, command);
+        }
+        if let Some(answer) = turn_line(rt, self.alloc, &self.store, line)? {
+            return Ok(answer);
+        }
+        if let Some(answer) = look_line(rt, &self.store, line) {
+            return Ok(answer);
+        }
+        self.run_other(rt, options, will, line)
+    }
+
+    /// Runs a line that isn't a command, a turn or a look.
+    fn run_other<R: Wait>(
+        &mut self,
+        rt: &R,
+        options: &Options,
+        will: &mut Will,
+        line: Line<'_>,
+    ) -> Result<Answer, LineFault> {
+        match line {
+            Line::Stop { takes } => {
+                self.store.limit(rt, takes);
+                Ok(Answer::Stop(takes))
+            }
+            Line::Crash => Ok(Answer::Crashed),
+            Line::Will => Ok(renew(rt, self.alloc, &self.store, options, will)),
+            Line::Lose { backup } if backup >= options.backups => {
+                Err(LineFault::NoBackup(options.backups))
+            }
+            Line::Lose { .. } => Ok(Answer::Up),
+            Line::Recover { .. } => Ok(Answer::Up),
+            _ => Ok(Answer::Silent),
+        }
+    }
+
+    /// Calls with a command, and keeps the receipt.
+    fn call<R: Wait>(&mut self, rt: &R, command: Command) -> Result<Answer, LineFault> {
+        match call_first(rt, &self.store, &mut self.seats, command) {
+            Ok((reply, receipt)) => {
+                self.calls = self.calls.saturating_add(1);
+                match self.receipts.push(receipt) {
+                    Ok(()) => Ok(Answer::Reply(reply)),
+                    Err(_) => Err(LineFault::NoMemory),
+                }
+            }
+            Err(CallFault::Refused(refusal)) => Ok(refuse(rt, &self.store, refusal)),
+            Err(CallFault::Unsure(_, refusal)) => {
+                self.calls = self.calls.saturating_add(1);
+                Ok(refuse(rt, &self.store, refusal))
+            }
+            Err(CallFault::SeatUnknown) => Err(LineFault::SeatUnknown),
+            Err(CallFault::CellRefused) => Err(LineFault::CellRefused),
+        }
+    }
+
+    /// Keeps an answer that was printed, if it is a reply. Answers whether the life goes on.
+    pub fn keep(&mut self, answer: Answer) -> Result<bool, NoMemory> {
+        match answer {
+            Answer::Reply(reply) => {
+                match self.replies.push(reply) {
+                    Ok(()) => Ok(true),
+                    Err(_) => Err(NoMemory),
+                }
+            }
+            Answer::Crashed => Ok(false),
+            Answer::Stopped => Ok(false),
+            _ => Ok(true),
+        }
+    }
+
+    /// Closes the store, and says what of the receipts isn't so. The master is dropped, and the fleet is left.
+    pub fn close<I: BufRead + Drop, O: Write + Drop>(
+        self,
+        dialogue: &mut Dialogue<I, O>,
+    ) -> MemoryFleet {
+        let Life {
+            alloc: _,
+            store,
+            seats,
+            mut receipts,
+            replies,
+            calls,
+        } = self;
+        match store.close(seats) {
+            Ok((master, row)) => {
+                let mut row = row;
+                compare(
+                    dialogue,
+                    &mut row,
+                    receipts.as_mut_slice(),
+                    replies.as_slice(),
+                    calls,
+                    master.history(),
+                );
+                master.crash()
+            }
+            Err(master) => {
+                dialogue.say("refused Close");
+                master.crash()
+            }
+        }
+    }
+}
+
+/// A call of the only seat.
+fn call_first<B: Naming, R: Wait>(
+    rt: &R,
+    store: &Store<MemoryFleet, B>,
+    seats: &mut Vec<Seat<B>>,
+    command: Command,
+) -> Result<(Reply, Receipt<B>), CallFault> {
+    match seats.get_mut(0) {
+        Some(seat) => store.call(rt, seat, command),
+        None => Err(CallFault::SeatUnknown),
+    }
+}
+
+/// Says which receipts tell of something else than the history, and whether the history has other records.
+fn compare<B: Naming, I: BufRead + Drop, O: Write + Drop>(
+    dialogue: &mut Dialogue<I, O>,
+    row: &mut Row<B>,
+    receipts: &mut [Receipt<B>],
+    replies: &[Reply],
+    calls: usize,
+    history: &[Record],
+) {
+    if history.len() != calls {
+        dialogue.say("history differs");
+    }
+    for i in 0..receipts.len() {
+        let receipt = &mut receipts[i];
+        if !is_told(row, receipt, replies.get(i), history) {
+            dialogue.say_differs(receipt.place());
+        }
+    }
+}
+
+/// Whether the receipt's record is in the history at its place, of seat 0 and with this reply.
+fn is_told<B: Naming>(
+    row: &mut Row<B>,
+    receipt: &mut Receipt<B>,
+    reply: Option<&Reply>,
+    history: &[Record],
+) -> bool {
+    let place = receipt.place() as usize;
+    if place >= row.len() {
+        return false;
+    }
+    row.tell(receipt);
+    match history.get(place) {
+        Some(record) => record.seat == 0 && is_reply(&record.reply, reply),
+        None => false,
+    }
+}
+
+/// Whether the reply is the printed one, if that is known.
+fn is_reply(reply: &Reply, printed: Option<&Reply>) -> bool {
+    match printed {
+        Some(printed) => is_same(reply, printed),
+        None => true,
+    }
+}
+
+fn is_same(reply: &Reply, other: &Reply) -> bool {
+    match reply {
+        Reply::Found(version, value) => match other {
+            Reply::Found(same, bytes) => {
+                version.get() == same.get() && value.as_slice() == bytes.as_slice()
+            }
+            _ => false,
+        },
+        Reply::None => matches!(other, Reply::None),
+        Reply::Ok(version) => match other {
+            Reply::Ok(same) => version.get() == same.get(),
+            _ => false,
+        },
+        Reply::Mismatch(Some(version)) => match other {
+            Reply::Mismatch(Some(same)) => version.get() == same.get(),
+            _ => false,
+        },
+        Reply::Mismatch(None) => matches!(other, Reply::Mismatch(None)),
+    }
+}

@@ -1,0 +1,130 @@
+//! Runs the lines of one life.
+
+ghost use Rattle.std.specs.Prelude.{◌≡◌, ◌≤◌};
+ghost use Rattle.locked_log.specs.Ends.{IsFresh};
+ghost use Rattle.locked_log.specs.Made.{IsMade};
+ghost use Rattle.one_seat.specs.Lives.{IsOpening};
+
+use crate::life::Life;
+use backup::MemoryFleet;
+use lines::parse_line;
+use locked_log::{Blank, Naming, Store};
+use master::Master;
+use script::{Answer, Options, ScriptFault};
+use std::alloc::Global;
+use std::io::{BufRead, Write};
+use std::marker::Brand;
+use std::sync::Wait;
+use store_lines::{Dialogue, Part, take_all, tell};
+use tablet_will::Will;
+
+/// Runs lines through a store over this master, until the master is dropped or no line follows.
+pub fn live<R: Wait, I: BufRead + Drop, O: Write + Drop>(
+    rt: &R,
+    alloc: Global,
+    dialogue: &mut Dialogue<I, O>,
+    options: &Options,
+    will: &mut Will,
+    master: Master<MemoryFleet>,
+) -> MemoryFleet
+    requires { IsOpening options.now master.knows }
+{
+    match Blank::make(alloc, options.history, 1) {
+        Ok(blank) => {
+            live_in::<Brand, R, I, O>(rt, alloc, dialogue, options, will, blank, master)
+        }
+        Err(_) => {
+            dialogue.fail(ScriptFault::NoMemory);
+            master.crash()
+        }
+    }
+}
+
+/// The same with the parts of a store, which this brand names.
+fn live_in<B: Naming, R: Wait, I: BufRead + Drop, O: Write + Drop>(
+    rt: &R,
+    alloc: Global,
+    dialogue: &mut Dialogue<I, O>,
+    options: &Options,
+    will: &mut Will,
+    blank: Blank,
+    master: Master<MemoryFleet>,
+) -> MemoryFleet
+    requires fresh { IsFresh blank.row master.knows }
+    requires seats { (1 ≤ blank.seats) × (blank.seats ≤ 64) }
+    requires cells { (blank.cells ≡ B.cells) × (blank.seats ≡ B.made.seats) }
+    requires ledger { (blank.name ≡ B.name) × (blank.parts ≡ B.parts) }
+    requires mark { blank.table ≡ B.table }
+    requires made { IsMade B.made master.knows }
+{
+    match Store::<MemoryFleet, B>::new(alloc, blank, master) {
+        Ok((store, seats)) => {
+            let mut life = Life::new(alloc, store, seats);
+            run_lines(rt, dialogue, options, will, &mut life);
+            life.close(dialogue)
+        }
+        Err((_, master)) => {
+            dialogue.fail(ScriptFault::NoMemory);
+            master.crash()
+        }
+    }
+}
+
+/// Opens the head, and runs lines until the life ends or no line follows.
+fn run_lines<B: Naming, R: Wait, I: BufRead + Drop, O: Write + Drop>(
+    rt: &R,
+    dialogue: &mut Dialogue<I, O>,
+    options: &Options,
+    will: &mut Will,
+    life: &mut Life<B>,
+) {
+    // Nothing refuses these pushes but want of memory.
+    if take_all(rt, &life.store, Part::Pushes).is_err() {
+        dialogue.fail(ScriptFault::NoMemory);
+    }
+    for _ in rt.forever() {
+        if !dialogue.advance() || !run_text(rt, dialogue, options, will, life) {
+            return;
+        }
+    }
+}
+
+/// Runs the line that was read. Answers whether the life goes on.
+fn run_text<B: Naming, R: Wait, I: BufRead + Drop, O: Write + Drop>(
+    rt: &R,
+    dialogue: &mut Dialogue<I, O>,
+    options: &Options,
+    will: &mut Will,
+    life: &mut Life<B>,
+) -> bool {
+    let line = match parse_line(dialogue.lines.text()) {
+        Ok(line) => line,
+        Err(reason) => {
+            dialogue.refuse_line(reason);
+            return true;
+        }
+    };
+    match life.run_line(rt, options, will, line) {
+        Ok(answer) => print(dialogue, life, answer),
+        Err(fault) => {
+            tell(dialogue, fault);
+            true
+        }
+    }
+}
+
+/// Prints an answer, and keeps it. Answers whether the life goes on.
+fn print<B: Naming, I: BufRead + Drop, O: Write + Drop>(
+    dialogue: &mut Dialogue<I, O>,
+    life: &mut Life<B>,
+    answer: Answer,
+) -> bool {
+    dialogue.print(&answer);
+    match life.keep(answer) {
+        Ok(goes_on) => goes_on,
+        Err(_) => {
+            dialogue.fail(ScriptFault::NoMemory);
+            true
+        }
+    }
+}

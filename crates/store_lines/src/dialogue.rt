@@ -1,0 +1,115 @@
+//! The script that is run: its lines, and where their answers go.
+
+use lines::{LineReader, ReadFault, Reason, Taken};
+use script::{Answer, ScriptFault, write_answer};
+use std::alloc::Global;
+use std::io::{BufRead, Write};
+
+/// A script that is open. Lines come from the reader, and answers go to the writer.
+#[derive(Drop)]
+pub struct Dialogue<I: BufRead + Drop, O: Write + Drop> {
+    reader: I,
+    writer: O,
+    /// The lines, of which the last is shown.
+    pub lines: LineReader,
+    /// The number of the last line, from 1.
+    number: u64,
+    /// No line follows.
+    is_over: bool,
+    /// Why the run ends early.
+    fault: Option<ScriptFault>,
+}
+
+impl<I: BufRead + Drop, O: Write + Drop> Dialogue<I, O> {
+    /// A script of which no line was read.
+    pub fn new(alloc: Global, reader: I, writer: O) -> Dialogue<I, O> {
+        Dialogue {
+            reader,
+            writer,
+            lines: LineReader::new(alloc),
+            number: 0,
+            is_over: false,
+            fault: None,
+        }
+    }
+
+    /// Reads the next line. Answers whether there is one to be run.
+    pub fn advance(&mut self) -> bool {
+        if self.is_over {
+            return false;
+        }
+        self.number = self.number.saturating_add(1);
+        match self.lines.next_line(&mut self.reader, &mut self.writer) {
+            Ok(Taken::Ended) => true,
+            Ok(Taken::Last) => {
+                self.is_over = true;
+                true
+            }
+            Ok(Taken::Nothing) => {
+                self.is_over = true;
+                false
+            }
+            Ok(Taken::TooLong) => {
+                self.refuse_line(Reason::TooLong);
+                false
+            }
+            Err(fault) => {
+                self.fail(fault_of(fault));
+                false
+            }
+        }
+    }
+
+    /// Writes an answer.
+    pub fn print(&mut self, answer: &Answer) {
+        if write_answer(&mut self.writer, answer).is_err() {
+            self.fail(ScriptFault::WriteFailed);
+        }
+    }
+
+    /// Writes a line of words.
+    pub fn say(&mut self, words: &str) {
+        if writeln!(self.writer, "{words}").is_err() {
+            self.fail(ScriptFault::WriteFailed);
+        }
+    }
+
+    /// Writes that the record of a place isn't the one that its receipt tells of.
+    pub fn say_differs(&mut self, place: u64) {
+        if writeln!(self.writer, "receipt {place} differs").is_err() {
+            self.fail(ScriptFault::WriteFailed);
+        }
+    }
+
+    /// Ends the run at a bad line.
+    pub fn refuse_line(&mut self, reason: Reason) {
+        self.fail(ScriptFault::BadLine(self.number, reason));
+    }
+
+    /// Ends the run. Its first fault stays.
+    pub fn fail(&mut self, fault: ScriptFault) {
+        self.is_over = true;
+        if self.fault.is_none() {
+            self.fault = Some(fault);
+        }
+    }
+
+    /// Hands over what the writer holds back, and tells how the run ended.
+    pub fn end(&mut self) -> Result<(), ScriptFault> {
+        if self.writer.flush().is_err() {
+            self.fail(ScriptFault::WriteFailed);
+        }
+        match self.fault {
+            Some(fault) => Err(fault),
+            None => Ok(()),
+        }
+    }
+}
+
+fn fault_of(fault: ReadFault) -> ScriptFault {
+    match fault {
+        ReadFault::ReadFailed => ScriptFault::ReadFailed,
+        ReadFault::WriteFailed => ScriptFault::WriteFailed,
+        ReadFault::NoMemory => ScriptFault::NoMemory,
+    }
+}

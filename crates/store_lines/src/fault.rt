@@ -1,0 +1,35 @@
+//! Why a line has no answer.
+
+use crate::dialogue::Dialogue;
+use entry::NoMemory;
+use lines::Reason;
+use script::ScriptFault;
+use std::io::{BufRead, Write};
+
+/// Why a line has no answer.
+#[derive(Clone, Copy)]
+pub enum LineFault {
+    /// It names a backup that isn't there. This is how many there are.
+    NoBackup(u64),
+    NoMemory,
+    /// The store doesn't know the seat. Tests alone show that this never comes.
+    SeatUnknown,
+    /// A cell refused its record. Tests alone show that this never comes.
+    CellRefused,
+}
+
+impl From<NoMemory> for LineFault {
+    fn from(_fault: NoMemory) -> LineFault {
+        LineFault::NoMemory
+    }
+}
+
+/// Says why a line has no answer, and ends the run if nothing can follow.
+pub fn tell<I: BufRead + Drop, O: Write + Drop>(dialogue: &mut Dialogue<I, O>, fault: LineFault) {
+    match fault {
+        LineFault::NoBackup(backups) => dialogue.refuse_line(Reason::NoBackup(backups)),
+        LineFault::NoMemory => dialogue.fail(ScriptFault::NoMemory),
+        LineFault::SeatUnknown => dialogue.say("refused SeatUnknown"),
+        LineFault::CellRefused => dialogue.say("refused CellRefused"),
+    }
+}

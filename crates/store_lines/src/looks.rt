@@ -1,0 +1,107 @@
+//! What a store shows.
+
+use backup::MemoryFleet;
+use entry::{NoMemory, Row, Size};
+use lines::Line;
+use locked_log::{Naming, Store};
+use master::{Look, Refusal, Shown};
+use script::{Answer, Limits, Options, configuration};
+use std::alloc::Global;
+use std::sync::Wait;
+use tablet_will::{Will, WillFault, make_will};
+
+/// What a line that changes nothing shows, of the store. None if it is no such line.
+pub fn look_line<B: Naming, R: Wait>(
+    rt: &R,
+    store: &Store<MemoryFleet, B>,
+    line: Line<'_>,
+) -> Option<Answer> {
+    let (look, segment) = look_of(line)?;
+    Some(match store.look(rt, look) {
+        Ok(shown) => answer_of(shown, segment),
+        Err(NoMemory) => Answer::Refused(Refusal::NoMemory),
+    })
+}
+
+/// What a line wants to see, and of which segment.
+fn look_of(line: Line<'_>) -> Option<(Look, u64)> {
+    match line {
+        Line::Log => Some((Look::Digest, 0)),
+        Line::Room => Some((Look::Room, 0)),
+        Line::Hex { segment } => Some((Look::Image(segment), segment)),
+        Line::Holdings => Some((Look::Holdings, 0)),
+        _ => None,
+    }
+}
+
+/// What is printed of what is shown.
+fn answer_of(shown: Shown, segment: u64) -> Answer {
+    match shown {
+        Shown::Digest(ids) => Answer::Log(ids),
+        Shown::Room(used, free) => Answer::Room(used, free),
+        Shown::Image(Some(bytes)) => Answer::Hex(bytes),
+        Shown::Image(None) => Answer::NotInLog(segment),
+        Shown::Holdings(inventory) => Answer::Holdings(inventory),
+        Shown::Sizes(_) => Answer::Silent,
+    }
+}
+
+/// Makes the will of the live objects in place of another, which stays at a refusal.
+pub fn renew<B: Naming, R: Wait>(
+    rt: &R,
+    alloc: Global,
+    store: &Store<MemoryFleet, B>,
+    options: &Options,
+    will: &mut Will,
+) -> Answer {
+    let limits = Limits {
+        bytes: options.bytes,
+        objects: options.objects,
+    };
+    let Some(sizes) = sizes(rt, store) else {
+        return Answer::Refused(Refusal::NoMemory);
+    };
+    match will_of(alloc, options, &sizes) {
+        Ok(made) => replace(alloc, will, made, limits),
+        Err(WillFault::NoMemory) => Answer::Refused(Refusal::NoMemory),
+        Err(_) => Answer::BadLimits(limits),
+    }
+}
+
+/// The sizes of the live objects.
+fn sizes<B: Naming, R: Wait>(rt: &R, store: &Store<MemoryFleet, B>) -> Option<Row<Size>> {
+    match store.look(rt, Look::Sizes) {
+        Ok(shown) => sizes_in(shown),
+        Err(NoMemory) => None,
+    }
+}
+
+fn sizes_in(shown: Shown) -> Option<Row<Size>> {
+    match shown {
+        Shown::Sizes(sizes) => Some(sizes),
+        _ => None,
+    }
+}
+
+/// The will of objects of these sizes.
+fn will_of(alloc: Global, options: &Options, sizes: &Row<Size>) -> Result<Will, WillFault> {
+    let config = configuration(alloc, options, 1)?;
+    make_will(
+        alloc,
+        config.tablets.as_slice(),
+        sizes.as_slice(),
+        options.bytes,
+        options.objects,
+    )
+}
+
+/// Puts a will in the place of another, and answers its parts.
+fn replace(alloc: Global, will: &mut Will, made: Will, limits: Limits) -> Answer {
+    match Vec::from_slice(alloc, made.parts()) {
+        Ok(parts) => {
+            *will = made;
+            Answer::Will(Row::new(parts), limits)
+        }
+        Err(_) => Answer::Refused(Refusal::NoMemory),
+    }
+}

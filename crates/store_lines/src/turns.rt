@@ -1,0 +1,172 @@
+//! Steps of the cleaner and of the log, by turns of the store.
+
+use crate::command::row_of;
+use crate::fault::LineFault;
+use backup::MemoryFleet;
+use entry::{NoMemory, Row};
+use lines::Line;
+use locked_log::{CleanTurn, Naming, Store};
+use master::{Look, Refusal, Shown, StepAnswer};
+use script::Answer;
+use std::alloc::Global;
+use std::sync::Wait;
+
+/// Turns of one kind.
+#[derive(Clone, Copy)]
+pub enum Part {
+    Pushes,
+    Copies,
+    Seals,
+    Frees,
+}
+
+impl Part {
+    fn turn(self) -> CleanTurn {
+        match self {
+            Part::Pushes => CleanTurn::Push,
+            Part::Copies => CleanTurn::Copy,
+            Part::Seals => CleanTurn::Seal,
+            Part::Frees => CleanTurn::Free,
+        }
+    }
+}
+
+/// What a line of the log or of the cleaner answers. None if it is no such line.
+pub fn turn_line<B: Naming, R: Wait>(
+    rt: &R,
+    alloc: Global,
+    store: &Store<MemoryFleet, B>,
+    line: Line<'_>,
+) -> Result<Option<Answer>, LineFault> {
+    match line {
+        Line::Roll => Ok(Some(roll(rt, store))),
+        Line::Clean { segments } => Ok(Some(clean(rt, store, row_of(alloc, segments)?))),
+        _ => match turn_of(alloc, line)? {
+            Some(turn) => Ok(Some(take_turn(rt, store, turn))),
+            None => Ok(None),
+        },
+    }
+}
+
+/// The turn of a line that makes one step.
+fn turn_of(alloc: Global, line: Line<'_>) -> Result<Option<CleanTurn>, LineFault> {
+    match line {
+        Line::BeginRoll => Ok(Some(CleanTurn::BeginRoll)),
+        Line::Compact { segment } => Ok(Some(CleanTurn::Compact(segment))),
+        Line::Push => Ok(Some(CleanTurn::Push)),
+        Line::Begin { segments } => Ok(Some(CleanTurn::BeginClean(row_of(alloc, segments)?))),
+        Line::Copy => Ok(Some(CleanTurn::Copy)),
+        Line::Seal => Ok(Some(CleanTurn::Seal)),
+        Line::Free => Ok(Some(CleanTurn::Free)),
+        _ => Ok(None),
+    }
+}
+
+/// One step.
+fn take_turn<B: Naming, R: Wait>(rt: &R, store: &Store<MemoryFleet, B>, turn: CleanTurn) -> Answer {
+    match store.turn(rt, turn) {
+        Ok(answer) => answer_of(answer),
+        Err(refusal) => refuse(rt, store, refusal),
+    }
+}
+
+/// What is printed of a step.
+fn answer_of(answer: StepAnswer) -> Answer {
+    match answer {
+        StepAnswer::Applied(_, reply) => Answer::Reply(reply),
+        StepAnswer::Extended(backup, segment) => Answer::Extended(backup, segment),
+        StepAnswer::Opened(backup, segment) => Answer::Opened(backup, segment),
+        StepAnswer::Closed(backup, segment) => Answer::Closed(backup, segment),
+        StepAnswer::Rolling(id) => Answer::Opening(id),
+        StepAnswer::Compacted(segment, len) => Answer::Compacted(segment, len),
+        StepAnswer::Begun(survivor) => Answer::Begun(survivor),
+        StepAnswer::Moved => Answer::Moved,
+        StepAnswer::Carried => Answer::Carried,
+        StepAnswer::Dropped => Answer::Dropped,
+        StepAnswer::Sealed(backup) => Answer::Sealed(backup),
+        StepAnswer::Freed(segment, backup) => Answer::Freed(segment, backup),
+    }
+}
+
+/// What is printed of a refusal. If the fleet takes no more ops, this lifts the limit.
+pub fn refuse<B: Naming, R: Wait>(
+    rt: &R,
+    store: &Store<MemoryFleet, B>,
+    refusal: Refusal,
+) -> Answer {
+    match refusal {
+        Refusal::Spent => {
+            store.limit(rt, u64::MAX);
+            Answer::Stopped
+        }
+        _ => Answer::Refused(refusal),
+    }
+}
+
+/// Takes turns of one kind until nothing is left to do, or one is refused.
+pub fn take_all<B: Naming, R: Wait>(
+    rt: &R,
+    store: &Store<MemoryFleet, B>,
+    part: Part,
+) -> Result<(), Refusal> {
+    for _ in rt.forever() {
+        if let Err(refusal) = store.turn(rt, part.turn()) {
+            return match refusal {
+                Refusal::Nothing => Ok(()),
+                _ => Err(refusal),
+            };
+        }
+    }
+    unreachable!()
+}
+
+/// Begins a roll if none is under way, and pushes until nothing waits. Answers the head.
+fn roll_all<B: Naming, R: Wait>(rt: &R, store: &Store<MemoryFleet, B>) -> Result<u64, Refusal> {
+    match store.turn(rt, CleanTurn::BeginRoll) {
+        Ok(_) => {}
+        Err(Refusal::Rolling) => {}
+        Err(refusal) => return Err(refusal),
+    }
+    take_all(rt, store, Part::Pushes)?;
+    match store.look(rt, Look::Digest) {
+        Ok(shown) => head_in(&shown).ok_or(Refusal::NoMemory),
+        Err(NoMemory) => Err(Refusal::NoMemory),
+    }
+}
+
+/// The last of the ids that are shown: it is the head's.
+fn head_in(shown: &Shown) -> Option<u64> {
+    match shown {
+        Shown::Digest(ids) => ids.as_slice().last().copied(),
+        _ => None,
+    }
+}
+
+fn roll<B: Naming, R: Wait>(rt: &R, store: &Store<MemoryFleet, B>) -> Answer {
+    match roll_all(rt, store) {
+        Ok(head) => Answer::Head(head),
+        Err(refusal) => refuse(rt, store, refusal),
+    }
+}
+
+/// Cleans these segments, from the begin of a pass to the last free.
+fn clean<B: Naming, R: Wait>(rt: &R, store: &Store<MemoryFleet, B>, victims: Row<u64>) -> Answer {
+    match store.turn(rt, CleanTurn::BeginClean(victims)) {
+        Ok(StepAnswer::Begun(survivor)) => match finish_pass(rt, store) {
+            Ok(head) => Answer::Cleaned(survivor, head),
+            Err(refusal) => refuse(rt, store, refusal),
+        },
+        Ok(answer) => answer_of(answer),
+        Err(refusal) => refuse(rt, store, refusal),
+    }
+}
+
+/// Makes all of a pass that has begun. Answers the head that it ends with.
+fn finish_pass<B: Naming, R: Wait>(rt: &R, store: &Store<MemoryFleet, B>) -> Result<u64, Refusal> {
+    take_all(rt, store, Part::Copies)?;
+    take_all(rt, store, Part::Seals)?;
+    take_all(rt, store, Part::Pushes)?;
+    let head = roll_all(rt, store)?;
+    take_all(rt, store, Part::Frees)?;
+    Ok(head)
+}
