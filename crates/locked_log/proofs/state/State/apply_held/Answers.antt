@@ -1,14 +1,15 @@
-use Rattle.std.proofs.Common.{◌≡◌, rules, refl, ap, ◌∙◌, Ok, Err, true, List, get_or, subst}
+use Rattle.std.proofs.Common.{◌≡◌, rules, refl, ap, sym, ◌∙◌, Ok, Err, true, List, get_or, subst}
 use Rattle.versioned_map.specs.declared.command.Record.{Record}
 use Rattle.master_core.specs.declared.step.Step.TheVariants.{Apply}
 use Rattle.master_core.specs.declared.step.StepAnswer.{StepAnswer}
 use Rattle.master.specs.Steps.{Accepts}
-use Rattle.master.specs.World.{world}
+use Rattle.master.specs.World.{World, world}
 use Rattle.locked_log.specs.declared.fault.CallFault.TheVariants.{CellRefused}
-use Rattle.locked_log.specs.Held.{StateValue, held}
-use Rattle.locked_log.specs.States.{IsState, Knows}
+use Rattle.locked_log.specs.Held.{StateValue, Held, held}
+use Rattle.locked_log.specs.States.{IsState, Knows, Lasts}
 use Rattle.locked_log.proofs.Applied.{Done, declines_at, took, missed}
 use Rattle.locked_log.proofs.Few.{small}
+use Rattle.locked_log.proofs.Lasting.{lasts_same}
 use Rattle.locked_log.proofs.state.State.apply_held.Given.{Over}
 use Rattle.locked_log.proofs.state.State.apply_held.Goals as goal
 
@@ -18,6 +19,22 @@ returns-in-Err-clause-applies g c =
     let d = declines_at g.F.Fleet.state _ c.args.self.now c.self.view_is _ c.args.seat.now c.seat.view_is c.args.command c.in-Err.refusal _ c.in-Err.ensures.gives in
     let same : world g.F.Fleet.state c.step.new.self ≡ world g.F.Fleet.state c.self.inside.master = c.in-Err.ensures.gives.0 in
     (d, known, (λ i. record { world = same i; book = c.self.inside.book.items; total = c.self.inside.total.total; row = c.self.inside.row; is_refused = c.self.inside.is_refused }) ∙ ap (λ (y : StateValue _). held g.F.Fleet.state y) c.self.view_is, refl)
+
+pub returns-in-Err-clause-lasts : goal.returns-in-Err-clause-lasts
+returns-in-Err-clause-lasts g c =
+    let same : world g.F.Fleet.state c.step.new.self ≡ world g.F.Fleet.state c.self.inside.master = c.in-Err.ensures.gives.0 in
+    let back = (λ i. record { world = same i; book = c.self.inside.book.items; total = c.self.inside.total.total; row = c.self.inside.row; is_refused = c.self.inside.is_refused }) ∙ ap (λ (y : StateValue _). held g.F.Fleet.state y) c.self.view_is in
+    subst (λ (h : Held). Lasts 1 (held g.F.Fleet.state c.args.self.now) h) (sym back) (lasts_same 1 (held g.F.Fleet.state c.args.self.now))
+
+pub returns-in-Err-clause-valid : goal.returns-in-Err-clause-valid
+returns-in-Err-clause-valid g c =
+    let same : world g.F.Fleet.state c.step.new.self ≡ world g.F.Fleet.state c.self.inside.master = c.in-Err.ensures.gives.0 in
+    subst (λ (w : World). IsState (record { world = w; book = c.self.inside.book.items; total = c.self.inside.total.total; row = c.self.inside.row; is_refused = c.self.inside.is_refused }) g.B.Naming.made) (sym same) c.self.invariant
+
+pub invariant_of-self : goal.invariant_of-self
+invariant_of-self g c =
+    let same : world g.F.Fleet.state c.step.new.self ≡ world g.F.Fleet.state c.self.inside.master = c.in-Err.ensures.gives.0 in
+    subst (λ (w : World). IsState (record { world = w; book = c.self.inside.book.items; total = c.self.inside.total.total; row = c.self.inside.row; is_refused = c.self.inside.is_refused }) g.B.Naming.made) (sym same) c.self.invariant
 
 pub file-requires-clause-room : goal.file-requires-clause-room
 file-requires-clause-room g c =
