@@ -1,0 +1,100 @@
+//! Days of a master: what it has done in the morning, its clients and its cleaner, and what there is at the end.
+
+use crate::holding::Holding;
+use crate::masters::{Morning, RECORDS, has_no_pass, prepare, small_master};
+use backup::MemoryFleet;
+use gate::{Gate, NoGate};
+use locked_log::CallFault;
+use master::{Master, Refusal, Reply};
+use std::alloc::Global;
+use std::sync::Wait;
+use std::test::Fail;
+use std::thread::Threads;
+use store_clients::{Workload, clients_over};
+
+/// How many clients, how many rounds of each, and how many passes.
+type Work = (u64, u64, u64);
+
+/// The morning, the work, and what there is at the end: the count of accepted calls, or `None` for HistoryFull; the
+/// value that the last record found, or nothing; the records; and the head. No pass is open then.
+type Day = (Morning, Work, Option<u64>, &'static [u8], usize, u64);
+
+/// A pass takes the number of its survivor, and its commit that of a head.
+const DAYS: &[Day] = &[
+    (Morning::New, (2, 3, 0), Some(12), b"3", 12, 1),
+    (Morning::New, (0, 3, 1), Some(0), b"", 0, 1),
+    (Morning::New, (3, 0, 0), Some(0), b"", 0, 1),
+    (Morning::New, (1, 100, 0), None, b"12", 24, 2),
+    (Morning::Rolled, (0, 0, 0), Some(0), b"", 0, 2),
+    (Morning::Rolled, (0, 0, 1), Some(0), b"", 0, 4),
+    (Morning::Rolled, (0, 0, 2), Some(0), b"", 0, 6),
+    (Morning::Cleaning, (0, 0, 0), Some(0), b"", 0, 4),
+    (Morning::Cleaning, (2, 3, 1), Some(12), b"3", 12, 4),
+];
+
+/// Whether the last record found this value. Without records it is nothing.
+fn has_found(master: &Master<MemoryFleet>, value: &[u8]) -> bool {
+    match master.history().last() {
+        Some(record) => is_found(&record.reply, value),
+        None => value.is_empty(),
+    }
+}
+
+fn is_found(reply: &Reply, value: &[u8]) -> bool {
+    match reply {
+        Reply::Found(_, found) => found.as_slice() == value,
+        _ => false,
+    }
+}
+
+/// Whether it ended as the day says.
+fn is_wanted(
+    alloc: Global,
+    master: &mut Master<MemoryFleet>,
+    calls: &Result<u64, CallFault>,
+    day: &Day,
+) -> bool {
+    let (_, _, count, value, records, head) = day;
+    let is_answered = match calls {
+        Ok(n) => *count == Some(*n),
+        Err(CallFault::Refused(Refusal::HistoryFull)) => count.is_none(),
+        Err(_) => false,
+    };
+    let has_records = master.history().len() == *records;
+    let has_head = master.head() == *head;
+    let has_found = has_found(master, value);
+    is_answered && has_records && has_head && has_found && has_no_pass(alloc, master)
+}
+
+/// Whether the day ends as it says.
+fn ends_so<R: Threads + Wait + Sync, G: Gate + Sync>(rt: &R, alloc: Global, day: &Day, gate: &G) -> bool {
+    let Some(mut master) = small_master(alloc) else {
+        return false;
+    };
+    prepare(alloc, &mut master, day.0);
+    let (clients, rounds, passes) = day.1;
+    let work = Workload {
+        clients,
+        rounds,
+        passes,
+    };
+    let (mut master, calls) = clients_over(rt, alloc, master, RECORDS, work, gate);
+    is_wanted(alloc, &mut master, &calls, day)
+}
+
+#[test]
+fn days_end_as_wanted(rt: HostRuntime) -> Result<(), Fail> {
+    for (at, day) in DAYS.iter().enumerate() {
+        assert!(rt; ends_so(&rt, rt.alloc(), day, &NoGate), "day {at}");
+    }
+    Ok(())
+}
+
+/// Two clients are there at one time.
+#[test]
+fn clients_overlap(rt: HostRuntime) -> Result<(), Fail> {
+    let gate = Holding::new();
+    assert!(rt; ends_so(&rt, rt.alloc(), &DAYS[0], &gate));
+    assert!(rt; gate.has_seen());
+    Ok(())
+}

@@ -1,0 +1,120 @@
+//! A small master, and what it has done before its clients come.
+
+ghost use Rattle.std.specs.Prelude.{◌≡◌, None, IfSome};
+ghost use Rattle.master_core.specs.Config.{config_fault};
+
+use backup::MemoryFleet;
+use entry::{Row, Tablet, Tablets};
+use master::{Config, Master, PassFault, Refusal, Step};
+use std::alloc::Global;
+
+/// How many records its history may have.
+pub const RECORDS: u64 = 24;
+
+/// What a master has done before its clients come.
+#[derive(Clone, Copy)]
+pub enum Morning {
+    /// Nothing.
+    New,
+    /// It rolled once, so that segment 1 is closed and 2 is the head.
+    Rolled,
+    /// It rolled once, and then began a pass over segment 1.
+    Cleaning,
+}
+
+/// Three backups, two replicas and one table.
+fn small_config(alloc: Global) -> Option<Config>
+    ensures fault { IfSome result (λ c. config_fault c ≡ None) }
+    ensures records { IfSome result (λ c. c.history ≡ 24) }
+{
+    let tablets = &[Tablet {
+        table: 1,
+        first: 0,
+        last: u64::MAX,
+    }];
+    let Ok(tablets) = Vec::from_slice(alloc, tablets) else {
+        return None;
+    };
+    let config = Config {
+        master: 1,
+        backups: 3,
+        replicas: 2,
+        step: 1,
+        segment: 512,
+        seglet: 64,
+        seglets: 64,
+        tablets: Tablets::new(tablets),
+        history: RECORDS,
+    };
+    match config.check() {
+        Ok(()) => Some(config),
+        Err(_) => None,
+    }
+}
+
+/// A new master.
+pub fn small_master(alloc: Global) -> Option<Master<MemoryFleet>>
+    ensures { IfSome result (λ m. m.knows.config.history ≡ 24) }
+{
+    let config = small_config(alloc)?;
+    let Ok(fleet) = MemoryFleet::new(alloc, config.backups) else {
+        return None;
+    };
+    match Master::new(alloc, config, fleet) {
+        Ok(master) => Some(master),
+        Err(_) => None,
+    }
+}
+
+/// Makes so many pushes.
+fn push(master: &mut Master<MemoryFleet>, times: u64)
+    ensures { master.new.knows.config ≡ master.old.knows.config }
+{
+    for _ in 0..times {
+        let _answer = master.step(Step::Push);
+    }
+}
+
+/// Does what the master does in the morning.
+pub fn prepare(alloc: Global, master: &mut Master<MemoryFleet>, morning: Morning)
+    ensures { master.new.knows.config ≡ master.old.knows.config }
+{
+    match morning {
+        Morning::New => {}
+        Morning::Rolled => roll(master),
+        Morning::Cleaning => {
+            roll(master);
+            let _begun = begin(alloc, master, &[1]);
+        }
+    }
+}
+
+/// Opens the first head, and rolls to the second.
+fn roll(master: &mut Master<MemoryFleet>)
+    ensures { master.new.knows.config ≡ master.old.knows.config }
+{
+    push(master, 2);
+    let _rolling = master.step(Step::BeginRoll);
+    push(master, 4);
+}
+
+/// Begins a pass over these segments. If it is refused, says why.
+fn begin(alloc: Global, master: &mut Master<MemoryFleet>, victims: &[u64]) -> Option<Refusal>
+    ensures { master.new.knows.config ≡ master.old.knows.config }
+{
+    let Ok(victims) = Vec::from_slice(alloc, victims) else {
+        return Some(Refusal::NoMemory);
+    };
+    match master.step(Step::BeginClean(Row::new(victims))) {
+        Ok(_) => None,
+        Err(refusal) => Some(refusal),
+    }
+}
+
+/// Whether no pass is open.
+pub fn has_no_pass(alloc: Global, master: &mut Master<MemoryFleet>) -> bool {
+    matches!(
+        begin(alloc, master, &[]),
+        Some(Refusal::Pass(PassFault::NoVictims))
+    )
+}
