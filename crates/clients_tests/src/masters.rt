@@ -1,6 +1,7 @@
 //! A small master, and what it has done before its clients come.
 
-ghost use Rattle.std.specs.Prelude.{◌≡◌, None, IfSome};
+ghost use Rattle.std.specs.Prelude.{◌≡◌, ◌≤◌, ℕ, None, IfSome};
+ghost use Rattle.backup.specs.State.{fleet_state};
 ghost use Rattle.master_core.specs.Config.{config_fault};
 
 use backup::MemoryFleet;
@@ -52,14 +53,23 @@ fn small_config(alloc: Global) -> Option<Config>
     }
 }
 
+/// A fleet with the backups of the configuration. It holds nothing.
+fn new_fleet(alloc: Global, config: &Config) -> Option<MemoryFleet>
+    ensures backups { IfSome result (λ fleet. config.now.backups ≤ (fleet_state fleet).backups) }
+    ensures none { IfSome result (λ fleet. (b m s : ℕ) → (fleet_state fleet).picture b m s ≡ None) }
+{
+    match MemoryFleet::new(alloc, config.backups) {
+        Ok(fleet) => Some(fleet),
+        Err(_) => None,
+    }
+}
+
 /// A new master.
 pub fn small_master(alloc: Global) -> Option<Master<MemoryFleet>>
     ensures { IfSome result (λ m. m.knows.config.history ≡ 24) }
 {
     let config = small_config(alloc)?;
-    let Ok(fleet) = MemoryFleet::new(alloc, config.backups) else {
-        return None;
-    };
+    let fleet = new_fleet(alloc, &config)?;
     match Master::new(alloc, config, fleet) {
         Ok(master) => Some(master),
         Err(_) => None,

@@ -19,4 +19,4 @@ mod workload;
 
 pub use client::Client;
 pub use running::run_clients;
-pub use workload::{SEATS, Workload, clients_over};
+pub use workload::{Outcome, SEATS, Workload, clients_over};

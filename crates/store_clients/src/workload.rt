@@ -34,9 +34,21 @@ pub struct Workload {
     pub passes: u64,
 }
 
+/// What comes of clients over a master.
+#[derive(Drop)]
+pub struct Outcome<F: Fleet> {
+    /// The master, which goes on with its history.
+    pub master: Master<F>,
+    /// How many calls were accepted, or the first refusal, by lowest client.
+    pub calls: Result<u64, CallFault>,
+    /// Whether the store was closed as it should be, so that it could tell whose its records are.
+    pub is_known: bool,
+}
+
 /// Makes a store over the master, has the clients make their rounds beside a cleaner, and takes the master back. The
-/// answer is the count of accepted calls, or the first refusal, by lowest client. It is `SeatUnknown` too if the store
-/// can't tell whose its records are. The history of the master may have just so many records.
+/// history of the master may have just so many records. If all calls were accepted, but the store can't tell whose its
+/// records are, or not all are durable, the refusal is `SeatUnknown`. This comes only if no call was made over records
+/// that weren't durable.
 pub fn clients_over<F: Fleet + Send, R: Threads + Wait + Sync, G: Gate + Sync>(
     rt: &R,
     alloc: Global,
@@ -44,21 +56,27 @@ pub fn clients_over<F: Fleet + Send, R: Threads + Wait + Sync, G: Gate + Sync>(
     records: u64,
     work: Workload,
     gate: &G,
-) -> (Master<F>, Result<u64, CallFault>)
+) -> Outcome<F>
     requires records { records ≡ master.knows.config.history }
     requires clients { work.clients ≤ 63 }
     requires rounds { work.rounds < 2 ^ 40 }
-    ensures made { IsMade (made_now 64 master.knows) result.0.knows }
-    ensures valid { IsValid result.0.knows (F.state result.0.fleet) }
-    ensures count { IfOk result.1 (λ n. n ≡ 2 * work.rounds * work.clients) }
-    ensures durable { OnOk result.1 (durable_of (log_of result.0.knows) ≡ length result.0.knows.history) }
-    ensures accepted { OnOk result.1
-        (AreAccepted work.clients work.rounds master.knows.history result.0.knows.history) }
+    ensures made { IsMade (made_now 64 master.knows) result.master.knows }
+    ensures valid { IsValid result.master.knows (F.state result.master.fleet) }
+    ensures count { IfOk result.calls (λ n. n ≡ 2 * work.rounds * work.clients) }
+    ensures durable { OnOk result.calls
+        (durable_of (log_of result.master.knows) ≡ length result.master.knows.history) }
+    ensures known { OnOk result.calls (IsTrue result.is_known) }
+    ensures accepted { OnOk result.calls
+        (AreAccepted work.clients work.rounds master.knows.history result.master.knows.history) }
 {
     master.show_valid();
     match Blank::make(alloc, records, SEATS) {
         Ok(blank) => clients_in::<F, Brand, R, G>(rt, alloc, blank, master, work, gate),
-        Err(_) => (master, Err(CallFault::Refused(Refusal::NoMemory))),
+        Err(_) => Outcome {
+            master,
+            calls: Err(CallFault::Refused(Refusal::NoMemory)),
+            is_known: true,
+        },
     }
 }
 
@@ -70,7 +88,7 @@ fn clients_in<F: Fleet + Send, B: Naming + Send + Sync, R: Threads + Wait + Sync
     master: Master<F>,
     work: Workload,
     gate: &G,
-) -> (Master<F>, Result<u64, CallFault>)
+) -> Outcome<F>
     requires empty { blank.row ≡ replicate master.knows.config.history None }
     requires seats { blank.seats ≡ 64 }
     requires cells { (blank.cells ≡ B.cells) × (blank.seats ≡ B.made.seats) }
@@ -79,26 +97,46 @@ fn clients_in<F: Fleet + Send, B: Naming + Send + Sync, R: Threads + Wait + Sync
     requires made { B.made ≡ made_now 64 master.knows }
     requires clients { work.clients ≤ 63 }
     requires rounds { work.rounds < 2 ^ 40 }
-    ensures made { IsMade (made_now 64 master.knows) result.0.knows }
-    ensures valid { IsValid result.0.knows (F.state result.0.fleet) }
-    ensures count { IfOk result.1 (λ n. n ≡ 2 * work.rounds * work.clients) }
-    ensures durable { OnOk result.1 (durable_of (log_of result.0.knows) ≡ length result.0.knows.history) }
-    ensures accepted { OnOk result.1
-        (AreAccepted work.clients work.rounds master.knows.history result.0.knows.history) }
+    ensures made { IsMade (made_now 64 master.knows) result.master.knows }
+    ensures valid { IsValid result.master.knows (F.state result.master.fleet) }
+    ensures count { IfOk result.calls (λ n. n ≡ 2 * work.rounds * work.clients) }
+    ensures durable { OnOk result.calls
+        (durable_of (log_of result.master.knows) ≡ length result.master.knows.history) }
+    ensures known { OnOk result.calls (IsTrue result.is_known) }
+    ensures accepted { OnOk result.calls
+        (AreAccepted work.clients work.rounds master.knows.history result.master.knows.history) }
 {
     master.show_valid();
     let (store, mut seats) = match Store::<F, B>::share(alloc, blank, master) {
         Ok(pair) => pair,
-        Err((fault, master)) => return (master, Err(fault_of(fault))),
+        Err((fault, master)) => {
+            return Outcome {
+                master,
+                calls: Err(fault_of(fault)),
+                is_known: true,
+            };
+        }
     };
     let outcome = run_seats(rt, alloc, &store, &mut seats, work, gate);
     let (master, is_known) = take_back(store, seats);
-    // The last record is an answered one, so all are durable. Tests alone show that.
+    // If any call was made, the last record is an answered one, so all are durable. Tests alone show that.
     let is_durable = master.durable() == master.history().len() as u64;
     match outcome {
-        Ok(()) if is_known && is_durable => (master, Ok(2 * work.rounds * work.clients)),
-        Ok(()) => (master, Err(CallFault::SeatUnknown)),
-        Err(fault) => (master, Err(fault)),
+        Ok(()) if is_known && is_durable => Outcome {
+            master,
+            calls: Ok(2 * work.rounds * work.clients),
+            is_known,
+        },
+        Ok(()) => Outcome {
+            master,
+            calls: Err(CallFault::SeatUnknown),
+            is_known,
+        },
+        Err(fault) => Outcome {
+            master,
+            calls: Err(fault),
+            is_known,
+        },
     }
 }
 
