@@ -1,5 +1,5 @@
-//! The tests of clients: days of a small master whose clients and cleaner make their rounds and passes, and that two
-//! clients are there at one time.
+//! The tests of clients: days of a small master whose clients and cleaner make their rounds and passes, that two clients
+//! are there at one time, and that the mark waits for nobody.
 #![tactic(auto)]
 
 #[cfg(test)]
@@ -7,4 +7,8 @@ mod days;
 #[cfg(test)]
 mod holding;
 #[cfg(test)]
+mod marks;
+#[cfg(test)]
 mod masters;
+#[cfg(test)]
+mod slow;

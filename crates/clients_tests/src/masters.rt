@@ -24,7 +24,7 @@ pub enum Morning {
 }
 
 /// Three backups, two replicas and one table.
-fn small_config(alloc: Global) -> Option<Config>
+pub fn small_config(alloc: Global) -> Option<Config>
     ensures fault { IfSome result (λ c. config_fault c ≡ None) }
     ensures records { IfSome result (λ c. c.history ≡ 24) }
 {
@@ -54,7 +54,7 @@ fn small_config(alloc: Global) -> Option<Config>
 }
 
 /// A fleet with the backups of the configuration. It holds nothing.
-fn new_fleet(alloc: Global, config: &Config) -> Option<MemoryFleet>
+pub fn new_fleet(alloc: Global, config: &Config) -> Option<MemoryFleet>
     ensures backups { IfSome result (λ fleet. config.now.backups ≤ (fleet_state fleet).backups) }
     ensures none { IfSome result (λ fleet. (b m s : ℕ) → (fleet_state fleet).picture b m s ≡ None) }
 {

@@ -9,10 +9,22 @@ use std::test::Fail;
 /// Puts and a delete whose conditions hold or don't.
 const CONDITIONS: &[(usize, Act)] = &[
     (0, Act::Calls(Do::Put(b"a", b"x", If::Absent), 0, ("ok", 1))),
-    (0, Act::Calls(Do::Put(b"a", b"x", If::Absent), 1, ("mismatch", 1))),
-    (0, Act::Calls(Do::Put(b"a", b"x", If::Version(1)), 2, ("ok", 2))),
-    (0, Act::Calls(Do::Put(b"a", b"x", If::Version(1)), 3, ("mismatch", 2))),
-    (0, Act::Calls(Do::Put(b"b", b"y", If::Version(1)), 4, ("mismatch", 0))),
+    (
+        0,
+        Act::Calls(Do::Put(b"a", b"x", If::Absent), 1, ("mismatch", 1)),
+    ),
+    (
+        0,
+        Act::Calls(Do::Put(b"a", b"x", If::Version(1)), 2, ("ok", 2)),
+    ),
+    (
+        0,
+        Act::Calls(Do::Put(b"a", b"x", If::Version(1)), 3, ("mismatch", 2)),
+    ),
+    (
+        0,
+        Act::Calls(Do::Put(b"b", b"y", If::Version(1)), 4, ("mismatch", 0)),
+    ),
     (0, Act::Calls(Do::Delete(b"b"), 5, ("none", 0))),
     (0, Act::Counts(6, 6)),
 ];
@@ -24,9 +36,15 @@ const LONG: &[u8] = &[b'x'; 77];
 /// it, and is answered behind it.
 const UNSURE: &[(usize, Act)] = &[
     (0, Act::Calls(Do::Put(b"a", b"x", If::Any), 0, ("ok", 1))),
-    (0, Act::Fails(Do::Put(b"a", LONG, If::Any), ("refused", 0, "TooBig"))),
+    (
+        0,
+        Act::Fails(Do::Put(b"a", LONG, If::Any), ("refused", 0, "TooBig")),
+    ),
     (0, Act::Limits(1)),
-    (0, Act::Fails(Do::Put(b"b", b"y", If::Any), ("unsure", 1, "Spent"))),
+    (
+        0,
+        Act::Fails(Do::Put(b"b", b"y", If::Any), ("unsure", 1, "Spent")),
+    ),
     (0, Act::Counts(1, 2)),
     (0, Act::Limits(u64::MAX)),
     (0, Act::Calls(Do::Get(b"b"), 2, ("found", 2))),
@@ -114,13 +132,19 @@ const TURNED: &[(usize, Act)] = &[
 
 #[test]
 fn one_seat(rt: HostRuntime) -> Result<(), Fail> {
-    assert_eq!(rt; run_day(&rt, rt.alloc(), 1, CONDITIONS), Some((CONDITIONS.len(), 6)));
+    assert_eq!(rt;
+        run_day(&rt, rt.alloc(), 1, CONDITIONS),
+        Some((CONDITIONS.len(), 6))
+    );
     Ok(())
 }
 
 #[test]
 fn unsure(rt: HostRuntime) -> Result<(), Fail> {
-    assert_eq!(rt; run_day(&rt, rt.alloc(), 1, UNSURE), Some((UNSURE.len(), 3)));
+    assert_eq!(rt;
+        run_day(&rt, rt.alloc(), 1, UNSURE),
+        Some((UNSURE.len(), 3))
+    );
     Ok(())
 }
 
@@ -132,6 +156,9 @@ fn met(rt: HostRuntime) -> Result<(), Fail> {
 
 #[test]
 fn turned(rt: HostRuntime) -> Result<(), Fail> {
-    assert_eq!(rt; run_day(&rt, rt.alloc(), 1, TURNED), Some((TURNED.len(), 16)));
+    assert_eq!(rt;
+        run_day(&rt, rt.alloc(), 1, TURNED),
+        Some((TURNED.len(), 16))
+    );
     Ok(())
 }

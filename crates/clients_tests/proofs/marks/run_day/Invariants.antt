@@ -1,0 +1,11 @@
+use Rattle.locked_log.specs.Made.{made_now}
+use Rattle.clients_tests.proofs.marks.run_day.Given as goal
+
+abbrev pub ghosts-day-B-Naming : goal.ghosts-day-B-Naming
+ghosts-day-B-Naming g a = record { table = a.blank.table; made = made_now a.blank.seats a.master.knows }
+
+abbrev pub ghosts-day-B-Labels : goal.ghosts-day-B-Labels
+ghosts-day-B-Labels g a = record { cells = a.blank.cells }
+
+abbrev pub ghosts-day-B-Ledger : goal.ghosts-day-B-Ledger
+ghosts-day-B-Ledger g a = record { name = a.blank.name; parts = a.blank.parts }
