@@ -83,13 +83,13 @@ fn run_text<I: BufRead + Drop, O: Write + Drop>(
         return match coordinator.find(alloc, options, fleet, order) {
             Ok(found) => Some(found),
             Err(answer) => {
-                dialogue.print(&answer);
+                dialogue.answer(answer);
                 None
             }
         };
     }
     match answer_of(alloc, options, fleet, line) {
-        Ok(answer) => dialogue.print(&answer),
+        Ok(answer) => dialogue.answer(answer),
         Err(fault) => tell(dialogue, fault),
     }
     None
@@ -148,7 +148,7 @@ fn succeed<I: BufRead + Drop, O: Write + Drop>(
     if !retire(dialogue, &mut master) {
         return Err(master.crash());
     }
-    dialogue.print(&Answer::Recovered(rebuilt));
+    dialogue.answer(Answer::Recovered(rebuilt));
     Ok(master)
 }
 
@@ -171,9 +171,9 @@ fn adopt<I: BufRead + Drop, O: Write + Drop>(
             match refusal {
                 Refusal::Spent => {
                     left.limit(u64::MAX);
-                    dialogue.print(&Answer::Stopped);
+                    dialogue.answer(Answer::Stopped);
                 }
-                _ => dialogue.print(&Answer::Refused(refusal)),
+                _ => dialogue.answer(Answer::Refused(refusal)),
             }
             Err(left)
         }
@@ -191,11 +191,11 @@ fn retire<I: BufRead + Drop, O: Write + Drop>(
         Ok(()) => true,
         Err(TakeFault::Spent) => {
             master.limit(u64::MAX);
-            dialogue.print(&Answer::Stopped);
+            dialogue.answer(Answer::Stopped);
             false
         }
         Err(fault) => {
-            dialogue.print(&Answer::NotRetired(fault));
+            dialogue.answer(Answer::NotRetired(fault));
             false
         }
     }

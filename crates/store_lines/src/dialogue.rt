@@ -67,6 +67,11 @@ impl<I: BufRead + Drop, O: Write + Drop> Dialogue<I, O> {
         }
     }
 
+    /// Writes an answer that nobody needs any longer.
+    pub fn answer(&mut self, answer: Answer) {
+        self.print(&answer);
+    }
+
     /// Writes a line of words.
     pub fn say(&mut self, words: &str) {
         if writeln!(self.writer, "{words}").is_err() {

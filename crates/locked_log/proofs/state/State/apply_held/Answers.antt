@@ -1,4 +1,4 @@
-use Rattle.std.proofs.Common.{◌≡◌, rules, refl, ap, sym, ◌∙◌, Ok, Err, true, List, get_or, subst}
+use Rattle.std.proofs.Common.{◌≡◌, rules, refl, ap, sym, ◌∙◌, Ok, Err, true, ℕ, ◌≤◌, List, [], ◌∷◌, length, length-append, get_or, subst, inl, arith}
 use Rattle.versioned_map.specs.declared.command.Record.{Record}
 use Rattle.master_core.specs.declared.step.Step.TheVariants.{Apply}
 use Rattle.master_core.specs.declared.step.StepAnswer.{StepAnswer}
@@ -7,6 +7,9 @@ use Rattle.master.specs.World.{World, world}
 use Rattle.locked_log.specs.declared.fault.CallFault.TheVariants.{CellRefused}
 use Rattle.locked_log.specs.Held.{StateValue, Held, held}
 use Rattle.locked_log.specs.States.{IsState, Knows, Lasts}
+use Rattle.master_core.specs.declared.config.Config.{Config}
+use Rattle.locked_log.specs.Seats.{record_by}
+use Rattle.locked_log.proofs.Adding.{place_is, history_is}
 use Rattle.locked_log.proofs.Applied.{Done, declines_at, took, missed}
 use Rattle.locked_log.proofs.Few.{small}
 use Rattle.locked_log.proofs.Lasting.{lasts_same}
@@ -85,3 +88,54 @@ returns-clause-lasts g c = (done-took g c).lasts
 
 pub returns-clause-valid : goal.returns-clause-valid
 returns-clause-valid g c = (done-took g c).valid
+
+-- ---- before the step
+
+pub returns-then-self-clause-applies : goal.returns-then-self-clause-applies
+returns-then-self-clause-applies g c = inl (ap (λ (y : StateValue _). y.is_refused) (sym c.self.view_is) ∙ c.if-self.true, refl, refl)
+
+pub returns-then-self-clause-lasts : goal.returns-then-self-clause-lasts
+returns-then-self-clause-lasts g c = lasts_same 1 (held g.F.Fleet.state c.args.self.now)
+
+pub returns-then-self-clause-valid : goal.returns-then-self-clause-valid
+returns-then-self-clause-valid g c =
+    subst (λ (y : StateValue _). IsState (held g.F.Fleet.state y) g.B.Naming.made) c.self.view_is c.self.invariant
+
+pub returns-then-not-knows-clause-applies : goal.returns-then-not-knows-clause-applies
+returns-then-not-knows-clause-applies g c = (λ k. let yes = c.knows.ensures.1 k in let no = c.if-not-knows.true in cc, refl, refl)
+
+pub returns-then-not-knows-clause-lasts : goal.returns-then-not-knows-clause-lasts
+returns-then-not-knows-clause-lasts g c = lasts_same 1 (held g.F.Fleet.state c.args.self.now)
+
+pub returns-then-not-knows-clause-valid : goal.returns-then-not-knows-clause-valid
+returns-then-not-knows-clause-valid g c =
+    subst (λ (y : StateValue _). IsState (held g.F.Fleet.state y) g.B.Naming.made) c.self.view_is c.self.invariant
+
+-- ---- the place of the record
+
+pub bounds-history-place : goal.bounds-history-place
+bounds-history-place g c =
+    let old = world g.F.Fleet.state c.self.inside.master in
+    let new = world g.F.Fleet.state c.step.new.self in
+    let accepted = subst (λ (a : StepAnswer). Accepts old (Apply c.seat.inside.number c.args.command) a new) c.in-Ok-Applied.field-0-is c.in-Ok-Applied.ensures.gives in
+    let at_end = place_is old new c.seat.inside.number c.args.command c.in-Ok-Applied.place c.in-Ok-Applied.reply accepted in
+    let more = history_is old new c.seat.inside.number c.args.command c.in-Ok-Applied.place c.in-Ok-Applied.reply accepted in
+    let one = length-append old.knows.history (record_by c.seat.inside.number c.args.command c.in-Ok-Applied.reply ∷ []) in
+    omega (arith, at_end, ap length more, one, ap length c.history.ensures)
+
+pub file-requires-clause-cell : goal.file-requires-clause-cell
+file-requires-clause-cell g c =
+    let old = world g.F.Fleet.state c.self.inside.master in
+    let new = world g.F.Fleet.state c.step.new.self in
+    let accepted = subst (λ (a : StepAnswer). Accepts old (Apply c.seat.inside.number c.args.command) a new) c.in-Ok-Applied.field-0-is c.in-Ok-Applied.ensures.gives in
+    let at_end = place_is old new c.seat.inside.number c.args.command c.in-Ok-Applied.place c.in-Ok-Applied.reply accepted in
+    let more = history_is old new c.seat.inside.number c.args.command c.in-Ok-Applied.place c.in-Ok-Applied.reply accepted in
+    let one = length-append old.knows.history (record_by c.seat.inside.number c.args.command c.in-Ok-Applied.reply ∷ []) in
+    let most : length new.knows.history ≤ new.knows.config.history = c.step.ensures.valid.history in
+    let same = ap (λ (k : Config). k.history) (c.step.ensures.keeps.config ∙ c.self.invariant.master.config) in
+    omega (arith, at_end, ap length more, one, most, same, c.self.invariant.cells)
+
+pub file-requires-clause-known : goal.file-requires-clause-known
+file-requires-clause-known g c =
+    let known : Knows c.args.self.now.book c.args.seat.now = c.knows.ensures.0 (search rules) in
+    subst (λ (y : StateValue _). Knows y.book c.args.seat.now) (sym c.self.view_is) known
