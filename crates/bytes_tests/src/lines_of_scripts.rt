@@ -38,7 +38,19 @@ const GOOD: &[(&str, &str)] = &[
     ("copy", "Ok(Copy)"),
     ("seal", "Ok(Seal)"),
     ("free", "Ok(Free)"),
+    (
+        "clients 1 1 0",
+        "Ok(Clients { clients: 1, rounds: 1, passes: 0 })",
+    ),
+    (
+        "clients 63 1000000 18446744073709551615",
+        "Ok(Clients { clients: 63, rounds: 1000000, passes: 18446744073709551615 })",
+    ),
 ];
+
+/// What a line of clients has.
+const CLIENTS: &str =
+    "clients has a number of clients (1 to 63), of rounds (1 to 1000000) and of passes";
 
 /// Bad lines, and why each is bad.
 const BAD: &[(&[u8], &str)] = &[
@@ -76,6 +88,10 @@ const BAD: &[(&[u8], &str)] = &[
     ),
     (
         b"begin 1 -2",
+        "a number has digits, no sign and no leading zero, and is below 2^64",
+    ),
+    (
+        b"clients 1 1 18446744073709551616",
         "a number has digits, no sign and no leading zero, and is below 2^64",
     ),
     (
@@ -155,6 +171,12 @@ const BAD: &[(&[u8], &str)] = &[
     (b"will 1", "will has nothing behind it"),
     (b"crash 1", "crash has nothing behind it"),
     (b"copy 1", "copy has nothing behind it"),
+    (b"clients 4 100", CLIENTS),
+    (b"clients 4 100 5 6", CLIENTS),
+    (b"clients 0 1 0", CLIENTS),
+    (b"clients 64 1 0", CLIENTS),
+    (b"clients 1 0 0", CLIENTS),
+    (b"clients 1 1000001 0", CLIENTS),
 ];
 
 /// Whether the line of this text is shown so.

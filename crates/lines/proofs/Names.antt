@@ -1,10 +1,10 @@
 -- Words are those of one line at most, which their first word decides.
-use Rattle.std.proofs.Common.{◌≡◌, ◌∙◌, ◌==◌, ◌+◌, ◌^◌, ◌<◌, ◌∷◌, [], None, ap, sym, ℕ, List, Bool, get_or, drop, map, cond, codes, arith}
+use Rattle.std.proofs.Common.{◌≡◌, ◌∙◌, ◌==◌, ◌+◌, ◌^◌, ◌<◌, ◌≤◌, ◌∷◌, [], None, ap, sym, ℕ, List, Bool, get_or, drop, map, cond, codes, arith}
 use Rattle.std.specs.Str.Parse.{digits_value}
 use Rattle.std.specs.Fmt.{decimal}
 use Rattle.lines.specs.Grammar.{LineValue, words_of}
 use Rattle.lines.specs.Grammar.{Idle, Put, New, Cas, Get, Del, Compact, Roll, BeginRoll, Push, Log, Room, Hex, Stop, Crash, Lose, Will, Recover, Holdings}
-use Rattle.lines.specs.Grammar.{Clean, Begin, Copy, Seal, Free}
+use Rattle.lines.specs.Grammar.{Clean, Begin, Copy, Seal, Free, Clients}
 use Rattle.lines.specs.declared.line.ReplayOrder.{ReplayOrder}
 use Rattle.lines.specs.declared.line.ReplayOrder.TheVariants.{Forward, Reverse}
 use Rattle.lines.specs.Words.{AreWordsOf, ReadsWords}
@@ -56,7 +56,8 @@ line_of ws =
     (cond (are_named (codes "begin") ws) (Begin (numbers_behind ws))
     (cond (are_named (codes "copy") ws) Copy
     (cond (are_named (codes "seal") ws) Seal
-    (cond (are_named (codes "free") ws) Free Idle))))))))))))))))))))))
+    (cond (are_named (codes "free") ws) Free
+    (cond (are_named (codes "clients") ws) (Clients (number_at 1 ws) (number_at 2 ws) (number_at 3 ws)) Idle)))))))))))))))))))))))
 
 pub line_is : (words : List (List ℕ)) (line : LineValue) → AreWordsOf words line → line_of words ≡ line
 line_is words Idle are = absurd are
@@ -86,6 +87,11 @@ line_is words (Begin ns) are = ap line_of are.spelled ∙ ap Begin (values ns ar
 line_is words Copy are = ap line_of are.spelled
 line_is words Seal are = ap line_of are.spelled
 line_is words Free are = ap line_of are.spelled
+line_is words (Clients c n p) are =
+    let rounds = digits_value 10 (decimal n) in
+    let passes = digits_value 10 (decimal p) in
+    ap line_of are.spelled ∙ (ap (λ m. Clients m rounds passes) (value c (omega (arith, are.limits.0.1)))
+    ∙ (ap (λ m. Clients c m passes) (value n (omega (arith, are.limits.1.1))) ∙ ap (Clients c n) (value p are.limits.2)))
 
 -- no version is behind the key of `cas`
 pub no_version : (rest behind : List (List ℕ)) (t : ℕ) (k : List ℕ) → rest ≡ decimal t ∷ k ∷ behind
@@ -95,3 +101,12 @@ no_version rest behind t k is none (Cas u l n v) are =
     none n (v ∷ []) are.limits.2 (ap (drop 3) (sym (ap (λ ws. codes "cas" ∷ ws) is) ∙ are.spelled))
 no_version rest behind t k is none line are =
     let names : sum_of (codes "cas") ≡ sum_of (word_at 0 (words_of line)) = ap (λ ws. sum_of (word_at 0 ws)) are.spelled in absurd (omega arith)
+
+-- no number of rounds is behind that of the clients
+pub no_rounds : (rest behind : List (List ℕ)) (c : ℕ) → rest ≡ decimal c ∷ behind
+    → ((n : ℕ) (ws : List (List ℕ)) → 1 ≤ n → n ≤ 1000000 → behind ≡ decimal n ∷ ws → ⊥) → ReadsWords (codes "clients" ∷ rest) None
+no_rounds rest behind c is none Idle are = are
+no_rounds rest behind c is none (Clients d n p) are =
+    none n (decimal p ∷ []) are.limits.1.0 are.limits.1.1 (ap (drop 2) (sym (ap (λ ws. codes "clients" ∷ ws) is) ∙ are.spelled))
+no_rounds rest behind c is none line are =
+    let names : sum_of (codes "clients") ≡ sum_of (word_at 0 (words_of line)) = ap (λ ws. sum_of (word_at 0 ws)) are.spelled in absurd (omega arith)

@@ -31,6 +31,11 @@ pub is_number : (word : List ℕ) (result : Option ℕ) → IfSome result (λ n.
 is_number word (Some n) is small none = (λ _. number_word word n small is, λ _. refl)
 is_number word None is small none = (λ some. absurd (cc), λ number. absurd (none refl (digits_value 10 word) number.small number.spelled))
 
+-- a first word is one number only
+pub same_number : (words left rest : List (List ℕ)) (m n : ℕ) → m < 2 ^ 64 → n < 2 ^ 64 → words ≡ decimal m ∷ left → words ≡ decimal n ∷ rest → m ≡ n
+same_number words left rest m n small also is other =
+    sym (value m small) ∙ (ap (λ ws. digits_value 10 (get_or ws 0 [])) (sym is ∙ other) ∙ value n also)
+
 -- ---- several numbers
 
 pub values : (ns : List ℕ) → All IsSmall ns → map (digits_value 10) (map decimal ns) ≡ ns

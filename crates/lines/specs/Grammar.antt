@@ -36,6 +36,7 @@ pub data LineValue : Type 0 where
   Copy : LineValue
   Seal : LineValue
   Free : LineValue
+  Clients : (clients rounds passes : ℕ) → LineValue
 
 -- the value of a line of the program
 abbrev pub shown_line : Line → LineValue
@@ -63,6 +64,7 @@ shown_line (line.Begin segments) = Begin (numbers_of segments)
 shown_line line.Copy = Copy
 shown_line line.Seal = Seal
 shown_line line.Free = Free
+shown_line (line.Clients clients rounds passes) = Clients clients rounds passes
 
 -- ---- words
 
@@ -109,8 +111,14 @@ words_of (Begin segments) = codes "begin" ∷ map decimal segments
 words_of Copy = codes "copy" ∷ []
 words_of Seal = codes "seal" ∷ []
 words_of Free = codes "free" ∷ []
+words_of (Clients clients rounds passes) = codes "clients" ∷ decimal clients ∷ decimal rounds ∷ decimal passes ∷ []
 
--- the numbers of the line have 64 bits, its key is a key, and a list of segments has one or more
+-- the number is one from `least` to `most`
+abbrev pub IsWithin : ℕ → ℕ → ℕ → Type 0
+IsWithin least most n = (least ≤ n) × (n ≤ most)
+
+-- The numbers of the line have 64 bits, its key is a key, and a list of segments has one or more.
+-- There are 1 to 63 clients, and 1 to 1,000,000 rounds.
 abbrev pub IsLine : LineValue → Type 0
 IsLine Idle = Unit {0}
 IsLine (Put table key value) = (table < 2 ^ 64) × IsKeyWord key
@@ -136,6 +144,7 @@ IsLine (Begin segments) = (0 < length segments) × All (λ n. n < 2 ^ 64) segmen
 IsLine Copy = Unit {0}
 IsLine Seal = Unit {0}
 IsLine Free = Unit {0}
+IsLine (Clients clients rounds passes) = IsWithin 1 63 clients × IsWithin 1 1000000 rounds × (passes < 2 ^ 64)
 
 -- the text is empty or begins with `#`
 abbrev pub IsIdle : List ℕ → Type 0

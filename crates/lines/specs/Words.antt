@@ -41,6 +41,7 @@ pub record IsNoLongName (word : List ℕ) : Type 0 where
   pub clean : word ≢ codes "clean"
   pub begin : word ≢ codes "begin"
   pub recover : word ≢ codes "recover"
+  pub clients : word ≢ codes "clients"
 
 -- the words spell the line
 pub record Spell (words : List (List ℕ)) (line : LineValue) : Type 0 where

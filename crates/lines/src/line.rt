@@ -95,4 +95,10 @@ pub enum Line<'a> {
     Seal,
     /// Free one replica of a segment that was cleaned.
     Free,
+    /// Run this many clients at one time, each for its rounds of a put and a get, beside a cleaner for its passes.
+    Clients {
+        clients: u64,
+        rounds: u64,
+        passes: u64,
+    },
 }

@@ -11,6 +11,12 @@ use crate::reason::Reason;
 use crate::why::reason_of;
 use crate::words::Words;
 
+/// The most clients of a line. Each has a seat of the store, which has one more.
+const MAX_CLIENTS: u64 = 63;
+
+/// The most rounds of a client.
+const MAX_ROUNDS: u64 = 1_000_000;
+
 /// Parses a line, given without its line feed. The fault is why it is bad.
 ///
 /// It takes no memory: a key and a value are parts of the text. It doesn't look at the length of the text, which
@@ -54,6 +60,7 @@ fn parse_words(mut words: Words<'_>) -> Option<Line<'_>>
         name if is(name, "clean") => clean(words),
         name if is(name, "begin") => begin(words),
         name if is(name, "recover") => recover(words),
+        name if is(name, "clients") => clients(words),
         name => only_name(name, words),
     }
 }
@@ -214,6 +221,22 @@ fn order(mut words: Words<'_>) -> Option<ReplayOrder>
     } else {
         None
     }
+}
+
+/// The words behind `clients` as how many clients there are, and how many rounds and passes.
+#[tactic(auto, using(crate::proofs::Spelling::decimal_is_word))]
+#[inline(never)]
+fn clients(mut words: Words<'_>) -> Option<Line<'_>>
+    ensures { ReadsWords (codes "clients" ∷ words.entry) result }
+{
+    let clients = words.count(MAX_CLIENTS)?;
+    let rounds = words.count(MAX_ROUNDS)?;
+    let passes = only_number(words)?;
+    Some(Line::Clients {
+        clients,
+        rounds,
+        passes,
+    })
 }
 
 /// The words as one number.

@@ -44,6 +44,7 @@ pub enum Shape {
     Backup,
     Order,
     Alone,
+    Clients,
 }
 
 impl Shape {
@@ -61,6 +62,9 @@ impl Shape {
             Shape::Backup => " has the number of a backup",
             Shape::Order => " has nothing behind it, or reverse",
             Shape::Alone => " has nothing behind it",
+            Shape::Clients => {
+                " has a number of clients (1 to 63), of rounds (1 to 1000000) and of passes"
+            }
         }
     }
 }

@@ -32,6 +32,7 @@ const COMMANDS: &[(&str, Shape)] = &[
     ("copy", Shape::Alone),
     ("seal", Shape::Alone),
     ("free", Shape::Alone),
+    ("clients", Shape::Clients),
 ];
 
 /// Why a text is no line.
@@ -117,6 +118,7 @@ fn wrong_word(rest: Option<&[u8]>, shape: Shape) -> Option<Reason>
         Shape::Key => wrong_of(rest, &[Part::Number, Part::Key]),
         Shape::Segment | Shape::Ops | Shape::Backup => wrong_of(rest, &[Part::Number]),
         Shape::Segments => wrong_number(rest),
+        Shape::Clients => wrong_of(rest, &[Part::Number, Part::Number, Part::Number]),
         Shape::Order | Shape::Alone => None,
     }
 }

@@ -61,6 +61,19 @@ impl<'a> Words<'a> {
         parse_number(self.next_word()?)
     }
 
+    /// The next word as a number from 1 to `most`.
+    pub(crate) fn count(&mut self, most: u64) -> Option<u64>
+        ensures sound { IfSome result (λ n. (self.old ≡ decimal n ∷ self.new) × (1 ≤ n) × (n ≤ most)) }
+        ensures complete { IsNone result
+            → (n : ℕ) (rest : List (List ℕ)) → 1 ≤ n → n ≤ most → self.old ≢ decimal n ∷ rest }
+    {
+        let count = self.number()?;
+        if count == 0 || count > most {
+            return None;
+        }
+        Some(count)
+    }
+
     /// The next word as a key.
     pub(crate) fn key(&mut self) -> Option<&'a [u8]>
         ensures sound { IfSome result (λ key. (self.old ≡ key.now ∷ self.new) × IsKeyWord key.now) }
