@@ -5,4 +5,3 @@ mod Rising
 mod Others
 mod Taking
 pub mod Empty
-pub mod Divisions

@@ -3,6 +3,3 @@ pub mod Inventory
 pub mod Retire
 pub mod Shelf
 pub mod State
-pub mod Groups
-pub mod Texts
-pub mod Division

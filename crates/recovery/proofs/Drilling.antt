@@ -3,7 +3,7 @@ use Rattle.std.proofs.Common.{◌≡◌, ℕ, List, [], ◌∷◌, inl, inr, sym
 use Rattle.std.specs.Prelude.{◌↔◌, Result, Ok, Err, IfOk, IfErr}
 use Rattle.entry.specs.Bag.{IsAmong}
 use Rattle.tablet_will.specs.declared.part.Part.{Part}
-use Rattle.replay.specs.declared.rebuilt.Rebuilt.{Rebuilt}
+use Rattle.rebuilding.specs.declared.rebuilt.Rebuilt.{Rebuilt}
 use Rattle.replica.specs.declared.holding.Holding.{Holding}
 use Rattle.replica.specs.Picture.{FleetState, left_on, shown_by, IsHeld}
 use Rattle.replica.specs.Survival.{BothSurvive}

@@ -4,17 +4,17 @@ use Rattle.entry.specs.Bag.{IsAmong}
 use Rattle.entry.specs.Key.{place_of}
 use Rattle.entry.specs.Meaning.{IsMeaning, IsClean, among, bound_of, contents_of}
 use Rattle.tablet_will.specs.declared.part.Part.{Part}
-use Rattle.backup.specs.Division.{AreCovered}
+use Rattle.division.specs.Division.{AreCovered}
 use Rattle.replica.specs.declared.holding.Holding.{Holding}
 use Rattle.replica.specs.Picture.{Picture, shown_by, survivors}
 use Rattle.replica.specs.Choice.{Choice, bag_of}
 use Rattle.replica.specs.Survival.{BothSurvive}
-use Rattle.replay.specs.Bags.{segments_bag}
-use Rattle.replay.specs.Rebuilt.{IsRebuilt}
-use Rattle.replay.specs.Rebuilds.{CanBeRebuilt}
-use Rattle.replay.specs.declared.rebuilt.Rebuilt.{Rebuilt}
-use Rattle.replay.specs.declared.fault.ReplayFault.{ReplayFault}
-use Rattle.replay.specs.declared.fault.ReplayFault.TheVariants as replay_fault
+use Rattle.rebuilding.specs.Bags.{segments_bag}
+use Rattle.rebuilding.specs.Rebuilt.{IsRebuilt}
+use Rattle.rebuilding.specs.Rebuilds.{CanBeRebuilt}
+use Rattle.rebuilding.specs.declared.rebuilt.Rebuilt.{Rebuilt}
+use Rattle.rebuilding.specs.declared.fault.ReplayFault.{ReplayFault}
+use Rattle.rebuilding.specs.declared.fault.ReplayFault.TheVariants as replay_fault
 use Rattle.recovery_plan.specs.declared.chosen.Plan.{Plan}
 use Rattle.recovery_plan.specs.declared.fault.PlanFault.{PlanFault}
 use Rattle.recovery_plan.specs.declared.fault.PlanFault.TheVariants as plan_fault

@@ -17,7 +17,7 @@ use Rattle.replica.specs.Choice.{Choice, IsUsableOf}
 use Rattle.recovery_plan.specs.declared.chosen.Plan.{Plan}
 use Rattle.recovery_plan.specs.Good.{IsGood}
 use Rattle.recovery_plan.specs.Planned.{IsPlanOf}
-use Rattle.replay.specs.Rebuilds.{header_id, id_of, ids_of}
+use Rattle.rebuilding.specs.Rebuilds.{header_id, id_of, ids_of}
 
 -- ---- ids that rise
 

@@ -9,7 +9,7 @@ use Rattle.tablet_will.specs.declared.part.Part.{Part}
 use Rattle.tablet_will.specs.Parts.{partition_at, is_in_one}
 use Rattle.recovery_plan.specs.declared.chosen.Plan.{Plan}
 use Rattle.recovery_plan.specs.Planned.{IsPlanOf}
-use Rattle.replay.specs.Rebuilds.{count_of, IsOrderOf}
+use Rattle.rebuilding.specs.Rebuilds.{count_of, IsOrderOf}
 use Rattle.recovery.specs.declared.order.GroupOrder.{GroupOrder}
 use Rattle.recovery.specs.declared.order.GroupOrder.TheVariants.{Forward, Reverse, Given}
 

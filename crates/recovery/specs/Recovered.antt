@@ -8,18 +8,18 @@ use Rattle.entry.specs.Order.{key_cmp}
 use Rattle.replica.specs.declared.holding.Holding.{Holding}
 use Rattle.replica.specs.Picture.{Shown, IsHeld}
 use Rattle.tablet_will.specs.declared.part.Part.{Part}
-use Rattle.backup.specs.Division.{AreCovered}
+use Rattle.division.specs.Division.{AreCovered}
 use Rattle.recovery_plan.specs.declared.chosen.Plan.{Plan}
 use Rattle.recovery_plan.specs.declared.fault.PlanFault.{PlanFault}
 use Rattle.recovery_plan.specs.declared.fault.PlanFault.TheVariants as plan_fault
 use Rattle.recovery_plan.specs.Planned.{IsPlanFault, NamesLoss}
-use Rattle.replay.specs.declared.fault.ReplayFault.{ReplayFault}
-use Rattle.replay.specs.declared.fault.ReplayFault.TheVariants as replay_fault
-use Rattle.replay.specs.declared.rebuilt.Rebuilt.{Rebuilt}
-use Rattle.replay.specs.Bags.{segments_bag}
-use Rattle.replay.specs.Rebuilt.{IsRebuilt}
-use Rattle.replay.specs.Rebuilds.{IsRebuildFault, NamesEach, count_of}
-use Rattle.replay.specs.Turns.{replayed}
+use Rattle.rebuilding.specs.declared.fault.ReplayFault.{ReplayFault}
+use Rattle.rebuilding.specs.declared.fault.ReplayFault.TheVariants as replay_fault
+use Rattle.rebuilding.specs.declared.rebuilt.Rebuilt.{Rebuilt}
+use Rattle.rebuilding.specs.Bags.{segments_bag}
+use Rattle.rebuilding.specs.Rebuilt.{IsRebuilt}
+use Rattle.rebuilding.specs.Rebuilds.{IsRebuildFault, NamesEach, count_of}
+use Rattle.rebuilding.specs.Turns.{replayed}
 use Rattle.versioned_map.specs.History.{commands_of}
 use Rattle.log_model.specs.Data.{LogData, state_after, durable_of}
 use Rattle.versioned_map.specs.Versioned.{IsSafeAfter}

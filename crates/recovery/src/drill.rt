@@ -10,7 +10,7 @@ use crate::recovery::{RecoveryFault, recover};
 use entry::NoMemory;
 use master::{Master, Refusal, Step, StepAnswer};
 use recovery_plan::PlanFault;
-use replay::Rebuilt;
+use rebuilding::Rebuilt;
 use replica::Fleet;
 use std::alloc::Global;
 use tablet_will::Will;

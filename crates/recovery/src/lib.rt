@@ -22,6 +22,6 @@ pub use laws::{
 pub use order::{GroupOrder, numbers};
 pub use recovery::{RecoveryFault, recover};
 pub use recovery_plan::{Plan, PlanFault, plan};
-pub use replay::{Rebuilt, ReplayFault, rebuild, rebuild_plain};
+pub use rebuilding::{Rebuilt, ReplayFault, rebuild, rebuild_plain};
 pub use succession::{Course, Drills, End, Lived, NotAdopted, run_lives};
 pub use tablet_will::{Will, make_will};

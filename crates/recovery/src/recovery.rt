@@ -4,11 +4,11 @@ ghost use Rattle.std.specs.Prelude.{◌≡◌, ℕ, Bool, IfOk, IfErr, OnOk, Som
 ghost use Rattle.entry.specs.Meaning.{IsClean, among};
 ghost use Rattle.replica.specs.Picture.{Picture, shown_by, survivors};
 ghost use Rattle.replica.specs.Survival.{BothSurvive};
-ghost use Rattle.backup.specs.Division.{AreCovered};
-ghost use Rattle.replay.specs.Bags.{segments_bag};
-ghost use Rattle.replay.specs.Rebuilt.{IsRebuilt};
-ghost use Rattle.replay.specs.Rebuilds.{IsRebuildFault, CanBeRebuilt, NamesEach, count_of};
-ghost use Rattle.replay.specs.Turns.{replayed};
+ghost use Rattle.division.specs.Division.{AreCovered};
+ghost use Rattle.rebuilding.specs.Bags.{segments_bag};
+ghost use Rattle.rebuilding.specs.Rebuilt.{IsRebuilt};
+ghost use Rattle.rebuilding.specs.Rebuilds.{IsRebuildFault, CanBeRebuilt, NamesEach, count_of};
+ghost use Rattle.rebuilding.specs.Turns.{replayed};
 ghost use Rattle.log_model.specs.Data.{LogData, IsHome, newest_opened};
 ghost use Rattle.log_model.specs.Sound.{IsSound};
 ghost use Rattle.recovery.specs.Orders.{order_for, Covers, NamesGroups};
@@ -17,7 +17,7 @@ ghost use Rattle.recovery.specs.Texts.{recovery_fault_text};
 
 use crate::order::{GroupOrder, numbers};
 use recovery_plan::{Plan, PlanFault, plan};
-use replay::{Rebuilt, ReplayFault, rebuild};
+use rebuilding::{Rebuilt, ReplayFault, rebuild};
 use replica::Inventory;
 use std::alloc::Global;
 use std::error::Error;

@@ -3,7 +3,7 @@
 use crate::logs::{CLASHING, LOG, Log, Shown, are_shown, is_named, segments_of};
 use backup::{Group, divide};
 use recovery_plan::Segments;
-use replay::{Replay, ReplayFault, Replayed};
+use rebuilding::{Replay, ReplayFault, Replayed};
 use segment::Segment;
 use std::alloc::Global;
 use std::fmt::Write;

@@ -2,7 +2,7 @@
 
 use entry::Object;
 use recovery_plan::Segments;
-use replay::{Rebuilt, ReplayFault};
+use rebuilding::{Rebuilt, ReplayFault};
 use segment::{Segment, read_segment};
 use std::alloc::Global;
 use std::fmt::Display;

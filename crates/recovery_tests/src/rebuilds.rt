@@ -4,7 +4,7 @@ use crate::divided::will_of;
 use crate::logs::*;
 use entry::{SafeVersion, Version};
 use recovery_plan::Plan;
-use replay::{rebuild, rebuild_plain};
+use rebuilding::{rebuild, rebuild_plain};
 use std::alloc::Global;
 
 /// The safe version above this version, or the first one.

@@ -22,11 +22,11 @@ use Rattle.master_core.specs.Data.{MasterData}
 use Rattle.master_core.specs.Loading.{restored_data, IsNewObject, Loads}
 use Rattle.master.specs.Loading.{DeclinesLoad}
 use Rattle.master.specs.World.{World}
-use Rattle.replay.specs.declared.rebuilt.Rebuilt.{Rebuilt}
+use Rattle.rebuilding.specs.declared.rebuilt.Rebuilt.{Rebuilt}
 use Rattle.replay.specs.Adopting.{PushesUntil, IsRolled, IsNotRolled, HasToWait, HasRoomMade, LoadsOne, HasLoaded, LoadsAll}
 use Rattle.replay.specs.Adopting.{IsStuck, IsFinal, Stops}
 use Rattle.replay.specs.Fresh.{AreNew}
-use Rattle.replay.specs.Listed.{AreOrdered}
+use Rattle.rebuilding.specs.Listed.{AreOrdered}
 use Rattle.replay.proofs.LoadSteps.{KeepsLoaded, stacked, room_keeps}
 
 -- ---- keys

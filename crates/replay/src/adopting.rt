@@ -9,10 +9,10 @@ ghost use Rattle.replay.specs.Adopting.{PushesUntil, IsRolled, IsNotRolled, IsFi
 ghost use Rattle.replay.specs.Adopting.{IsAdopted, IsAdoptedOn, AdoptsList, DeclinesList};
 ghost use Rattle.replay.specs.Fresh.{AreNew};
 
-use crate::rebuilt::Rebuilt;
 use entry::{NoMemory, Object};
 use master::{Loading, Master};
 use master_core::{Config, Refusal};
+use rebuilding::Rebuilt;
 use replica::Fleet;
 use std::alloc::Global;
 

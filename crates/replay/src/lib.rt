@@ -1,25 +1,12 @@
-//! What the log of a plan stands for: the objects that are left, and a safe version for what follows.
+//! A master that goes on with what a log stands for.
 //!
-//! The layers above use `rebuild_plain` and `rebuild`: with Ok the objects are what the segments mean, in order, each key
-//! once. A master adopts them by `adopt`.
+//! `adopt` makes it of a rebuilt list, under a number that has no replicas. What a log is rebuilt to, and by which calls, is
+//! the crate `rebuilding`'s, whose names are shown here again.
 #![tactic(auto)]
 
 mod adopting;
-mod claim;
-mod fault;
-mod gathering;
-mod joining;
-mod placed;
-mod plain;
-mod rebuilding;
-mod rebuilt;
-mod replay;
-mod settling;
-mod winners;
 
 pub use adopting::{adopt, adopt_list};
-pub use fault::ReplayFault;
-pub use plain::rebuild_plain;
-pub use rebuilding::rebuild;
-pub use rebuilt::{Objects, Rebuilt};
-pub use replay::{Replay, Replayed};
+pub use rebuilding::{
+    Objects, Rebuilt, Replay, ReplayFault, Replayed, rebuild, rebuild_plain,
+};

@@ -18,7 +18,7 @@ use Rattle.recovery.specs.declared.order.GroupOrder.TheVariants as group_order
 use Rattle.recovery.specs.declared.recovery.RecoveryFault.{RecoveryFault}
 use Rattle.recovery.specs.Drilled.{IsOfHeld}
 use Rattle.recovery.specs.Succession.{IsSuccessor}
-use Rattle.replay.specs.declared.rebuilt.Rebuilt.{Rebuilt}
+use Rattle.rebuilding.specs.declared.rebuilt.Rebuilt.{Rebuilt}
 use Rattle.replay.specs.Adopting.{IsAdopted, IsAdoptedOn, DeclinesList}
 use Rattle.replica.specs.declared.op.TakeFault.{TakeFault}
 use Rattle.replica.specs.declared.op.TakeFault.TheVariants as take_fault

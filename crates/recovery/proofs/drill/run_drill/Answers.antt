@@ -1,6 +1,6 @@
 use Rattle.std.proofs.Common.{◌≡◌, ℕ, ap, subst, sym}
 use Rattle.std.specs.Prelude.{Result, IfOk, IfErr}
-use Rattle.replay.specs.declared.rebuilt.Rebuilt.{Rebuilt}
+use Rattle.rebuilding.specs.declared.rebuilt.Rebuilt.{Rebuilt}
 use Rattle.master.specs.World.{world}
 use Rattle.recovery.specs.declared.recovery.RecoveryFault.{RecoveryFault}
 use Rattle.recovery.specs.declared.recovery.RecoveryFault.TheVariants as fault

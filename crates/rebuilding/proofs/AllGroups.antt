@@ -1,0 +1,270 @@
+-- The groups of a whole log.
+use Rattle.std.proofs.Common.{◌≡◌, ℕ, ◌+◌, ◌*◌, ◌/◌, ◌%◌, ◌<◌, ◌≤◌, true, List, [], ◌∷◌, ◌++◌, length}
+use Rattle.std.proofs.Common.{get_or, take, Some, None, refl, sym, ap, subst, ◌∙◌, inl, inr, arith}
+use Rattle.std.specs.Prelude.{slice_index, Option, is_some, IfSome}
+use Rattle.std.specs.List.{range_with_len}
+use Rattle.std.proofs.lemmas.Bool.Decides.{Decides-eqb}
+use Rattle.std.proofs.lemmas.List.{append-nil, take_more, length-take-le}
+use Rattle.std.proofs.Common.{length-append}
+use Rattle.std.proofs.lemmas.List.Concat.{get_or-flat_map}
+use Rattle.std.proofs.lemmas.List.FromFn.{length-map-range_with_len, get_or-map-range_with_len}
+use Rattle.std.proofs.lemmas.Grind.{flat_map-append}
+use Rattle.std.proofs.lemmas.Nat.{mod_below, div_below, div-add-mod'}
+use Rattle.entry.specs.declared.key.Key.{Key}
+use Rattle.entry.specs.declared.entry.Entry.{Entry}
+use Rattle.entry.specs.declared.entry.Entry.TheVariants as entry
+use Rattle.entry.specs.Bag.{IsAmong}
+use Rattle.entry.specs.Key.{place_of}
+use Rattle.entry.specs.Meaning.{IsOfKey}
+use Rattle.entry.specs.Text.{is_data}
+use Rattle.entry.proofs.BagLemmas.{among_image, among_images, among_push}
+use Rattle.tablet_will.specs.declared.part.Part.{Part}
+use Rattle.tablet_will.specs.Parts.{AreParts, partition_of_key, partitions_of}
+use Rattle.division.specs.declared.fault.DivideFault.{DivideFault}
+use Rattle.division.specs.declared.fault.DivideFault.TheVariants as divide_fault
+use Rattle.division.specs.Groups.{Grouped, bag_of, segments_of}
+use Rattle.division.specs.Division.{is_number, goes_to, group_in, groups_of, numbers_of, AreCovered, IsDivision, IsDivideFault}
+use Rattle.rebuilding.specs.Bags.{segments_bag}
+use Rattle.rebuilding.specs.Claims.{Claimed, claims_of}
+use Rattle.rebuilding.specs.Faults.{as_replay_fault}
+use Rattle.rebuilding.specs.declared.fault.ReplayFault.{ReplayFault}
+use Rattle.rebuilding.specs.declared.fault.ReplayFault.TheVariants as fault
+use Rattle.rebuilding.specs.Rebuilds.{header_id, id_of, ids_of, count_of, IsDouble, IsRebuildFault, NamesEach}
+use Rattle.rebuilding.specs.Turns.{all_groups, AreAllCovered, IsGroupsFault, IsSecond, IsOrderFault, AreOf}
+use Rattle.rebuilding.proofs.Members.{flat_among, among_flat, among_filter, filter_among, range_among, map_at}
+use Rattle.rebuilding.proofs.MeaningLemmas.{claims_of-among, claims_of-has}
+use Rattle.rebuilding.proofs.Carried.{segment-at, number-at}
+
+pub claims_within : (es fs : List Entry) → ((e : Entry) → IsAmong e es → IsAmong e fs) → (c : Claimed)
+    → IsAmong c (claims_of es) → IsAmong c (claims_of fs)
+claims_within es fs h c m = let e = claims_of-among es c m in claims_of-has fs e.0 c (h e.0 e.1) e.2
+
+data_of_key : (k : Key) (e : Entry) → IsOfKey k e → is_data e ≡ true
+data_of_key k (entry.Header h) at = absurd at
+data_of_key k (entry.Digest ids) at = absurd at
+data_of_key k (entry.Safe version) at = absurd at
+data_of_key k (entry.Object o) at = refl
+data_of_key k (entry.Tombstone t) at = refl
+
+module _ (qs : List Part) where
+  row : List Entry → List Grouped
+  row es = groups_of qs (id_of es) es
+
+  -- ---- one segment more
+
+  pub groups_more : (segments : List (List Entry)) (i : ℕ) (es : List Entry) (was new groups : List Grouped)
+      → i < length segments → es ≡ get_or segments i es → IsDivision qs es groups
+      → new ≡ was ++ groups → was ≡ all_groups qs (take i segments) → new ≡ all_groups qs (take (i + 1) segments)
+  groups_more segments i es was new groups lt at divided pushed held =
+      let front = take i segments in
+      let same : groups ≡ groups_of qs (id_of es) es =
+      divided.2 ∙ ap (λ n. groups_of qs n es) (sym (ap header_id divided.1)) in
+      let more : take (i + 1) segments ≡ front ++ es ∷ [] =
+      take_more segments i es lt ∙ ap (λ (fs : List Entry). front ++ fs ∷ []) (sym at) in
+      pushed ∙ ap (λ gs. gs ++ groups) held ∙ ap (λ gs. all_groups qs front ++ gs) (same ∙ sym (append-nil _))
+      ∙ sym (ap (all_groups qs) more ∙ flat_map-append (λ (fs : List Entry). groups_of qs (id_of fs) fs) front (es ∷ []))
+
+  pub covered_more : (segments : List (List Entry)) (i : ℕ) (es : List Entry) → i < length segments
+      → es ≡ get_or segments i es → AreCovered qs es → AreAllCovered qs (take i segments)
+      → AreAllCovered qs (take (i + 1) segments)
+  covered_more segments i es lt at covered held fs m =
+      let front = take i segments in
+      let more : take (i + 1) segments ≡ front ++ es ∷ [] =
+      take_more segments i es lt ∙ ap (λ (gs : List Entry). front ++ gs ∷ []) (sym at) in
+      elim (among_push fs front es (subst (IsAmong fs) more m)) [
+        | inl before ↦ held fs before
+        | inr last ↦ subst (AreCovered qs) last covered
+      ]
+
+  pub stray : (segments : List (List Entry)) (es : List Entry) (f : DivideFault) → IsAmong es segments
+      → IsDivideFault qs es f → IsGroupsFault qs segments (as_replay_fault f)
+  stray segments es (divide_fault.Stray k) m h =
+      (h.0, flat_among _ segments es h.0 m (filter_among is_data es h.0 h.1 (data_of_key k h.0 h.2.0)), h.2)
+  stray segments es divide_fault.NoMemory m h = tt
+
+  -- ---- entries
+
+  goes_data : (n : ℕ) (e : Entry) → goes_to qs n e ≡ true → is_data e ≡ true
+  goes_data n (entry.Header h) goes = goes
+  goes_data n (entry.Digest ids) goes = goes
+  goes_data n (entry.Safe version) goes = goes
+  goes_data n (entry.Object o) goes = refl
+  goes_data n (entry.Tombstone t) goes = refl
+
+  module _ (segments : List (List Entry)) where
+    pub to_log : (e : Entry) → IsAmong e (bag_of (all_groups qs segments)) → IsAmong e (segments_bag segments)
+    to_log e m =
+        let g = among_flat (λ (h : Grouped). h.entries) (all_groups qs segments) e m in
+        let es = among_flat (λ (fs : List Entry). groups_of qs (id_of fs) fs) segments g.0 g.1 in
+        let n = among_images (group_in qs (id_of es.0) es.0) (range_with_len 0 (partitions_of qs)) g.0 es.2 in
+        let here : IsAmong e (group_in qs (id_of es.0) es.0 n.0).entries =
+        subst (λ (h : Grouped). IsAmong e h.entries) (sym n.2) g.2 in
+        let in_es = among_filter (goes_to qs n.0) es.0 e here in
+        flat_among _ segments es.0 e es.1 (filter_among is_data es.0 e in_es.0 (goes_data n.0 e in_es.1))
+
+    named : (o : Option ℕ) → is_some o ≡ true → (n : ℕ) × (o ≡ Some n)
+    named None h = absurd (cc)
+    named (Some n) h = (n, refl)
+
+    module _ (parts : AreParts qs) (covered : AreAllCovered qs segments) where
+      goes_somewhere : (es : List Entry) → IsAmong es segments → (e : Entry) → IsAmong e es → is_data e ≡ true
+          → (n : ℕ) × (n < partitions_of qs) × (goes_to qs n e ≡ true)
+      goes_somewhere es m (entry.Header h) me data_here = absurd (cc)
+      goes_somewhere es m (entry.Digest ids) me data_here = absurd (cc)
+      goes_somewhere es m (entry.Safe version) me data_here = absurd (cc)
+      goes_somewhere es m (entry.Object o) me data_here =
+          let at = named (partition_of_key qs o.key) (covered es m (entry.Object o) me o.key refl) in (
+            at.0,
+            subst (λ (p : Option ℕ). IfSome p (λ n. n < partitions_of qs)) at.1
+                (parts.below o.key.table (place_of o.key.bytes)),
+            subst (λ (p : Option ℕ). is_number at.0 p ≡ true) (sym at.1) ((Decides-eqb at.0 at.0).1 refl),
+          )
+      goes_somewhere es m (entry.Tombstone t) me data_here =
+          let at = named (partition_of_key qs t.key) (covered es m (entry.Tombstone t) me t.key refl) in (
+            at.0,
+            subst (λ (p : Option ℕ). IfSome p (λ n. n < partitions_of qs)) at.1
+                (parts.below t.key.table (place_of t.key.bytes)),
+            subst (λ (p : Option ℕ). is_number at.0 p ≡ true) (sym at.1) ((Decides-eqb at.0 at.0).1 refl),
+          )
+
+      pub from_log : (e : Entry) → IsAmong e (segments_bag segments) → IsAmong e (bag_of (all_groups qs segments))
+      from_log e m =
+          let es = among_flat _ segments e m in
+          let in_es = among_filter is_data es.0 e es.2 in
+          let n = goes_somewhere es.0 es.1 e in_es.0 in_es.1 in
+          let g = group_in qs (id_of es.0) es.0 n.0 in
+          flat_among (λ (h : Grouped). h.entries) (all_groups qs segments) g e
+          (flat_among (λ (fs : List Entry). groups_of qs (id_of fs) fs) segments es.0 g es.1
+          (among_image (group_in qs (id_of es.0) es.0) (range_with_len 0 (partitions_of qs)) n.0
+          (range_among 0 (partitions_of qs) n.0 n.0 n.1 (omega arith))))
+          (filter_among (goes_to qs n.0) es.0 e in_es.0 n.2)
+
+      pub all_covered : AreCovered qs (segments_bag segments)
+      all_covered e m =
+          let es = among_flat _ segments e m in covered es.0 es.1 e (among_filter is_data es.0 e es.2).0
+
+  -- ---- numbers
+
+  row_long : (es : List Entry) → length (groups_of qs (id_of es) es) ≡ partitions_of qs
+  row_long es = length-map-range_with_len (group_in qs (id_of es) es) 0 (partitions_of qs)
+
+  pub all_long : (segments : List (List Entry)) → length (all_groups qs segments) ≡ length segments * partitions_of qs
+  all_long [] = omega arith
+  all_long (es ∷ segments) =
+      let first = row_long es in
+      let rest = all_long segments in
+      length-append (groups_of qs (id_of es) es) (all_groups qs segments) ∙ omega (arith, first, rest)
+
+  module _ (segments : List (List Entry)) (n : ℕ) (some : 0 < partitions_of qs)
+      (lt : n < length segments * partitions_of qs) where
+    abbrev count : ℕ
+    count = partitions_of qs
+
+    abbrev here : List Entry
+    here = get_or segments (n / count) []
+
+    abbrev named_group : Grouped
+    named_group = group_in qs (id_of here) here (n % count)
+
+    segment_inside : n / count < length segments
+    segment_inside = div_below n count (length segments) some lt
+
+    before_here : length (all_groups qs (take (n / count) segments)) + n % count ≡ n
+    before_here =
+        let long : length (take (n / count) segments) ≡ n / count =
+        length-take-le (n / count) segments (let low = segment_inside in omega (arith, low)) in
+        let rows = all_long (take (n / count) segments) ∙ ap (λ m. m * count) long in
+        let whole = div-add-mod' n count in
+        omega (arith, rows, whole)
+
+    group_is : named_group ≡ get_or (all_groups qs segments) n named_group
+    group_is =
+        let low = mod_below n count some in
+        let inside : n % count < length (groups_of qs (id_of here) here) =
+        subst (λ m. n % count < m) (sym (row_long here)) low in
+        sym (ap (λ m. get_or (all_groups qs segments) m named_group) (sym before_here)
+        ∙ get_or-flat_map (λ (es : List Entry). groups_of qs (id_of es) es) segments (n / count) (n % count) []
+        named_group segment_inside inside
+        ∙ get_or-map-range_with_len (group_in qs (id_of here) here) 0 count (n % count) (n % count) named_group low
+        (omega arith))
+
+    n_inside : n < length (all_groups qs segments)
+    n_inside = subst (λ m. n < m) (sym (all_long segments)) lt
+
+    pub segment_is : slice_index (segments_of (all_groups qs segments)) n
+        ≡ slice_index (ids_of segments) (n / partitions_of qs)
+    segment_is =
+        sym (segment-at (all_groups qs segments) n named_group n_inside group_is)
+        ∙ sym (map_at id_of segments (n / count) [])
+
+    pub number_is : slice_index (numbers_of (all_groups qs segments)) n ≡ n % partitions_of qs
+    number_is = sym (number-at (all_groups qs segments) n named_group n_inside group_is)
+
+  -- ---- faults
+
+  module _ (segments : List (List Entry)) (order : List ℕ) (some : 0 < partitions_of qs) where
+    below_count : (n : ℕ) → n < length (all_groups qs segments) → n < count_of segments qs
+    below_count n lt = subst (λ m. n < m) (all_long segments) lt
+
+    double : (id : ℕ) → IsSecond (all_groups qs segments) order id → IsDouble segments qs order id
+    double id h =
+        let one = slice_index order h.first in
+        let other = slice_index order h.second in
+        let one_below = below_count one h.one_below in
+        let other_below = below_count other h.other_below in
+        record {
+          first = h.first;
+          second = h.second;
+          partition = one % partitions_of qs;
+          apart = h.apart;
+          within = h.within;
+          one = record {
+            below = one_below;
+            has_id = sym (segment_is segments one some one_below) ∙ h.one;
+            has_partition = refl;
+          };
+          other = record {
+            below = other_below;
+            has_id = sym (segment_is segments other some other_below) ∙ h.other;
+            has_partition = sym (number_is segments other some other_below) ∙ sym h.partition
+                ∙ number_is segments one some one_below;
+          };
+        }
+
+    pub order_fault : (f : ReplayFault) → IsOrderFault (all_groups qs segments) order f
+        → IsRebuildFault segments qs order f
+    order_fault (fault.Double id) h = double id h
+    order_fault fault.Stranger h = (h.0, h.1, subst (λ m. m ≤ h.0) (all_long segments) h.2)
+    order_fault (fault.MissingGroup id) h =
+        let low = below_count h.number h.below in
+        record {
+          number = h.number;
+          below = low;
+          segment = sym (segment_is segments h.number some low) ∙ h.segment;
+          missing = h.missing;
+          lowest = h.lowest;
+        }
+    order_fault fault.NoMemory h = tt
+    order_fault fault.Clash h = absurd h
+    order_fault (fault.Stray k) h = absurd h
+
+    pub groups_fault : (f : ReplayFault) → IsGroupsFault qs segments f → IsRebuildFault segments qs order f
+    groups_fault (fault.Double id) h = absurd h
+    groups_fault fault.Stranger h = absurd h
+    groups_fault (fault.MissingGroup id) h = absurd h
+    groups_fault fault.NoMemory h = tt
+    groups_fault fault.Clash h = absurd h
+    groups_fault (fault.Stray k) h = h
+
+  -- ---- the claims
+
+  pub claims_same : (segments : List (List Entry)) (cs : List Claimed) → AreParts qs → AreAllCovered qs segments
+      → AreOf (bag_of (all_groups qs segments)) cs → AreOf (segments_bag segments) cs
+  claims_same segments cs parts covered of c = (
+    λ m. claims_within _ _ (to_log segments) c ((of c).0 m),
+    λ m. (of c).1 (claims_within _ _ (from_log segments parts covered) c m),
+  )
+
+  pub names_log : (segments : List (List Entry)) (order : List ℕ) (n : ℕ)
+      → n ≡ length (all_groups qs segments) → NamesEach n order → NamesEach (count_of segments qs) order
+  names_log segments order n is h = subst (λ m. NamesEach m order) (is ∙ all_long segments) h

@@ -1,0 +1,23 @@
+use Rattle.std.proofs.Common.{◌≡◌, ◌<◌, length, map, subst, sym, ◌∙◌, get_or, arith, false}
+use Rattle.std.proofs.lemmas.List.{get_or_default}
+use Rattle.division.specs.declared.group.Group.{Group}
+use Rattle.division.specs.Groups.{grouped}
+use Rattle.rebuilding.specs.Turns.{IsUnnamed}
+use Rattle.rebuilding.proofs.Marks.{unnamed, names_each}
+use Rattle.rebuilding.proofs.rebuilding.check_order.Goals as goal
+
+pub returns-then-not-index-clause-fault : goal.returns-then-not-index-clause-fault
+returns-then-not-index-clause-fault c =
+    let named = c.in_ok-named.named.items in
+    let lt : c.loop-n.n < length named = subst (λ m. c.loop-n.n < m) (sym c.in_ok-named.ensures.long) c.loop-n-test.true in
+    let off : get_or named c.loop-n.n false ≡ false =
+    get_or_default named c.loop-n.n false c.index.result.now lt ∙ sym c.index.ensures ∙ c.if-not-index.true in
+    subst (λ (g : Group). IsUnnamed (map grouped c.args.groups.now) c.args.order.now g.segment) c.index-groups-n.is
+    (unnamed c.args.order.now c.in_ok-named.named.items c.in_ok-named.ensures.ok c.args.groups.now c.loop-n.n
+    c.index-groups-n.result c.loop-n-test.true off c.loop-n.invariant
+    c.index-groups-n.is)
+
+pub returns-clause-ok : goal.returns-clause-ok
+returns-clause-ok c =
+    names_each c.args.order.now c.in_ok-named.named.items c.in_ok-named.ensures.ok (length c.args.groups.now)
+    c.in_ok-named.ensures.long (λ n lt. c.loop-n.invariant n (let end = c.loop-n-test.false in omega (arith, lt, end)))

@@ -1,0 +1,121 @@
+-- All groups of a log, the order in which they come, and what they claim.
+use Rattle.std.specs.Prelude.{◌≡◌, ℕ, ◌<◌, ◌≤◌, ◌↔◌, List, length, slice_index, ⊤}
+use Rattle.std.specs.Prelude.{◌≢◌, Bool, true, false, slice_index_or, map, []}
+use Rattle.std.specs.List.{flat_map}
+use Rattle.entry.specs.declared.entry.Entry.{Entry}
+use Rattle.entry.specs.Bag.{IsAmong}
+use Rattle.entry.specs.Meaning.{IsClean, among}
+use Rattle.tablet_will.specs.declared.part.Part.{Part}
+use Rattle.division.specs.Groups.{Grouped, segments_of}
+use Rattle.division.specs.Division.{groups_of, numbers_of, AreCovered, IsStray}
+use Rattle.rebuilding.specs.Bags.{segments_bag}
+use Rattle.rebuilding.specs.Claims.{Claimed, claims_of}
+use Rattle.rebuilding.specs.Rebuilt.{IsRebuilt, IsRefusal}
+use Rattle.rebuilding.specs.Rebuilds.{id_of}
+use Rattle.rebuilding.specs.declared.rebuilt.Rebuilt.{Rebuilt}
+use Rattle.rebuilding.specs.declared.fault.ReplayFault.{ReplayFault}
+use Rattle.rebuilding.specs.declared.fault.ReplayFault.TheVariants as fault
+
+-- ---- groups
+
+-- the groups of the segments, in order
+abbrev pub all_groups : List Part → List (List Entry) → List Grouped
+all_groups qs segments = flat_map (λ (es : List Entry). groups_of qs (id_of es) es) segments
+
+-- what the groups with these numbers have, in the order of the numbers
+abbrev pub entries_in_turn : List Grouped → List ℕ → List (List Entry)
+entries_in_turn groups order =
+    map (λ (n : ℕ). slice_index_or (map (λ (g : Grouped). g.entries) groups) n []) order
+
+-- what is replayed: the groups of the segments, divided by the will, in this order
+abbrev pub replayed : List (List Entry) → List Part → List ℕ → List (List Entry)
+replayed segments qs order = entries_in_turn (all_groups qs segments) order
+
+-- each key of the segments has a partition
+abbrev pub AreAllCovered : List Part → List (List Entry) → Type 0
+AreAllCovered qs segments = (es : List Entry) → IsAmong es segments → AreCovered qs es
+
+-- why the segments have no groups
+abbrev pub IsGroupsFault : List Part → List (List Entry) → ReplayFault → Type 0
+IsGroupsFault qs segments fault.NoMemory = ⊤
+IsGroupsFault qs segments (fault.Stray k) = (e : Entry) × IsAmong e (segments_bag segments) × IsStray qs e k
+IsGroupsFault qs segments _ = ⊥
+
+-- ---- orders
+
+-- two places of the order name groups of this segment and of one partition
+pub record IsSecond (groups : List Grouped) (order : List ℕ) (id : ℕ) : Type 0 where
+  pub first : ℕ
+  pub second : ℕ
+  pub apart : first < second
+  pub within : second < length order
+  pub one_below : slice_index order first < length groups
+  pub other_below : slice_index order second < length groups
+  pub one : slice_index (segments_of groups) (slice_index order first) ≡ id
+  pub other : slice_index (segments_of groups) (slice_index order second) ≡ id
+  pub partition : slice_index (numbers_of groups) (slice_index order first)
+      ≡ slice_index (numbers_of groups) (slice_index order second)
+
+-- a group of this segment is not named, and each group before it is
+pub record IsUnnamed (groups : List Grouped) (order : List ℕ) (id : ℕ) : Type 0 where
+  pub number : ℕ
+  pub below : number < length groups
+  pub segment : slice_index (segments_of groups) number ≡ id
+  pub missing : ¬ IsAmong number order
+  pub lowest : (n : ℕ) → n < number → IsAmong n order
+
+-- why the order is refused
+abbrev pub IsOrderFault : List Grouped → List ℕ → ReplayFault → Type 0
+IsOrderFault groups order (fault.Double id) = IsSecond groups order id
+IsOrderFault groups order fault.Stranger = (n : ℕ) × IsAmong n order × (length groups ≤ n)
+IsOrderFault groups order (fault.MissingGroup id) = IsUnnamed groups order id
+IsOrderFault groups order fault.NoMemory = ⊤
+IsOrderFault groups order _ = ⊥
+
+-- the numbers at the first places of the order are marked, no others are, and they differ
+pub record AreMarked (order : List ℕ) (places : ℕ) (named : List Bool) : Type 0 where
+  pub marked : (i : ℕ) → i < places → slice_index_or named (slice_index order i) false ≡ true
+  pub only : (n : ℕ) → slice_index_or named n false ≡ true → (i : ℕ) × (i < places) × (slice_index order i ≡ n)
+  pub once : (i j : ℕ) → i < j → j < places → slice_index order i ≢ slice_index order j
+
+-- ---- ids
+
+-- no two segments have one id
+abbrev pub AreApart : List ℕ → Type 0
+AreApart ids = (i j : ℕ) → i < j → j < length ids → slice_index ids i ≢ slice_index ids j
+
+-- two of the segments have this id
+pub record IsTwin (ids : List ℕ) (id : ℕ) : Type 0 where
+  pub first : ℕ
+  pub second : ℕ
+  pub apart : first < second
+  pub within : second < length ids
+  pub one : slice_index ids first ≡ id
+  pub other : slice_index ids second ≡ id
+
+-- why the ids are refused
+abbrev pub IsIdsFault : List ℕ → ReplayFault → Type 0
+IsIdsFault ids (fault.Double id) = IsTwin ids id
+IsIdsFault ids _ = ⊥
+
+-- ---- claims
+
+-- the claims are those of the entries, in any order
+abbrev pub AreOf : List Entry → List Claimed → Type 0
+AreOf es cs = (c : Claimed) → IsAmong c cs ↔ IsAmong c (claims_of es)
+
+-- ---- the end
+
+-- what is rebuilt from the claims is what each log with these claims is rebuilt to
+abbrev pub AreRebuilt : List Claimed → ℕ → Rebuilt → Type 0
+AreRebuilt cs recorded r =
+    (segments : List (List Entry)) → AreOf (segments_bag segments) cs → IsRebuilt segments recorded r
+
+-- each log with these claims is clean
+abbrev pub AreCleanClaims : List Claimed → Type 0
+AreCleanClaims cs = (segments : List (List Entry)) → AreOf (segments_bag segments) cs
+    → IsClean (among (segments_bag segments))
+
+-- why each log with these claims is refused
+pub record AreRefused (cs : List Claimed) (f : ReplayFault) : Type 0 where
+  pub each : (segments : List (List Entry)) → AreOf (segments_bag segments) cs → IsRefusal segments f

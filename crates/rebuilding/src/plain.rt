@@ -1,0 +1,24 @@
+//! A log that is rebuilt as a whole.
+
+ghost use Rattle.std.specs.Prelude.{IfOk, IfErr, OnOk};
+ghost use Rattle.entry.specs.Meaning.{IsClean, among};
+ghost use Rattle.rebuilding.specs.Bags.{segments_bag};
+ghost use Rattle.rebuilding.specs.Rebuilt.{IsRebuilt, IsRefusal};
+
+use crate::fault::ReplayFault;
+use crate::gathering::claims_in;
+use crate::rebuilt::Rebuilt;
+use crate::settling::settle;
+use recovery_plan::Plan;
+use std::alloc::Global;
+
+/// The objects that the plan's segments mean, in memory of their own. Two values of one key and version are a Clash,
+/// even if a later version covers them. For n entries it takes n log n steps.
+pub fn rebuild_plain(alloc: Global, plan: &Plan) -> Result<Rebuilt, ReplayFault>
+    ensures ok { IfOk result (IsRebuilt plan.now.segments plan.now.safe) }
+    ensures clean { OnOk result (IsClean (among (segments_bag plan.now.segments))) }
+    ensures err { IfErr result (IsRefusal plan.now.segments) }
+{
+    let mut claims = claims_in(alloc, plan.segments.as_slice())?;
+    settle(alloc, plan.safe, &mut claims)
+}

@@ -1,0 +1,209 @@
+//! A log that is rebuilt from its groups, whatever the will and the order in which they come.
+
+ghost use Rattle.std.specs.Prelude.{◌≡◌, ◌==◌, ◌++◌, ◌<◌, ℕ, map, length, slice_index, take, IfOk, IfErr, OnOk};
+ghost use Rattle.std.specs.List.{list_any};
+ghost use Rattle.entry.specs.Meaning.{IsClean, among};
+ghost use Rattle.division.specs.Division.{AreCovered};
+ghost use Rattle.division.specs.Groups.{grouped, bag_of};
+ghost use Rattle.rebuilding.specs.Bags.{segments_bag};
+ghost use Rattle.rebuilding.specs.Claims.{claimed, claims_of};
+ghost use Rattle.rebuilding.specs.Rebuilds.{IsRebuildFault, CanBeRebuilt, NamesEach, count_of, ids_of};
+ghost use Rattle.rebuilding.specs.Rebuilt.{IsRebuilt};
+ghost use Rattle.rebuilding.specs.Turns.{all_groups, entries_in_turn, replayed, AreAllCovered, AreApart, AreMarked, AreOf};
+ghost use Rattle.rebuilding.specs.Turns.{IsGroupsFault, IsIdsFault, IsOrderFault};
+
+use crate::claim::Claim;
+use crate::fault::ReplayFault;
+use crate::joining::add_claims;
+use crate::rebuilt::Rebuilt;
+use crate::settling::settle;
+use division::{Group, divide};
+use entry::NoMemory;
+use recovery_plan::Plan;
+use segment::Segment;
+use std::alloc::Global;
+use tablet_will::Will;
+
+/// The ids of the segments.
+fn ids_in(alloc: Global, segments: &[Segment]) -> Result<Vec<u64>, NoMemory>
+    ensures { IfOk result (λ ids. ids.items ≡ ids_of segments.now) }
+{
+    let mut ids = Vec::with_capacity(alloc, segments.len())?;
+    for segment in segments {
+        if ids.push(segment.view().header().segment).is_err() {
+            return Err(NoMemory);
+        }
+    }
+    Ok(ids)
+}
+
+/// Puts the groups behind the others.
+fn append<'a>(all: &mut Vec<Group<'a>>, groups: Vec<Group<'a>>) -> Result<(), NoMemory>
+    ensures { OnOk result (all.new.items ≡ all.old.items ++ groups.entry.items) }
+{
+    for group in groups {
+        all.reserve(1)?;
+        all.push_reserved(group);
+    }
+    Ok(())
+}
+
+/// The groups of all segments, segment by segment, and of each segment by partition.
+fn groups_in<'a>(
+    alloc: Global,
+    segments: &'a [Segment],
+    will: &Will,
+    partitions: u32,
+) -> Result<Vec<Group<'a>>, ReplayFault>
+    ensures ok { IfOk result (λ groups. map grouped groups.items ≡ all_groups will.now segments.entry.now) }
+    ensures covered { OnOk result (AreAllCovered will.now segments.entry.now) }
+    ensures fault { IfErr result (IsGroupsFault will.now segments.entry.now) }
+{
+    let count = segments.len().saturating_mul(partitions as usize);
+    let mut all = Vec::with_capacity(alloc, count)?;
+    for segment in segments {
+        let groups = divide(alloc, segment, will)?;
+        append(&mut all, groups)?;
+    }
+    Ok(all)
+}
+
+/// Which groups the order names. No group is named twice.
+fn marks(alloc: Global, groups: &[Group<'_>], order: &[usize]) -> Result<Vec<bool>, ReplayFault>
+    ensures long { IfOk result (λ named. length named.items ≡ length groups.now) }
+    ensures ok { IfOk result (λ named. AreMarked order.now (length order.now) named.items) }
+    ensures fault { IfErr result (IsOrderFault (map grouped groups.now) order.now) }
+{
+    let mut named = vec![in alloc; false; groups.len()]?;
+    for n in order {
+        if *n >= groups.len() {
+            return Err(ReplayFault::Stranger);
+        }
+        if named[*n] {
+            return Err(ReplayFault::Double(groups[*n].segment));
+        }
+        named[*n] = true;
+    }
+    Ok(named)
+}
+
+/// Tests whether the order names each group, once.
+fn check_order(alloc: Global, groups: &[Group<'_>], order: &[usize]) -> Result<(), ReplayFault>
+    ensures ok { OnOk result (NamesEach (length groups.now) order.now) }
+    ensures fault { IfErr result (IsOrderFault (map grouped groups.now) order.now) }
+{
+    let named = marks(alloc, groups, order)?;
+    for n in 0..groups.len() {
+        if !named[n] {
+            return Err(ReplayFault::MissingGroup(groups[n].segment));
+        }
+    }
+    Ok(())
+}
+
+/// Whether the id at this place is one of those before it.
+fn is_repeated(ids: &[u64], at: usize) -> bool
+    requires { at < length ids.now }
+    ensures { result ≡ list_any (λ (id : ℕ). id == slice_index ids.now at) (take at ids.now) }
+{
+    let (before, _) = ids.split_at(at);
+    before.contains(&ids[at])
+}
+
+/// Tests that no two segments have one id. It looks back only from an id that is not the greatest so far.
+fn check_ids(ids: &[u64]) -> Result<(), ReplayFault>
+    ensures ok { OnOk result (AreApart ids.now) }
+    ensures fault { IfErr result (IsIdsFault ids.now) }
+{
+    let mut greatest = 0;
+    for at in 0..ids.len() {
+        let id = ids[at];
+        if id > greatest {
+            greatest = id;
+        } else if is_repeated(ids, at) {
+            return Err(ReplayFault::Double(id));
+        }
+    }
+    Ok(())
+}
+
+/// How many entries the groups have, for room.
+fn count_entries(groups: &[Group<'_>]) -> usize {
+    let mut count: usize = 0;
+    for group in groups {
+        count = count.saturating_add(group.entries.len());
+    }
+    count
+}
+
+/// What the groups claim, group by group in this order.
+fn claims_in_order<'a>(
+    alloc: Global,
+    groups: &[Group<'a>],
+    order: &[usize],
+) -> Result<Vec<Claim<'a>>, NoMemory>
+    requires { NamesEach (length groups.now) order.now }
+    ensures of { IfOk result (λ claims. AreOf (bag_of (map grouped groups.now)) (map claimed claims.items)) }
+    ensures turns { IfOk result (λ claims. map claimed claims.items ≡
+        claims_of (segments_bag (entries_in_turn (map grouped groups.now) order.now))) }
+{
+    let mut claims = Vec::with_capacity(alloc, count_entries(groups))?;
+    for n in order {
+        add_claims(&mut claims, groups[*n].entries.as_slice())?;
+    }
+    Ok(claims)
+}
+
+/// What the segments claim, divided by the will and gathered in this order.
+fn claims_divided<'a>(
+    alloc: Global,
+    segments: &'a [Segment],
+    will: &Will,
+    order: &[usize],
+) -> Result<Vec<Claim<'a>>, ReplayFault>
+    ensures ok { IfOk result (λ claims. AreOf (segments_bag segments.entry.now) (map claimed claims.items)) }
+    ensures turns { IfOk result (λ claims. map claimed claims.items ≡
+        claims_of (segments_bag (replayed segments.entry.now will.now order.now))) }
+    ensures covered { OnOk result (AreCovered will.now (segments_bag segments.entry.now)) }
+    ensures order { OnOk result (NamesEach (count_of segments.entry.now will.now) order.now) }
+    ensures fault { IfErr result (IsRebuildFault segments.entry.now will.now order.now) }
+{
+    let count = will.partitions();
+    let groups = groups_in(alloc, segments, will, count)?;
+    check_order(alloc, groups.as_slice(), order)?;
+    let ids = ids_in(alloc, segments)?;
+    check_ids(ids.as_slice())?;
+    Ok(claims_in_order(alloc, groups.as_slice(), order)?)
+}
+
+/// The objects that the plan's segments mean, in memory of their own. Each segment is divided by the will, and the groups
+/// of all partitions are taken in this order. Groups are counted from 0, segment by segment and of each segment by
+/// partition: group n is of segment n / partitions of the plan, and of partition n % partitions. With Ok the result is
+/// that of `rebuild_plain`, whatever the will and the order.
+///
+/// A Double names the segment of two groups of one partition that the order names: one group twice, or groups of two
+/// segments that have one id. A Stranger is a number of the order that is not below the count of groups. MissingGroup
+/// names the segment of the first group that the order leaves out. A Stray is the key of an entry, and in no partition.
+/// Two values of one key and version are a Clash, even if a later version covers them. If the segments' ids differ and
+/// the order names each group once, a clean log whose keys all have partitions fails for memory alone.
+///
+/// For n entries in s segments and p partitions it takes about n log n + s p steps, and at most s s more if the
+/// segments' ids don't rise.
+pub fn rebuild(
+    alloc: Global,
+    plan: &Plan,
+    will: &Will,
+    order: &[usize],
+) -> Result<Rebuilt, ReplayFault>
+    ensures ok { IfOk result (IsRebuilt plan.now.segments plan.now.safe) }
+    ensures turns { IfOk result (IsRebuilt (replayed plan.now.segments will.now order.now) plan.now.safe) }
+    ensures clean { OnOk result (IsClean (among (segments_bag plan.now.segments))) }
+    ensures covered { OnOk result (AreCovered will.now (segments_bag plan.now.segments)) }
+    ensures order { OnOk result (NamesEach (count_of plan.now.segments will.now) order.now) }
+    ensures fault { IfErr result (IsRebuildFault plan.now.segments will.now order.now) }
+    ensures whole { IfErr result (λ fault.
+        CanBeRebuilt plan.now.segments will.now order.now → fault ≡ ReplayFault.NoMemory) }
+{
+    let mut claims = claims_divided(alloc, plan.segments.as_slice(), will, order)?;
+    settle(alloc, plan.safe, &mut claims)
+}

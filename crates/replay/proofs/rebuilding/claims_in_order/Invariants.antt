@@ -1,9 +1,0 @@
-use Rattle.std.proofs.Common.{◌≡◌, map, take}
-use Rattle.backup.specs.Groups.{grouped}
-use Rattle.replay.specs.Claims.{claimed}
-use Rattle.replay.proofs.Ordered.{claims_named}
-use Rattle.replay.proofs.rebuilding.claims_in_order.Given as goal
-
-abbrev pub invariant-loop-n : goal.invariant-loop-n
-invariant-loop-n l =
-    map claimed l.claims.items ≡ claims_named (map grouped l.groups) (take l.n-index l.order)
