@@ -20,8 +20,8 @@ pub use laws::{
     versions_rise,
 };
 pub use order::{GroupOrder, numbers};
+pub use rebuilding::{Rebuilt, ReplayFault, rebuild, rebuild_plain};
 pub use recovery::{RecoveryFault, recover};
 pub use recovery_plan::{Plan, PlanFault, plan};
-pub use rebuilding::{Rebuilt, ReplayFault, rebuild, rebuild_plain};
 pub use succession::{Course, Drills, End, Lived, NotAdopted, run_lives};
 pub use tablet_will::{Will, make_will};

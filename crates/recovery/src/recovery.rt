@@ -16,8 +16,8 @@ ghost use Rattle.recovery.specs.Recovered.{Shows, IsRecovered, IsLossOrMemory, I
 ghost use Rattle.recovery.specs.Texts.{recovery_fault_text};
 
 use crate::order::{GroupOrder, numbers};
-use recovery_plan::{Plan, PlanFault, plan};
 use rebuilding::{Rebuilt, ReplayFault, rebuild};
+use recovery_plan::{Plan, PlanFault, plan};
 use replica::Inventory;
 use std::alloc::Global;
 use std::error::Error;

@@ -2,8 +2,8 @@
 
 use crate::logs::{CLASHING, LOG, Log, Shown, are_shown, is_named, segments_of};
 use backup::{Group, divide};
-use recovery_plan::Segments;
 use rebuilding::{Replay, ReplayFault, Replayed};
+use recovery_plan::Segments;
 use segment::Segment;
 use std::alloc::Global;
 use std::fmt::Write;

@@ -1,8 +1,8 @@
 //! Bytes of segments and of their entries, and what is rebuilt from them.
 
 use entry::Object;
-use recovery_plan::Segments;
 use rebuilding::{Rebuilt, ReplayFault};
+use recovery_plan::Segments;
 use segment::{Segment, read_segment};
 use std::alloc::Global;
 use std::fmt::Display;

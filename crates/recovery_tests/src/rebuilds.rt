@@ -3,8 +3,8 @@
 use crate::divided::will_of;
 use crate::logs::*;
 use entry::{SafeVersion, Version};
-use recovery_plan::Plan;
 use rebuilding::{rebuild, rebuild_plain};
+use recovery_plan::Plan;
 use std::alloc::Global;
 
 /// The safe version above this version, or the first one.

@@ -7,6 +7,4 @@
 mod adopting;
 
 pub use adopting::{adopt, adopt_list};
-pub use rebuilding::{
-    Objects, Rebuilt, Replay, ReplayFault, Replayed, rebuild, rebuild_plain,
-};
+pub use rebuilding::{Objects, Rebuilt, Replay, ReplayFault, Replayed, rebuild, rebuild_plain};
