@@ -6,6 +6,9 @@ refusal there are more: the step that met it was not done, and what the line did
 Images and replicas are bytes, in the spelling of section 2. The master answers from a table that it keeps beside them. A
 recovery reads the replicas' bytes, and nothing else. The wills of `will` change no other answer: the rebuilt list is the same
 however a log is divided, and in whatever order it is replayed. So a recovery of the model is of the whole log at once.
+
+One client without a cleaner has one way to run. For others no model can tell in which order threads take the lock: the model
+raises Undetermined there, and `script_witness.py` says what may come after it.
 """
 
 import re
@@ -78,6 +81,7 @@ LINES = {
     "copy": (),
     "seal": (),
     "free": (),
+    "clients": (number_word, number_word, number_word),
     "roll": (),
     "beginroll": (),
     "push": (),
@@ -121,11 +125,18 @@ def parse(line, backups):
         return None
     if name == "lose" and parts[0] >= backups:
         return None
+    if name == "clients" and not (1 <= parts[0] <= 63 and 1 <= parts[1] <= 1000000):
+        return None
     return (name, *parts)
 
 
 # How the last row begins of the answers with many rows.
 LAST_ROWS = {"recover": ("recovered ", "refused ", "stopped"), "will": ("partitions ", "refused ")}
+
+
+def name_of(row):
+    """Backup, master and segment of a row of holdings."""
+    return [int(word) for word in row.split(" ")[:3]]
 
 
 def answers_of(lines, output):
@@ -135,6 +146,9 @@ def answers_of(lines, output):
         answer = []
         if line[0] == "holdings":
             while rows and re.fullmatch(r"([0-9]+ ){4}(open|closed)", rows[0]):
+                # The names of one line's rows rise. Those of another line of holdings may follow.
+                if answer and name_of(rows[0]) <= name_of(answer[-1]):
+                    break
                 answer.append(rows.popleft())
         elif line[0] in LAST_ROWS:
             while rows and not (answer and answer[-1].startswith(LAST_ROWS[line[0]])):
@@ -676,6 +690,15 @@ def rebuilt(segments):
 
 # The store, line by line (section 11).
 
+class Undetermined(Exception):
+    """A line with several threads: what it does depends on the order in which they take the lock."""
+
+
+def client_key(number):
+    """The key of table 1 that this client writes."""
+    return b"c%d" % number
+
+
 @dataclass(frozen=True)
 class Store:
     """A fleet, and a master over it."""
@@ -707,6 +730,10 @@ class Store:
         else:
             yield from getattr(self, f"line_{name}")(*parts)
 
+    def answered(self, line):
+        """What the line prints if no memory is refused, and the store then."""
+        return next((answer, after) for answer, refused, after in self.outcomes(line) if not refused)
+
     def line_idle(self):
         yield "", 0, self
 
@@ -726,24 +753,45 @@ class Store:
         return self.command(Command("del", table, key))
 
     def command(self, command):
+        called = yield from self.called(command)
+        if called:
+            reply, store = called
+            yield f"{reply}\n", 0, store
+
+    def called(self, command):
+        """Does a command until it is durable. Yields the answers that end the line, and returns the reply and the store then."""
         store = self
         refusal = store.master.refusal(command, self.options)
         if refusal == "Rolling":
             store = yield from store.rolled()
             if not store:
-                return
+                return None
             refusal = store.master.refusal(command, self.options)
         if refusal:
             yield f"refused {refusal}\n", 0, store
-            return
+            return None
         yield REFUSED, 1, store
         reply, master = store.master.applied(command)
         store = replace(store, master=master)
         while store.durable() < store.master.records:
             store = yield from store.one_push()
             if not store:
-                return
-        yield f"{reply}\n", 0, store
+                return None
+        return reply, store
+
+    def line_clients(self, clients, rounds, passes):
+        if clients > 1 or passes > 0 or self.master.cleaning:
+            raise Undetermined
+        yield REFUSED, 1, self
+        store = self
+        for number in range(1, rounds + 1):
+            for command in (Command("put", 1, client_key(0), b"%d" % number), Command("get", 1, client_key(0))):
+                called = yield from store.called(command)
+                if not called:
+                    return
+                store = called[1]
+        yield REFUSED, 1, store
+        yield f"clients 1 {rounds} {2 * rounds}\n", 0, store
 
     def line_compact(self, segment):
         image = next((it for it in self.master.log() if it.id == segment), None)
@@ -1065,7 +1113,7 @@ def undisturbed(script, options):
         parsed = parse(line, options.backups)
         if parsed is None:
             return Run(2, "".join(output), f"ramlog: bad line {place}\n")
-        answer, store = next((answer, after) for answer, refused, after in store.outcomes(parsed) if not refused)
+        answer, store = store.answered(parsed)
         output.append(answer)
     return Run(0, "".join(output), "")
 

@@ -1,35 +1,92 @@
 #!/usr/bin/env python3
-"""Tests support/script_model.py: what it answers to the scripts of examples/. Not part of the gate.
+"""Tests support/script_model.py by the scripts of examples/, and support/script_witness.py by runs of clients.
+
+It is not part of the gate.
 
   support/script_model_test.py
 
 The model reads scripts, and neither a command line that is refused nor a configuration that is wrong: examples of these are passed
-over. An example that differs is printed, and the status is 1.
+over. The witness has to let through what some order of the clients leaves, and nothing else. What differs is printed, and the
+status is 1.
 """
 
 import sys
 
-from examples import examples
+from examples import examples, lines_of
 from script_model import Run, options_of, undisturbed
+from script_witness import wrong_run
+
+WORDS = ("--segment=8192", "--seglets=4096")
+FOUR = "clients 4 100 5 / crash / recover / log / put 1 a x"
+TWO = "clients 2 3 0 / get 1 c0 / get 1 c1 / put 1 a x"
+STOPPED = "stop 9 / clients 2 3 0 / crash / recover / put 1 a x"
+
+
+def four(*objects, calls=800, head=1, version=104):
+    """What FOUR prints, with a version and a value for each client that has one."""
+    rows = [f"1 c{number} {it}" for number, it in enumerate(objects) if it]
+    return " / ".join([f"clients 4 100 {calls}", "crashed", *rows, f"recovered {len(rows)}", f"log {head}", f"ok {version}"])
+
+
+# Scripts with clients, what was printed, and whether it may be.
+RUNS = [
+    (FOUR, four("102 100", "100 100", "103 100", "101 100"), True),
+    (FOUR, four("102 100", "100 100", "103 100", "101 100", head=2), False),
+    (FOUR, four("102 100", "100 100", "103 100", "101 100", version=105), False),
+    (FOUR, four("102 100", "100 100", "103 100", "101 100", calls=799), False),
+    (FOUR, four("102 100", "102 100", "103 100", "101 100"), False),
+    (FOUR, four("104 100", "100 100", "103 100", "101 100", version=105), False),
+    (FOUR, four("101 99", "100 100", "103 100", "102 100"), False),
+    (FOUR, four(None, "100 100", "102 100", "101 100"), False),
+    (TWO, "clients 2 3 12 / 4 3 / 3 3 / ok 3", True),
+    (TWO, "clients 2 3 12 / 3 3 / 3 3 / ok 3", False),
+    (TWO, "clients 2 3 12 / 4 3 / 3 3 / ok 4", False),
+    (TWO, "refused Full / 1 1 / none / ok 2", True),
+    (TWO, "refused Full / 2 1 / none / ok 2", False),
+    (TWO, "refused Full / 2 1 / 2 2 / ok 3", True),
+    (TWO, "refused Full / none / none / ok 1", True),
+    (TWO, "refused NoTablet / none / none / ok 1", False),
+    (TWO, "stopped / refused Down / refused Down / refused Down", False),
+    (f"put 1 c1 x / {TWO}", "ok 1 / clients 2 3 12 / 4 3 / 4 3 / ok 3", True),
+    (f"put 1 c1 x / {TWO}", "ok 1 / clients 2 3 12 / 4 3 / 3 3 / ok 3", False),
+    (f"put 1 c1 x / {TWO}", "ok 1 / refused Full / none / 1 x / ok 2", True),
+    (STOPPED, "stop 9 / stopped / refused Down / 1 c0 2 1 / 1 c1 2 2 / recovered 2 / ok 3", True),
+    (STOPPED, "stop 9 / stopped / refused Down / 1 c1 2 2 / recovered 1 / ok 3", True),
+    (STOPPED, "stop 9 / stopped / refused Down / 1 c1 2 1 / recovered 1 / ok 3", False),
+    (STOPPED, "stop 9 / stopped / refused Down / 1 c1 4 4 / recovered 1 / ok 5", False),
+    (STOPPED, "stop 9 / stopped / refused Down / recovered 0 / ok 1", True),
+]
 
 
 def is_script(example):
     return example.status == 0 or example.errors.startswith(b"ramlog: bad line ")
 
 
+def differs(example):
+    """Whether the model prints something else for an example."""
+    wanted = Run(example.status, example.output.decode(), example.errors.decode())
+    came = undisturbed(example.script, options_of(example.words))
+    if came != wanted:
+        print(f"examples/{example.name} differs\n  wanted: {wanted}\n  came:   {came}")
+    return came != wanted
+
+
+def is_misjudged(script, output, is_right):
+    wrong = wrong_run(WORDS, lines_of(script), Run(0, lines_of(output).decode(), ""))
+    if is_right == (wrong is None):
+        return False
+    print(f"{script}\n  printed: {output}\n  and that is {wrong or 'let through'}")
+    return True
+
+
 def main():
     if sys.argv[1:]:
         print(__doc__.strip())
         sys.exit(0 if sys.argv[1] in ("-h", "--help") else 2)
-    chosen, differ = [it for it in examples() if is_script(it)], 0
-    for it in chosen:
-        wanted = Run(it.status, it.output.decode(), it.errors.decode())
-        came = undisturbed(it.script, options_of(it.words))
-        if came != wanted:
-            differ += 1
-            print(f"examples/{it.name} differs\n  wanted: {wanted}\n  came:   {came}")
-    print(f"{len(chosen)} examples, {differ} differ")
-    sys.exit(differ > 0)
+    chosen = [it for it in examples() if is_script(it)]
+    differ, misjudged = sum(map(differs, chosen)), sum(is_misjudged(*run) for run in RUNS)
+    print(f"{len(chosen)} examples, {differ} differ; {len(RUNS)} runs of clients, {misjudged} misjudged")
+    sys.exit(differ + misjudged > 0)
 
 
 main()

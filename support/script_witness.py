@@ -1,0 +1,404 @@
+"""What is wrong with a run, by the model of the rules and by a plain map.
+
+`wrong_run` follows a run line by line. As long as one order of steps is possible, each line has to print what
+`script_model.py` prints. Behind a line of clients it doesn't: threads took the lock in an order that nobody knows, so neither
+the layout of the log nor the order of the versions is known. From there up to a recovery each answer has to be one that some
+order allows. What was recovered has the layout of no earlier log, so from there the model goes on.
+
+A `Witness` sees all lines, and judges them by a plain map alone. A get tells what became of a client's key: it has to come before
+any other command of that key, or of one that is absent.
+"""
+
+import re
+from dataclasses import dataclass, field
+
+from script_model import (NO_LIMIT, Command, Fleet, Object, Store, Undetermined, answers_of, client_key, is_too_big, lines_of,
+                          make_will, name_of, options_of, parse, place)
+
+COMMANDS = ("put", "new", "cas", "get", "del")
+
+
+# A plain map.
+
+@dataclass
+class Crowd:
+    """The keys that clients wrote in an order that isn't known, as far as no answer has told of them."""
+
+    # Each with its version and value before, or None.
+    before: dict
+    # The version of the first new key.
+    safe: int
+    rounds: int
+    # Each client made all its rounds.
+    is_done: bool
+    # How many keys were absent, and the versions that some of them are known to have begun with.
+    fresh: int = 0
+    begun: set = field(default_factory=set)
+
+    def begin(self, name, found):
+        """With which version a new key began that has this version and value now; 0 if it was there; None if neither may be."""
+        before = self.before[name]
+        if found == before and not self.is_done:
+            return 0
+        made = int(found[1]) if found and re.fullmatch(rb"[1-9][0-9]*", found[1]) else 0
+        if not 1 <= made <= self.rounds or (self.is_done and made < self.rounds):
+            return None
+        if before:
+            return 0 if found[0] == before[0] + made else None
+        first = found[0] - made + 1
+        return first if self.safe <= first < self.safe + self.fresh and first not in self.begun else None
+
+
+class Map:
+    """A plain map from keys to a version and a value, with the version that the next new key gets."""
+
+    def __init__(self, live=None, safe=1, crowd=None):
+        self.live = live or {}
+        self.safe = safe
+        # What clients may have left, if that isn't known.
+        self.crowd = crowd
+
+    def copy(self):
+        crowd = self.crowd and Crowd(dict(self.crowd.before), self.crowd.safe, self.crowd.rounds, self.crowd.is_done,
+                                     self.crowd.fresh, set(self.crowd.begun))
+        return Map(dict(self.live), self.safe, crowd)
+
+    def reply(self, line):
+        """Does a command, and says what it answers."""
+        kind, table, key, *rest = line
+        version, value = self.live.get((table, key), (None, None))
+        if kind == "get":
+            return "none" if version is None else f"{version} {value.decode()}"
+        if kind == "del":
+            if version is None:
+                return "none"
+            del self.live[table, key]
+            self.safe = max(self.safe, version + 1)
+            return f"ok {version}"
+        if (kind == "new" and version is not None) or (kind == "cas" and version != rest[0]):
+            return f"mismatch {'none' if version is None else version}"
+        if version is None:
+            version, self.safe = self.safe, self.safe + 1
+        else:
+            version += 1
+        self.live[table, key] = (version, rest[-1])
+        return f"ok {version}"
+
+    def served(self, clients, rounds, is_done):
+        """The map after clients that made all their rounds, or some of them."""
+        map_ = self.copy()
+        names = [(1, client_key(number)) for number in range(clients)]
+        crowd = Crowd({name: map_.live.pop(name, None) for name in names}, map_.safe, rounds, is_done)
+        crowd.fresh = sum(before is None for before in crowd.before.values())
+        map_.crowd = crowd
+        if is_done:
+            map_.safe += crowd.fresh
+            for name, before in [*crowd.before.items()]:
+                if before:
+                    map_.learn(name, (before[0] + rounds, b"%d" % rounds))
+                elif crowd.fresh == 1:
+                    map_.learn(name, (crowd.safe + rounds - 1, b"%d" % rounds))
+        return map_
+
+    def learn(self, name, found):
+        """Takes what an answer tells of a client's key: a version and a value, or None. Answers whether it may be so."""
+        crowd = self.crowd
+        first = crowd.begin(name, found)
+        if first is None:
+            return False
+        del crowd.before[name]
+        if first:
+            crowd.begun.add(first)
+        if found:
+            self.live[name] = found
+        if crowd.before:
+            return True
+        # New keys got their first versions one after the other.
+        behind = crowd.safe + len(crowd.begun)
+        self.crowd, self.safe = None, max(self.safe, behind)
+        return crowd.begun == set(range(crowd.safe, behind))
+
+    def found(self, rows):
+        """The map that these rows of a recovery show, if it is this one; else None."""
+        map_ = self.copy()
+        if map_.crowd:
+            words = [row.encode().split(b" ") for row in rows]
+            table = {(int(it[0]), it[1]): (int(it[2]), it[3]) for it in words if len(it) == 4}
+            if not all(map_.learn(name, table.get(name)) for name in [*map_.crowd.before]):
+                return None
+        return map_ if rows == map_.rows() else None
+
+    def recovered(self):
+        """The map that a new master has of this one."""
+        return Map(dict(self.live), max([self.safe, *(version + 1 for version, _ in self.live.values())]))
+
+    def objects(self):
+        return [Object(table, version, key, value) for (table, key), (version, value) in sorted(self.live.items())]
+
+    def rows(self):
+        return [f"{it.table} {it.key.decode()} {it.version} {it.value.decode()}" for it in self.objects()]
+
+
+class Witness:
+    """Sees the lines of a script and their answers, and says what is wrong with them by a plain map."""
+
+    def __init__(self, replicas):
+        self.replicas = replicas
+        self.answered = Map()
+        # The map with the line that was stopped in this life, if one was.
+        self.stopped = None
+        # The backups that were lost since the last recovery.
+        self.lost = set()
+        # The greatest version at which each key was answered.
+        self.versions = {}
+
+    def wrong(self, line, answer):
+        """What is wrong with the answer to this line, or None."""
+        is_refused = bool(answer) and answer[-1].startswith("refused ")
+        if line[0] in COMMANDS and answer == ["stopped"]:
+            self.stopped = self.answered.copy()
+            self.stopped.reply(line)
+        elif line[0] in COMMANDS and answer and not is_refused:
+            return self.wrong_reply(line, answer[0])
+        elif line[0] == "clients" and answer and answer[0] != "refused Down":
+            return self.wrong_count(line, answer[0])
+        elif line[0] == "lose" and not is_refused:
+            self.lost.add(line[1])
+        elif line[0] == "recover" and is_refused:
+            if answer[-1] not in ("refused Up", "refused Full") and len(self.lost) < self.replicas:
+                return f"recover printed {answer[-1]}, and fewer backups than {self.replicas} are lost"
+        elif line[0] == "recover" and answer and answer != ["stopped"]:
+            return self.wrong_table(answer)
+        return None
+
+    def wrong_reply(self, line, reply):
+        name, seen = line[1:3], self.versions.get(line[1:3], 0)
+        if self.answered.crowd and name in self.answered.crowd.before:
+            version, _, value = reply.partition(" ")
+            found = None if reply == "none" else (int(version), value.encode())
+            if line[0] != "get" or not self.answered.learn(name, found):
+                return f"{line} printed {reply}, which no order of the clients leaves"
+            self.versions[name] = max(seen, found[0] if found else 0)
+            return None
+        wanted = self.answered.reply(line)
+        if reply != wanted:
+            return f"{line} printed {reply}, and the map answers {wanted}"
+        if line[0] in ("put", "new", "cas") and reply.startswith("ok "):
+            version = int(reply.split()[1])
+            if version <= seen:
+                return f"{line} printed {reply}, and the key was at {seen}"
+            self.versions[name] = version
+        return None
+
+    def wrong_count(self, line, answer):
+        _, clients, rounds, _ = line
+        if self.answered.crowd:
+            # A get behind the clients before was refused for want of room in the history, and so is each later call.
+            return None if answer == "refused HistoryFull" else f"{line} printed {answer}, and the history is full"
+        if answer == "stopped":
+            self.stopped = self.answered.served(clients, rounds, False)
+        elif answer in ("refused Full", "refused HistoryFull"):
+            self.answered = self.answered.served(clients, rounds, False)
+        elif answer == f"clients {clients} {rounds} {2 * clients * rounds}":
+            self.answered = self.answered.served(clients, rounds, True)
+        else:
+            return f"{line} printed {answer}"
+        return None
+
+    def wrong_table(self, answer):
+        maps = [it for it in (self.answered, self.stopped) if it]
+        found = next(filter(None, (it.found(answer[:-1]) for it in maps)), None)
+        if not found or answer[-1] != f"recovered {len(found.live)}":
+            return f"recover printed {answer}, and the map is one of {[it.rows() for it in maps]}, but for clients"
+        self.answered, self.stopped = found.recovered(), None
+        self.lost = set()
+        return None
+
+
+# A run.
+
+PASS_REFUSED = r"refused (PassOpen|Full|TooMuch|TooMany|(Twice|IsHead|NotInLog) \d+)"
+# What a line may print behind clients, if it isn't stopped.
+FORMS = {
+    "roll": r"head \d+|refused Full",
+    "beginroll": r"opening \d+|refused (Full|Rolling)",
+    "push": r"(extend|open|close) \d+ \d+|refused Nothing",
+    "compact": r"compacted \d+ \d+|refused (IsHead|NotInLog) \d+|refused PassOpen",
+    "clean": rf"cleaned \d+ \d+|{PASS_REFUSED}",
+    "begin": rf"begun \d+|{PASS_REFUSED}",
+    "copy": r"moved|carried|dropped|refused Nothing",
+    "seal": r"sealed \d+|refused Nothing",
+    "free": r"freed \d+ \d+|refused Nothing",
+    "log": r"log( \d+)+",
+    "hex": r"([0-9a-f]{2})+|refused NotInLog \d+",
+}
+# Lines that a spent fleet may stop.
+TAKING = (*COMMANDS, "roll", "push", "clean", "seal", "free", "clients", "recover")
+
+
+def end_of(steps):
+    """What the steps of a line return, if no memory is refused; None if they end the line."""
+    while True:
+        try:
+            _, refused, _ = next(steps)
+        except StopIteration as end:
+            return end.value
+        if not refused:
+            return None
+
+
+class Follower:
+    """Says what is wrong with the answers to the lines of a script."""
+
+    def __init__(self, options):
+        self.options = options
+        self.witness = Witness(options.replicas)
+        # None if its layout isn't known. The numbers below are for that time.
+        self.store = Store.new(options)
+        self.is_up = True
+        # Whether the fleet takes whatever comes.
+        self.is_unlimited = True
+        self.greatest = 1
+        # How many records the history has, if that is known.
+        self.records = None
+
+    def wrong(self, line, answer):
+        """What is wrong with the answer to this line, or None."""
+        if self.store:
+            try:
+                wanted, after = self.store.answered(line)
+            except Undetermined:
+                self.lose_sight()
+            else:
+                if wanted.splitlines() != answer:
+                    return f"{line} printed {answer}, and the model prints {wanted.splitlines()}"
+                self.store = after
+                return self.witness.wrong(line, answer)
+        return self.witness.wrong(line, answer) or self.wrong_unseen(line, answer)
+
+    def lose_sight(self):
+        """From here on the layout isn't known."""
+        self.is_up = True
+        self.is_unlimited = self.store.fleet.left == NO_LIMIT
+        self.greatest, self.records = self.store.greatest, self.store.master.records
+        self.store = None
+
+    def wrong_unseen(self, line, answer):
+        name = line[0]
+        if self.is_up and name in ("lose", "recover"):
+            may_be = answer == ["refused Up"]
+        elif not self.is_up and name not in ("idle", "stop", "lose", "recover", "holdings"):
+            may_be = answer == ["refused Down"]
+        elif answer == ["stopped"]:
+            may_be = not self.is_unlimited and name in TAKING
+            self.stop(name)
+        elif name in COMMANDS:
+            may_be = self.may_command(line, answer[0])
+        elif name in FORMS:
+            may_be = len(answer) == 1 and re.fullmatch(FORMS[name], answer[0])
+        else:
+            may_be = getattr(self, f"may_{name}")(line, answer)
+        return None if may_be else f"{line} printed {answer}, which isn't possible behind clients"
+
+    def stop(self, name):
+        self.is_up, self.is_unlimited = False, True
+        if name == "recover":
+            self.greatest += 1
+
+    def may_command(self, line, row):
+        kind = "put" if line[0] in ("put", "new", "cas") else line[0]
+        command = Command(kind, line[1], line[2], line[-1] if kind == "put" else b"")
+        if kind == "put" and is_too_big(command, self.options):
+            return row == "refused TooBig"
+        if not 1 <= command.table <= self.options.tables:
+            return row == "refused NoTablet"
+        if self.records is not None and self.records >= self.options.history:
+            return row == "refused HistoryFull"
+        if row == "refused Full":
+            return kind != "get"
+        if row == "refused HistoryFull":
+            return self.records is None
+        if self.records is not None:
+            self.records += 1
+        # The witness judges the reply.
+        return not row.startswith("refused ")
+
+    def may_clients(self, line, answer):
+        calls, left = 2 * line[1] * line[2], None if self.records is None else self.options.history - self.records
+        if answer[0].startswith("clients "):
+            if self.records is not None:
+                self.records += calls
+            return left is None or calls <= left
+        self.records = None
+        return answer[0] == "refused Full" or left is None or calls > left
+
+    def may_idle(self, _, answer):
+        return not answer
+
+    def may_stop(self, line, answer):
+        self.is_unlimited = line[1] == NO_LIMIT
+        return answer == [f"stop {line[1]}"]
+
+    def may_crash(self, _, answer):
+        self.is_up = False
+        return answer == ["crashed"]
+
+    def may_lose(self, line, answer):
+        return answer == [f"lost {line[1]}"]
+
+    def may_will(self, _, answer):
+        if self.witness.answered.crowd:
+            return True
+        sizes = sorted((it.table, place(it.key), len(it.spelled())) for it in self.witness.answered.objects())
+        parts, count = make_will(range(1, self.options.tables + 1), sizes, self.options.bytes, self.options.objects)
+        return answer == [*(f"{table} {first:016x} {last:016x} {part}" for table, first, last, part in parts), f"partitions {count}"]
+
+    def may_room(self, _, answer):
+        seglets = re.fullmatch(r"used (\d+) free (\d+)", answer[0])
+        return seglets and int(seglets[1]) + int(seglets[2]) == self.options.seglets
+
+    def may_holdings(self, _, answer):
+        return all(self.may_hold(*name_of(row)) for row in answer)
+
+    def may_hold(self, backup, master, segment):
+        options = self.options
+        is_home = (backup - segment * options.step) % options.backups < options.replicas
+        return backup < options.backups and 1 <= master <= self.greatest and is_home
+
+    def may_recover(self, _, answer):
+        """A recovery that came to its end was judged by the witness; the new master's layout is known then."""
+        if answer[-1].startswith("refused "):
+            self.greatest += answer == ["refused Full"]
+            return re.fullmatch(r"refused (Full|NoHead|(HeadClosed|Missing) \d+)", answer[-1])
+        found = self.witness.answered
+        store = end_of(Store(self.options, Fleet(), None, greatest=self.greatest).adopted(found.objects(), found.safe))
+        self.is_up, self.records = True, 0
+        self.greatest += 1
+        if self.is_unlimited:
+            self.store = store
+        return store is not None
+
+
+def wrong_run(words, script, run):
+    """What is wrong with the run of a script, with these options; None if nothing is."""
+    options = options_of(words)
+    follower, lines, status, errors = Follower(options), [], 0, ""
+    for number, line in enumerate(lines_of(script), 1):
+        parsed = parse(line, options.backups)
+        if parsed is None:
+            status, errors = 2, f"ramlog: bad line {number}\n"
+            break
+        lines.append(parsed)
+    printed = []
+    for line, answer in answers_of(lines, run.output):
+        printed += answer
+        if not answer and line[0] not in ("idle", "holdings"):
+            return f"{line} printed nothing"
+        wrong = follower.wrong(line, answer)
+        if wrong:
+            return wrong
+    if "".join(f"{row}\n" for row in printed) != run.output:
+        return "more was printed than the lines have"
+    if (run.status, run.errors) != (status, errors):
+        return f"it ended with status {run.status} and {run.errors!r}, and not with {status} and {errors!r}"
+    return None
