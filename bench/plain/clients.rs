@@ -1,0 +1,198 @@
+//! A plain Rust program of the same rules, without contracts: clients in threads of their own over one locked store. Its words
+//! are how many clients there are, how many rounds each makes, and the bytes of a segment. It prints what `ramlog` prints to
+//! the line `clients`. As there, each holding of the lock makes one step: it applies a command, hands one unit to one replica,
+//! or answers a call whose record is durable. Only a roll is one step here.
+
+use std::collections::HashMap;
+use std::sync::Mutex;
+use std::thread;
+
+const REPLICAS: usize = 2;
+
+/// Where an object is: its version, its segment, and where its value begins and ends there.
+#[derive(Clone, Copy)]
+struct Place {
+    version: u64,
+    segment: usize,
+    from: usize,
+    to: usize,
+}
+
+/// A call that was accepted, and its reply.
+#[allow(dead_code)]
+struct Record {
+    seat: u64,
+    key: Box<[u8]>,
+    value: Option<Box<[u8]>>,
+    version: u64,
+}
+
+struct Master {
+    size: usize,
+    /// The images of all segments, the head last, and the replicas of each.
+    images: Vec<Vec<u8>>,
+    replicas: Vec<[Vec<u8>; REPLICAS]>,
+    /// Where each unit of the head ends, and its record.
+    units: Vec<(usize, usize)>,
+    /// How many units of the head each replica has.
+    sent: [usize; REPLICAS],
+    objects: HashMap<Box<[u8]>, Place>,
+    safe: u64,
+    history: Vec<Record>,
+    /// The place behind the last record that each seat was answered.
+    answered: Vec<usize>,
+}
+
+/// What comes of a step that applies a command.
+enum Applied {
+    Done(usize),
+    Rolling,
+}
+
+impl Master {
+    fn new(size: usize, seats: usize) -> Master {
+        let mut master = Master {
+            size,
+            images: Vec::new(),
+            replicas: Vec::new(),
+            units: Vec::new(),
+            sent: [0; REPLICAS],
+            objects: HashMap::new(),
+            safe: 1,
+            history: Vec::new(),
+            answered: vec![0; seats],
+        };
+        master.roll();
+        master
+    }
+
+    fn roll(&mut self) {
+        let id = self.images.len() as u64 + 1;
+        let mut image = vec![1];
+        image.extend_from_slice(&1u64.to_be_bytes());
+        image.extend_from_slice(&id.to_be_bytes());
+        image.extend_from_slice(&[0, 2]);
+        image.extend_from_slice(&(id as u32).to_be_bytes());
+        for id in 1..=id {
+            image.extend_from_slice(&id.to_be_bytes());
+        }
+        image.push(3);
+        image.extend_from_slice(&self.safe.to_be_bytes());
+        self.replicas.push([image.clone(), image.clone()]);
+        self.images.push(image);
+        self.units.clear();
+        self.sent = [0; REPLICAS];
+    }
+
+    fn put(&mut self, seat: u64, key: &[u8], value: &[u8]) -> Applied {
+        let old = self.objects.get(key).copied();
+        let unit = 23 + key.len() + value.len() + if old.is_some() { 27 + key.len() } else { 0 };
+        if self.images.last().unwrap().len() + unit > self.size {
+            return Applied::Rolling;
+        }
+        let segment = self.images.len() - 1;
+        let image = &mut self.images[segment];
+        let version = match old {
+            Some(old) => {
+                image.push(5);
+                image.extend_from_slice(&1u64.to_be_bytes());
+                image.extend_from_slice(&old.version.to_be_bytes());
+                image.extend_from_slice(&(old.segment as u64 + 1).to_be_bytes());
+                image.extend_from_slice(&(key.len() as u16).to_be_bytes());
+                image.extend_from_slice(key);
+                old.version + 1
+            }
+            None => {
+                self.safe += 1;
+                self.safe - 1
+            }
+        };
+        image.push(4);
+        image.extend_from_slice(&1u64.to_be_bytes());
+        image.extend_from_slice(&version.to_be_bytes());
+        image.extend_from_slice(&(key.len() as u16).to_be_bytes());
+        image.extend_from_slice(&(value.len() as u32).to_be_bytes());
+        image.extend_from_slice(key);
+        let from = image.len();
+        image.extend_from_slice(value);
+        let place = Place { version, segment, from, to: image.len() };
+        self.units.push((place.to, self.history.len()));
+        self.objects.insert(key.into(), place);
+        self.history.push(Record { seat, key: key.into(), value: Some(value.into()), version });
+        Applied::Done(self.history.len() - 1)
+    }
+
+    fn get(&mut self, seat: u64, key: &[u8]) -> usize {
+        let found = self.objects.get(key).copied();
+        let value = found.map(|it| self.images[it.segment][it.from..it.to].into());
+        self.history.push(Record { seat, key: key.into(), value, version: found.map_or(0, |it| it.version) });
+        self.history.len() - 1
+    }
+
+    fn durable(&self) -> usize {
+        let sent = self.sent.iter().min().copied().unwrap();
+        self.units.get(sent).map_or(self.history.len(), |unit| unit.1)
+    }
+
+    fn settle(&mut self, seat: usize, place: usize) -> bool {
+        if place >= self.durable() {
+            return false;
+        }
+        self.answered[seat] = place + 1;
+        true
+    }
+
+    /// Hands one unit to the replica that has the fewest, or rolls if each has all.
+    fn push(&mut self, rolls: bool) {
+        let least = if self.sent[1] < self.sent[0] { 1 } else { 0 };
+        let at = self.sent[least];
+        if at < self.units.len() {
+            let replica = &mut self.replicas.last_mut().unwrap()[least];
+            let image = self.images.last().unwrap();
+            replica.extend_from_slice(&image[replica.len()..self.units[at].0]);
+            self.sent[least] += 1;
+        } else if rolls && at > 0 {
+            self.roll();
+        }
+    }
+}
+
+fn finish(store: &Mutex<Master>, seat: usize, place: usize) {
+    while !store.lock().unwrap().settle(seat, place) {
+        store.lock().unwrap().push(false);
+    }
+}
+
+/// All rounds of a client. Answers how many calls were accepted.
+fn serve(store: &Mutex<Master>, client: usize, rounds: u64) -> u64 {
+    let seat = client + 1;
+    let key = format!("c{client}");
+    for round in 1..=rounds {
+        let value = round.to_string();
+        let place = loop {
+            let applied = store.lock().unwrap().put(seat as u64, key.as_bytes(), value.as_bytes());
+            match applied {
+                Applied::Done(place) => break place,
+                Applied::Rolling => store.lock().unwrap().push(true),
+            }
+        };
+        finish(store, seat, place);
+        let place = store.lock().unwrap().get(seat as u64, key.as_bytes());
+        finish(store, seat, place);
+    }
+    2 * rounds
+}
+
+fn main() {
+    let words: Vec<usize> = std::env::args().skip(1).map(|word| word.parse().unwrap()).collect();
+    let (clients, rounds) = (words[0], words[1]);
+    let store = Mutex::new(Master::new(words[2], 64));
+    let calls: u64 = thread::scope(|scope| {
+        let started: Vec<_> = (0..clients).map(|client| scope.spawn({
+            let store = &store;
+            move || serve(store, client, rounds as u64)
+        })).collect();
+        started.into_iter().map(|client| client.join().unwrap()).sum()
+    });
+    println!("clients {clients} {rounds} {calls}");
+}
