@@ -10,7 +10,7 @@ use Rattle.master_core.specs.declared.step.StepAnswer.TheVariants.{Applied}
 use Rattle.master_core.specs.Steps.{reply_now}
 use Rattle.master.specs.Steps.{Accepts}
 use Rattle.master.specs.World.{World}
-use Rattle.locked_log.specs.Seats.{record_by}
+use Rattle.store_seat.specs.Seats.{record_by}
 
 abbrev place_in : StepAnswer → ℕ
 place_in (Applied place answer) = place

@@ -13,16 +13,18 @@ use Rattle.master.specs.Keeps.{Keeps}
 use Rattle.master.specs.Steps.{Accepts, Declines}
 use Rattle.master.specs.Valid.{IsValid}
 use Rattle.master.specs.World.{World, world}
-use Rattle.locked_log.specs.declared.fault.CallFault.{CallFault}
-use Rattle.locked_log.specs.declared.fault.CallFault.TheVariants.{CellRefused}
+use Rattle.store_seat.specs.declared.fault.CallFault.{CallFault}
+use Rattle.store_seat.specs.declared.fault.CallFault.TheVariants.{CellRefused}
 use Rattle.locked_log.specs.Applies.{AppliesHeld, Counts}
 use Rattle.locked_log.specs.Held.{StateValue, Held, held, history}
-use Rattle.locked_log.specs.Made.{Made}
-use Rattle.locked_log.specs.Seats.{SeatValue, record_by, told, noted, unnoted}
-use Rattle.locked_log.specs.States.{account, IsState, Knows, Lasts}
+use Rattle.store_seat.specs.Made.{Made}
+use Rattle.store_seat.specs.Seats.{SeatValue, record_by, told, noted, unnoted}
+use Rattle.store_seat.specs.Accounts.{account, Knows}
+use Rattle.locked_log.specs.States.{IsState, Lasts}
 use Rattle.locked_log.proofs.Adding.{place_is, history_is}
 use Rattle.locked_log.proofs.Filing.{filed, filed_lasts}
-use Rattle.locked_log.proofs.Refiling.{get_last, get_there}
+use Rattle.store_seat.proofs.Places.{get_there}
+use Rattle.locked_log.proofs.Refiling.{get_last}
 use Rattle.locked_log.proofs.Writing.{row_whole, row_short}
 
 module _ (s t : Held) (m : SeatValue) (command : Command) (place : ℕ) (reply : Reply) (made : Made)
@@ -85,16 +87,16 @@ pub record Done (s : Held) (m : SeatValue) (command : Command) (r : Result (ℕ 
   pub valid : IsState t made
 
 -- a value under the lock and a seat, as the body finds them
-module _ {F : Type 0} (state : F → FleetState) (v x : StateValue F) (same : v ≡ x) (k m : SeatValue) (seat : k ≡ m) (command : Command) where
-  pub declines_at : (r : Refusal) (w : World) → Declines (world state v.master) (Apply k.number command) r w
+module _ {F : Type 0} (state : F → FleetState) (v x : StateValue F) (same : v ≡ x) (m : SeatValue) (k : ℕ) (seat : k ≡ m.number) (command : Command) where
+  pub declines_at : (r : Refusal) (w : World) → Declines (world state v.master) (Apply k command) r w
       → Declines (world state x.master) (Apply m.number command) r w
   declines_at r w d =
-      subst (λ (z : SeatValue). Declines (world state x.master) (Apply z.number command) r w) seat
-      (subst (λ (y : StateValue F). Declines (world state y.master) (Apply k.number command) r w) same d)
+      subst (λ (z : ℕ). Declines (world state x.master) (Apply z command) r w) seat
+      (subst (λ (y : StateValue F). Declines (world state y.master) (Apply k command) r w) same d)
 
   module _ (place : ℕ) (reply : Reply) (t : Held) (made : Made) (what : Record)
       (st : IsState (held state v) made) (known : Knows x.book m) (off : v.is_refused ≡ false)
-      (gives : Accepts (world state v.master) (Apply k.number command) (Applied place reply) t.world)
+      (gives : Accepts (world state v.master) (Apply k command) (Applied place reply) t.world)
       (keeps : Keeps 1 (world state v.master) t.world) (valid : IsValid t.world.knows t.world.fleet)
       (is : what ≡ get_or (history t) place what)
       (book : t.book ≡ slice_set v.book m.number (account m.first (m.count + 1))) (total : t.total ≡ v.total + 1) where
@@ -109,8 +111,8 @@ module _ {F : Type 0} (state : F → FleetState) (v x : StateValue F) (same : v 
 
     gives_at : Accepts s.world (Apply m.number command) (Applied place reply) t.world
     gives_at =
-        subst (λ (z : SeatValue). Accepts s.world (Apply z.number command) (Applied place reply) t.world) seat
-        (subst (λ (y : StateValue F). Accepts (world state y.master) (Apply k.number command) (Applied place reply) t.world) same gives)
+        subst (λ (z : ℕ). Accepts s.world (Apply z command) (Applied place reply) t.world) seat
+        (subst (λ (y : StateValue F). Accepts (world state y.master) (Apply k command) (Applied place reply) t.world) same gives)
 
     keeps_at : Keeps 1 s.world t.world
     keeps_at = subst (λ (y : StateValue F). Keeps 1 (world state y.master) t.world) same keeps

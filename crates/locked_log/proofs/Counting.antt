@@ -5,11 +5,9 @@ use Rattle.std.proofs.lemmas.Bool.Decides.{nat_tests}
 use Rattle.std.proofs.lemmas.List.Elements.{All-append}
 use Rattle.std.proofs.lemmas.List.Sums.{sum_by-append}
 use Rattle.versioned_map.specs.declared.command.Record.{Record}
-use Rattle.locked_log.specs.declared.state.Account.{Account}
+use Rattle.store_seat.specs.declared.account.Account.{Account}
+use Rattle.store_seat.proofs.Places.{some_is}
 use Rattle.locked_log.specs.States.{count_of}
-
-pub some_is : {X : Type 0} → {x y : X} → Some x ≡ Some y → x ≡ y
-some_is e = cc
 
 -- ---- rows of accounts
 

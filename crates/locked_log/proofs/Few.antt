@@ -8,9 +8,10 @@ use Rattle.master_core.specs.declared.config.Config.{Config}
 use Rattle.master_core.specs.Config.{config_fault, has_backups, has_step, has_seglet, has_segment, has_budget, has_tablets, has_history}
 use Rattle.master_core.proofs.Refusals.{passes}
 use Rattle.locked_log.specs.Held.{Held, history}
-use Rattle.locked_log.specs.Made.{Made}
-use Rattle.locked_log.specs.Seats.{SeatValue}
-use Rattle.locked_log.specs.States.{account, count_of, IsState, Knows}
+use Rattle.store_seat.specs.Made.{Made}
+use Rattle.store_seat.specs.Seats.{SeatValue}
+use Rattle.store_seat.specs.Accounts.{account, Knows}
+use Rattle.locked_log.specs.States.{count_of, IsState}
 
 pub few_records : (c : Config) → config_fault c ≡ None → c.history ≤ 1048576
 few_records c ok =

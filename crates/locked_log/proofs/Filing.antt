@@ -7,12 +7,13 @@ use Rattle.versioned_map.specs.declared.command.Reply.{Reply}
 use Rattle.master_core.specs.declared.config.Config.{Config}
 use Rattle.master.specs.Keeps.{Keeps}
 use Rattle.master.specs.Valid.{IsValid}
-use Rattle.locked_log.specs.declared.state.Account.{Account}
+use Rattle.store_seat.specs.declared.account.Account.{Account}
 use Rattle.locked_log.specs.Applies.{Counts}
 use Rattle.locked_log.specs.Held.{Held, history}
-use Rattle.locked_log.specs.Made.{Made}
-use Rattle.locked_log.specs.Seats.{SeatValue, record_by}
-use Rattle.locked_log.specs.States.{account, count_of, IsState, Lasts}
+use Rattle.store_seat.specs.Made.{Made}
+use Rattle.store_seat.specs.Seats.{SeatValue, record_by}
+use Rattle.store_seat.specs.Accounts.{account}
+use Rattle.locked_log.specs.States.{count_of, IsState, Lasts}
 use Rattle.locked_log.proofs.Adding.{place_is, history_is}
 use Rattle.locked_log.proofs.Counting.{get_set, in_book, count_mine, count_other, all_push}
 use Rattle.locked_log.proofs.Lasting.{firsts_set, made_lasts}

@@ -1,6 +1,6 @@
 -- Sums over seats.
 use Rattle.std.proofs.Common.{◌≡◌, ◌+◌, List, [], ◌∷◌, ◌++◌, arith}
-use Rattle.locked_log.specs.Seats.{SeatValue, parts_of, amounts_of}
+use Rattle.store_seat.specs.Seats.{SeatValue, parts_of, amounts_of}
 
 pub parts_push : (ms : List SeatValue) (m : SeatValue) → parts_of (ms ++ m ∷ []) ≡ parts_of ms + m.parts
 parts_push [] m = omega arith

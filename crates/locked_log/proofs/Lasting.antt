@@ -5,11 +5,13 @@ use Rattle.std.proofs.lemmas.List.{append-nil}
 use Rattle.master.specs.Keeps.{Keeps}
 use Rattle.master.specs.World.{World}
 use Rattle.master_core.specs.Data.{MasterData}
-use Rattle.locked_log.specs.declared.state.Account.{Account}
+use Rattle.store_seat.specs.declared.account.Account.{Account}
 use Rattle.locked_log.specs.Held.{Held}
-use Rattle.locked_log.specs.Made.{Made, IsMade, made_now}
+use Rattle.store_seat.specs.Made.{Made}
+use Rattle.locked_log.specs.Made.{IsMade, made_now}
 use Rattle.locked_log.specs.States.{Lasts, RaisesFirsts}
-use Rattle.locked_log.proofs.Counting.{some_is, get_set}
+use Rattle.store_seat.proofs.Places.{some_is}
+use Rattle.locked_log.proofs.Counting.{get_set}
 
 pub keeps_same : (most : ℕ) (w : World) → Keeps most w w
 keeps_same most w = record {

@@ -4,12 +4,14 @@ use Rattle.std.proofs.lemmas.List.{length-replicate}
 use Rattle.std.specs.Prelude.{slice_get}
 use Rattle.master_core.specs.declared.config.Config.{Config}
 use Rattle.master.specs.Valid.{IsValid}
-use Rattle.locked_log.specs.declared.state.Account.{Account}
+use Rattle.store_seat.specs.declared.account.Account.{Account}
 use Rattle.locked_log.specs.Ends.{fresh_book, IsFresh, IsServed}
 use Rattle.locked_log.specs.Held.{Held, history}
-use Rattle.locked_log.specs.Made.{Made, IsMade}
-use Rattle.locked_log.specs.Seats.{SeatValue}
-use Rattle.locked_log.specs.States.{account, count_of, IsState, Knows}
+use Rattle.store_seat.specs.Made.{Made}
+use Rattle.locked_log.specs.Made.{IsMade}
+use Rattle.store_seat.specs.Seats.{SeatValue}
+use Rattle.store_seat.specs.Accounts.{account, Knows}
+use Rattle.locked_log.specs.States.{count_of, IsState}
 use Rattle.locked_log.proofs.Writing.{empty_row}
 
 fresh_account : (n k : ℕ) (a : Account) → slice_get (fresh_book n) k ≡ Some a → a ≡ account 0 0

@@ -7,33 +7,27 @@ use Rattle.std.proofs.Math.Seq.{take-length}
 use Rattle.versioned_map.specs.declared.command.Record.{Record}
 use Rattle.master.specs.Valid.{IsValid}
 use Rattle.history_row.specs.Receipts.{Told}
-use Rattle.locked_log.specs.declared.state.Account.{Account}
+use Rattle.store_seat.specs.declared.account.Account.{Account}
 use Rattle.locked_log.specs.Ends.{fresh_book}
 use Rattle.locked_log.specs.Held.{Held, history}
-use Rattle.locked_log.specs.Made.{Made, IsMade}
-use Rattle.locked_log.specs.Seats.{SeatValue, fresh_seats, fresh_seat, told, noted}
+use Rattle.store_seat.specs.Made.{Made}
+use Rattle.locked_log.specs.Made.{IsMade}
+use Rattle.store_seat.specs.Seats.{SeatValue, fresh_seats, fresh_seat, told, noted}
 use Rattle.locked_log.specs.Sharing.{seat_after, AreFiled}
-use Rattle.locked_log.specs.States.{account, count_of, IsState, Knows}
-use Rattle.locked_log.proofs.Counting.{some_is, in_book, count_mine, count_other, all_push}
+use Rattle.store_seat.specs.Accounts.{account, Knows}
+use Rattle.locked_log.specs.States.{count_of, IsState}
+use Rattle.store_seat.proofs.Places.{some_is}
+use Rattle.locked_log.proofs.Counting.{in_book, count_mine, count_other, all_push}
+use Rattle.store_seat.proofs.Places.{get_there, set_there}
 use Rattle.locked_log.proofs.Few.{few_records}
 use Rattle.locked_log.proofs.Writing.{row_push, empty_row}
 
 -- ---- places of a list
 
-pub get_there : {X : Type 0} (xs : List X) (i : ℕ) (x a : X) → slice_get xs i ≡ Some a → x ≡ get_or xs i x → x ≡ a
-get_there [] i x a e h = absurd (cc)
-get_there (y ∷ ys) zero x a e h = h ∙ some_is e
-get_there (y ∷ ys) (suc i) x a e h = get_there ys i x a e h
-
 pub get_at : {X : Type 0} (xs : List X) (i : ℕ) (x : X) → i < length xs → x ≡ get_or xs i x → slice_get xs i ≡ Some x
 get_at [] i x l h = absurd (omega arith)
 get_at (y ∷ ys) zero x l h = ap Some (sym h)
 get_at (y ∷ ys) (suc i) x l h = get_at ys i x (omega (arith, l)) h
-
-pub set_there : {X : Type 0} (xs : List X) (i : ℕ) (a : X) → i < length xs → slice_get (set xs i a) i ≡ Some a
-set_there [] i a l = absurd (omega arith)
-set_there (x ∷ xs) zero a l = refl
-set_there (x ∷ xs) (suc i) a l = set_there xs i a (omega arith)
 
 set_other : {X : Type 0} (xs : List X) (i j : ℕ) (a : X) → j ≢ i → slice_get (set xs i a) j ≡ slice_get xs j
 set_other [] i j a n = refl
@@ -193,5 +187,5 @@ shares s made seats is valid f off = record {
 pub few : (s : Held) → IsValid s.world.knows s.world.fleet → length (history s) < 2 ^ 62
 few s valid = omega (arith, valid.history, few_records s.world.knows.config valid.config)
 
-pub when_true : (P Q : Type 0) (b : Bool) → b ≡ true → MatchBool b P Q → P
-when_true P Q b e m = subst (λ (x : Bool). MatchBool x P Q) e m
+pub when_true : {X : Type 0} (x y z : X) (b : Bool) → b ≡ true → MatchBool b (x ≡ y) (x ≡ z) → x ≡ y
+when_true x y z b e m = subst (λ (c : Bool). MatchBool c (x ≡ y) (x ≡ z)) e m

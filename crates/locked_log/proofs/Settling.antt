@@ -1,16 +1,17 @@
 -- A seat is answered up to a place; and a store that refuses all later calls.
-use Rattle.std.proofs.Common.{◌≡◌, ◌≢◌, ◌≤◌, ◌<◌, ⊎_elim, ℕ, ◌+◌, List, Some, true, sym, ap, ◌∙◌, subst, arith, length-set}
+use Rattle.std.proofs.Common.{◌≡◌, ◌≢◌, ◌≤◌, ◌<◌, ⊎_elim, ℕ, ◌+◌, List, Some, Bool, true, false, MatchBool, sym, ap, ◌∙◌, subst, arith, length-set}
 use Rattle.std.specs.Prelude.{slice_get, slice_set}
 use Rattle.replica.specs.Picture.{FleetState}
 use Rattle.master.specs.World.{world}
-use Rattle.locked_log.specs.declared.state.Account.{Account}
-use Rattle.locked_log.specs.Applies.{Settles}
+use Rattle.store_seat.specs.declared.account.Account.{Account}
+use Rattle.locked_log.specs.Applies.{Settles, DoesNotSettle}
 use Rattle.locked_log.specs.Held.{StateValue, Held, held, history, durable}
-use Rattle.locked_log.specs.Made.{Made}
-use Rattle.locked_log.specs.Seats.{SeatValue, answered}
-use Rattle.locked_log.specs.States.{account, count_of, IsState, Knows, Lasts}
+use Rattle.store_seat.specs.Made.{Made}
+use Rattle.store_seat.specs.Seats.{SeatValue, answered}
+use Rattle.store_seat.specs.Accounts.{account, Knows, SettlesIn, SettlesNothingIn}
+use Rattle.locked_log.specs.States.{count_of, IsState, Lasts}
 use Rattle.locked_log.proofs.Counting.{get_set}
-use Rattle.locked_log.proofs.Lasting.{keeps_same, firsts_set}
+use Rattle.locked_log.proofs.Lasting.{keeps_same, firsts_set, lasts_same}
 use Rattle.locked_log.proofs.Writing.{written_refused}
 
 module _ (s : Held) (m : SeatValue) (place : ℕ) (known : Knows s.book m) where
@@ -89,3 +90,28 @@ module _ {F : Type 0} (state : F → FleetState) (v x : StateValue F) (same : v 
   lasts_then =
       subst (λ (y : StateValue F). Lasts 0 (held state y) t) same
       (subst (λ (h : Held). Lasts 0 (held state v) h) (sym t_is) (settled_lasts (held state v) m place known_at first))
+
+-- what an answer under the lock ensures
+pub record Settled (s : Held) (m : SeatValue) (place : ℕ) (r : Bool) (t : Held) (n : SeatValue) (made : Made) : Type 0 where
+  pub settles : MatchBool r (Settles s m place t n) (DoesNotSettle s m place t n)
+  pub lasts : Lasts 0 s t
+  pub valid : IsState t made
+
+pub settled_by : {F : Type 0} (state : F → FleetState) (v x : StateValue F) → v ≡ x → (m : SeatValue) (place : ℕ) (made : Made)
+    → IsState (held state v) made → m.first ≤ place → (d : ℕ) → d ≡ durable (held state v) → (book : List Account) (n : SeatValue)
+    → (r : Bool) → MatchBool r (SettlesIn v.book m place d book n) (SettlesNothingIn v.book m place d book n)
+    → Settled (held state x) m place r (record { world = world state v.master; book = book; total = v.total; row = v.row; is_refused = v.is_refused }) n made
+settled_by state v x same m place made st first d is book n true h =
+    let known : Knows x.book m = subst (λ (y : StateValue _). Knows y.book m) same h.1 in
+    let here : place < durable (held state v) = omega (arith, h.0, is) in record {
+      settles = settles_then state v x same m place made st known here first book h.2 n h.3;
+      lasts = lasts_then state v x same m place made st known here first book h.2;
+      valid = settled_then state v x same m place made st known here first book h.2;
+    }
+settled_by state v x same m place made st first d is book n false h =
+    let t : Held = record { world = world state v.master; book = book; total = v.total; row = v.row; is_refused = v.is_refused } in
+    let stays : t ≡ held state v = λ i. record { world = world state v.master; book = h.1 i; total = v.total; row = v.row; is_refused = v.is_refused } in record {
+      settles = subst (λ (y : StateValue _). DoesNotSettle (held state y) m place t n) same ((λ here known. h.0 (omega (arith, here, is)) known), stays, h.2);
+      lasts = subst (λ (y : StateValue _). Lasts 0 (held state y) t) same (subst (λ (k : Held). Lasts 0 (held state v) k) (sym stays) (lasts_same 0 (held state v)));
+      valid = subst (λ (k : Held). IsState k made) (sym stays) st;
+    }

@@ -24,12 +24,13 @@ use Rattle.master.specs.Valid.{IsValid}
 use Rattle.master.specs.World.{World, world, limited_world}
 use Rattle.master.proofs.Keeping.{take_failed}
 use Rattle.master.proofs.Pushed.{same_rest}
-use Rattle.locked_log.specs.declared.turn.CleanTurn.{CleanTurn}
-use Rattle.locked_log.specs.declared.turn.CleanTurn.TheVariants as turn
-use Rattle.locked_log.specs.Held.{StateValue, Held, held, history}
-use Rattle.locked_log.specs.Made.{Made}
+use Rattle.store_step.specs.declared.turn.CleanTurn.{CleanTurn}
+use Rattle.store_step.specs.declared.turn.CleanTurn.TheVariants as turn
+use Rattle.locked_log.specs.Held.{StateValue, Held, held, history, knows}
+use Rattle.store_seat.specs.Made.{Made}
 use Rattle.locked_log.specs.States.{IsState, Lasts, count_of}
-use Rattle.locked_log.specs.Steps.{step_of, StepsAs, Turns}
+use Rattle.store_step.specs.Turns.{step_of, MakesStep, MakesTurn}
+use Rattle.locked_log.specs.Steps.{Turns}
 use Rattle.locked_log.proofs.Idle.{next_works}
 use Rattle.locked_log.proofs.Lasting.{firsts_same, made_lasts}
 
@@ -166,35 +167,47 @@ module _ (s : Held) (n : ℕ) (w : World) (is : w ≡ limited_world s.world n) (
   pub limited_state : (made : Made) → IsState s made → IsState (record s { world = w }) made
   limited_state made st = moved_state s w 0 made st keeps valid (ap (λ (v : World). v.knows.history) is)
 
--- ---- from what the step ensures
+-- ---- from what the turn ensures
 
-module _ {F : Type 0} (state : F → FleetState) (v x : StateValue F) (same : v ≡ x) (asked : CleanTurn) (step : Step)
-    (answer : Result StepAnswer Refusal) (w : World) (made : Made)
-    (st : IsState (held state v) made) (is : step_of v.master.knows asked ≡ Some step)
-    (gives : Steps (world state v.master) step answer w) (kept : Keeps 1 (world state v.master) w) (valid : IsValid w.knows w.fleet) where
-  stays : w.knows.history ≡ v.master.knows.history
-  stays = steps_history (world state v.master) w step answer (asked_other v.master.knows asked step is) gives
+-- a turn leaves the history
+made_history : (old new : World) (asked : CleanTurn) (answer : Result StepAnswer Refusal) (step : Option Step) → step_of old.knows asked ≡ step
+    → MakesStep step old answer new → new.knows.history ≡ old.knows.history
+made_history old new asked answer None is h = ap (λ (w : World). w.knows.history) h.1
+made_history old new asked answer (Some step) is h = steps_history old new step answer (asked_other old.knows asked step is) h
 
-  abbrev after_step : Held
-  after_step = record { world = w; book = v.book; total = v.total; row = v.row; is_refused = v.is_refused }
+turn_history : (old new : World) (asked : CleanTurn) (answer : Result StepAnswer Refusal) → MakesTurn old asked answer new
+    → new.knows.history ≡ old.knows.history
+turn_history old new asked answer (inl h) = made_history old new asked answer (step_of old.knows asked) refl h
+turn_history old new asked answer (inr h) = ap (λ (w : World). w.knows.history) h.4
 
-  pub turned : Turns (held state x) asked answer (record { world = w; book = v.book; total = v.total; row = v.row; is_refused = v.is_refused })
-  turned = subst (λ (y : StateValue F). Turns (held state y) asked answer after_step) same (record {
-    steps = inl (subst (λ (o : Option Step). StepsAs o (held state v) answer after_step) (sym is) gives);
-    history = stays;
-    book = refl;
-    row = refl;
-    total = refl;
-    refused = refl;
-  })
+-- Nothing is answered for Next only if nothing is next
+made_nothing : (old new : World) (answer : Result StepAnswer Refusal) (step : Option Step) → next_step old.knows ≡ step
+    → MakesStep step old answer new → answer ≡ Err refusal.Nothing → step ≡ None
+made_nothing old new answer None is h nothing = refl
+made_nothing old new answer (Some step) is h nothing =
+    absurd (next_works old new step is (subst (λ (r : Result StepAnswer Refusal). Steps old step r new) nothing h))
 
-  pub turned_state : IsState (record { world = w; book = v.book; total = v.total; row = v.row; is_refused = v.is_refused }) made
-  turned_state = moved_state (held state v) w 1 made st kept valid stays
+turn_nothing : (old new : World) (answer : Result StepAnswer Refusal) → MakesTurn old turn.Next answer new → answer ≡ Err refusal.Nothing
+    → next_step old.knows ≡ None
+turn_nothing old new answer (inl h) nothing = made_nothing old new answer (next_step old.knows) refl h nothing
+turn_nothing old new answer (inr h) nothing = let no = sym h.3 ∙ nothing in absurd (cc)
 
-  pub turned_lasts : Lasts 1 (held state x) (record { world = w; book = v.book; total = v.total; row = v.row; is_refused = v.is_refused })
-  turned_lasts = subst (λ (y : StateValue F). Lasts 1 (held state y) after_step) same (moved_lasts (held state v) w 1 kept)
+-- what a turn under the lock ensures
+pub record Turned (s : Held) (asked : CleanTurn) (answer : Result StepAnswer Refusal) (t : Held) (made : Made) : Type 0 where
+  pub turns : Turns s asked answer t
+  pub lasts : Lasts 1 s t
+  pub valid : IsState t made
+  pub nothing : asked ≡ turn.Next → answer ≡ Err refusal.Nothing → next_step (knows s) ≡ None
 
-  pub turned_nothing : asked ≡ turn.Next → answer ≡ Err refusal.Nothing → next_step x.master.knows ≡ None
-  turned_nothing next nothing =
-      absurd (next_works (world state v.master) w step (ap (step_of v.master.knows) (sym next) ∙ is)
-      (subst (λ (r : Result StepAnswer Refusal). Steps (world state v.master) step r w) nothing gives))
+pub turned : {F : Type 0} (state : F → FleetState) (v x : StateValue F) → v ≡ x → (asked : CleanTurn) (answer : Result StepAnswer Refusal)
+    (w : World) (made : Made) → IsState (held state v) made → MakesTurn (world state v.master) asked answer w
+    → Keeps 1 (world state v.master) w → IsValid w.knows w.fleet
+    → Turned (held state x) asked answer (record { world = w; book = v.book; total = v.total; row = v.row; is_refused = v.is_refused }) made
+turned state v x same asked answer w made st gives kept valid =
+    let stays = turn_history (world state v.master) w asked answer gives in
+    subst (λ (y : StateValue _). Turned (held state y) asked answer (record { world = w; book = v.book; total = v.total; row = v.row; is_refused = v.is_refused }) made) same (record {
+      turns = record { steps = gives; history = stays; book = refl; row = refl; total = refl; refused = refl };
+      lasts = moved_lasts (held state v) w 1 kept;
+      valid = moved_state (held state v) w 1 made st kept valid stays;
+      nothing = λ next nothing. turn_nothing (world state v.master) w answer (subst (λ (a : CleanTurn). MakesTurn (world state v.master) a answer w) next gives) nothing;
+    })

@@ -4,13 +4,10 @@ use Rattle.versioned_map.specs.declared.command.Record.{Record}
 use Rattle.history_row.specs.Rows.{IsRowOf}
 use Rattle.master.specs.Keeps.{Keeps}
 use Rattle.master.specs.Valid.{IsValid}
-use Rattle.locked_log.specs.declared.state.Account.{Account}
+use Rattle.store_seat.specs.declared.account.Account.{Account}
 use Rattle.locked_log.specs.Held.{Held, history, durable}
-use Rattle.locked_log.specs.Made.{Made, IsMade}
-use Rattle.locked_log.specs.Seats.{SeatValue}
-
-abbrev pub account : ℕ → ℕ → Account
-account first count = record { first = first; count = count }
+use Rattle.store_seat.specs.Made.{Made}
+use Rattle.locked_log.specs.Made.{IsMade}
 
 -- how many records are a seat's
 abbrev pub count_of : ℕ → List Record → ℕ
@@ -42,10 +39,6 @@ pub record IsState (h : Held) (made : Made) : Type 0 where
   pub no_others : All (λ (r : Record). r.seat < made.seats) (history h)
   -- and is as long as the ledger's total
   pub total : h.total ≡ length (history h)
-
--- the book's numbers of the seat are the seat's own
-abbrev pub Knows : List Account → SeatValue → Type 0
-Knows book m = slice_get book m.number ≡ Some (account m.first m.count)
 
 -- the first number of each account is no lower
 abbrev pub RaisesFirsts : List Account → List Account → Type 0

@@ -5,19 +5,16 @@ ghost use Rattle.locked_log.specs.Made.{IsMade};
 ghost use Rattle.locked_log.specs.declared.sharing.ShareFault.TheVariants as share_fault;
 ghost use Rattle.locked_log.specs.Sharing.{AreSeatsAfter, AreFiled};
 
-use crate::applying::file;
 use crate::blank::{Blank, open_book, seat_all};
-use crate::naming::Naming;
-use crate::seat::Seat;
-use crate::state::{Account, State};
+use crate::state::State;
 use crate::store::Store;
 use entry::NoMemory;
 use history_row::Row;
 use master::{Master, Record};
 use replica::Fleet;
 use std::alloc::{AllocError, Global};
-use std::sync::Mutex;
 use std::sync::ledger::Book;
+use store_seat::{Account, Naming, Seat, Shared, file};
 
 /// Why a store was not made over a master with a history.
 #[derive(Clone, Copy)]
@@ -91,8 +88,7 @@ impl<F: Fleet, B: Naming> Store<F, B> {
             is_refused: false,
         };
         let store = Store {
-            state: Mutex::new(state),
-            mark,
+            shared: Shared::new(state, mark),
         };
         Ok((store, given))
     }
@@ -142,5 +138,15 @@ fn file_next<B: Naming>(
 {
     let what = &history[i];
     let seat = &mut seats[what.seat as usize];
-    file(alloc, row, book, total, seat, i as u64, what)
+    let mut is_refused = false;
+    file(
+        alloc,
+        row,
+        book,
+        total,
+        &mut is_refused,
+        seat,
+        i as u64,
+        what,
+    )
 }

@@ -4,11 +4,9 @@ ghost use Rattle.std.specs.Prelude.{◌≡◌, ◌↔◌, IsTrue, IfOk, OnErr};
 ghost use Rattle.master.specs.Shown.{IsShown, NeedsMemory};
 ghost use Rattle.master.specs.World.{limited_world, world};
 ghost use Rattle.locked_log.specs.Held.{Held, held};
-ghost use Rattle.locked_log.specs.States.{IsState, Knows};
+ghost use Rattle.store_seat.specs.Accounts.{Knows};
+ghost use Rattle.locked_log.specs.States.{IsState};
 
-use crate::closing::is_known;
-use crate::naming::Naming;
-use crate::seat::Seat;
 use entry::NoMemory;
 use history_row::Row;
 use master::{Look, Master, Shown};
@@ -16,15 +14,7 @@ use replica::{Bench, Fleet};
 use std::alloc::Global;
 use std::marker::Model;
 use std::sync::ledger::Book;
-
-/// What the book has of a seat.
-#[derive(Clone, Copy)]
-pub struct Account {
-    /// The last place that the seat was acknowledged or met, plus 1.
-    pub first: u64,
-    /// How many records of the seat there are.
-    pub count: u64,
-}
+use store_seat::{Account, Naming, Seat, is_known};
 
 /// The master with the book of the seats, the ledger's book and the row of the history's cells.
 #[derive(Drop)]

@@ -6,9 +6,9 @@ use Rattle.std.proofs.lemmas.Option.{same_Some}
 use Rattle.entry.proofs.ListLemmas.{slice_get_left}
 use Rattle.versioned_map.specs.declared.command.Record.{Record}
 use Rattle.master_core.specs.Data.{MasterData}
-use Rattle.locked_log.specs.declared.fault.CallFault.{CallFault}
+use Rattle.store_seat.specs.declared.fault.CallFault.{CallFault}
 use Rattle.locked_log.specs.Ends.{AreServed}
-use Rattle.locked_log.specs.Seats.{SeatValue}
+use Rattle.store_seat.specs.Seats.{SeatValue}
 use Rattle.locked_log.specs.Sharing.{AreOfSeats, AreSeatsAfter, seat_after}
 use Rattle.locked_log.specs.States.{count_of}
 use Rattle.store_clients.specs.declared.client.Client.{Client}

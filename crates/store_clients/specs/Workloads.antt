@@ -1,7 +1,7 @@
 -- What clients make of a master.
 use Rattle.std.specs.Prelude.{◌≡◌, ◌≤◌, ◌<◌, ℕ, ◌+◌, ◌*◌, List, Some, IsOk}
 use Rattle.versioned_map.specs.declared.command.Record.{Record}
-use Rattle.locked_log.specs.Seats.{SeatValue}
+use Rattle.store_seat.specs.Seats.{SeatValue}
 use Rattle.locked_log.specs.Sharing.{AreOfSeats}
 use Rattle.locked_log.specs.States.{count_of}
 use Rattle.store_clients.specs.declared.client.Client.{Client}

@@ -6,7 +6,7 @@ ghost use Rattle.log_model.specs.Data.{durable_of};
 ghost use Rattle.master_core.specs.Log.{log_of};
 ghost use Rattle.locked_log.specs.Ends.{AreServed};
 ghost use Rattle.locked_log.specs.Made.{IsMade, made_now};
-ghost use Rattle.locked_log.specs.Seats.{SeatValue};
+ghost use Rattle.store_seat.specs.Seats.{SeatValue};
 ghost use Rattle.locked_log.specs.Sharing.{AreOfSeats, AreSeatsAfter};
 ghost use Rattle.master.specs.Valid.{IsValid};
 ghost use Rattle.store_clients.specs.Clients.{Matches};

@@ -2,7 +2,7 @@ use Rattle.std.proofs.Common.{◌≡◌, ◌<◌, ℕ, List, Option, Some, lengt
 use Rattle.std.specs.Prelude.{IfSome, slice_set}
 use Rattle.std.proofs.lemmas.List.{length-take-le}
 use Rattle.versioned_map.specs.declared.command.Record.{Record}
-use Rattle.locked_log.specs.Seats.{told, noted}
+use Rattle.store_seat.specs.Seats.{told, noted, unnoted}
 use Rattle.locked_log.specs.Sharing.{AreFiled}
 use Rattle.locked_log.proofs.Refiling.{get_at, few_filed, filed_one, knows_filed, take_next, when_true}
 use Rattle.locked_log.proofs.sharing.file_next.Goals as goal
@@ -43,7 +43,7 @@ returns g c = λ yes.
     (filed_one g.B.Naming.made h r c.args.row.now c.args.book.now.items c.args.total.now.total c.args.seats.now.items c.requires.filed mem m mine
     c.file.new.row c.file.new.book.items c.file.new.total.total seats n
     (omega (arith, long, c.requires.within, c.requires.room.0))
-    (when_true _ _ c.file.result yes c.file.ensures.row ∙ ap (λ (i : ℕ). slice_set c.args.row.now i (Some r)) (sym long))
+    (when_true c.file.new.row (slice_set c.args.row.now c.args.i (Some r)) c.args.row.now c.file.result yes c.file.ensures.row ∙ ap (λ (i : ℕ). slice_set c.args.row.now i (Some r)) (sym long))
     c.file.ensures.book c.file.ensures.total
-    (when_true _ _ c.file.result yes c.file.ensures.seat ∙ ap (λ (i : ℕ). noted m (told i r)) (sym long))
+    (when_true n (noted m (told c.args.i r)) (unnoted m) c.file.result yes c.file.ensures.seat ∙ ap (λ (i : ℕ). noted m (told i r)) (sym long))
     refl)

@@ -1,5 +1,6 @@
 use Rattle.std.proofs.Common.{ℕ, arith, ap, refl, sym, subst}
-use Rattle.locked_log.specs.Made.{Made, IsMade}
+use Rattle.store_seat.specs.Made.{Made}
+use Rattle.locked_log.specs.Made.{IsMade}
 use Rattle.locked_log.specs.Sharing.{AreOfSeats, AreSeatsAfter}
 use Rattle.locked_log.proofs.Lasting.{made_at_first}
 use Rattle.store_clients.proofs.Counts.{accepted, fits}

@@ -4,11 +4,12 @@ use Rattle.master_core.specs.declared.step.Step.TheVariants.{Apply}
 use Rattle.master_core.specs.declared.step.StepAnswer.{StepAnswer}
 use Rattle.master.specs.Steps.{Accepts}
 use Rattle.master.specs.World.{World, world}
-use Rattle.locked_log.specs.declared.fault.CallFault.TheVariants.{CellRefused}
+use Rattle.store_seat.specs.declared.fault.CallFault.TheVariants.{CellRefused}
 use Rattle.locked_log.specs.Held.{StateValue, Held, held}
-use Rattle.locked_log.specs.States.{IsState, Knows, Lasts}
+use Rattle.store_seat.specs.Accounts.{Knows}
+use Rattle.locked_log.specs.States.{IsState, Lasts}
 use Rattle.master_core.specs.declared.config.Config.{Config}
-use Rattle.locked_log.specs.Seats.{record_by}
+use Rattle.store_seat.specs.Seats.{record_by}
 use Rattle.locked_log.proofs.Adding.{place_is, history_is}
 use Rattle.locked_log.proofs.Applied.{Done, declines_at, took, missed}
 use Rattle.locked_log.proofs.Few.{small}
@@ -19,24 +20,24 @@ use Rattle.locked_log.proofs.state.State.apply_held.Goals as goal
 pub returns-in-Err-clause-applies : goal.returns-in-Err-clause-applies
 returns-in-Err-clause-applies g c =
     let known : Knows c.args.self.now.book c.args.seat.now = c.knows.ensures.0 (search rules) in
-    let d = declines_at g.F.Fleet.state _ c.args.self.now c.self.view_is _ c.args.seat.now c.seat.view_is c.args.command c.in-Err.refusal _ c.in-Err.ensures.gives in
-    let same : world g.F.Fleet.state c.step.new.self ≡ world g.F.Fleet.state c.self.inside.master = c.in-Err.ensures.gives.0 in
+    let d = declines_at g.F.Fleet.state _ c.args.self.now c.self.view_is c.args.seat.now c.number.result c.number.ensures c.args.command c.in-Err.refusal _ c.in-Err.ensures.gives in
+    let same : world g.F.Fleet.state c.apply_command.new.master ≡ world g.F.Fleet.state c.self.inside.master = c.in-Err.ensures.gives.0 in
     (d, known, (λ i. record { world = same i; book = c.self.inside.book.items; total = c.self.inside.total.total; row = c.self.inside.row; is_refused = c.self.inside.is_refused }) ∙ ap (λ (y : StateValue _). held g.F.Fleet.state y) c.self.view_is, refl)
 
 pub returns-in-Err-clause-lasts : goal.returns-in-Err-clause-lasts
 returns-in-Err-clause-lasts g c =
-    let same : world g.F.Fleet.state c.step.new.self ≡ world g.F.Fleet.state c.self.inside.master = c.in-Err.ensures.gives.0 in
+    let same : world g.F.Fleet.state c.apply_command.new.master ≡ world g.F.Fleet.state c.self.inside.master = c.in-Err.ensures.gives.0 in
     let back = (λ i. record { world = same i; book = c.self.inside.book.items; total = c.self.inside.total.total; row = c.self.inside.row; is_refused = c.self.inside.is_refused }) ∙ ap (λ (y : StateValue _). held g.F.Fleet.state y) c.self.view_is in
     subst (λ (h : Held). Lasts 1 (held g.F.Fleet.state c.args.self.now) h) (sym back) (lasts_same 1 (held g.F.Fleet.state c.args.self.now))
 
 pub returns-in-Err-clause-valid : goal.returns-in-Err-clause-valid
 returns-in-Err-clause-valid g c =
-    let same : world g.F.Fleet.state c.step.new.self ≡ world g.F.Fleet.state c.self.inside.master = c.in-Err.ensures.gives.0 in
+    let same : world g.F.Fleet.state c.apply_command.new.master ≡ world g.F.Fleet.state c.self.inside.master = c.in-Err.ensures.gives.0 in
     subst (λ (w : World). IsState (record { world = w; book = c.self.inside.book.items; total = c.self.inside.total.total; row = c.self.inside.row; is_refused = c.self.inside.is_refused }) g.B.Naming.made) (sym same) c.self.invariant
 
 pub invariant_of-self : goal.invariant_of-self
 invariant_of-self g c =
-    let same : world g.F.Fleet.state c.step.new.self ≡ world g.F.Fleet.state c.self.inside.master = c.in-Err.ensures.gives.0 in
+    let same : world g.F.Fleet.state c.apply_command.new.master ≡ world g.F.Fleet.state c.self.inside.master = c.in-Err.ensures.gives.0 in
     subst (λ (w : World). IsState (record { world = w; book = c.self.inside.book.items; total = c.self.inside.total.total; row = c.self.inside.row; is_refused = c.self.inside.is_refused }) g.B.Naming.made) (sym same) c.self.invariant
 
 pub file-requires-clause-room : goal.file-requires-clause-room
@@ -47,13 +48,13 @@ file-requires-clause-room g c =
 
 done-missed : (g : Over) (c : goal.Joined-reply g)
     → Done (held g.F.Fleet.state c.args.self.now) c.args.seat.now c.args.command (Err CellRefused)
-    (record { world = world g.F.Fleet.state c.step.new.self; book = c.file.new.book.items; total = c.file.new.total.total; row = c.file.new.row; is_refused = true }) c.file.new.seat g.B.Naming.made
+    (record { world = world g.F.Fleet.state c.apply_command.new.master; book = c.file.new.book.items; total = c.file.new.total.total; row = c.file.new.row; is_refused = c.file.new.is_refused }) c.file.new.seat g.B.Naming.made
 done-missed g c =
     let known : Knows c.args.self.now.book c.args.seat.now = c.knows.ensures.0 (search rules) in
-    missed g.F.Fleet.state _ c.args.self.now c.self.view_is _ c.args.seat.now c.seat.view_is c.args.command c.in-Ok-Applied.place c.in-Ok-Applied.reply _ g.B.Naming.made c.index-history-place.result
-    c.self.invariant known c.if-self.false (subst (λ (a : StepAnswer). Accepts (world g.F.Fleet.state c.self.inside.master) (Apply c.seat.inside.number c.args.command) a (world g.F.Fleet.state c.step.new.self)) c.in-Ok-Applied.field-0-is c.in-Ok-Applied.ensures.gives) c.step.ensures.keeps c.step.ensures.valid
-    (c.index-history-place.is ∙ ap (λ (h : List Record). get_or h c.in-Ok-Applied.place c.index-history-place.result) c.history.ensures)
-    c.file.ensures.book c.file.ensures.total c.file.new.seat c.if-not-file.ensures.row refl c.if-not-file.ensures.seat
+    missed g.F.Fleet.state _ c.args.self.now c.self.view_is c.args.seat.now c.number.result c.number.ensures c.args.command c.in-Ok.applied.0 c.in-Ok.applied.1 _ g.B.Naming.made c.index-history-place.result
+    c.self.invariant known c.if-self.false c.in-Ok.ensures.gives c.apply_command.ensures.keeps c.apply_command.ensures.valid
+    (c.index-history-place.is ∙ ap (λ (h : List Record). get_or h c.in-Ok.applied.0 c.index-history-place.result) c.history.ensures)
+    c.file.ensures.book c.file.ensures.total c.file.new.seat c.if-not-file.ensures.row c.if-not-file.ensures.refused c.if-not-file.ensures.seat
 
 pub invariant_of-self-then-not-file : goal.invariant_of-self-then-not-file
 invariant_of-self-then-not-file g c = (done-missed g c).valid
@@ -68,17 +69,17 @@ pub returns-then-not-file-clause-valid : goal.returns-then-not-file-clause-valid
 returns-then-not-file-clause-valid g c = (done-missed g c).valid
 
 done-took : (g : Over) (c : goal.Else-not-file g)
-    → Done (held g.F.Fleet.state c.args.self.now) c.args.seat.now c.args.command (Ok (c.in-Ok-Applied.place, c.in-Ok-Applied.reply))
-    (record { world = world g.F.Fleet.state c.step.new.self; book = c.file.new.book.items; total = c.file.new.total.total; row = c.file.new.row; is_refused = c.self.inside.is_refused }) c.file.new.seat g.B.Naming.made
+    → Done (held g.F.Fleet.state c.args.self.now) c.args.seat.now c.args.command (Ok (c.in-Ok.applied.0, c.in-Ok.applied.1))
+    (record { world = world g.F.Fleet.state c.apply_command.new.master; book = c.file.new.book.items; total = c.file.new.total.total; row = c.file.new.row; is_refused = c.file.new.is_refused }) c.file.new.seat g.B.Naming.made
 done-took g c =
     let known : Knows c.args.self.now.book c.args.seat.now = c.knows.ensures.0 (search rules) in
-    took g.F.Fleet.state _ c.args.self.now c.self.view_is _ c.args.seat.now c.seat.view_is c.args.command c.in-Ok-Applied.place c.in-Ok-Applied.reply _ g.B.Naming.made c.index-history-place.result
-    c.self.invariant known c.if-self.false (subst (λ (a : StepAnswer). Accepts (world g.F.Fleet.state c.self.inside.master) (Apply c.seat.inside.number c.args.command) a (world g.F.Fleet.state c.step.new.self)) c.in-Ok-Applied.field-0-is c.in-Ok-Applied.ensures.gives) c.step.ensures.keeps c.step.ensures.valid
-    (c.index-history-place.is ∙ ap (λ (h : List Record). get_or h c.in-Ok-Applied.place c.index-history-place.result) c.history.ensures)
-    c.file.ensures.book c.file.ensures.total c.file.new.seat c.if-not-file.ensures.row refl c.if-not-file.ensures.seat
+    took g.F.Fleet.state _ c.args.self.now c.self.view_is c.args.seat.now c.number.result c.number.ensures c.args.command c.in-Ok.applied.0 c.in-Ok.applied.1 _ g.B.Naming.made c.index-history-place.result
+    c.self.invariant known c.if-self.false c.in-Ok.ensures.gives c.apply_command.ensures.keeps c.apply_command.ensures.valid
+    (c.index-history-place.is ∙ ap (λ (h : List Record). get_or h c.in-Ok.applied.0 c.index-history-place.result) c.history.ensures)
+    c.file.ensures.book c.file.ensures.total c.file.new.seat c.if-not-file.ensures.row c.if-not-file.ensures.refused c.if-not-file.ensures.seat
 
-pub invariant_of-self-else-not-file : goal.invariant_of-self-else-not-file
-invariant_of-self-else-not-file g c = (done-took g c).valid
+pub invariant_of-self-2 : goal.invariant_of-self-2
+invariant_of-self-2 g c = (done-took g c).valid
 
 pub returns-clause-applies : goal.returns-clause-applies
 returns-clause-applies g c = (done-took g c).applies
@@ -116,23 +117,23 @@ returns-then-not-knows-clause-valid g c =
 pub bounds-history-place : goal.bounds-history-place
 bounds-history-place g c =
     let old = world g.F.Fleet.state c.self.inside.master in
-    let new = world g.F.Fleet.state c.step.new.self in
-    let accepted = subst (λ (a : StepAnswer). Accepts old (Apply c.seat.inside.number c.args.command) a new) c.in-Ok-Applied.field-0-is c.in-Ok-Applied.ensures.gives in
-    let at_end = place_is old new c.seat.inside.number c.args.command c.in-Ok-Applied.place c.in-Ok-Applied.reply accepted in
-    let more = history_is old new c.seat.inside.number c.args.command c.in-Ok-Applied.place c.in-Ok-Applied.reply accepted in
-    let one = length-append old.knows.history (record_by c.seat.inside.number c.args.command c.in-Ok-Applied.reply ∷ []) in
+    let new = world g.F.Fleet.state c.apply_command.new.master in
+    let accepted = c.in-Ok.ensures.gives in
+    let at_end = place_is old new c.number.result c.args.command c.in-Ok.applied.0 c.in-Ok.applied.1 accepted in
+    let more = history_is old new c.number.result c.args.command c.in-Ok.applied.0 c.in-Ok.applied.1 accepted in
+    let one = length-append old.knows.history (record_by c.number.result c.args.command c.in-Ok.applied.1 ∷ []) in
     omega (arith, at_end, ap length more, one, ap length c.history.ensures)
 
 pub file-requires-clause-cell : goal.file-requires-clause-cell
 file-requires-clause-cell g c =
     let old = world g.F.Fleet.state c.self.inside.master in
-    let new = world g.F.Fleet.state c.step.new.self in
-    let accepted = subst (λ (a : StepAnswer). Accepts old (Apply c.seat.inside.number c.args.command) a new) c.in-Ok-Applied.field-0-is c.in-Ok-Applied.ensures.gives in
-    let at_end = place_is old new c.seat.inside.number c.args.command c.in-Ok-Applied.place c.in-Ok-Applied.reply accepted in
-    let more = history_is old new c.seat.inside.number c.args.command c.in-Ok-Applied.place c.in-Ok-Applied.reply accepted in
-    let one = length-append old.knows.history (record_by c.seat.inside.number c.args.command c.in-Ok-Applied.reply ∷ []) in
-    let most : length new.knows.history ≤ new.knows.config.history = c.step.ensures.valid.history in
-    let same = ap (λ (k : Config). k.history) (c.step.ensures.keeps.config ∙ c.self.invariant.master.config) in
+    let new = world g.F.Fleet.state c.apply_command.new.master in
+    let accepted = c.in-Ok.ensures.gives in
+    let at_end = place_is old new c.number.result c.args.command c.in-Ok.applied.0 c.in-Ok.applied.1 accepted in
+    let more = history_is old new c.number.result c.args.command c.in-Ok.applied.0 c.in-Ok.applied.1 accepted in
+    let one = length-append old.knows.history (record_by c.number.result c.args.command c.in-Ok.applied.1 ∷ []) in
+    let most : length new.knows.history ≤ new.knows.config.history = c.apply_command.ensures.valid.history in
+    let same = ap (λ (k : Config). k.history) (c.apply_command.ensures.keeps.config ∙ c.self.invariant.master.config) in
     omega (arith, at_end, ap length more, one, most, same, c.self.invariant.cells)
 
 pub file-requires-clause-known : goal.file-requires-clause-known

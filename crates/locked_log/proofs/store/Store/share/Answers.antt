@@ -2,7 +2,7 @@ use Rattle.std.proofs.Common.{List, None, replicate, refl, ap, ◌∙◌, subst}
 use Rattle.versioned_map.specs.declared.command.Record.{Record}
 use Rattle.master_core.specs.declared.config.Config.{Config}
 use Rattle.locked_log.specs.Ends.{BlankValue, fresh_book}
-use Rattle.locked_log.specs.Seats.{fresh_seats}
+use Rattle.store_seat.specs.Seats.{fresh_seats}
 use Rattle.locked_log.specs.Sharing.{AreFiled}
 use Rattle.locked_log.proofs.Refiling.{filed_none, shares}
 use Rattle.locked_log.proofs.store.Store.share.Goals as goal

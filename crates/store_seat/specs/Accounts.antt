@@ -1,0 +1,20 @@
+-- What a store's book has of a seat.
+use Rattle.std.specs.Prelude.{◌≡◌, ◌<◌, ◌+◌, ℕ, Some, List, slice_get, slice_set}
+use Rattle.store_seat.specs.declared.account.Account.{Account}
+use Rattle.store_seat.specs.Seats.{SeatValue, answered}
+
+abbrev pub account : ℕ → ℕ → Account
+account first count = record { first = first; count = count }
+
+-- the book's numbers of the seat are the seat's own
+abbrev pub Knows : List Account → SeatValue → Type 0
+Knows book m = slice_get book m.number ≡ Some (account m.first m.count)
+
+-- the seat is answered up to a durable place, in the book too
+abbrev pub SettlesIn : List Account → SeatValue → ℕ → ℕ → List Account → SeatValue → Type 0
+SettlesIn book m place durable next n = (place < durable) × Knows book m
+    × (next ≡ slice_set book m.number (account (place + 1) m.count)) × (n ≡ answered m place)
+
+-- the place isn't durable, or the book has other numbers of the seat
+abbrev pub SettlesNothingIn : List Account → SeatValue → ℕ → ℕ → List Account → SeatValue → Type 0
+SettlesNothingIn book m place durable next n = (place < durable → Knows book m → ⊥) × (next ≡ book) × (n ≡ m)

@@ -1,0 +1,5 @@
+pub mod Made
+pub mod Seats
+pub mod Accounts
+pub mod Calls
+pub mod Shared

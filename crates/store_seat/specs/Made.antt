@@ -1,0 +1,34 @@
+-- What a store was made of.
+use Rattle.std.specs.Prelude.{ℕ, List, []}
+use Rattle.versioned_map.specs.declared.command.Record.{Record}
+use Rattle.master_core.specs.declared.config.Config.{Config}
+use Rattle.master_core.specs.Data.{Origin, no_origin}
+
+-- How many seats it has, the configuration of its master, what the history began with, and which records it had when the
+-- store was made, of which so many were durable.
+pub record Made : Type 0 where
+  pub seats : ℕ
+  pub config : Config
+  pub origin : Origin
+  pub begun : List Record
+  pub durable : ℕ
+
+-- no store's
+abbrev pub nobody : Made
+nobody = record {
+  seats = 0;
+  config = record {
+    master = 0;
+    backups = 0;
+    replicas = 0;
+    step = 0;
+    segment = 0;
+    seglet = 0;
+    seglets = 0;
+    tablets = [];
+    history = 0;
+  };
+  origin = no_origin;
+  begun = [];
+  durable = 0;
+}

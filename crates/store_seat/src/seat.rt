@@ -1,0 +1,101 @@
+//! Who calls.
+
+ghost use Rattle.std.specs.Prelude.{◌≡◌, ◌<◌, []};
+ghost use Rattle.mark_word.specs.Marks.{nothing};
+ghost use Rattle.store_seat.specs.Seats.{fresh_seat};
+
+use crate::naming::Naming;
+use history_row::Receipt;
+use mark_word::Pen;
+use std::marker::Model;
+use std::sync::ledger::Share;
+
+/// Who calls. Contracts see its numbers, its share of the ledger, its last record and what it knows of the mark.
+#[derive(Drop)]
+pub struct Seat<B: Naming> {
+    pub(crate) number: u64,
+    /// The last place that it was acknowledged or met, plus 1.
+    pub(crate) first: u64,
+    /// How many records its calls made.
+    pub(crate) count: u64,
+    pub(crate) share: Share<B>,
+    pub(crate) pen: Pen,
+    /// A receipt of the last of its records that a cell took.
+    pub(crate) last: Option<Receipt<B>>,
+}
+
+impl<B: Naming> Model for Seat<B> {
+    ghost use Rattle.std.specs.Prelude.{◌≡◌, []};
+    ghost use Rattle.store_seat.specs.Seats.{SeatValue, IsSeat};
+
+    ghost Value = { SeatValue };
+
+    ghost view = { λ s. record {
+      number = s.number;
+      first = s.first;
+      count = s.count;
+      parts = s.share.parts;
+      amount = s.share.amount;
+      last = s.last;
+      mark = s.pen.me.0;
+    } };
+
+    ghost invariant = { λ s. IsSeat s.number s.count s.share.parts s.share.amount B.made.seats
+        × (s.pen.table_id ≡ B.table) × (s.pen.me.1 ≡ []) };
+}
+
+impl<B: Naming> Seat<B> {
+    /// A seat that made no record, with its part of the ledger and a pen of its own.
+    pub fn new(number: u64, share: Share<B>, pen: Pen) -> Seat<B>
+        requires within { number < B.made.seats }
+        requires share { (share.parts ≡ 1) × (share.amount ≡ 0) }
+        requires pen { (pen.table_id ≡ B.table) × (pen.me ≡ (nothing, [])) }
+        ensures { result ≡ fresh_seat number }
+    {
+        Seat {
+            number,
+            first: 0,
+            count: 0,
+            share,
+            pen,
+            last: None,
+        }
+    }
+
+    /// Its part of the ledger.
+    pub fn into_share(self) -> Share<B>
+        ensures { (result.parts ≡ self.parts) × (result.amount ≡ self.amount) }
+    {
+        let Seat {
+            number: _,
+            first: _,
+            count: _,
+            share,
+            pen: _,
+            last: _,
+        } = self;
+        share
+    }
+
+    /// The last place that the seat was acknowledged or met, plus 1. It takes no memory.
+    pub fn first(&self) -> u64
+        ensures { result ≡ self.now.first }
+    {
+        self.first
+    }
+
+    /// Which of the store's seats it is, from 0.
+    pub fn number(&self) -> u64
+        ensures { result ≡ self.now.number }
+    {
+        self.number
+    }
+
+    /// How many records its calls made. Its share of the ledger has just so many.
+    pub fn count(&self) -> u64
+        ensures count { result ≡ self.now.count }
+        ensures share { (self.now.parts ≡ 1) × (self.now.amount ≡ self.now.count) }
+    {
+        self.count
+    }
+}

@@ -1,0 +1,155 @@
+//! The calls of a seat over a log that threads share.
+
+ghost use Rattle.std.specs.Prelude.{◌≡◌, ◌≤◌, max, OnOk, IfErr, MatchBool};
+ghost use Rattle.store_seat.specs.Calls.{AppliesSeat, Calls, IsLeft, met};
+ghost use Rattle.store_seat.specs.Seats.{SeatValue, answered};
+
+use crate::fault::CallFault;
+use crate::log::{Attempt, Log, Progress};
+use crate::naming::Naming;
+use crate::seat::Seat;
+use history_row::Receipt;
+use mark_word::{Mark, load, raise};
+use master_core::Refusal;
+use std::marker::PhantomData;
+use std::sync::{Mutex, Wait};
+use versioned_map::{Command, Reply};
+
+/// A log under a lock, and the mark, which nobody waits for.
+#[derive(Drop)]
+pub struct Shared<L: Log<B>, B: Naming> {
+    pub state: Mutex<L>,
+    pub(crate) mark: Mark,
+    pub(crate) of: PhantomData<B>,
+    pub ghost named: { mark.shared.table_id ≡ B.table },
+    pub ghost one_word: { mark.shared.table_id.words ≡ 1 },
+}
+
+impl<L: Log<B>, B: Naming> Shared<L, B> {
+    /// This log and this mark.
+    pub fn new(log: L, mark: Mark) -> Shared<L, B>
+        requires { (mark.shared.table_id ≡ B.table) × (mark.shared.table_id.words ≡ 1) }
+    {
+        Shared {
+            state: Mutex::new(log),
+            mark,
+            of: PhantomData,
+        }
+    }
+
+    /// The log alone.
+    pub fn into_log(self) -> L {
+        let Shared {
+            state,
+            mark: _,
+            of: _,
+        } = self;
+        state.into_inner()
+    }
+
+    /// The greatest place that any seat raised the mark to. It waits for nobody, and takes no memory.
+    pub fn mark(&self, seat: &mut Seat<B>) -> u64
+        ensures value { (seat.old.mark.seen ≤ result) × (seat.old.mark.raised ≤ result) }
+        ensures seat { seat.new ≡ record seat.old {
+          mark = record { raised = seat.old.mark.raised; seen = result };
+        } }
+    {
+        load(&self.mark, &mut seat.pen)
+    }
+
+    /// Raises the mark to the receipt's place. It waits for nobody, and takes no memory.
+    pub fn raise(&self, seat: &mut Seat<B>, receipt: &Receipt<B>)
+        ensures { seat.new ≡ record seat.old {
+          mark = record { raised = max seat.old.mark.raised receipt.now.place; seen = seat.old.mark.seen };
+        } }
+    {
+        raise(&self.mark, &mut seat.pen, receipt.place())
+    }
+
+    /// One command, until its record is durable. It rolls and pushes a step at a time, and lets the lock go between them.
+    pub fn call<R: Wait>(
+        &self,
+        rt: &R,
+        seat: &mut Seat<B>,
+        command: Command,
+    ) -> Result<(Reply, Receipt<B>), CallFault>
+        ensures { Calls seat.old command result seat.new }
+    {
+        let (place, reply) = match self.apply(rt, seat, command) {
+            Ok(applied) => applied,
+            Err(fault) => return Err(fault),
+        };
+        match self.finish(rt, seat, place) {
+            Ok(()) => {}
+            Err(fault) => return Err(fault),
+        }
+        match &mut seat.last {
+            Some(receipt) => Ok((reply, receipt.again())),
+            None => unreachable!(),
+        }
+    }
+
+    /// Applies the command, and rolls before that if it has to.
+    fn apply<R: Wait>(
+        &self,
+        rt: &R,
+        seat: &mut Seat<B>,
+        command: Command,
+    ) -> Result<(u64, Reply), CallFault>
+        ensures { AppliesSeat seat.old command result seat.new }
+    {
+        let mut command = command;
+        for _ in rt.forever() {
+            let (back, refusal) = match self.state.lock(rt).attempt(seat, command) {
+                Attempt::Done(result) => return result,
+                Attempt::Waits(back, refusal) => (back, refusal),
+            };
+            command = back;
+            if let Err(refusal) = self.roll(rt, refusal) {
+                return Err(CallFault::Refused(refusal));
+            }
+        }
+        unreachable!()
+    }
+
+    /// Goes on with a roll that was begun, or that could not be begun for this reason.
+    fn roll<R: Wait>(&self, rt: &R, refusal: Option<Refusal>) -> Result<(), Refusal> {
+        match refusal {
+            None => Ok(()),
+            Some(Refusal::Rolling) => self.state.lock(rt).push(),
+            Some(refusal) => Err(refusal),
+        }
+    }
+
+    /// Pushes until the place of a record is durable and the seat was answered up to it.
+    fn finish<R: Wait>(&self, rt: &R, seat: &mut Seat<B>, place: u64) -> Result<(), CallFault>
+        requires { seat.old.first ≤ place }
+        ensures ok { OnOk result (seat.new ≡ answered seat.old place) }
+        ensures err { IfErr result (λ e. (seat.new ≡ seat.old) × IsLeft place e) }
+    {
+        for _ in rt.forever() {
+            match self.state.lock(rt).proceed(seat, place) {
+                Progress::Answered => return Ok(()),
+                Progress::Unknown => return Err(CallFault::CellRefused),
+                Progress::Waits => {}
+            }
+            if let Err(refusal) = self.state.lock(rt).push() {
+                return Err(CallFault::Unsure(place, refusal));
+            }
+        }
+        unreachable!()
+    }
+
+    /// Shows the seat a receipt of any seat: all that it is answered later is above that place. Answers whether it was
+    /// shown; if not, nothing changed.
+    pub fn meet<R: Wait>(&self, rt: &R, seat: &mut Seat<B>, receipt: &Receipt<B>) -> bool
+        ensures { MatchBool result (seat.new ≡ met seat.old receipt.now.place)
+            ((seat.new ≡ seat.old) × (seat.old.first ≤ receipt.now.place)) }
+    {
+        let place = receipt.place();
+        if place < seat.first {
+            return true;
+        }
+        self.state.lock(rt).settle(seat, place)
+    }
+}
