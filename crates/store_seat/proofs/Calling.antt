@@ -1,6 +1,5 @@
 -- What a call does to its seat, from what it did under the lock.
-use Rattle.std.proofs.Common.{◌≡◌, ◌≤◌, ◌+◌, ℕ, Some, Ok, Err, refl, sym, ap, ◌∙◌, arith, ⊎_elim, inl, inr}
-use Rattle.std.specs.Prelude.{Result}
+use Rattle.std.proofs.Common.{◌≡◌, ◌≤◌, ◌+◌, ℕ, Some, Err, refl, sym, ap, ◌∙◌, arith, ⊎_elim}
 use Rattle.versioned_map.specs.declared.command.Command.{Command}
 use Rattle.versioned_map.specs.declared.command.Reply.{Reply}
 use Rattle.history_row.specs.Receipts.{Told}

@@ -1,8 +1,5 @@
-use Rattle.std.proofs.Common.{◌≡◌, rules, refl, ap, sym, ◌∙◌, Ok, Err, true, ℕ, ◌≤◌, List, [], ◌∷◌, length, length-append, get_or, subst, inl, arith}
+use Rattle.std.proofs.Common.{◌≡◌, rules, refl, ap, sym, ◌∙◌, Ok, Err, ◌≤◌, List, [], ◌∷◌, length, length-append, get_or, subst, inl, arith}
 use Rattle.versioned_map.specs.declared.command.Record.{Record}
-use Rattle.master_core.specs.declared.step.Step.TheVariants.{Apply}
-use Rattle.master_core.specs.declared.step.StepAnswer.{StepAnswer}
-use Rattle.master.specs.Steps.{Accepts}
 use Rattle.master.specs.World.{World, world}
 use Rattle.store_seat.specs.declared.fault.CallFault.TheVariants.{CellRefused}
 use Rattle.locked_log.specs.Held.{StateValue, Held, held}

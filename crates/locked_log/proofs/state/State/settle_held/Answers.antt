@@ -1,6 +1,4 @@
-use Rattle.store_seat.specs.Seats.{SeatValue}
-use Rattle.locked_log.specs.Held.{Held, held}
-use Rattle.locked_log.proofs.Settling.{Settled, settled_by}
+use Rattle.locked_log.proofs.Settling.{settled_by}
 use Rattle.locked_log.proofs.state.State.settle_held.Goals as goal
 
 pub invariant_of-self : goal.invariant_of-self
