@@ -10,6 +10,8 @@ use script::{ErrorOutput, ScriptFault, report, run_program};
 use std::env;
 use std::io::{self, BufReader, BufWriter, IsTerminal};
 use std::process::ExitCode;
+use std::sync::Wait;
+use std::thread::Threads;
 use until_end::UntilEnd;
 
 /// The exit status of a bad command line.
@@ -52,8 +54,12 @@ fn refuse(rt: &HostRuntime, error: &Error) -> ExitCode {
 }
 
 /// Runs the program from standard input to standard output. It writes in blocks, and writes what it answered before it
-/// waits for more input.
-fn run(rt: &HostRuntime, words: &[&str]) -> Result<u8, Error> {
+/// waits for more input. Only a handle that `main` passes on as this bound can start threads.
+fn run<H: Threads + Wait + Sync>(
+    threads: &H,
+    rt: &HostRuntime,
+    words: &[&str],
+) -> Result<u8, Error> {
     let mut errors = ErrorOutput::new(rt.stderr().lock(), rt.stderr().is_terminal());
     let Ok(mut reader) = BufReader::new(rt.alloc(), UntilEnd::new(rt.reader())) else {
         return Ok(report(&ScriptFault::NoMemory, &mut errors));
@@ -61,18 +67,29 @@ fn run(rt: &HostRuntime, words: &[&str]) -> Result<u8, Error> {
     let Ok(mut writer) = BufWriter::new(rt.alloc(), rt.stdout().lock()) else {
         return Ok(report(&ScriptFault::NoMemory, &mut errors));
     };
-    run_program(rt.alloc(), words, &mut reader, &mut writer, &mut errors)
+    run_program(
+        threads,
+        rt.alloc(),
+        words,
+        &mut reader,
+        &mut writer,
+        &mut errors,
+    )
 }
 
 /// Runs the program with these words.
-fn run_arguments(rt: &HostRuntime, arguments: &[String]) -> ExitCode {
+fn run_arguments<H: Threads + Wait + Sync>(
+    threads: &H,
+    rt: &HostRuntime,
+    arguments: &[String],
+) -> ExitCode {
     let mut words = Vec::new(rt.alloc());
     for argument in arguments {
         if words.push(argument.as_str()).is_err() {
             return fail(rt, ScriptFault::NoMemory);
         }
     }
-    match run(rt, words.as_slice()) {
+    match run(threads, rt, words.as_slice()) {
         Ok(status) => ExitCode::from(status),
         Err(error) => refuse(rt, &error),
     }
@@ -80,7 +97,7 @@ fn run_arguments(rt: &HostRuntime, arguments: &[String]) -> ExitCode {
 
 fn main(rt: HostRuntime) -> ExitCode {
     match read_arguments(&rt) {
-        Ok(arguments) => run_arguments(&rt, arguments.as_slice()),
+        Ok(arguments) => run_arguments(&rt, &rt, arguments.as_slice()),
         Err(status) => status,
     }
 }

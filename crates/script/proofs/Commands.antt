@@ -14,9 +14,9 @@ use Rattle.master_core.specs.Data.{MasterData}
 use Rattle.master.specs.Valid.{IsValid}
 use Rattle.script.specs.declared.answer.Answer.TheVariants as answer
 use Rattle.script.specs.declared.node.Node.{Node}
-use Rattle.script.specs.Lives.{HasLived, life_to, left_now}
+use Rattle.script.specs.Lives.{HasLived, life_to, left_now, Position}
 use Rattle.script.specs.Served.{LivesOn, IsServed, IsUnserved, IsSpent, IsOf, IsNodeAt, life_of, record_of}
-use Rattle.script.specs.Told.{Position, command_of}
+use Rattle.script.specs.Told.{command_of}
 use Rattle.script.proofs.Pushes.{stops_until}
 use Rattle.script.proofs.Standing.{Answered, same_opening, still_stands, stands_longer, record_there, lived, lived_longer}
 

@@ -24,9 +24,8 @@ use Rattle.script.specs.declared.node.Node.TheVariants.{Up, Down, Changing}
 use Rattle.script.specs.Configuration.{config_of}
 use Rattle.script.specs.Recoveries.{Asked, Ends, EndsFreeing, FindsNothing, Frees, HasNoOther, IsDownOn, IsTakenOver, MakesLimit, StandsAfter}
 use Rattle.script.specs.Recoveries.{adopted_answer, after_answer, fault_answer}
-use Rattle.script.specs.Lives.{Left}
+use Rattle.script.specs.Lives.{Left, Position}
 use Rattle.script.specs.Served.{IsNodeAt, IsOf, fleet_of, is_up, world_of}
-use Rattle.script.specs.Told.{Position}
 use Rattle.script.proofs.Retired.{others_gone, retire_keeps_end, spent_retire}
 
 -- ---- where a node stands

@@ -22,3 +22,4 @@ pub mod ByHand
 pub mod Parts
 pub mod Listings
 pub mod Cleaned
+pub mod ClientLines

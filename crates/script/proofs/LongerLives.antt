@@ -10,14 +10,16 @@ use Rattle.versioned_map.specs.History.{commands_of}
 use Rattle.versioned_map.specs.Versioned.{State, after as map_after, IsSafeAfter}
 use Rattle.rebuilding.specs.declared.rebuilt.Rebuilt.{Rebuilt}
 use Rattle.script.specs.declared.answer.Answer.{Answer}
+use Rattle.store_clients.specs.Workloads.{AreAccepted}
 use Rattle.script.specs.declared.answer.Answer.TheVariants as answer
-use Rattle.script.specs.Lives.{Life, life_to, Left, IsLeftBy, IsLeftBySpent}
+use Rattle.script.specs.Counted.{AreCounted}
+use Rattle.script.specs.Lives.{Life, life_to, Left, IsLeftBy, IsLeftBySpent, Position}
 use Rattle.master_core.specs.declared.step.Refusal.{Refusal}
 use Rattle.master_core.specs.declared.step.Step.{Step}
 use Rattle.master_core.specs.declared.step.StepAnswer.{StepAnswer}
 use Rattle.master_core.specs.declared.step.Step.TheVariants as step
 use Rattle.master_core.specs.declared.step.StepAnswer.TheVariants as step_answer
-use Rattle.script.specs.Told.{Position, IsRecordAt, IsIn, IsCause, IsImageAt, IsPushedAt, IsRecoveredAt, IsUnadopted, Tells}
+use Rattle.script.specs.Told.{IsRecordAt, IsIn, IsCause, IsImageAt, IsPushedAt, IsRecoveredAt, IsUnadopted, Tells}
 use Rattle.script.specs.Told.{IsStepAt, IsRollAt, IsCleanAt, IsStepRefusal, IsDigestAt, IsRoomAt, IsWillAt, AreHeldAt}
 
 -- ---- a longer history tells the same
@@ -45,7 +47,8 @@ module _ (config : Config) (life : Life) where
     | inl (none, inl (unspent, inr (added, pushed, waits))) ↦ let made = ap (λ (p : Position). p.made) added.2 in omega arith
     | inl (none, inr refused) ↦ let made = ap (λ (p : Position). p.made) refused.3 in omega arith
     | inr (inl u) ↦ as_before at next u.2
-    | inr (inr (unspent, u)) ↦ as_before at next u.2
+    | inr (inr (unspent, inl u)) ↦ as_before at next u.2
+    | inr (inr (unspent, inr more)) ↦ more.more
   ]
   rises at line (answer.Head id) next t = as_before at next t.3
   rises at line (answer.Opening id) next t = as_before at next t.3
@@ -60,6 +63,7 @@ module _ (config : Config) (life : Life) where
   rises at line (answer.Sealed backup) next t = as_before at next t.3
   rises at line (answer.Freed segment backup) next t = as_before at next t.3
   rises at line (answer.Cleaned survivor head) next t = as_before at next t.2
+  rises at line (answer.Counted clients rounds calls) next t = t.2.more
   rises at line (answer.Log ids) next t = as_before at next t.3
   rises at line (answer.Room used free) next t = as_before at next t.3
   rises at line (answer.Will parts limits) next t = as_before at next t.3
@@ -71,7 +75,8 @@ module _ (config : Config) (life : Life) where
   rises at line answer.Stopped next t = elim t [
     | inl (none, l, spent, inl out) ↦ let made = ap (λ (p : Position). p.made) out.2 in omega arith
     | inl (none, l, spent, inr (inl added)) ↦ let made = ap (λ (p : Position). p.made) added.2 in omega arith
-    | inl (none, l, spent, inr (inr out)) ↦ let made = ap (λ (p : Position). p.made) out.1 in omega arith
+    | inl (none, l, spent, inr (inr (inl out))) ↦ let made = ap (λ (p : Position). p.made) out.1 in omega arith
+    | inl (none, l, spent, inr (inr (inr more))) ↦ more.more
     | inr u ↦ as_before at next u.2
   ]
   rises at line answer.Crashed next t = let made = ap (λ (p : Position). p.made) t.4 in omega arith
@@ -82,6 +87,9 @@ module _ (config : Config) (life : Life) where
   rises at line (answer.NotRecovered fault) next t = as_before at next t.4
   rises at line answer.Down next t = as_before at next t.2
   rises at line answer.Up next t = as_before at next t.2
+  rises at line answer.CellRefused next t = t.more
+  rises at line answer.SeatUnknown next (inl more) = more.more
+  rises at line answer.SeatUnknown next (inr t) = as_before at next t.2
 
 module _ (config : Config) (opening : State) (history more : List Record) where
   abbrev life : Life
@@ -130,6 +138,17 @@ module _ (config : Config) (opening : State) (history more : List Record) where
   unadopted_longer at line r next (asks, (l, left, table, (found, of_left), new, number, declined), is) =
       (asks, (l, left, table, (recovered_longer at table found, of_left), new, number, declined), is)
 
+  -- the records of clients
+  counted_longer : (at : Position) (clients rounds calls : ℕ) (next : Position) → at.made ≤ length history → next.made ≤ length history
+      → AreCounted life at clients rounds calls next → AreCounted longer at clients rounds calls next
+  counted_longer at clients rounds calls next within after c = record {
+    count = c.count;
+    more = c.more;
+    accepted = subst (λ (l : List Record). AreAccepted clients rounds (take at.made (history ++ more)) l) (sym (take-append-le next.made history more after))
+        (subst (λ (l : List Record). AreAccepted clients rounds l (take next.made history)) (sym (take-append-le at.made history more within)) c.accepted);
+    acknowledged = c.acknowledged;
+  }
+
   pub tells_longer : (at : Position) (line : LineValue) (a : Answer) (next : Position) → at.made ≤ length history → next.made ≤ length history
       → Tells config life at line a next → Tells config longer at line a next
   tells_longer at line answer.Silent next within after t = t
@@ -155,7 +174,8 @@ module _ (config : Config) (opening : State) (history more : List Record) where
       ),
     )
     | inr (inl u) ↦ inr (inl u)
-    | inr (inr (unspent, u)) ↦ inr (inr (unspent, unadopted_longer at line r next u))
+    | inr (inr (unspent, inl u)) ↦ inr (inr (unspent, inl (unadopted_longer at line r next u)))
+    | inr (inr (unspent, inr more)) ↦ inr (inr (unspent, inr more))
   ]
   tells_longer at line (answer.Head id) next within after t =
       (t.0, t.1, subst (λ (l : Life). IsRollAt config l (Ok id)) (same_front at.made within) t.2, t.3)
@@ -188,6 +208,8 @@ module _ (config : Config) (opening : State) (history more : List Record) where
     (t.1.0, t.1.1, subst (λ (l : Life). IsCleanAt config l t.1.0 (Ok (survivor, head))) (same_front at.made within) t.1.2),
     t.2,
   )
+  tells_longer at line (answer.Counted clients rounds calls) next within after t =
+      (t.0, t.1, counted_longer at clients rounds calls next within after t.2)
   tells_longer at line (answer.Log ids) next within after t =
       (t.0, t.1, subst (λ (l : Life). IsDigestAt config l ids) (same_front at.made within) t.2, t.3)
   tells_longer at line (answer.Room used free) next within after t =
@@ -210,7 +232,7 @@ module _ (config : Config) (opening : State) (history more : List Record) where
       elim why [
         | inl out ↦ inl out
         | inr (inl added) ↦ inr (inl (in_longer at line (Some l) next added))
-        | inr (inr out) ↦ inr (inr out)
+        | inr (inr rest) ↦ inr (inr rest)
       ],
     )
     | inr u ↦ inr (unadopted_longer at line _ next u)
@@ -224,3 +246,5 @@ module _ (config : Config) (opening : State) (history more : List Record) where
   tells_longer at line (answer.NotRecovered fault) next within after t = t
   tells_longer at line answer.Down next within after t = t
   tells_longer at line answer.Up next within after t = t
+  tells_longer at line answer.CellRefused next within after t = t
+  tells_longer at line answer.SeatUnknown next within after t = t

@@ -28,13 +28,13 @@ use Rattle.script.specs.declared.node.Node.{Node}
 use Rattle.script.specs.declared.node.Node.TheVariants.{Up, Down}
 use Rattle.replay.specs.Adopting.{IsAdopted, IsAdoptedOn}
 use Rattle.script.specs.Configuration.{config_of}
-use Rattle.script.specs.Lives.{life_to, HasLived, Left, left_now}
+use Rattle.script.specs.Lives.{life_to, HasLived, Left, left_now, Position}
 use Rattle.script.specs.Numbers.{greatest_of}
 use Rattle.script.specs.Recoveries.{Adopts, BeginsNext, EndsFreeing, Frees, HasNoOther, IsCut, IsDeclined, IsDownOn, IsFoundIn, RetiresOthers}
 use Rattle.script.specs.Recoveries.{after_answer, fault_answer, standing_of}
 use Rattle.script.specs.Served.{AnswersLine, IsLeftOf, IsNodeAt, IsOf, IsSpent, Refuses, fleet_of, life_of, refusal_answer}
 use Rattle.script.specs.Succession.{EndsRecovery}
-use Rattle.script.specs.Told.{HoldsLeft, Position, IsUnadopted, Tells}
+use Rattle.script.specs.Told.{HoldsLeft, IsUnadopted, Tells}
 use Rattle.script.proofs.HowItEnds.{after_backups, after_picture, down_final, fleet_held}
 use Rattle.script.proofs.Standing.{legal_of}
 
@@ -143,7 +143,7 @@ module _ (fleet : MemoryFleet) (options : Options) (master : ℕ) (r : Rebuilt) 
   declined : (d : MasterData) (at : Position) → IsNodeAt old (config_of options master) d at → (why : Refusal)
       → IsUnadopted (config_of options master) (life_of d) at (Recover order) why at → Tells (config_of options master) (life_of d) at (Recover order) (refusal_answer why) at
   declined d at s refusal.Spent un = inr un
-  declined d at s why un = inr (inr (λ is. cc, un))
+  declined d at s why un = inr (inr (λ is. cc, inl un))
 
   -- the table is not adopted
   pub declined_told : (new : Node) (a : Answer) → IsDeclined (fleet_state fleet) r config new a

@@ -1,5 +1,5 @@
 -- Where a node stands, and lines that make no record.
-use Rattle.std.proofs.Common.{◌≡◌, ℕ, suc, ◌≤◌, true, false, List, [], ◌∷◌, ◌++◌, length, take, refl, sym, ap, inl, ◌∙◌, arith}
+use Rattle.std.proofs.Common.{◌≡◌, ℕ, suc, ◌≤◌, true, false, List, [], ◌∷◌, ◌++◌, length, take, refl, sym, ap, inl, inr, ◌∙◌, arith}
 use Rattle.std.proofs.lemmas.List.{append-nil, length-append}
 use Rattle.std.proofs.Math.Seq.{take-length}
 use lib.Seq.{take-append_seam}
@@ -27,9 +27,9 @@ use Rattle.script.specs.declared.answer.Answer.{Answer}
 use Rattle.script.specs.declared.answer.Answer.TheVariants as answer
 use Rattle.script.specs.declared.node.Node.{Node}
 use Rattle.script.specs.declared.node.Node.TheVariants.{Up, Down, Changing}
-use Rattle.script.specs.Lives.{life_to, HasLived, Left}
+use Rattle.script.specs.Lives.{life_to, HasLived, Left, Position}
 use Rattle.script.specs.Served.{LivesOn, IsOf, IsNodeAt, AnswersLine, LivesLonger, MakesClean, MakesStep, is_up, life_of, record_of}
-use Rattle.script.specs.Told.{Position, command_of, is_for_master, is_for_none, Tells}
+use Rattle.script.specs.Told.{command_of, is_for_master, is_for_none, Tells}
 
 -- ---- what the node stands for goes on
 
@@ -177,3 +177,8 @@ pub want_at : (node : Node) (config : Config) (order : ReplayOrder) → is_up no
     → AnswersLine node config (Recover order) node (answer.NotRecovered (fault.Plan plan_fault.NoMemory))
 want_at node config order down =
     stays_told node config (Recover order) (answer.NotRecovered (fault.Plan plan_fault.NoMemory)) (λ d at s. let l = is_down_some node d at.left down s.node_of in ((order, refl), l.0, l.1, (tt, inl tt, λ both. tt), refl))
+
+-- a store couldn't tell whose its records were, so what is left isn't recovered
+pub unknown_at : (node : Node) (config : Config) (order : ReplayOrder) → is_up node ≡ false → AnswersLine node config (Recover order) node answer.SeatUnknown
+unknown_at node config order down =
+    stays_told node config (Recover order) answer.SeatUnknown (λ d at s. inr ((order, refl), is_down_some node d at.left down s.node_of, refl))

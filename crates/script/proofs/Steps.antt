@@ -4,7 +4,7 @@ use Rattle.std.proofs.lemmas.List.{append-nil}
 use Rattle.std.specs.Prelude.{Option, Some, None, IfSome}
 use Rattle.std.specs.Option.{option_map}
 use Rattle.lines.specs.Grammar.{LineValue, Idle, Roll, BeginRoll, Compact, Push, Clean, Begin, Copy, Seal, Free, Will}
-use Rattle.lines.specs.Grammar.{Hex, Log, Room, Holdings, Stop, Crash, Lose, Recover}
+use Rattle.lines.specs.Grammar.{Hex, Log, Room, Holdings, Stop, Crash, Lose, Recover, Clients}
 use Rattle.std.specs.Prelude.{Result, Ok, Err, IfOk}
 use Rattle.std.specs.declared.alloc.AllocError.{AllocError}
 use Rattle.replica.specs.declared.holding.Holding.{Holding}
@@ -24,12 +24,12 @@ use Rattle.master.specs.Valid.{IsValid}
 use Rattle.script.specs.declared.answer.Answer.{Answer}
 use Rattle.script.specs.declared.answer.Answer.TheVariants as answer
 use Rattle.script.specs.declared.node.Node.{Node}
-use Rattle.script.specs.Lives.{Life, life_to, HasLived, Left, IsLeftBySpent}
+use Rattle.script.specs.Lives.{Life, life_to, HasLived, Left, IsLeftBySpent, Position}
 use Rattle.script.specs.Cleans.{Cleans}
 use Rattle.script.specs.Rolls.{Rolls}
 use Rattle.script.specs.Served.{LivesOn, IsSpent, IsOf, IsNodeAt, Refuses, fleet_of, life_of, held_answer}
 use Rattle.script.specs.Served.{IsLeftIn, MakesCommand, MakesLine, ShowsFleet, refusal_answer, world_of}
-use Rattle.script.specs.Told.{Position, command_of, pushes, is_for_master, IsStepAt, IsRollAt, IsCleanAt, IsStepRefusal, AreHeldAt, TellsNoStep, Tells}
+use Rattle.script.specs.Told.{command_of, pushes, is_for_master, IsStepAt, IsRollAt, IsCleanAt, IsStepRefusal, AreHeldAt, TellsNoStep, Tells}
 use Rattle.script.proofs.Rolls.{no_step_told}
 use Rattle.script.proofs.Standing.{Answered, still_stands, lived, lived_longer}
 
@@ -81,7 +81,7 @@ no_step_tells config life at line answer.Stopped next up t = inl (
   t.0,
   t.1,
   subst (λ n. IsLeftBySpent config (life_to life n) t.1) (sym (ap (λ (p : Position). p.made) t.4)) t.2,
-  inr (inr (t.3, t.4)),
+  inr (inr (inl (t.3, t.4))),
 )
 no_step_tells config life at line answer.Down next up t = (t.0, up, t.1)
 no_step_tells config life at line a next up t = absurd t
@@ -133,6 +133,7 @@ command_makes old (Stop takes) new a command asks makes = absurd (cc)
 command_makes old Crash new a command asks makes = absurd (cc)
 command_makes old (Lose backup) new a command asks makes = absurd (cc)
 command_makes old (Recover order) new a command asks makes = absurd (cc)
+command_makes old (Clients clients rounds passes) new a command asks makes = absurd (cc)
 command_makes old line new a command asks makes =
     subst (λ (o : Option Command). IfSome o (λ (c : Command). MakesCommand old c new a)) (sym asks) makes
 

@@ -24,12 +24,12 @@ use Rattle.script.specs.Runs.{AreRunOn, IsOfFleet, IsScriptLine, texts_of, answe
 use Rattle.command_line.specs.declared.settings.Options.{Options}
 use Rattle.lines.specs.Grammar.{LineValue, Recover}
 use Rattle.script.specs.Configuration.{config_of}
-use Rattle.script.specs.Lives.{Life}
+use Rattle.script.specs.Lives.{Life, Position, at_start}
 use Rattle.script.specs.Recoveries.{RunsLine, standing_of}
 use Rattle.script.specs.Served.{BeginsSession, AnswersLine, IsNodeAt, IsCovered, Stands, life_of}
 use Rattle.script.specs.Texts.{answer_text}
 use Rattle.script.specs.Succession.{Standing, at_first, Succeeds, Moves, AreTelling, TellLives}
-use Rattle.script.specs.Told.{Told, Position, at_start, Tells}
+use Rattle.script.specs.Told.{Told, Tells}
 use Rattle.script.specs.Turns.{RunsText, IsPrinted, PrintsText, TakesTurn, IsNoMore}
 use Rattle.script.proofs.Succeeding.{nothing_more, telling_longer, telling_more, with_more}
 use Rattle.script.proofs.Standing.{legal_of, same_opening}

@@ -35,9 +35,9 @@ use Rattle.recovery.proofs.Recoveries.{IsSomePrefix, IsSomeLoss}
 use Rattle.script.specs.declared.answer.Answer.TheVariants as answer
 use Rattle.script.specs.declared.node.Node.{Node}
 use Rattle.script.specs.declared.node.Node.TheVariants.{Down}
-use Rattle.script.specs.Lives.{Life, life_to, Left, left_now, is_left, IsHomeBy}
+use Rattle.script.specs.Lives.{Life, life_to, Left, left_now, is_left, IsHomeBy, Position}
 use Rattle.script.specs.Served.{IsLeftOf, IsOf, IsNodeAt, AnswersLine, is_up, life_of, held_answer}
-use Rattle.script.specs.Told.{Position, IsRecoveredAt, IsFoundAt, AreLeft, AreHeldAt, NamesLossOf, Tells}
+use Rattle.script.specs.Told.{IsRecoveredAt, IsFoundAt, AreLeft, AreHeldAt, NamesLossOf, Tells}
 use Rattle.script.proofs.Standing.{Answered, still_stands, lived_longer, is_up_none}
 use Rattle.script.proofs.MasterSteps.{goes_nowhere}
 

@@ -10,7 +10,7 @@ use Rattle.versioned_map.specs.History.{commands_of}
 use Rattle.versioned_map.specs.declared.command.Record.{Record}
 use Rattle.versioned_map.specs.Versioned.{after}
 use Rattle.tablet_will.specs.Parts.{partitions_of, Divides}
-use Rattle.lines.specs.Grammar.{LineValue, Will}
+use Rattle.lines.specs.Grammar.{LineValue, Will, Clients}
 use Rattle.entry.specs.declared.tablet.Tablet.{Tablet}
 use Rattle.master_core.specs.declared.config.Config.{Config}
 use Rattle.master_core.specs.Data.{MasterData}
@@ -22,11 +22,11 @@ use Rattle.script.specs.declared.answer.Answer.{Answer}
 use Rattle.script.specs.declared.node.Node.{Node}
 use Rattle.script.specs.declared.session.Session.{Session}
 use Rattle.script.specs.declared.will.Limits.{Limits}
-use Rattle.script.specs.Lives.{life_to}
+use Rattle.script.specs.Lives.{life_to, Position}
 use Rattle.recovery.specs.Orders.{Covers}
 use Rattle.script.specs.Configuration.{config_of, tables_to}
-use Rattle.script.specs.Served.{DividesAnew, IsNodeAt, Stands, life_of, MakesWill as MakesWillOf}
-use Rattle.script.specs.Told.{Position, command_of, IsWillAt}
+use Rattle.script.specs.Served.{DividesAnew, IsNodeAt, KeepsWord, Stands, life_of, MakesWill as MakesWillOf}
+use Rattle.script.specs.Told.{command_of, IsWillAt}
 use Rattle.script.specs.Wills.{MakesWill, one_partition}
 
 -- ---- a will that stays
@@ -50,6 +50,12 @@ pub command_keeps : (old : Session) (line : LineValue) (new : Session) (a : Answ
     → MakesWillOf old line new a
 command_keeps old Will new a same some = absurd (cc)
 command_keeps old line new a same some = same
+
+-- and nothing of the session's word
+pub command_keeps_word : (old : Session) (line : LineValue) (new : Session) (a : Answer) → new.is_known ≡ old.is_known → IsSome (command_of line)
+    → KeepsWord old line new a
+command_keeps_word old (Clients clients rounds passes) new a same some = absurd (cc)
+command_keeps_word old line new a same some = same
 
 -- ---- tablets
 

@@ -8,6 +8,7 @@ pub mod Rolls
 pub mod Commands
 pub mod Cleans
 pub mod Shows
+pub mod Counted
 pub mod Told
 pub mod Succession
 pub mod Served

@@ -1,5 +1,5 @@
 -- A master's life, and what a crash leaves of it.
-use Rattle.std.specs.Prelude.{◌≡◌, ℕ, List, [], not, Bool, take, slice_get, Option, Some}
+use Rattle.std.specs.Prelude.{◌≡◌, ℕ, List, [], not, Bool, take, slice_get, Option, Some, None}
 use Rattle.replica.specs.Picture.{Picture, FleetState}
 use Rattle.versioned_map.specs.declared.command.Record.{Record}
 use Rattle.versioned_map.specs.Versioned.{State}
@@ -56,3 +56,18 @@ IsLeftBySpent config life left =
 -- the backups of a segment's replicas
 abbrev pub IsHomeBy : Config → ℕ → ℕ → Type 0
 IsHomeBy config s b = (j : ℕ) × (slice_get ((log_config config).homes s) j ≡ Some b)
+
+-- ---- positions
+
+-- where a script stands in the life of its master
+pub record Position : Type 0 where
+  -- how many records its lines have made
+  pub made : ℕ
+  -- how many of these are acknowledged, up to the last one that was answered; each recovery has to have them
+  pub acknowledged : ℕ
+  -- what is left of the master, if there is none now
+  pub left : Option Left
+
+-- at the start nothing is told, and there is a master
+abbrev pub at_start : Position
+at_start = record { made = 0; acknowledged = 0; left = None }

@@ -33,12 +33,12 @@ use Rattle.script.specs.declared.node.Node.{Node}
 use Rattle.script.specs.declared.node.Node.TheVariants.{Up, Down}
 use Rattle.script.specs.declared.session.Session.{Session}
 use Rattle.script.specs.Configuration.{config_of, tables_to}
-use Rattle.script.specs.Lives.{Left, left_now}
+use Rattle.script.specs.Lives.{Left, left_now, Position}
 use Rattle.script.specs.Numbers.{AreSpent, IsNextNumber, Renumbers}
 use Rattle.script.specs.Served.{AnswersLine, IsCovered, IsNodeAt, IsOf, IsSpent, SessionAnswers, Stands}
 use Rattle.script.specs.Served.{fleet_of, is_up, life_of, refusal_answer, world_of}
 use Rattle.script.specs.Succession.{Standing, Succeeds}
-use Rattle.script.specs.Told.{IsFoundAt, Position, Tells}
+use Rattle.script.specs.Told.{IsFoundAt, Tells}
 use Rattle.script.specs.Wills.{one_partition}
 
 -- ---- what is asked
@@ -222,6 +222,14 @@ Recovers old options master order new answer number =
 
 -- ---- sessions
 
+-- A recovery of a session ended. It has a master, or each store of clients could tell whose its records were: then it ended
+-- as one of its node does. Or there is no master, and a store couldn't: then nothing is recovered any more.
+abbrev pub EndsFor : Session → ReplayOrder → Session → Answer → Type 0
+EndsFor old order new answer =
+    (((is_up old.node ≡ true) ⊎ (old.is_known ≡ true))
+    × Ends old.node old.options (asked_of old order) new.used new.node answer new.master)
+    ⊎ ((is_up old.node ≡ false) × (old.is_known ≡ false) × (answer ≡ answers.SeatUnknown) × (new ≡ old))
+
 -- The coordinator's will stays. But once a master has adopted the table, so that a later recovery is for that one, the
 -- will is one partition over all tablets.
 abbrev pub RenewsWill : Session → Session → Type 0
@@ -233,10 +241,11 @@ pub record SessionRecovers (old : Session) (line : LineValue) (new : Session) (a
   pub order : ReplayOrder
   pub asks : line ≡ Recover order
   pub options : new.options ≡ old.options
+  pub known : new.is_known ≡ old.is_known
   pub covers : Stands old → IsCovered new
   pub numbers : Renumbers old.master old.used new.master new.used
   pub recovers : Recovers old.node old.options old.master order new.node answer new.master
-  pub ends : Ends old.node old.options (asked_of old order) new.used new.node answer new.master
+  pub ends : EndsFor old order new answer
   pub limit : MakesLimit old.node new.node answer
   pub will : RenewsWill old new
   pub least : (new.used ≡ old.used)

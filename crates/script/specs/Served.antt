@@ -1,10 +1,13 @@
 -- What a session stands for, and what its lines do to it.
 use Rattle.std.specs.Prelude.{◌≡◌, ◌⊎◌, ℕ, ◌<◌, ◌≤◌, List, [], ◌∷◌, ◌++◌, Bool, true, false, Option, Some, None, length}
 use Rattle.backup.specs.State.{fleet_state, lost, new_fleet}
+use Rattle.backup.specs.declared.fleet.MemoryFleet.{MemoryFleet}
 use Rattle.command_line.specs.declared.settings.Options.{Options}
 use Rattle.lines.specs.Grammar.{LineValue, Idle, Roll, BeginRoll, Compact, Push, Clean, Begin, Copy, Seal, Free, Will, Recover}
-use Rattle.lines.specs.Grammar.{Hex, Log, Room, Stop, Crash, Lose, Holdings as HoldingsLine}
-use Rattle.std.specs.Prelude.{Result, Ok, Err, IfSome}
+use Rattle.lines.specs.Grammar.{Hex, Log, Room, Stop, Crash, Lose, Holdings as HoldingsLine, Clients}
+use Rattle.store_seat.specs.declared.fault.CallFault.{CallFault}
+use Rattle.store_seat.specs.declared.fault.CallFault.TheVariants as call_fault
+use Rattle.std.specs.Prelude.{Result, Ok, Err, IfSome, OnOk, IsTrue}
 use Rattle.std.specs.Option.{option_map}
 use Rattle.std.specs.declared.alloc.AllocError.{AllocError}
 use Rattle.replica.specs.declared.holding.Holding.{Holding}
@@ -27,22 +30,23 @@ use Rattle.master_core.specs.Data.{MasterData, fresh_data, no_origin}
 use Rattle.master_core.specs.Log.{opening_of, log_of}
 use Rattle.master.specs.Steps.{Steps}
 use Rattle.master.specs.Valid.{IsValid}
-use Rattle.master.specs.World.{World, limited_world, world}
+use Rattle.master.specs.World.{MasterValue, World, limited_world, world}
 use Rattle.script.specs.declared.answer.Answer.{Answer}
 use Rattle.script.specs.declared.answer.Answer.TheVariants.{Refused, Stopped, Holdings, Reply as Replied, Head, Opening, Compacted, Extended, Opened, Closed}
-use Rattle.script.specs.declared.answer.Answer.TheVariants.{Begun, Moved, Carried, Dropped, Sealed, Freed, Cleaned, NotRetired}
+use Rattle.script.specs.declared.answer.Answer.TheVariants.{Begun, Moved, Carried, Dropped, Sealed, Freed, Cleaned, NotRetired, Counted}
 use Rattle.script.specs.declared.answer.Answer.TheVariants as answers
 use Rattle.script.specs.declared.node.Node.{Node}
 use Rattle.script.specs.declared.node.Node.TheVariants.{Up, Down, Changing}
 use Rattle.script.specs.declared.session.Session.{Session}
 use Rattle.script.specs.Configuration.{config_of, tables_to}
-use Rattle.script.specs.Lives.{Life, Left, left_now, is_left}
+use Rattle.script.specs.Lives.{Life, Left, left_now, is_left, Position, at_start}
 use Rattle.recovery.specs.Orders.{Covers}
 use Rattle.script.specs.Cleans.{Cleans}
 use Rattle.script.specs.Commands.{RunsCommand, StopsShort}
+use Rattle.script.specs.Counted.{RunsClients}
 use Rattle.script.specs.Rolls.{PushesUntil, Rolls}
 use Rattle.script.specs.Shows.{ShowsDigest, ShowsRoom, ShowsImage}
-use Rattle.script.specs.Told.{Position, at_start, command_of, is_of_push, Tells, HasLimits}
+use Rattle.script.specs.Told.{command_of, is_of_push, Tells, HasLimits}
 use Rattle.tablet_will.specs.declared.part.Part.{Part}
 use Rattle.tablet_will.specs.Parts.{Divides}
 use Rattle.script.specs.declared.will.Limits.{Limits}
@@ -211,6 +215,53 @@ MakesCommand (Up m) command new answer = (result : Result Reply Refusal) × (w :
     × RunsCommand (world fleet_state m) command result w × (answer ≡ reply_told result) × IsLeftIn w answer new
 MakesCommand old command new answer = (new ≡ old) × (answer ≡ answers.Down)
 
+-- ---- clients
+
+-- what is answered to a refusal of clients over this fleet, if it is Spent: that they were stopped, if the fleet is so
+abbrev pub IsClientsRefusal : FleetState → Refusal → Answer → Type 0
+IsClientsRefusal f Spent answer =
+    ((answer ≡ Stopped) × IsSpent f) ⊎ ((answer ≡ answers.SeatUnknown) × (IsSpent f → ⊥))
+IsClientsRefusal f r answer = answer ≡ Refused r
+
+-- what is answered to clients over this fleet: the count of their calls, or the first refusal
+abbrev pub IsClientsAnswer : FleetState → ℕ → ℕ → Result ℕ CallFault → Answer → Type 0
+IsClientsAnswer f clients rounds (Ok calls) answer = answer ≡ Counted clients rounds calls
+IsClientsAnswer f clients rounds (Err (call_fault.Refused r)) answer = IsClientsRefusal f r answer
+IsClientsAnswer f clients rounds (Err (call_fault.Unsure place r)) answer = IsClientsRefusal f r answer
+IsClientsAnswer f clients rounds (Err call_fault.SeatUnknown) answer = answer ≡ answers.SeatUnknown
+IsClientsAnswer f clients rounds (Err call_fault.CellRefused) answer = answer ≡ answers.CellRefused
+
+-- Clients made their rounds over a master, and the node has it again. The store could tell whose its records were, if no
+-- call was refused.
+pub record Lends (m : MasterValue MemoryFleet) (clients rounds : ℕ) (calls : Result ℕ CallFault) (known : Bool)
+    (new : Node) : Type 0 where
+  pub back : MasterValue MemoryFleet
+  pub is : new ≡ Up back
+  pub runs : RunsClients clients rounds m.knows calls (world fleet_state back)
+  pub tells : OnOk calls (IsTrue known)
+
+-- A refusal of clients is answered as any other. But a fleet that refused an op as spent, and isn't, is told as
+-- SeatUnknown, and nothing changed.
+abbrev pub RefusesWork : Node → Refusal → Node → Answer → Type 0
+RefusesWork old Spent new answer = (Refuses old Spent new answer × IfSome (fleet_of old) IsSpent)
+    ⊎ ((answer ≡ answers.SeatUnknown) × (new ≡ old) × (IfSome (fleet_of old) IsSpent → ⊥))
+RefusesWork old r new answer = Refuses old r new answer
+
+-- the first refusal of clients is answered
+abbrev pub RefusesCall : Node → CallFault → Node → Answer → Type 0
+RefusesCall old (call_fault.Refused r) new answer = RefusesWork old r new answer
+RefusesCall old (call_fault.Unsure place r) new answer = RefusesWork old r new answer
+RefusesCall old call_fault.SeatUnknown new answer = (answer ≡ answers.SeatUnknown) × (new ≡ old)
+RefusesCall old call_fault.CellRefused new answer = (answer ≡ answers.CellRefused) × (new ≡ old)
+
+-- Over the master of a node that is up just these clients make their rounds, and what comes of them is answered. Any
+-- other node does nothing.
+abbrev pub MakesClients : Node → ℕ → ℕ → Node → Answer → Type 0
+MakesClients (Up m) clients rounds new answer = (calls : Result ℕ CallFault) × (w : World)
+    × RunsClients clients rounds m.knows calls w × IsClientsAnswer w.fleet clients rounds calls answer
+    × IsLeftIn w answer new
+MakesClients old clients rounds new answer = (new ≡ old) × (answer ≡ answers.Down)
+
 -- ---- lines
 
 -- the same life, with more records or as many
@@ -245,9 +296,9 @@ abbrev pub ShowsFleet : Node → Answer → Type 0
 ShowsFleet node (Holdings hs) = IfSome (fleet_of node) (λ (f : FleetState). AreHeld hs f.picture)
 ShowsFleet node answer = Unit {0}
 
--- What a line makes of the node: just the steps of its command, its step, its roll or its cleaning. A line that shows
--- something changes nothing, and shows what this node has. A stop sets just the limit that it names, and a crash leaves
--- just the fleet. What a recovery makes is said of the session.
+-- What a line makes of the node: just the steps of its command, its step, its roll, its cleaning, or the rounds of its
+-- clients. A line that shows something changes nothing, and shows what this node has. A stop sets just the limit that it
+-- names, and a crash leaves just the fleet. What a recovery makes is said of the session.
 abbrev pub MakesLine : Node → LineValue → Node → Answer → Type 0
 MakesLine old Roll new answer = MakesRoll old new answer
 MakesLine old BeginRoll new answer = MakesStep old step.BeginRoll new answer
@@ -268,6 +319,7 @@ MakesLine old (Stop takes) new answer = LimitsFleet old takes new
 MakesLine old Crash new answer = LosesMaster old new
 MakesLine old (Lose backup) new answer = LosesOne old backup new
 MakesLine old (Recover order) new answer = ⊥
+MakesLine old (Clients clients rounds passes) new answer = MakesClients old clients rounds new answer
 MakesLine old line new answer = IfSome (command_of line) (λ (c : Command). MakesCommand old c new answer)
 
 -- ---- wills
@@ -293,6 +345,13 @@ MakesWill old line new answer = new.will ≡ old.will
 
 -- ---- sessions
 
+-- What a line makes of the session's word that each store of clients could tell whose its records were. That is given up
+-- by clients alone, not by those of whom a call count is answered, and never taken up again.
+abbrev pub KeepsWord : Session → LineValue → Session → Answer → Type 0
+KeepsWord old (Clients clients rounds passes) new answer = (old.is_known ≡ false → new.is_known ≡ false)
+    × ((calls : ℕ) → answer ≡ Counted clients rounds calls → new.is_known ≡ old.is_known)
+KeepsWord old line new answer = new.is_known ≡ old.is_known
+
 -- the session's will has a partition for each place of the tablets
 abbrev pub IsCovered : Session → Type 0
 IsCovered s = Covers (tables_to s.options.tables) s.will
@@ -311,6 +370,7 @@ pub record SessionAnswers (old : Session) (line : LineValue) (new : Session) (an
   pub answers : (config : Config) → config.master ≡ old.master → AnswersLine old.node config line new.node answer
   pub makes : MakesLine old.node line new.node answer
   pub wills : MakesWill old line new answer
+  pub word : KeepsWord old line new answer
 
 -- a new master of this configuration, over a fleet of so many backups that holds nothing
 abbrev pub new_world : Config → World
@@ -327,6 +387,7 @@ pub record BeginsSession (options : Options) (s : Session) : Type 0 where
   pub set : s.options ≡ options
   pub covers : IsCovered s
   pub will : s.will ≡ one_partition (tables_to options.tables)
+  pub known : s.is_known ≡ true
 
 -- the answer that shows what backups hold
 abbrev pub held_answer : Result (List Holding) AllocError → Answer

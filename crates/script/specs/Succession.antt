@@ -12,8 +12,8 @@ use Rattle.master_core.specs.Data.{MasterData}
 use Rattle.rebuilding.specs.declared.rebuilt.Rebuilt.{Rebuilt}
 use Rattle.script.specs.declared.answer.Answer.{Answer}
 use Rattle.script.specs.declared.answer.Answer.TheVariants as answer
-use Rattle.script.specs.Lives.{Life, life_to, HasLived, Left, IsLeftBy, IsLeftBySpent}
-use Rattle.script.specs.Told.{Told, Position, at_start, Tells, IsFoundAt, IsNextConfig, IsRecover}
+use Rattle.script.specs.Lives.{Life, life_to, HasLived, Left, IsLeftBy, IsLeftBySpent, Position, at_start}
+use Rattle.script.specs.Told.{Told, Tells, IsFoundAt, IsNextConfig, IsRecover}
 
 -- where a script stands: its master's configuration, the life of that master, and where it stands in this life
 pub record Standing : Type 0 where

@@ -121,6 +121,7 @@ answer_text answer.Dropped = codes "dropped" ++ 10 ∷ []
 answer_text (answer.Sealed backup) = codes "sealed " ++ decimal backup ++ 10 ∷ []
 answer_text (answer.Freed segment backup) = op_text (codes "freed ") segment backup
 answer_text (answer.Cleaned survivor head) = op_text (codes "cleaned ") survivor head
+answer_text (answer.Counted clients rounds calls) = codes "clients " ++ decimal clients ++ 32 ∷ op_text [] rounds calls
 answer_text (answer.Log ids) = log_text ids
 answer_text (answer.Room used free) = room_text used free
 answer_text (answer.Will parts limits) = will_text parts
@@ -130,6 +131,8 @@ answer_text answer.Down = codes "refused Down" ++ 10 ∷ []
 answer_text (answer.NotRetired fault) = codes "refused " ++ take_fault_text fault ++ 10 ∷ []
 answer_text answer.NumbersSpent = codes "refused NumbersSpent" ++ 10 ∷ []
 answer_text answer.Up = codes "refused Up" ++ 10 ∷ []
+answer_text answer.SeatUnknown = codes "refused SeatUnknown" ++ 10 ∷ []
+answer_text answer.CellRefused = codes "refused CellRefused" ++ 10 ∷ []
 
 -- ---- faults of a run
 

@@ -7,7 +7,7 @@ use Rattle.entry.specs.Meaning.{IsMeaning, among, contents_of}
 use Rattle.entry.specs.Order.{key_cmp}
 use Rattle.entry.specs.Text.{text_of}
 use Rattle.lines.specs.Grammar.{LineValue, Idle, Put, New, Cas, Get, Del, Compact, Roll, BeginRoll, Push, Log, Room, Hex, Stop, Crash}
-use Rattle.lines.specs.Grammar.{Lose, Will, Recover, Holdings, Clean, Begin, Copy, Seal, Free}
+use Rattle.lines.specs.Grammar.{Lose, Will, Recover, Holdings, Clean, Begin, Copy, Seal, Free, Clients}
 use Rattle.lines.specs.declared.line.ReplayOrder.{ReplayOrder}
 use Rattle.backup.specs.Inventory.{IsRising}
 use Rattle.replica.specs.Choice.{Choice, IsShownChoice, bag_of}
@@ -42,13 +42,14 @@ use Rattle.recovery.specs.Recovered.{IsLossOrMemory, IsWant}
 use Rattle.recovery_plan.specs.Planned.{IsPlanFault, NamesLoss}
 use Rattle.script.specs.declared.answer.Answer.{Answer}
 use Rattle.script.specs.declared.answer.Answer.TheVariants as answer
-use Rattle.script.specs.Lives.{Life, life_to, HasLived, Left, is_left, IsLeftBy, IsLeftBySpent, IsHomeBy}
+use Rattle.script.specs.Lives.{Life, life_to, HasLived, Left, is_left, IsLeftBy, IsLeftBySpent, IsHomeBy, Position}
 use Rattle.replay.specs.Adopting.{DeclinesList}
 use Rattle.tablet_will.specs.declared.part.Part.{Part}
 use Rattle.tablet_will.specs.Sizes.{are_limits}
 use Rattle.script.specs.declared.will.Limits.{Limits}
 use Rattle.script.specs.Wills.{IsWillOf}
 use Rattle.script.specs.Cleans.{Cleans}
+use Rattle.script.specs.Counted.{AsksClients, AreCounted, AreUncounted}
 use Rattle.script.specs.Rolls.{PushesUntil, Rolls}
 
 -- a line that was run: its text without the line feed, what it says, and what it answered
@@ -56,19 +57,6 @@ pub record Told : Type 0 where
   pub text : List ℕ
   pub line : LineValue
   pub answer : Answer
-
--- where a script stands in the life of its master
-pub record Position : Type 0 where
-  -- how many records its lines have made
-  pub made : ℕ
-  -- how many of these are acknowledged, up to the last one that was answered; each recovery has to have them
-  pub acknowledged : ℕ
-  -- what is left of the master, if there is none now
-  pub left : Option Left
-
--- at the start nothing is told, and there is a master
-abbrev pub at_start : Position
-at_start = record { made = 0; acknowledged = 0; left = None }
 
 -- ---- commands
 
@@ -322,6 +310,7 @@ is_for_master Room = true
 is_for_master Will = true
 is_for_master (Hex segment) = true
 is_for_master Crash = true
+is_for_master (Clients clients rounds passes) = true
 is_for_master _ = false
 
 -- the line works only while there is no master
@@ -339,7 +328,7 @@ Tells config life at line (answer.Refused r) next =
     ((at.left ≡ None)
     × (IsRefused config life at line r next ⊎ TellsNoStep config life at line (answer.Refused r) next))
     ⊎ (((r ≡ refusal.NoMemory) × (shows line ≡ true) × (next ≡ at))
-    ⊎ ((r ≡ refusal.Spent → ⊥) × IsUnadopted config life at line r next))
+    ⊎ ((r ≡ refusal.Spent → ⊥) × (IsUnadopted config life at line r next ⊎ AreUncounted at line None next)))
 Tells config life at line (answer.Head id) next = (at.left ≡ None) × (line ≡ Roll)
     × IsRollAt config (life_to life at.made) (Ok id) × (next ≡ at)
 Tells config life at line (answer.Opening id) next = (at.left ≡ None) × (line ≡ BeginRoll)
@@ -371,6 +360,8 @@ Tells config life at line (answer.Cleaned survivor head) next = (at.left ≡ Non
     × ((victims : List ℕ) × (line ≡ Clean victims)
     × IsCleanAt config (life_to life at.made) victims (Ok (survivor, head)))
     × (next ≡ at)
+Tells config life at line (answer.Counted clients rounds calls) next = (at.left ≡ None)
+    × AsksClients line clients rounds × AreCounted life at clients rounds calls next
 Tells config life at line (answer.Log ids) next = (at.left ≡ None) × (line ≡ Log)
     × IsDigestAt config (life_to life at.made) ids × (next ≡ at)
 Tells config life at line (answer.Room used free) next = (at.left ≡ None) × (line ≡ Room)
@@ -389,7 +380,8 @@ Tells config life at line (answer.NotInLog segment) next = (at.left ≡ None)
 Tells config life at line (answer.Stop takes) next = (line ≡ Stop takes) × (next ≡ at)
 Tells config life at line answer.Stopped next = ((at.left ≡ None)
     × (l : Left) × IsLeftBySpent config (life_to life next.made) l
-    × (IsOut at line (Some l) next ⊎ (IsIn life at line (Some l) next ⊎ IsStepOut at line l next)))
+    × (IsOut at line (Some l) next
+    ⊎ (IsIn life at line (Some l) next ⊎ (IsStepOut at line l next ⊎ AreUncounted at line (Some l) next))))
     ⊎ IsUnadopted config life at line refusal.Spent next
 Tells config life at line answer.Crashed next = (at.left ≡ None) × (line ≡ Crash)
     × (l : Left) × IsLeftBy config (life_to life at.made) l
@@ -407,6 +399,10 @@ Tells config life at line (answer.NotRecovered fault) next = IsRecover line
     × (l : Left) × (at.left ≡ Some l) × IsLossOf config l fault × (next ≡ at)
 Tells config life at line answer.NumbersSpent next = IsRecover line
     × ((l : Left) × (at.left ≡ Some l)) × (next ≡ at)
+Tells config life at line answer.CellRefused next = AreUncounted at line None next
+-- a store couldn't tell whose its records were: the one of this line, or that of an earlier one
+Tells config life at line answer.SeatUnknown next = AreUncounted at line None next
+    ⊎ (IsRecover line × ((l : Left) × (at.left ≡ Some l)) × (next ≡ at))
 Tells config life at line answer.Down next =
     ((l : Left) × (at.left ≡ Some l)) × (is_for_master line ≡ true) × (next ≡ at)
 Tells config life at line answer.Up next = (at.left ≡ None) × (is_for_none line ≡ true) × (next ≡ at)

@@ -18,10 +18,10 @@ use Rattle.script.specs.declared.node.Node.{Node}
 use Rattle.script.specs.declared.node.Node.TheVariants.{Up}
 use Rattle.script.specs.declared.session.Session.{Session}
 use Rattle.script.specs.Commands.{Tries, TriesAfterRoll}
-use Rattle.script.specs.Lives.{life_to}
+use Rattle.script.specs.Lives.{life_to, Position}
 use Rattle.script.specs.Rolls.{Rolls}
 use Rattle.script.specs.Served.{AnswersLine, IsCovered, IsLeftIn, IsNodeAt, life_of, refusal_answer, reply_told, world_of}
-use Rattle.script.specs.Told.{Position, command_of, IsTest, TellsNoStep}
+use Rattle.script.specs.Told.{command_of, IsTest, TellsNoStep}
 
 -- the same life, with the same records
 abbrev pub LivesSame : MasterData → MasterData → Type 0
@@ -88,3 +88,4 @@ pub record AnswersAfterRoll (mid : Session) (line : LineValue) (new : Session) (
       → WaitsForRoll old config command mid.node → AnswersLine old config line new.node answer
   pub makes : (command : Command) → command_of line ≡ Some command → MakesTryAfterRoll mid.node command new.node answer
   pub will : new.will ≡ mid.will
+  pub known : new.is_known ≡ mid.is_known

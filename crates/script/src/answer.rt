@@ -68,6 +68,8 @@ pub enum Answer {
     Freed(u64, u64),
     /// The survivor of the cleaning that was made, and the head that it ended with.
     Cleaned(u64, u64),
+    /// How many clients made how many rounds each, and how many calls were accepted.
+    Counted(u64, u64, u64),
     /// The ids of the digest in force.
     Log(Row<u64>),
     /// How many seglets of memory are counted, and how many are free.
@@ -82,6 +84,10 @@ pub enum Answer {
     Down,
     /// The line was refused: there is a master.
     Up,
+    /// A store of clients could not tell whose its records were. Tests alone show that this never comes.
+    SeatUnknown,
+    /// A cell of a store of clients did not take its record. Tests alone show that this never comes.
+    CellRefused,
 }
 
 // An `io::Result` is large. So each function that hands one on is inlined, up to the one that drops its error. Those of long
@@ -119,6 +125,9 @@ pub fn write_answer<W: Write>(writer: &mut W, answer: &Answer) -> io::Result<()>
         Answer::Sealed(backup) => write_number(writer, b"sealed ", *backup, b'\n'),
         Answer::Freed(segment, backup) => write_op(writer, b"freed ", *segment, *backup),
         Answer::Cleaned(survivor, head) => write_op(writer, b"cleaned ", *survivor, *head),
+        Answer::Counted(clients, rounds, calls) => {
+            write_counted(writer, *clients, *rounds, *calls)
+        }
         Answer::Log(ids) => write_log(writer, ids.as_slice()),
         Answer::Room(used, free) => write_room(writer, *used, *free),
         Answer::Will(parts, _) => write_will(writer, parts.as_slice()),
@@ -126,6 +135,8 @@ pub fn write_answer<W: Write>(writer: &mut W, answer: &Answer) -> io::Result<()>
         Answer::Holdings(inventory) => write_holdings(writer, inventory.as_slice()),
         Answer::Down => writer.write_all(b"refused Down\n"),
         Answer::Up => writer.write_all(b"refused Up\n"),
+        Answer::SeatUnknown => writer.write_all(b"refused SeatUnknown\n"),
+        Answer::CellRefused => writer.write_all(b"refused CellRefused\n"),
     }
 }
 
@@ -269,6 +280,16 @@ fn write_op<W: Write>(writer: &mut W, words: &[u8], first: u64, second: u64) -> 
 {
     write_number(writer, words, first, b' ')?;
     write_number(writer, b"", second, b'\n')
+}
+
+/// Writes the line of clients, the rounds of each, and the calls that were accepted.
+#[inline(never)]
+fn write_counted<W: Write>(writer: &mut W, clients: u64, rounds: u64, calls: u64) -> io::Result<()>
+    ensures { OnOk result (Appends (W.contents writer.old) (W.contents writer.new)
+        (codes "clients " ++ decimal clients ++ 32 ∷ op_text [] rounds calls)) }
+{
+    write_number(writer, b"clients ", clients, b' ')?;
+    write_op(writer, b"", rounds, calls)
 }
 
 /// Writes the line of the seglets that are counted, and free.

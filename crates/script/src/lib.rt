@@ -3,6 +3,7 @@
 
 mod answer;
 mod cleaning;
+mod clients;
 mod errors;
 mod fault;
 mod node;

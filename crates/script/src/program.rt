@@ -15,13 +15,16 @@ use clap::Error;
 use command_line::{Options, options};
 use std::alloc::Global;
 use std::io::{BufRead, Write};
+use std::sync::Wait;
+use std::thread::Threads;
 
 /// Runs the program. It reads the options from the words, does what they say, and answers the exit status. The first
 /// word is the program's name.
 ///
 /// The error is clap's. Nothing was read then, and nothing was written to either output: the caller prints the error's
 /// text. Its exit code is 2, or 0 if `--help` or `--version` was asked for.
-pub fn run_program<'a, R: BufRead, W: Write, E: Write + Drop>(
+pub fn run_program<'a, H: Threads + Wait + Sync, R: BufRead, W: Write, E: Write + Drop>(
+    rt: &H,
     alloc: Global,
     words: &'a [&'a str],
     reader: &mut R,
@@ -39,13 +42,14 @@ pub fn run_program<'a, R: BufRead, W: Write, E: Write + Drop>(
     ensures unreported { IfErr result (λ _. errors.new ≡ errors.old) }
 {
     match options(alloc, words) {
-        Ok(options) => Ok(run_options(alloc, options, reader, writer, errors)),
+        Ok(options) => Ok(run_options(rt, alloc, options, reader, writer, errors)),
         Err(error) => Err(error),
     }
 }
 
 /// Checks the configuration of the options, runs the script, and reports how the run ended. Answers the exit status.
-pub fn run_options<R: BufRead, W: Write, E: Write + Drop>(
+pub fn run_options<H: Threads + Wait + Sync, R: BufRead, W: Write, E: Write + Drop>(
+    rt: &H,
     alloc: Global,
     options: Options,
     reader: &mut R,
@@ -62,7 +66,7 @@ pub fn run_options<R: BufRead, W: Write, E: Write + Drop>(
     };
     match config.check() {
         Err(fault) => report_config(&config, fault, errors),
-        Ok(()) => match run_script(alloc, reader, writer, options) {
+        Ok(()) => match run_script(rt, alloc, reader, writer, options) {
             Ok(()) => 0,
             Err(fault) => report(&fault, errors),
         },

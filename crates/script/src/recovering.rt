@@ -16,7 +16,7 @@ ghost use Rattle.script.specs.Recoveries.{Adopts, Ends, EndsFreeing, FindsNone, 
 ghost use Rattle.script.specs.Recoveries.{Rebuilds, Recovers, RetiresOthers, ask};
 ghost use Rattle.script.specs.Served.{IsNodeAt, IsOf, world_of};
 ghost use Rattle.script.specs.Served.{fleet_of, is_up};
-ghost use Rattle.script.specs.Told.{Position};
+ghost use Rattle.script.specs.Lives.{Position};
 
 use crate::answer::Answer;
 use crate::node::Node;
@@ -206,7 +206,7 @@ impl Node {
     }
 
     /// Puts a node in the place of this one.
-    fn set(&mut self, node: Node)
+    pub(crate) fn set(&mut self, node: Node)
         ensures { self.new ≡ node }
     {
         *self = node;

@@ -16,10 +16,13 @@ use command_line::Options;
 use lines::{LineReader, ReadFault, Reason, Taken, one_line, parse_line};
 use std::alloc::Global;
 use std::io::{BufRead, Write};
+use std::sync::Wait;
+use std::thread::Threads;
 
 /// Runs the lines of the reader in order, up to the first bad line, and hands the answer of each to the writer. It
 /// flushes the writer before it waits for more lines.
-pub fn run_script<R: BufRead, W: Write>(
+pub fn run_script<H: Threads + Wait + Sync, R: BufRead, W: Write>(
+    rt: &H,
     alloc: Global,
     reader: &mut R,
     writer: &mut W,
@@ -33,11 +36,12 @@ pub fn run_script<R: BufRead, W: Write>(
     let Ok(mut session) = Session::start(alloc, &options) else {
         return Err(ScriptFault::NoMemory);
     };
-    run_and_flush(alloc, reader, writer, &mut session)
+    run_and_flush(rt, alloc, reader, writer, &mut session)
 }
 
 /// Runs all lines on a session at its start, and flushes the writer.
-fn run_and_flush<R: BufRead, W: Write>(
+fn run_and_flush<H: Threads + Wait + Sync, R: BufRead, W: Write>(
+    rt: &H,
     alloc: Global,
     reader: &mut R,
     writer: &mut W,
@@ -48,7 +52,7 @@ fn run_and_flush<R: BufRead, W: Write>(
         RunsScript options (R.remaining reader.old) (R.remaining reader.new)
         (W.contents writer.old) (W.contents writer.new) result }
 {
-    let ran = run_lines(alloc, reader, writer, session);
+    let ran = run_lines(rt, alloc, reader, writer, session);
     let flushed = writer.flush();
     match ran {
         Ok(()) if flushed.is_err() => Err(ScriptFault::WriteFailed),
@@ -57,7 +61,8 @@ fn run_and_flush<R: BufRead, W: Write>(
 }
 
 /// Runs all lines on a session at its start.
-fn run_lines<R: BufRead, W: Write>(
+fn run_lines<H: Threads + Wait + Sync, R: BufRead, W: Write>(
+    rt: &H,
     alloc: Global,
     reader: &mut R,
     writer: &mut W,
@@ -70,7 +75,7 @@ fn run_lines<R: BufRead, W: Write>(
 {
     let mut lines = LineReader::new(alloc);
     for number in 1..u64::MAX {
-        match run_next(reader, writer, &mut lines, session, number) {
+        match run_next(rt, reader, writer, &mut lines, session, number) {
             Ok(true) => {}
             Ok(false) => return Ok(()),
             Err(fault) => return Err(fault),
@@ -80,23 +85,24 @@ fn run_lines<R: BufRead, W: Write>(
 }
 
 /// Takes the next line and runs it. It has this number. Answers whether more lines may come.
-fn run_next<R: BufRead, W: Write>(
+fn run_next<H: Threads + Wait + Sync, R: BufRead, W: Write>(
+    rt: &H,
     reader: &mut R,
     writer: &mut W,
     lines: &mut LineReader,
     session: &mut Session,
     number: u64,
 ) -> Result<bool, ScriptFault>
-    requires { Stands session.old }
+    requires stands { Stands session.old }
     ensures { TakesTurn session.old session.new number (R.remaining reader.old) (R.remaining reader.new)
         (W.contents writer.old) (W.contents writer.new) result }
 {
     match lines.next_line(reader, writer) {
-        Ok(Taken::Ended) => match run_text(writer, session, lines.text(), number) {
+        Ok(Taken::Ended) => match run_text(rt, writer, session, lines.text(), number) {
             Ok(()) => Ok(true),
             Err(fault) => Err(fault),
         },
-        Ok(Taken::Last) => match run_text(writer, session, lines.text(), number) {
+        Ok(Taken::Last) => match run_text(rt, writer, session, lines.text(), number) {
             Ok(()) => Ok(false),
             Err(fault) => Err(fault),
         },
@@ -109,7 +115,8 @@ fn run_next<R: BufRead, W: Write>(
 }
 
 /// Runs the line of a text, and writes its answer.
-fn run_text<W: Write>(
+fn run_text<H: Threads + Wait + Sync, W: Write>(
+    rt: &H,
     writer: &mut W,
     session: &mut Session,
     text: &[u8],
@@ -125,7 +132,7 @@ fn run_text<W: Write>(
         Err(reason) => return Err(ScriptFault::BadLine(number, reason)),
     };
     let backups = session.backups();
-    match session.run_line(line) {
+    match session.run_line(rt, line) {
         Ok(answer) => print(writer, &answer),
         Err(LineFault::Bad) => {
             // This text says no other line.

@@ -1,7 +1,7 @@
 //! What a script drives: a fleet, and the master over it if there is one.
 
 ghost use Rattle.std.specs.Prelude.{◌≡◌, ◌≤◌, ℕ, List, length, None, Some, IfOk, IfErr, IsSome};
-ghost use Rattle.lines.specs.Grammar.{Begin, Clean, Recover, IsKeyWord, IsLine, shown_line};
+ghost use Rattle.lines.specs.Grammar.{Begin, Clean, Clients, Recover, IsKeyWord, IsLine, shown_line};
 ghost use Rattle.lines.specs.Grammar.{Will as WillLine};
 ghost use Rattle.lines.specs.Numbers.{numbers_of};
 ghost use Rattle.master_core.specs.Config.{config_fault};
@@ -18,6 +18,7 @@ ghost use Rattle.script.specs.Waits.{AnswersAfterRoll};
 ghost use Rattle.tablet_will.specs.declared.part.Part.{Part as PartValue};
 
 use crate::answer::Answer;
+use crate::clients::Served;
 use crate::node::{Node, push_all};
 use crate::setup::{configuration, whole_will};
 use crate::will::Limits;
@@ -28,6 +29,9 @@ use lines::{Line, Numbers, ReplayOrder};
 use master::{Command, If, Master, Refusal};
 use recovery::{GroupOrder, PlanFault, RecoveryFault};
 use std::alloc::Global;
+use std::sync::Wait;
+use std::thread::Threads;
+use store_clients::Workload;
 use tablet_will::Will;
 
 /// Why a line was not run.
@@ -59,6 +63,9 @@ pub struct Session {
     used: u64,
     /// The coordinator's will: by which partitions a recovery divides the master's log.
     will: Will,
+    /// Whether each store of clients could tell whose its records were. Otherwise nothing is recovered any more. Tests
+    /// alone show that it always is so.
+    is_known: bool,
     node: Node,
 }
 
@@ -86,6 +93,7 @@ impl Session {
             master: FIRST_MASTER,
             used: FIRST_MASTER,
             will,
+            is_known: true,
             node: Node::Up(master),
         })
     }
@@ -99,7 +107,11 @@ impl Session {
 
     /// Runs one line.
     #[inline(always)]
-    pub fn run_line(&mut self, line: Line<'_>) -> Result<Answer, LineFault>
+    pub fn run_line<H: Threads + Wait + Sync>(
+        &mut self,
+        rt: &H,
+        line: Line<'_>,
+    ) -> Result<Answer, LineFault>
         requires line { IsLine (shown_line line) }
         requires value { HasValue (shown_line line) }
         requires stands { Stands self.old }
@@ -133,6 +145,18 @@ impl Session {
             Line::Log => Ok(self.node.log()),
             Line::Room => Ok(self.node.room()),
             Line::Holdings => Ok(self.node.holdings(self.alloc)),
+            Line::Clients {
+                clients,
+                rounds,
+                passes,
+            } => Ok(self.run_clients(
+                rt,
+                Workload {
+                    clients,
+                    rounds,
+                    passes,
+                },
+            )),
         }
     }
 
@@ -156,6 +180,9 @@ impl Session {
         if let Node::Up(_) = self.node {
             return Answer::Up;
         }
+        if !self.is_known {
+            return Answer::SeatUnknown;
+        }
         // Once a master has adopted the table, nothing may fail that the session needs.
         let Ok(whole) = whole_will(self.alloc, &self.options) else {
             return Answer::NotRecovered(RecoveryFault::Plan(PlanFault::NoMemory));
@@ -175,6 +202,21 @@ impl Session {
             self.will = whole;
         }
         recovery.answer
+    }
+
+    /// Runs the line that has clients make their rounds.
+    #[inline(never)]
+    fn run_clients<H: Threads + Wait + Sync>(&mut self, rt: &H, work: Workload) -> Answer
+        requires stands { Stands self.old }
+        requires clients { work.clients ≤ 63 }
+        requires rounds { work.rounds ≤ 1000000 }
+        ensures { SessionAnswers self.old (Clients work.clients work.rounds work.passes) self.new result }
+    {
+        let Served { answer, is_known } = self
+            .node
+            .serve_clients(rt, self.alloc, self.options.history, work);
+        self.is_known &= is_known;
+        answer
     }
 
     /// Runs the line that begins to clean these segments.

@@ -1,6 +1,8 @@
-//! The tests of scripts: the options, and faults of reading and of writing. Whole scripts are in `examples/`.
+//! The tests of scripts: the options, clients, and faults of reading and of writing. Whole scripts are in `examples/`.
 #![tactic(auto)]
 
+#[cfg(test)]
+mod clients;
 #[cfg(test)]
 mod options;
 #[cfg(test)]

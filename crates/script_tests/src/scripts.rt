@@ -4,7 +4,9 @@ use script::*;
 use std::alloc::Global;
 use std::cell::Cell;
 use std::io::{self, BufRead, BufReader, ErrorKind, Read, Write};
+use std::sync::Wait;
 use std::test::Fail;
+use std::thread::Threads;
 
 /// The line that a run writes to its error output, and its exit status.
 type End = (&'static str, u8);
@@ -16,25 +18,37 @@ const CANNOT_READ: End = ("ramlog: cannot read\n", 1);
 const CANNOT_WRITE: End = ("ramlog: cannot write\n", 1);
 
 /// Whether the run of the default options ends so.
-fn ends<R: BufRead, W: Write>(alloc: Global, reader: &mut R, writer: &mut W, want: End) -> bool {
+fn ends<H: Threads + Wait + Sync, R: BufRead, W: Write>(
+    rt: &H,
+    alloc: Global,
+    reader: &mut R,
+    writer: &mut W,
+    want: End,
+) -> bool {
     let mut errors = ErrorOutput::new(Vec::new(alloc), true);
-    match run_program(alloc, &["ramlog"], reader, writer, &mut errors) {
+    match run_program(rt, alloc, &["ramlog"], reader, writer, &mut errors) {
         Ok(status) => (errors.writer().as_slice(), status) == (want.0.as_bytes(), want.1),
         Err(_) => false,
     }
 }
 
 /// Whether the run writes this output, and ends so.
-fn prints<R: BufRead>(alloc: Global, reader: &mut R, output: &[u8], want: End) -> bool {
+fn prints<H: Threads + Wait + Sync, R: BufRead>(
+    rt: &H,
+    alloc: Global,
+    reader: &mut R,
+    output: &[u8],
+    want: End,
+) -> bool {
     let mut written = Vec::new(alloc);
-    ends(alloc, reader, &mut written, want) && written.as_slice() == output
+    ends(rt, alloc, reader, &mut written, want) && written.as_slice() == output
 }
 
 #[test]
 fn a_script_prints_its_answers(rt: HostRuntime) {
     let mut script: &[u8] = b"put 1 a x\ncrash\nrecover";
     let output: &[u8] = b"ok 1\ncrashed\n1 a 1 x\nrecovered 1\n";
-    assert!(rt; prints(rt.alloc(), &mut script, output, WELL));
+    assert!(rt; prints(&rt, rt.alloc(), &mut script, output, WELL));
 }
 
 /// Faults, and the line and the exit status of each.
@@ -94,10 +108,16 @@ const EXPLAINED: &[(&[&str], &[u8], &str)] = &[
 ];
 
 /// Whether these lines are written to the error output.
-fn is_explained(alloc: Global, words: &[&str], script: &[u8], want: &str) -> bool {
+fn is_explained<H: Threads + Wait + Sync>(
+    rt: &H,
+    alloc: Global,
+    words: &[&str],
+    script: &[u8],
+    want: &str,
+) -> bool {
     let mut reader = script;
     let mut errors = ErrorOutput::new(Vec::new(alloc), true);
-    match run_program(alloc, words, &mut reader, &mut io::sink(), &mut errors) {
+    match run_program(rt, alloc, words, &mut reader, &mut io::sink(), &mut errors) {
         Ok(_) => errors.writer().as_slice() == want.as_bytes(),
         Err(_) => false,
     }
@@ -106,7 +126,10 @@ fn is_explained(alloc: Global, words: &[&str], script: &[u8], want: &str) -> boo
 #[test]
 fn faults_are_explained(rt: HostRuntime) {
     for (words, script, want) in EXPLAINED {
-        assert!(rt; is_explained(rt.alloc(), words, script, want), "{want}");
+        assert!(rt;
+            is_explained(&rt, rt.alloc(), words, script, want),
+            "{want}"
+        );
     }
 }
 
@@ -158,7 +181,7 @@ fn a_reader_fails_in_mid_stream(rt: HostRuntime) -> Result<(), Fail> {
         bytes: b"put 1 a x\nput 1",
     };
     let mut reader = BufReader::new(rt.alloc(), torn)?;
-    assert!(rt; prints(rt.alloc(), &mut reader, b"ok 1\n", CANNOT_READ));
+    assert!(rt; prints(&rt, rt.alloc(), &mut reader, b"ok 1\n", CANNOT_READ));
     Ok(())
 }
 
@@ -166,7 +189,7 @@ fn a_reader_fails_in_mid_stream(rt: HostRuntime) -> Result<(), Fail> {
 fn a_writer_fails_in_mid_stream(rt: HostRuntime) {
     let mut writer = Full { room: 5 };
     let mut script: &[u8] = b"put 1 a x\nput 1 a y\n";
-    assert!(rt; ends(rt.alloc(), &mut script, &mut writer, CANNOT_WRITE));
+    assert!(rt; ends(&rt, rt.alloc(), &mut script, &mut writer, CANNOT_WRITE));
 }
 
 /// Pieces of a script that are read one by one, and how many bytes of answers must have come before each.
@@ -225,7 +248,13 @@ impl Write for Held<'_> {
 }
 
 /// Whether the run of the pieces ends so if the writer can be flushed this often.
-fn ends_over(alloc: Global, shown: &Cell<usize>, flushes: usize, want: End) -> bool {
+fn ends_over<H: Threads + Wait + Sync>(
+    rt: &H,
+    alloc: Global,
+    shown: &Cell<usize>,
+    flushes: usize,
+    want: End,
+) -> bool {
     let asking = Asking { place: 0, shown };
     let mut writer = Held {
         held: 0,
@@ -235,13 +264,19 @@ fn ends_over(alloc: Global, shown: &Cell<usize>, flushes: usize, want: End) -> b
     let Ok(mut reader) = BufReader::new(alloc, asking) else {
         return false;
     };
-    ends(alloc, &mut reader, &mut writer, want)
+    ends(rt, alloc, &mut reader, &mut writer, want)
 }
 
 /// Whether it ends so, and so many bytes came.
-fn is_asked(alloc: Global, flushes: usize, bytes: usize, want: End) -> bool {
+fn is_asked<H: Threads + Wait + Sync>(
+    rt: &H,
+    alloc: Global,
+    flushes: usize,
+    bytes: usize,
+    want: End,
+) -> bool {
     let shown = Cell::new(0);
-    let is_end = ends_over(alloc, &shown, flushes, want);
+    let is_end = ends_over(rt, alloc, &shown, flushes, want);
     is_end && shown.get() == bytes
 }
 
@@ -258,6 +293,9 @@ const FLUSHES: &[(usize, usize, End)] = &[
 #[test]
 fn answers_are_flushed_before_more_is_read(rt: HostRuntime) {
     for (flushes, bytes, want) in FLUSHES {
-        assert!(rt; is_asked(rt.alloc(), *flushes, *bytes, *want), "{flushes}");
+        assert!(rt;
+            is_asked(&rt, rt.alloc(), *flushes, *bytes, *want),
+            "{flushes}"
+        );
     }
 }

@@ -21,5 +21,5 @@ returns g c = λ options begins.
     let last : c.loop-number.number ≡ 2 ^ 64 - 1 = omega (arith, c.loop-number-test.false, c.loop-number.auto.number-end) in
     runs_dry options c.loop-number.session _ _ _ _ _ _ c.loop-number.number last (c.loop-number.invariant options begins) c.no_more.result c.no_more.ensures
 
-pub run_next-requires : goal.run_next-requires
-run_next-requires g c = running_stands _ _ _ _ _ _ _ (c.loop-number.invariant c.requires.0 c.requires.1)
+pub run_next-requires-clause-stands : goal.run_next-requires-clause-stands
+run_next-requires-clause-stands g c = λ κs out. running_stands _ _ _ _ _ _ _ (c.loop-number.invariant c.requires.0 c.requires.1)

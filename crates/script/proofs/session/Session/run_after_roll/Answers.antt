@@ -15,6 +15,7 @@ returns-in-Some-clause-ran c = record {
   answers = λ old config command asks waits. no_room_told old _ _ config (shown_line c.args.line) command c.in-Some.answer asks waits (c.in-Some.ensures.told config);
   makes = λ command asks. not_rolled_makes c.args.self.now.node _ command c.in-Some.answer c.in-Some.ensures.rolled;
   will = refl;
+  known = refl;
 }
 
 pub returns-in-Some-serve-clause-ran : goal.returns-in-Some-serve-clause-ran
@@ -28,6 +29,7 @@ returns-in-Some-serve-clause-ran c = record {
   makes = λ command asks. of_command (shown_line c.args.line) _ command c.in_ok-command.ensures asks _ _ c.in-Some-serve.answer
       (rolled_makes c.args.self.now.node _ _ c.in_ok-command.command c.in-Some-serve.answer c.in_default.ensures.rolled c.in-Some-serve.ensures.tried);
   will = refl;
+  known = refl;
 }
 
 pub returns-in-None-clause-ran : goal.returns-in-None-clause-ran
@@ -41,4 +43,5 @@ returns-in-None-clause-ran c = record {
   makes = λ command asks. of_command (shown_line c.args.line) _ command c.in_ok-command.ensures asks _ _ (Refused Rolling)
       (rolling_makes c.args.self.now.node _ _ c.in_ok-command.command c.in_default.ensures.rolled c.in-None.ensures.tried);
   will = refl;
+  known = refl;
 }

@@ -6,4 +6,4 @@ use Rattle.script.proofs.session.Session.run_begin.Goals as goal
 pub returns-clause-ran : goal.returns-clause-ran
 returns-clause-ran c =
     subst (λ (ids : List ℕ). SessionAnswers c.args.self.now (Begin ids) (record c.args.self.now { node = c.begin.new.self }) c.begin.result) c.in_ok-victims.ensures
-    (record { number = refl; options = refl; used = refl; covers = λ all. all.0; answers = λ config number. c.begin.ensures.told config; makes = c.begin.ensures.stepped; wills = refl })
+    (record { number = refl; options = refl; used = refl; covers = λ all. all.0; answers = λ config number. c.begin.ensures.told config; makes = c.begin.ensures.stepped; wills = refl; word = refl })

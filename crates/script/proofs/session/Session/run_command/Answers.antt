@@ -3,7 +3,7 @@ use Rattle.std.proofs.lemmas.Result.{IfOk-weaker}
 use Rattle.lines.specs.Grammar.{shown_line}
 use Rattle.script.proofs.Steps.{command_makes}
 use Rattle.script.proofs.Tries.{tried_makes, waited_makes}
-use Rattle.script.proofs.Willed.{command_keeps}
+use Rattle.script.proofs.Willed.{command_keeps, command_keeps_word}
 use Rattle.script.proofs.session.Session.run_command.Goals as goal
 
 pub returns-in-Some-clause-ran : goal.returns-in-Some-clause-ran
@@ -16,6 +16,7 @@ returns-in-Some-clause-ran c = record {
   makes = command_makes _ (shown_line c.args.line) _ c.in-Some.answer c.in_ok-command.command c.in_ok-command.ensures
       (tried_makes _ _ c.in_ok-command.command c.in-Some.answer c.in-Some.ensures.tried);
   wills = command_keeps c.args.self.now (shown_line c.args.line) (record c.args.self.now { node = c.serve.new.self }) c.in-Some.answer refl c.requires.command;
+  word = command_keeps_word c.args.self.now (shown_line c.args.line) (record c.args.self.now { node = c.serve.new.self }) c.in-Some.answer refl c.requires.command;
 }
 
 pub returns-in-None-clause-ran : goal.returns-in-None-clause-ran
@@ -30,5 +31,6 @@ returns-in-None-clause-ran c =
       makes = command_makes _ (shown_line c.args.line) _ answer c.in_ok-command.command c.in_ok-command.ensures
           (waited_makes _ _ _ c.in_ok-command.command answer c.in-None.ensures.tried (ran.makes c.in_ok-command.command c.in_ok-command.ensures));
       wills = command_keeps c.args.self.now (shown_line c.args.line) c.run_after_roll.new.self answer ran.will c.requires.command;
+      word = command_keeps_word c.args.self.now (shown_line c.args.line) c.run_after_roll.new.self answer ran.known c.requires.command;
     })
     c.run_after_roll.ensures.ran

@@ -4,7 +4,7 @@ use Rattle.script.specs.Configuration.{config_of}
 use Rattle.script.specs.Numbers.{Renumbers}
 use Rattle.script.specs.Recoveries.{Ends, Recovers, ask, asked_of}
 use Rattle.script.proofs.HowItEnds.{down_at, limit_made, want_ends}
-use Rattle.script.proofs.Standing.{not_up, want_at}
+use Rattle.script.proofs.Standing.{not_up, unknown_at, want_at}
 use Rattle.script.proofs.session.Session.run_recover.Goals as goal
 
 pub returns-in_default-whole_will : goal.returns-in_default-whole_will
@@ -18,10 +18,11 @@ returns-in_default-whole_will c =
       order = c.args.order;
       asks = refl;
       options = refl;
+      known = refl;
       covers = λ all. all.0;
       numbers = record { rises = omega arith; fresh = inl refl };
       recovers = inl (refl, want_at s.node config c.args.order down);
-      ends = want_ends s.node s.options (asked_of s c.args.order) fleet.0 fleet.1;
+      ends = inl (inr c.if-not-self.false, want_ends s.node s.options (asked_of s c.args.order) fleet.0 fleet.1);
       limit = refl;
       will = inl (refl, refl);
       least = inl refl;
@@ -39,10 +40,11 @@ returns-else-recovery-self c =
       order = c.args.order;
       asks = refl;
       options = refl;
+      known = refl;
       covers = λ all. all.0;
       numbers = subst (λ (n : ℕ). Renumbers s.master s.used n r.result.used) c.if-recovery-self.false r.ensures.numbers;
       recovers = subst (λ (n : ℕ). Recovers s.node s.options s.master c.args.order r.new.self r.result.answer n) c.if-recovery-self.false (r.ensures.recovers c.args.order);
-      ends = subst (λ (n : ℕ). Ends s.node s.options (asked_of s c.args.order) r.result.used r.new.self r.result.answer n) c.if-recovery-self.false ended;
+      ends = inl (inr c.if-not-self.false, subst (λ (n : ℕ). Ends s.node s.options (asked_of s c.args.order) r.result.used r.new.self r.result.answer n) c.if-recovery-self.false ended);
       limit = limit_made s.node r.new.self s.options (asked_of s c.args.order) r.result.used r.result.answer r.result.master ended;
       will = inl (refl, refl);
       least = r.ensures.least;
@@ -60,10 +62,11 @@ returns-then-recovery-self c =
       order = c.args.order;
       asks = refl;
       options = refl;
+      known = refl;
       covers = λ all. c.in-Ok.ensures.covers;
       numbers = r.ensures.numbers;
       recovers = r.ensures.recovers c.args.order;
-      ends = ended;
+      ends = inl (inr c.if-not-self.false, ended);
       limit = limit_made s.node r.new.self s.options (asked_of s c.args.order) r.result.used r.result.answer r.result.master ended;
       will = inr (c.if-recovery-self.true, c.in-Ok.ensures.whole);
       least = r.ensures.least;
@@ -72,3 +75,23 @@ returns-then-recovery-self c =
 
 pub recover-recovery-requires-clause-order : goal.recover-recovery-requires-clause-order
 recover-recovery-requires-clause-order c = λ hs. c.groups_in-groups.ensures.once hs c.args.self.now.master c.args.self.now.will
+
+pub returns-then-not-self : goal.returns-then-not-self
+returns-then-not-self c =
+    let s = c.args.self.now in
+    let config = config_of s.options s.master in
+    let down = not_up s.node c.in_default.not-Up in
+    record {
+      order = c.args.order;
+      asks = refl;
+      options = refl;
+      known = refl;
+      covers = λ all. all.0;
+      numbers = record { rises = omega arith; fresh = inl refl };
+      recovers = inl (refl, unknown_at s.node config c.args.order down);
+      ends = inr (down, c.if-not-self.true, refl, refl);
+      limit = refl;
+      will = inl (refl, refl);
+      least = inl refl;
+      spent = λ is. absurd (cc);
+    }

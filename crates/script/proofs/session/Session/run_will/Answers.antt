@@ -11,4 +11,5 @@ returns c = record {
   answers = λ config number. c.will.ensures.told config;
   makes = refl;
   wills = (c.will.ensures.handed, c.will.ensures.limits);
+  word = refl;
 }

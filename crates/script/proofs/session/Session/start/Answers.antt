@@ -47,4 +47,5 @@ returns c =
       set = refl;
       covers = c.in_ok-will.ensures.covers;
       will = c.in_ok-will.ensures.whole;
+      known = refl;
     }
