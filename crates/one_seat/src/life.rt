@@ -4,7 +4,7 @@ use backup::MemoryFleet;
 use entry::NoMemory;
 use lines::Line;
 use locked_log::{CallFault, Naming, Receipt, Row, Seat, Store};
-use master::{Command, Record, Reply};
+use master::{Command, Record, Refusal, Reply};
 use script::{Answer, Options};
 use std::alloc::Global;
 use std::io::{BufRead, Write};
@@ -79,6 +79,8 @@ impl<B: Naming> Life<B> {
             }
             Line::Lose { .. } => Ok(Answer::Up),
             Line::Recover { .. } => Ok(Answer::Up),
+            // One seat serves no clients.
+            Line::Clients { .. } => Ok(Answer::Refused(Refusal::NoMemory)),
             _ => Ok(Answer::Silent),
         }
     }

@@ -17,9 +17,10 @@ use Rattle.script.specs.declared.answer.Answer.{Answer}
 use Rattle.script.specs.declared.node.Node.{Node}
 use Rattle.script.specs.declared.node.Node.TheVariants.{Up}
 use Rattle.script.specs.Lives.{Life, life_to, Position}
-use Rattle.script.specs.Served.{AnswersLine, IsLeftIn, IsNodeAt, IsOf, LivesOn, MakesStep, Refuses, life_of, step_told}
+use Rattle.driving.specs.Served.{LivesOn}
+use Rattle.script.specs.Served.{AnswersLine, IsLeftIn, IsNodeAt, IsOf, MakesStep, Refuses, life_of, step_told}
 use Rattle.script.specs.Told.{IsStepAt, IsStepRefusal, Tells, is_for_master, pushes}
-use Rattle.script.proofs.AnyStep.{hands_op, makes_no_record, step_goes_on, step_spent}
+use Rattle.driving.proofs.AnyStep.{hands_op, makes_no_record, step_goes_on, step_spent}
 use Rattle.script.proofs.Steps.{no_step_answered, refused_left, stays, step_at}
 
 module _ (node : Node) (up m : MasterValue MemoryFleet) (there : node ≡ Up up) (step : Step) where

@@ -26,7 +26,8 @@ use Rattle.script.specs.declared.node.Node.TheVariants.{Up}
 use Rattle.script.specs.declared.session.Session.{Session}
 use Rattle.script.specs.Counted.{AreUncounted, RunsClients}
 use Rattle.script.specs.Lives.{HasLived, Left, Position, left_now, life_to}
-use Rattle.script.specs.Served.{AnswersLine, IsClientsAnswer, IsClientsRefusal, IsLeftIn, IsNodeAt, IsOf, IsSpent, Lends, LivesLonger, MakesClients, Refuses, RefusesCall, RefusesWork, Stands}
+use Rattle.driving.specs.Served.{IsSpent}
+use Rattle.script.specs.Served.{AnswersLine, IsClientsAnswer, IsClientsRefusal, IsLeftIn, IsNodeAt, IsOf, Lends, LivesLonger, MakesClients, Refuses, RefusesCall, RefusesWork, Stands}
 use Rattle.script.specs.Served.{life_of, refusal_answer}
 use Rattle.script.specs.Told.{Tells}
 use Rattle.script.proofs.Standing.{Answered}

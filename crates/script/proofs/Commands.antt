@@ -15,9 +15,10 @@ use Rattle.master.specs.Valid.{IsValid}
 use Rattle.script.specs.declared.answer.Answer.TheVariants as answer
 use Rattle.script.specs.declared.node.Node.{Node}
 use Rattle.script.specs.Lives.{HasLived, life_to, left_now, Position}
-use Rattle.script.specs.Served.{LivesOn, IsServed, IsUnserved, IsSpent, IsOf, IsNodeAt, life_of, record_of}
+use Rattle.driving.specs.Served.{LivesOn, IsServed, IsUnserved, IsSpent, record_of}
+use Rattle.script.specs.Served.{IsOf, IsNodeAt, life_of}
 use Rattle.script.specs.Told.{command_of}
-use Rattle.script.proofs.Pushes.{stops_until}
+use Rattle.driving.proofs.Pushes.{stops_until}
 use Rattle.script.proofs.Standing.{Answered, same_opening, still_stands, stands_longer, record_there, lived, lived_longer}
 
 -- ---- a record that was added, and what followed

@@ -1,9 +1,5 @@
 pub mod Printed
-pub mod MasterSteps
-pub mod PassSteps
-pub mod Heads
 pub mod Standing
-pub mod Pushes
 pub mod Commands
 pub mod Rolls
 pub mod WhatIsLeft
@@ -17,9 +13,5 @@ pub mod Turning
 pub mod Fronts
 pub mod Steps
 pub mod Tries
-pub mod AnyStep
 pub mod ByHand
-pub mod Parts
-pub mod Listings
-pub mod Cleaned
 pub mod ClientLines

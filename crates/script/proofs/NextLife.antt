@@ -32,7 +32,8 @@ use Rattle.script.specs.Lives.{life_to, HasLived, Left, left_now, Position}
 use Rattle.script.specs.Numbers.{greatest_of}
 use Rattle.script.specs.Recoveries.{Adopts, BeginsNext, EndsFreeing, Frees, HasNoOther, IsCut, IsDeclined, IsDownOn, IsFoundIn, RetiresOthers}
 use Rattle.script.specs.Recoveries.{after_answer, fault_answer, standing_of}
-use Rattle.script.specs.Served.{AnswersLine, IsLeftOf, IsNodeAt, IsOf, IsSpent, Refuses, fleet_of, life_of, refusal_answer}
+use Rattle.driving.specs.Served.{IsSpent}
+use Rattle.script.specs.Served.{AnswersLine, IsLeftOf, IsNodeAt, IsOf, Refuses, fleet_of, life_of, refusal_answer}
 use Rattle.script.specs.Succession.{EndsRecovery}
 use Rattle.script.specs.Told.{HoldsLeft, IsUnadopted, Tells}
 use Rattle.script.proofs.HowItEnds.{after_backups, after_picture, down_final, fleet_held}

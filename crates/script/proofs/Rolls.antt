@@ -14,9 +14,10 @@ use Rattle.script.specs.declared.answer.Answer.{Answer}
 use Rattle.script.specs.declared.answer.Answer.TheVariants as answer
 use Rattle.script.specs.declared.node.Node.{Node}
 use Rattle.script.specs.Lives.{Life, life_to, IsLeftBySpent, left_now, Position}
-use Rattle.script.specs.Served.{LivesOn, IsUnserved, IsSpent, IsOf, IsNodeAt, Refuses, AnswersLine, fleet_of, life_of}
+use Rattle.driving.specs.Served.{LivesOn, IsUnserved, IsSpent, is_of_push}
+use Rattle.script.specs.Served.{IsOf, IsNodeAt, Refuses, AnswersLine, fleet_of, life_of}
 use Rattle.script.specs.Waits.{LivesSame, StaysAt, WaitsForRoll, MakesRoom}
-use Rattle.script.specs.Told.{command_of, is_of_push, pushes, IsTest, IsStepRefusal, TellsNoStep, Tells}
+use Rattle.script.specs.Told.{command_of, pushes, IsTest, IsStepRefusal, TellsNoStep, Tells}
 use Rattle.script.proofs.Standing.{Answered, asks_master, same_opening, still_stands, lived, lived_longer}
 use Rattle.script.proofs.Commands.{stopped_told, refused_told}
 

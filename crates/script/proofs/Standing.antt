@@ -28,7 +28,8 @@ use Rattle.script.specs.declared.answer.Answer.TheVariants as answer
 use Rattle.script.specs.declared.node.Node.{Node}
 use Rattle.script.specs.declared.node.Node.TheVariants.{Up, Down, Changing}
 use Rattle.script.specs.Lives.{life_to, HasLived, Left, Position}
-use Rattle.script.specs.Served.{LivesOn, IsOf, IsNodeAt, AnswersLine, LivesLonger, MakesClean, MakesStep, is_up, life_of, record_of}
+use Rattle.driving.specs.Served.{LivesOn, record_of}
+use Rattle.script.specs.Served.{IsOf, IsNodeAt, AnswersLine, LivesLonger, MakesClean, MakesStep, is_up, life_of}
 use Rattle.script.specs.Told.{command_of, is_for_master, is_for_none, Tells}
 
 -- ---- what the node stands for goes on

@@ -25,9 +25,10 @@ use Rattle.script.specs.declared.answer.Answer.{Answer}
 use Rattle.script.specs.declared.answer.Answer.TheVariants as answer
 use Rattle.script.specs.declared.node.Node.{Node}
 use Rattle.script.specs.Lives.{Life, life_to, HasLived, Left, IsLeftBySpent, Position}
-use Rattle.script.specs.Cleans.{Cleans}
-use Rattle.script.specs.Rolls.{Rolls}
-use Rattle.script.specs.Served.{LivesOn, IsSpent, IsOf, IsNodeAt, Refuses, fleet_of, life_of, held_answer}
+use Rattle.driving.specs.Cleans.{Cleans}
+use Rattle.driving.specs.Rolls.{Rolls}
+use Rattle.driving.specs.Served.{LivesOn, IsSpent}
+use Rattle.script.specs.Served.{IsOf, IsNodeAt, Refuses, fleet_of, life_of, held_answer}
 use Rattle.script.specs.Served.{IsLeftIn, MakesCommand, MakesLine, ShowsFleet, refusal_answer, world_of}
 use Rattle.script.specs.Told.{command_of, pushes, is_for_master, IsStepAt, IsRollAt, IsCleanAt, IsStepRefusal, AreHeldAt, TellsNoStep, Tells}
 use Rattle.script.proofs.Rolls.{no_step_told}

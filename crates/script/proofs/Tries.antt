@@ -1,5 +1,5 @@
 -- The steps of a command's line, one after another.
-use Rattle.std.proofs.Common.{◌≡◌, ℕ, Bool, true, false, refl, sym, ap, subst, inl, inr, ◌∙◌}
+use Rattle.std.proofs.Common.{◌≡◌, Bool, true, false, refl, sym, ap, subst, inl, inr, ◌∙◌}
 use Rattle.std.specs.Prelude.{Option, Some, None, Result, Ok, Err, unwrap_or, if◌then◌else◌}
 use Rattle.backup.specs.State.{fleet_state}
 use Rattle.backup.specs.declared.fleet.MemoryFleet.{MemoryFleet}
@@ -9,41 +9,20 @@ use Rattle.versioned_map.specs.declared.command.Reply.{Reply}
 use Rattle.master_core.specs.declared.step.Refusal.{Refusal}
 use Rattle.master_core.specs.declared.step.Refusal.TheVariants as refusal
 use Rattle.master_core.specs.declared.step.Step.TheVariants.{Apply, Push}
-use Rattle.master_core.specs.declared.step.StepAnswer.{StepAnswer}
-use Rattle.master_core.specs.declared.step.StepAnswer.TheVariants.{Applied}
 use Rattle.master_core.specs.Causes.{is_pushed}
-use Rattle.master.specs.Steps.{Accepts, Declines}
+use Rattle.master.specs.Steps.{Declines}
 use Rattle.master.specs.World.{MasterValue, World, world}
 use Rattle.script.specs.declared.answer.Answer.{Answer}
 use Rattle.script.specs.declared.answer.Answer.TheVariants as answer
 use Rattle.script.specs.declared.node.Node.{Node}
 use Rattle.script.specs.declared.node.Node.TheVariants.{Up, Down, Changing}
-use Rattle.script.specs.Commands.{PushesTo, StopsShort, Tries, TriesAfterRoll}
+use Rattle.driving.specs.Commands.{Tries, TriesAfterRoll}
 use Rattle.script.specs.Served.{MakesCommand, Refuses}
 use Rattle.script.specs.Told.{command_of}
 use Rattle.script.specs.Waits.{MakesOpen, MakesTry, MakesTryAfterRoll}
 use Rattle.script.proofs.Steps.{refused_left}
 
 -- ---- one try
-
-pub carried_out : (old mid new : World) (command : Command) (a : StepAnswer) (place : ℕ) (reply : Reply) → a ≡ Applied place reply
-    → Accepts old (Apply 0 command) a mid → PushesTo place mid new → Tries old command (Ok reply) new
-carried_out old mid new command a place reply is applied pushed = record {
-  place = place;
-  mid = mid;
-  applied = subst (λ (x : StepAnswer). Accepts old (Apply 0 command) x mid) is applied;
-  pushed = pushed;
-}
-
-pub cut_short : (old mid new : World) (command : Command) (a : StepAnswer) (place : ℕ) (reply : Reply) (r : Refusal) → a ≡ Applied place reply
-    → Accepts old (Apply 0 command) a mid → StopsShort place mid r new → Tries old command (Err r) new
-cut_short old mid new command a place reply r is applied pushed = inr (record {
-  place = place;
-  reply = reply;
-  mid = mid;
-  applied = subst (λ (x : StepAnswer). Accepts old (Apply 0 command) x mid) is applied;
-  pushed = pushed;
-})
 
 -- no push is refused as Rolling
 push_unrolling : (old new : World) → Declines old Push refusal.Rolling new → ⊥

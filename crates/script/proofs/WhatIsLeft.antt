@@ -39,7 +39,7 @@ use Rattle.script.specs.Lives.{Life, life_to, Left, left_now, is_left, IsHomeBy,
 use Rattle.script.specs.Served.{IsLeftOf, IsOf, IsNodeAt, AnswersLine, is_up, life_of, held_answer}
 use Rattle.script.specs.Told.{IsRecoveredAt, IsFoundAt, AreLeft, AreHeldAt, NamesLossOf, Tells}
 use Rattle.script.proofs.Standing.{Answered, still_stands, lived_longer, is_up_none}
-use Rattle.script.proofs.MasterSteps.{goes_nowhere}
+use Rattle.driving.proofs.MasterSteps.{goes_nowhere}
 
 -- ---- what backups hold
 

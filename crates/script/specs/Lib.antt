@@ -4,9 +4,6 @@ pub mod Wills
 pub mod Texts
 pub mod Errors
 pub mod Lives
-pub mod Rolls
-pub mod Commands
-pub mod Cleans
 pub mod Shows
 pub mod Counted
 pub mod Told

@@ -35,7 +35,8 @@ use Rattle.script.specs.declared.session.Session.{Session}
 use Rattle.script.specs.Configuration.{config_of, tables_to}
 use Rattle.script.specs.Lives.{Left, left_now, Position}
 use Rattle.script.specs.Numbers.{AreSpent, IsNextNumber, Renumbers}
-use Rattle.script.specs.Served.{AnswersLine, IsCovered, IsNodeAt, IsOf, IsSpent, SessionAnswers, Stands}
+use Rattle.driving.specs.Served.{IsSpent}
+use Rattle.script.specs.Served.{AnswersLine, IsCovered, IsNodeAt, IsOf, SessionAnswers, Stands}
 use Rattle.script.specs.Served.{fleet_of, is_up, life_of, refusal_answer, world_of}
 use Rattle.script.specs.Succession.{Standing, Succeeds}
 use Rattle.script.specs.Told.{IsFoundAt, Tells}

@@ -1,5 +1,5 @@
 -- What a session stands for, and what its lines do to it.
-use Rattle.std.specs.Prelude.{◌≡◌, ◌⊎◌, ℕ, ◌<◌, ◌≤◌, List, [], ◌∷◌, ◌++◌, Bool, true, false, Option, Some, None, length}
+use Rattle.std.specs.Prelude.{◌≡◌, ◌⊎◌, ℕ, ◌≤◌, List, ◌++◌, Bool, true, false, Option, Some, None, length}
 use Rattle.backup.specs.State.{fleet_state, lost, new_fleet}
 use Rattle.backup.specs.declared.fleet.MemoryFleet.{MemoryFleet}
 use Rattle.command_line.specs.declared.settings.Options.{Options}
@@ -25,7 +25,6 @@ use Rattle.master_core.specs.declared.step.Step.{Step}
 use Rattle.master_core.specs.declared.step.Step.TheVariants as step
 use Rattle.master_core.specs.declared.step.StepAnswer.{StepAnswer}
 use Rattle.master_core.specs.declared.step.StepAnswer.TheVariants as step_answer
-use Rattle.master_core.specs.Causes.{command_refusal}
 use Rattle.master_core.specs.Data.{MasterData, fresh_data, no_origin}
 use Rattle.master_core.specs.Log.{opening_of, log_of}
 use Rattle.master.specs.Steps.{Steps}
@@ -41,53 +40,17 @@ use Rattle.script.specs.declared.session.Session.{Session}
 use Rattle.script.specs.Configuration.{config_of, tables_to}
 use Rattle.script.specs.Lives.{Life, Left, left_now, is_left, Position, at_start}
 use Rattle.recovery.specs.Orders.{Covers}
-use Rattle.script.specs.Cleans.{Cleans}
-use Rattle.script.specs.Commands.{RunsCommand, StopsShort}
+use Rattle.driving.specs.Cleans.{Cleans}
+use Rattle.driving.specs.Commands.{RunsCommand}
 use Rattle.script.specs.Counted.{RunsClients}
-use Rattle.script.specs.Rolls.{PushesUntil, Rolls}
+use Rattle.driving.specs.Rolls.{PushesUntil, Rolls}
 use Rattle.script.specs.Shows.{ShowsDigest, ShowsRoom, ShowsImage}
-use Rattle.script.specs.Told.{command_of, is_of_push, Tells, HasLimits}
+use Rattle.driving.specs.Served.{IsSpent}
+use Rattle.script.specs.Told.{command_of, Tells, HasLimits}
 use Rattle.tablet_will.specs.declared.part.Part.{Part}
 use Rattle.tablet_will.specs.Parts.{Divides}
 use Rattle.script.specs.declared.will.Limits.{Limits}
 use Rattle.script.specs.Wills.{one_partition}
-
--- the master goes on: its configuration is the same, as much is durable or more, and it has these records more
-pub record LivesOn (old new : MasterData) (more : List Record) : Type 0 where
-  pub config : new.config ≡ old.config
-  pub origin : new.origin ≡ old.origin
-  pub durable : durable_of (log_of old) ≤ durable_of (log_of new)
-  pub history : new.history ≡ old.history ++ more
-
-abbrev pub record_of : Command → Reply → List Record
-record_of command reply = record { seat = 0; command = command; reply = reply } ∷ []
-
--- the fleet takes no more ops
-abbrev pub IsSpent : FleetState → Type 0
-IsSpent f = f.takes ≡ f.end
-
--- the command was served: its record was added, and is durable
-abbrev pub IsServed : MasterData → MasterData → Command → Reply → Type 0
-IsServed old new command reply =
-    LivesOn old new (record_of command reply) × (length old.history < durable_of (log_of new))
-
--- The command's record was added, and pushes were taken until one was refused, though something waited.
-pub record IsUnpushed (old : MasterData) (command : Command) (r : Refusal) (new : World) : Type 0 where
-  pub reply : Reply
-  pub place : ℕ
-  pub mid : World
-  pub applied : LivesOn old mid.knows (record_of command reply)
-  pub valid : IsValid mid.knows mid.fleet
-  pub goes_on : LivesOn mid.knows new.knows []
-  pub pushed : StopsShort place mid r new
-  pub waits : is_of_push r ≡ true
-
--- The command was not answered. Either a test refused it or memory ran out, and no record was added. Or its record was
--- added, and a push was refused.
-abbrev pub IsUnserved : MasterData → Command → Refusal → World → Type 0
-IsUnserved old command r new =
-    (LivesOn old new.knows [] × ((r ≡ NoMemory) ⊎ (command_refusal old command ≡ Some r)))
-    ⊎ IsUnpushed old command r new
 
 -- Of a master that is gone the fleet holds what its crash left, without the backups that were lost since.
 pub record IsLeftOf (d : MasterData) (l : Left) (f : FleetState) : Type 0 where

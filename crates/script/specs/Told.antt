@@ -48,9 +48,10 @@ use Rattle.tablet_will.specs.declared.part.Part.{Part}
 use Rattle.tablet_will.specs.Sizes.{are_limits}
 use Rattle.script.specs.declared.will.Limits.{Limits}
 use Rattle.script.specs.Wills.{IsWillOf}
-use Rattle.script.specs.Cleans.{Cleans}
+use Rattle.driving.specs.Cleans.{Cleans}
 use Rattle.script.specs.Counted.{AsksClients, AreCounted, AreUncounted}
-use Rattle.script.specs.Rolls.{PushesUntil, Rolls}
+use Rattle.driving.specs.Rolls.{PushesUntil, Rolls}
+use Rattle.driving.specs.Served.{is_of_push}
 
 -- a line that was run: its text without the line feed, what it says, and what it answered
 pub record Told : Type 0 where
@@ -150,13 +151,6 @@ IsStepOut at line l next = (pushes line ≡ true)
 -- the test by which a master that has lived this life refuses the command
 abbrev pub IsTest : Config → Life → Command → Refusal → Type 0
 IsTest config life c r = (d : MasterData) × (f : FleetState) × HasLived config life d f × (command_refusal d c ≡ Some r)
-
--- the refusals that a push may give while something waits to be pushed
-abbrev pub is_of_push : Refusal → Bool
-is_of_push refusal.Halted = true
-is_of_push refusal.Spent = true
-is_of_push refusal.NoMemory = true
-is_of_push _ = false
 
 -- A test refuses the command, or the command has to wait for a roll and the roll is refused.
 abbrev pub IsCause : Config → Life → Command → Refusal → Type 0

@@ -17,9 +17,9 @@ use Rattle.script.specs.declared.answer.Answer.TheVariants as answers
 use Rattle.script.specs.declared.node.Node.{Node}
 use Rattle.script.specs.declared.node.Node.TheVariants.{Up}
 use Rattle.script.specs.declared.session.Session.{Session}
-use Rattle.script.specs.Commands.{Tries, TriesAfterRoll}
+use Rattle.driving.specs.Commands.{Tries, TriesAfterRoll}
 use Rattle.script.specs.Lives.{life_to, Position}
-use Rattle.script.specs.Rolls.{Rolls}
+use Rattle.driving.specs.Rolls.{Rolls}
 use Rattle.script.specs.Served.{AnswersLine, IsCovered, IsLeftIn, IsNodeAt, life_of, refusal_answer, reply_told, world_of}
 use Rattle.script.specs.Told.{command_of, IsTest, TellsNoStep}
 

@@ -1,15 +1,16 @@
-//! Cleaning by hand, step by step.
+//! Cleaning: by hand, step by step, and whole.
 
 ghost use Rattle.master_core.specs.declared.config.Config.{Config};
-ghost use Rattle.script.specs.Served.{AnswersLine, MakesStep};
+ghost use Rattle.script.specs.Served.{AnswersLine, MakesClean, MakesStep};
 
 use crate::answer::Answer;
 use crate::node::Node;
+use driving::clean_all;
 use entry::Row;
 use master::{Step, StepAnswer};
 
 impl Node {
-    ghost use Rattle.lines.specs.Grammar.{Begin, Copy, Seal, Free};
+    ghost use Rattle.lines.specs.Grammar.{Begin, Clean, Copy, Seal, Free};
 
     /// Begins to clean these segments.
     pub fn begin(&mut self, victims: Row<u64>) -> Answer
@@ -73,6 +74,23 @@ impl Node {
         match up.step(Step::Free) {
             Ok(StepAnswer::Freed(segment, backup)) => Answer::Freed(segment, backup),
             Ok(_) => unreachable!(),
+            Err(refusal) => self.refuse(refusal),
+        }
+    }
+
+    /// Cleans these segments, from the begin of a pass to the last free.
+    pub fn clean(&mut self, victims: Row<u64>) -> Answer
+        ensures told { (config : Config) → AnswersLine self.old config (Clean victims) self.new result }
+        ensures cleaned { MakesClean self.old victims self.new result }
+    {
+        let Node::Up(up) = self else {
+            return Answer::Down;
+        };
+        up.show_valid();
+        let outcome = clean_all(up, victims);
+        up.show_valid();
+        match outcome {
+            Ok((survivor, head)) => Answer::Cleaned(survivor, head),
             Err(refusal) => self.refuse(refusal),
         }
     }

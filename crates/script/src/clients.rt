@@ -4,7 +4,8 @@ ghost use Rattle.std.specs.Prelude.{◌≡◌, ◌≤◌, ◌<◌, ◌^◌, ◌�
 ghost use Rattle.backup.specs.declared.fleet.MemoryFleet.{MemoryFleet as FleetValue};
 ghost use Rattle.master.specs.World.{MasterValue};
 ghost use Rattle.master_core.specs.declared.config.Config.{Config};
-ghost use Rattle.script.specs.Served.{AnswersLine, IsSpent, Lends, MakesClients, RefusesCall, RefusesWork, fleet_of, is_up};
+ghost use Rattle.driving.specs.Served.{IsSpent};
+ghost use Rattle.script.specs.Served.{AnswersLine, Lends, MakesClients, RefusesCall, RefusesWork, fleet_of, is_up};
 ghost use Rattle.script.specs.declared.node.Node.TheVariants.{Up as UpValue};
 
 use crate::answer::Answer;

@@ -12,7 +12,6 @@ mod recovering;
 mod running;
 mod session;
 mod setup;
-mod whole_pass;
 mod will;
 
 pub use answer::{Answer, write_answer};

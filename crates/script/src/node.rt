@@ -1,25 +1,19 @@
 //! A fleet, and the master over it if there is one.
 
-ghost use Rattle.std.specs.Prelude.{◌≡◌, ◌<◌, [], length, true, false, None, Some, IfOk, IfErr};
+ghost use Rattle.std.specs.Prelude.{◌≡◌, true, false, None, Some};
 ghost use Rattle.master_core.specs.declared.config.Config.{Config};
-ghost use Rattle.log_model.specs.Data.{durable_of};
-ghost use Rattle.log_head.specs.Head.{is_open};
-ghost use Rattle.master_core.specs.Log.{log_of};
-ghost use Rattle.master.specs.World.{world};
-ghost use Rattle.script.specs.Commands.{PushesTo, StopsShort, Tries};
-ghost use Rattle.script.specs.Rolls.{PushesUntil, IsRolled, IsNotRolled};
-ghost use Rattle.script.specs.Served.{LivesOn, IsServed, IsUnserved, IsSpent, IsDropped, fleet_of, is_up};
+ghost use Rattle.script.specs.Served.{IsDropped, fleet_of, is_up};
 ghost use Rattle.script.specs.Served.{AnswersLine, LimitsFleet, LosesMaster, LosesOne, MakesStep, MakesRoll, Refuses};
 ghost use Rattle.script.specs.Served.{ShowsFleet, held_answer};
 ghost use Rattle.script.specs.Shows.{ShowsDigest, ShowsImage, ShowsRoom};
-ghost use Rattle.script.specs.Told.{is_of_push};
 ghost use Rattle.script.specs.Waits.{Serves, MakesRoom, MakesOpen, MakesTry};
 
 use crate::answer::Answer;
 use backup::MemoryFleet;
+use driving::{roll_all, serve};
 use entry::NoMemory;
 use lines::ReplayOrder;
-use master::{Command, Look, Master, Refusal, Reply, Shown, Step, StepAnswer};
+use master::{Command, Look, Master, Refusal, Shown, Step, StepAnswer};
 use replica::{Bench, Fleet, Inventory};
 use std::alloc::Global;
 use std::mem::replace;
@@ -31,83 +25,6 @@ pub enum Node {
     Down(MemoryFleet),
     /// A node is this only while its master is being dropped.
     Changing,
-}
-
-/// Pushes until nothing waits, or a push is refused.
-pub fn push_all<F: Fleet>(master: &mut Master<F>) -> Result<(), Refusal>
-    ensures goes_on { LivesOn master.old.knows master.new.knows [] }
-    ensures open { IfOk result (λ _. is_open master.new.knows.head ≡ true) }
-    ensures pushed { IfOk result (λ _.
-        PushesUntil (world F.state master.old) Refusal.Nothing (world F.state master.new)) }
-    ensures refused { IfErr result (λ r. PushesUntil (world F.state master.old) r (world F.state master.new)) }
-    ensures waits { IfErr result (λ r. r ≡ Refusal.Nothing → ⊥) }
-    ensures spent { IfErr result (λ r. r ≡ Refusal.Spent → IsSpent (F.state master.new.fleet)) }
-{
-    loop {
-        if let Err(refusal) = master.step(Step::Push) {
-            return match refusal {
-                Refusal::Nothing => Ok(()),
-                _ => Err(refusal),
-            };
-        }
-    }
-}
-
-/// Begins a roll if none is under way, and pushes until nothing waits.
-pub(crate) fn roll_all<F: Fleet>(master: &mut Master<F>) -> Result<(), Refusal>
-    ensures goes_on { LivesOn master.old.knows master.new.knows [] }
-    ensures rolled { IfOk result (λ _.
-        IsRolled (world F.state master.old) master.new.knows.head.id (world F.state master.new)) }
-    ensures refused { IfErr result (λ r. IsNotRolled (world F.state master.old) r (world F.state master.new)) }
-    ensures spent { IfErr result (λ r. r ≡ Refusal.Spent → IsSpent (F.state master.new.fleet)) }
-{
-    match master.step(Step::BeginRoll) {
-        Ok(_) => push_all(master),
-        Err(refusal) => match refusal {
-            Refusal::Rolling => push_all(master),
-            _ => Err(refusal),
-        },
-    }
-}
-
-/// Pushes until the record at this place is durable, or a push is refused. Something waits until then, so no push is
-/// refused as Nothing.
-#[inline(always)]
-fn push_until<F: Fleet>(master: &mut Master<F>, place: u64) -> Result<(), Refusal>
-    requires { place < length master.old.knows.history }
-    ensures goes_on { LivesOn master.old.knows master.new.knows [] }
-    ensures durable { IfOk result (λ _. place < durable_of (log_of master.new.knows)) }
-    ensures pushed { IfOk result (λ _. PushesTo place (world F.state master.old) (world F.state master.new)) }
-    ensures refused { IfErr result (λ r. StopsShort place (world F.state master.old) r (world F.state master.new)) }
-    ensures waits { IfErr result (λ r. is_of_push r ≡ true) }
-    ensures spent { IfErr result (λ r. r ≡ Refusal.Spent → IsSpent (F.state master.new.fleet)) }
-{
-    loop {
-        if place < master.durable() {
-            return Ok(());
-        }
-        if let Err(refusal) = master.step(Step::Push) {
-            return Err(refusal);
-        }
-    }
-}
-
-/// Applies a command of seat 0, and pushes until its record is durable.
-#[inline(always)]
-fn serve<F: Fleet>(master: &mut Master<F>, command: Command) -> Result<Reply, Refusal>
-    ensures served { IfOk result (λ reply. IsServed master.old.knows master.new.knows command reply) }
-    ensures unserved { IfErr result (λ r. IsUnserved master.old.knows command r (world F.state master.new)) }
-    ensures tried { Tries (world F.state master.old) command result (world F.state master.new) }
-    ensures spent { IfErr result (λ r. r ≡ Refusal.Spent → IsSpent (F.state master.new.fleet)) }
-{
-    match master.step(Step::Apply(0, command)) {
-        Ok(StepAnswer::Applied(place, reply)) => match push_until(master, place) {
-            Ok(()) => Ok(reply),
-            Err(refusal) => Err(refusal),
-        },
-        Ok(_) => unreachable!(),
-        Err(refusal) => Err(refusal),
-    }
 }
 
 /// The answer that shows what backups hold.

@@ -19,11 +19,12 @@ ghost use Rattle.tablet_will.specs.declared.part.Part.{Part as PartValue};
 
 use crate::answer::Answer;
 use crate::clients::Served;
-use crate::node::{Node, push_all};
+use crate::node::Node;
 use crate::setup::{configuration, whole_will};
 use crate::will::Limits;
 use backup::MemoryFleet;
 use command_line::Options;
+use driving::push_all;
 use entry::{Key, KeyFault, MAX_VALUE_LEN, NoMemory, Row, Value};
 use lines::{Line, Numbers, ReplayOrder};
 use master::{Command, If, Master, Refusal};

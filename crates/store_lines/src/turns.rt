@@ -122,10 +122,9 @@ pub fn take_all<B: Naming, R: Wait>(
 
 /// Begins a roll if none is under way, and pushes until nothing waits. Answers the head.
 fn roll_all<B: Naming, R: Wait>(rt: &R, store: &Store<MemoryFleet, B>) -> Result<u64, Refusal> {
-    match store.turn(rt, CleanTurn::BeginRoll) {
-        Ok(_) => {}
-        Err(Refusal::Rolling) => {}
-        Err(refusal) => return Err(refusal),
+    match store.turn(rt, CleanTurn::BeginRoll).err() {
+        None | Some(Refusal::Rolling) => {}
+        Some(refusal) => return Err(refusal),
     }
     take_all(rt, store, Part::Pushes)?;
     match store.look(rt, Look::Digest) {

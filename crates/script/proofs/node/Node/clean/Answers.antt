@@ -5,8 +5,9 @@ use Rattle.backup.specs.State.{fleet_state}
 use Rattle.master_core.specs.Data.{MasterData}
 use Rattle.script.specs.declared.node.Node.{Node}
 use Rattle.script.specs.declared.node.Node.TheVariants.{Up}
-use Rattle.script.specs.Cleans.{IsCleaned, IsNotCleaned}
-use Rattle.script.specs.Served.{LivesOn, IsOf}
+use Rattle.driving.specs.Cleans.{IsCleaned, IsNotCleaned}
+use Rattle.driving.specs.Served.{LivesOn}
+use Rattle.script.specs.Served.{IsOf}
 use Rattle.script.proofs.Steps.{clean_at, cleaned_told, no_step_answered}
 use Rattle.script.proofs.Standing.{down_clean, down_told, not_up}
 use Rattle.script.proofs.node.Node.clean.Goals as goal

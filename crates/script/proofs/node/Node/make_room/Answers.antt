@@ -6,8 +6,9 @@ use Rattle.lines.specs.Grammar.{Roll}
 use Rattle.master_core.specs.Data.{MasterData}
 use Rattle.script.specs.declared.node.Node.{Node}
 use Rattle.script.specs.declared.node.Node.TheVariants.{Up}
-use Rattle.script.specs.Rolls.{IsNotRolled}
-use Rattle.script.specs.Served.{LivesOn, IsOf, is_up}
+use Rattle.driving.specs.Rolls.{IsNotRolled}
+use Rattle.driving.specs.Served.{LivesOn}
+use Rattle.script.specs.Served.{IsOf, is_up}
 use Rattle.script.proofs.Rolls.{no_step_told}
 use Rattle.script.proofs.Standing.{is_up_none}
 use Rattle.script.proofs.Steps.{refused_left, roll_at}

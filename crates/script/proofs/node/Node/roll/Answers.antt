@@ -6,8 +6,9 @@ use Rattle.master.specs.World.{world}
 use Rattle.master_core.specs.Data.{MasterData}
 use Rattle.script.specs.declared.node.Node.{Node}
 use Rattle.script.specs.declared.node.Node.TheVariants.{Up}
-use Rattle.script.specs.Rolls.{IsNotRolled, IsRolled}
-use Rattle.script.specs.Served.{LivesOn, IsOf}
+use Rattle.driving.specs.Rolls.{IsNotRolled, IsRolled}
+use Rattle.driving.specs.Served.{LivesOn}
+use Rattle.script.specs.Served.{IsOf}
 use Rattle.script.proofs.Steps.{head_told, no_step_answered, refused_left, roll_at}
 use Rattle.script.proofs.node.Node.roll.Goals as goal
 

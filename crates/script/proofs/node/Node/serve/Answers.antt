@@ -4,7 +4,8 @@ use Rattle.master.specs.World.{world}
 use Rattle.master_core.specs.Data.{MasterData}
 use Rattle.script.specs.declared.node.Node.{Node}
 use Rattle.script.specs.declared.node.Node.TheVariants.{Up}
-use Rattle.script.specs.Served.{IsOf, IsServed, IsUnserved, is_up}
+use Rattle.driving.specs.Served.{IsServed, IsUnserved}
+use Rattle.script.specs.Served.{IsOf, is_up}
 use Rattle.script.proofs.Commands.{reply_told}
 use Rattle.script.proofs.Rolls.{unserved_told, waits_told}
 use Rattle.script.proofs.Standing.{asks_master, down_told, is_up_none, not_up}

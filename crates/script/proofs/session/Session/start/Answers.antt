@@ -5,7 +5,7 @@ use Rattle.master.specs.World.{World, world}
 use Rattle.master_core.specs.declared.step.Refusal.TheVariants.{Nothing}
 use Rattle.master_core.specs.Data.{MasterData, fresh_data}
 use Rattle.script.specs.Configuration.{config_of}
-use Rattle.script.specs.Rolls.{PushesUntil}
+use Rattle.driving.specs.Rolls.{PushesUntil}
 use Rattle.script.specs.Served.{new_world}
 use Rattle.versioned_map.specs.declared.command.Record.{Record}
 use Rattle.script.proofs.Standing.{ok_of_no_err}

@@ -1,0 +1,9 @@
+pub mod MasterSteps
+pub mod PassSteps
+pub mod AnyStep
+pub mod Heads
+pub mod Pushes
+pub mod Tries
+pub mod Parts
+pub mod Listings
+pub mod Cleaned

@@ -1,0 +1,12 @@
+use Rattle.std.proofs.Common.{ℕ, ◌-◌, []}
+use Rattle.master.specs.World.{world}
+use Rattle.driving.specs.Commands.{ArePushedFor}
+use Rattle.driving.specs.Served.{LivesOn}
+use Rattle.driving.proofs.pushing.push_until.Given as goal
+
+abbrev pub invariant-loop-place : goal.invariant-loop-place
+invariant-loop-place g l = LivesOn l.fn.master.knows l.master.knows []
+    × ((count : ℕ) × ArePushedFor l.fn.place count (world g.F.Fleet.state l.fn.master) (world g.F.Fleet.state l.master))
+
+abbrev pub decreases-loop-place : goal.decreases-loop-place
+decreases-loop-place g l = (g.F.Fleet.state l.master.fleet).end - (g.F.Fleet.state l.master.fleet).takes

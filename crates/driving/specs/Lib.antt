@@ -1,0 +1,4 @@
+pub mod Rolls
+pub mod Commands
+pub mod Cleans
+pub mod Served

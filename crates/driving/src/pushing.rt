@@ -1,0 +1,72 @@
+//! Pushes, and the roll that they end.
+
+ghost use Rattle.std.specs.Prelude.{◌≡◌, ◌<◌, [], length, true, IfOk, IfErr};
+ghost use Rattle.log_model.specs.Data.{durable_of};
+ghost use Rattle.log_head.specs.Head.{is_open};
+ghost use Rattle.master_core.specs.Log.{log_of};
+ghost use Rattle.master.specs.World.{world};
+ghost use Rattle.driving.specs.Commands.{PushesTo, StopsShort};
+ghost use Rattle.driving.specs.Rolls.{PushesUntil, IsRolled, IsNotRolled};
+ghost use Rattle.driving.specs.Served.{LivesOn, IsSpent, is_of_push};
+
+use master::{Master, Refusal, Step};
+use replica::Fleet;
+
+/// Pushes until nothing waits, or a push is refused.
+pub fn push_all<F: Fleet>(master: &mut Master<F>) -> Result<(), Refusal>
+    ensures goes_on { LivesOn master.old.knows master.new.knows [] }
+    ensures open { IfOk result (λ _. is_open master.new.knows.head ≡ true) }
+    ensures pushed { IfOk result (λ _.
+        PushesUntil (world F.state master.old) Refusal.Nothing (world F.state master.new)) }
+    ensures refused { IfErr result (λ r. PushesUntil (world F.state master.old) r (world F.state master.new)) }
+    ensures waits { IfErr result (λ r. r ≡ Refusal.Nothing → ⊥) }
+    ensures spent { IfErr result (λ r. r ≡ Refusal.Spent → IsSpent (F.state master.new.fleet)) }
+{
+    loop {
+        if let Err(refusal) = master.step(Step::Push) {
+            return match refusal {
+                Refusal::Nothing => Ok(()),
+                _ => Err(refusal),
+            };
+        }
+    }
+}
+
+/// Begins a roll if none is under way, and pushes until nothing waits.
+pub fn roll_all<F: Fleet>(master: &mut Master<F>) -> Result<(), Refusal>
+    ensures goes_on { LivesOn master.old.knows master.new.knows [] }
+    ensures rolled { IfOk result (λ _.
+        IsRolled (world F.state master.old) master.new.knows.head.id (world F.state master.new)) }
+    ensures refused { IfErr result (λ r. IsNotRolled (world F.state master.old) r (world F.state master.new)) }
+    ensures spent { IfErr result (λ r. r ≡ Refusal.Spent → IsSpent (F.state master.new.fleet)) }
+{
+    match master.step(Step::BeginRoll) {
+        Ok(_) => push_all(master),
+        Err(refusal) => match refusal {
+            Refusal::Rolling => push_all(master),
+            _ => Err(refusal),
+        },
+    }
+}
+
+/// Pushes until the record at this place is durable, or a push is refused. Something waits until then, so no push is
+/// refused as Nothing.
+#[inline(always)]
+pub fn push_until<F: Fleet>(master: &mut Master<F>, place: u64) -> Result<(), Refusal>
+    requires { place < length master.old.knows.history }
+    ensures goes_on { LivesOn master.old.knows master.new.knows [] }
+    ensures durable { IfOk result (λ _. place < durable_of (log_of master.new.knows)) }
+    ensures pushed { IfOk result (λ _. PushesTo place (world F.state master.old) (world F.state master.new)) }
+    ensures refused { IfErr result (λ r. StopsShort place (world F.state master.old) r (world F.state master.new)) }
+    ensures waits { IfErr result (λ r. is_of_push r ≡ true) }
+    ensures spent { IfErr result (λ r. r ≡ Refusal.Spent → IsSpent (F.state master.new.fleet)) }
+{
+    loop {
+        if place < master.durable() {
+            return Ok(());
+        }
+        if let Err(refusal) = master.step(Step::Push) {
+            return Err(refusal);
+        }
+    }
+}
