@@ -1,5 +1,5 @@
 #!/usr/bin/env python3
-"""Tests support/script_model.py by the scripts of examples/, and support/script_witness.py by runs of clients.
+"""Tests support/script_model.py and support/script_witness.py by the scripts of examples/, and by runs of clients.
 
 It is not part of the gate.
 
@@ -13,7 +13,7 @@ status is 1.
 import sys
 
 from examples import examples, lines_of
-from script_model import Run, options_of, undisturbed
+from script_model import Run
 from script_witness import wrong_run
 
 WORDS = ("--segment=8192", "--seglets=4096")
@@ -63,12 +63,12 @@ def is_script(example):
 
 
 def differs(example):
-    """Whether the model prints something else for an example."""
-    wanted = Run(example.status, example.output.decode(), example.errors.decode())
-    came = undisturbed(example.script, options_of(example.words))
-    if came != wanted:
-        print(f"examples/{example.name} differs\n  wanted: {wanted}\n  came:   {came}")
-    return came != wanted
+    """Whether something is wrong with what an example should print."""
+    run = Run(example.status, example.output.decode(), example.errors.decode())
+    wrong = wrong_run(example.words, example.script, run)
+    if wrong:
+        print(f"examples/{example.name} differs: {wrong}")
+    return wrong is not None
 
 
 def is_misjudged(script, output, is_right):
