@@ -3,6 +3,7 @@
 ghost use Rattle.std.specs.Prelude.{◌≡◌, ◌+◌, ◌*◌, ◌≤◌, ◌<◌, ◌^◌, IfOk, OnOk};
 
 use crate::task::Task;
+use counted_calls::call;
 use entry::NoMemory;
 use gate::Gate;
 use locked_log::{CallFault, Naming, Seat, Store};
@@ -75,17 +76,17 @@ fn serve_all<F: Fleet, B: Naming, R: Wait, G: Gate>(
     ensures calls { IfOk result (λ n. (n ≡ 2 * task.rounds) × (seat.new.count ≡ seat.old.count + n)) }
 {
     for round in 0..task.rounds {
-        call(rt, store, seat, task.put(round + 1))?;
+        serve_one(rt, store, seat, task.put(round + 1))?;
         if round == 0 {
             gate.enter(task.client);
         }
-        call(rt, store, seat, task.get())?;
+        serve_one(rt, store, seat, task.get())?;
     }
     Ok(2 * task.rounds)
 }
 
-/// One call, if there was memory for the command. The reply isn't looked at.
-fn call<F: Fleet, B: Naming, R: Wait>(
+/// One call, if there was memory for the command.
+fn serve_one<F: Fleet, B: Naming, R: Wait>(
     rt: &R,
     store: &Store<F, B>,
     seat: &mut Seat<B>,
@@ -95,11 +96,8 @@ fn call<F: Fleet, B: Naming, R: Wait>(
     ensures count { seat.old.count ≤ seat.new.count }
     ensures one { OnOk result (seat.new.count ≡ seat.old.count + 1) }
 {
-    let Ok(command) = command else {
-        return Err(CallFault::Refused(Refusal::NoMemory));
-    };
-    if let Err(fault) = store.call(rt, seat, command) {
-        return Err(fault);
+    match command {
+        Ok(command) => call(rt, store, seat, command),
+        Err(_) => Err(CallFault::Refused(Refusal::NoMemory)),
     }
-    Ok(())
 }

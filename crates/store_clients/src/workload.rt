@@ -4,16 +4,16 @@ ghost use Rattle.std.specs.Prelude.{◌≡◌, ◌≤◌, ◌<◌, ◌*◌, ◌+
 ghost use Rattle.std.specs.Prelude.{length, drop, take, replicate};
 ghost use Rattle.log_model.specs.Data.{durable_of};
 ghost use Rattle.master_core.specs.Log.{log_of};
-ghost use Rattle.locked_log.specs.Ends.{AreServed};
 ghost use Rattle.locked_log.specs.Made.{IsMade, made_now};
 ghost use Rattle.store_seat.specs.Seats.{SeatValue};
-ghost use Rattle.locked_log.specs.Sharing.{AreOfSeats, AreSeatsAfter};
+ghost use Rattle.locked_log.specs.Sharing.{AreSeatsAfter};
 ghost use Rattle.master.specs.Valid.{IsValid};
 ghost use Rattle.store_clients.specs.Clients.{Matches};
 ghost use Rattle.store_clients.specs.Workloads.{AreAccepted, HasServed, IsBack};
 
 use crate::client::Client;
 use crate::running::run_clients;
+use counted_calls::take_back;
 use gate::Gate;
 use locked_log::{Blank, CallFault, Naming, Seat, ShareFault, Store};
 use master::{Master, Refusal};
@@ -145,19 +145,6 @@ fn fault_of(fault: ShareFault) -> CallFault {
         ShareFault::NoMemory => CallFault::Refused(Refusal::NoMemory),
         ShareFault::CellRefused => CallFault::CellRefused,
         ShareFault::StrangeSeat => CallFault::SeatUnknown,
-    }
-}
-
-/// Takes the master of a store back. Answers whether the book's numbers of all given seats are their own.
-fn take_back<F: Fleet, B: Naming>(store: Store<F, B>, seats: Vec<Seat<B>>) -> (Master<F>, bool)
-    ensures known { IsTrue result.1 → AreServed result.0.knows seats.items }
-    ensures made { IsMade B.made result.0.knows }
-    ensures no_others { AreOfSeats B.made.seats result.0.knows.history }
-    ensures valid { IsValid result.0.knows (F.state result.0.fleet) }
-{
-    match store.close(seats) {
-        Ok((master, _row)) => (master, true),
-        Err(master) => (master, false),
     }
 }
 

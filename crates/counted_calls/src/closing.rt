@@ -1,0 +1,24 @@
+//! The end of a store.
+
+ghost use Rattle.std.specs.Prelude.{IsTrue};
+ghost use Rattle.locked_log.specs.Ends.{AreServed};
+ghost use Rattle.locked_log.specs.Made.{IsMade};
+ghost use Rattle.locked_log.specs.Sharing.{AreOfSeats};
+ghost use Rattle.master.specs.Valid.{IsValid};
+
+use locked_log::{Naming, Seat, Store};
+use master::Master;
+use replica::Fleet;
+
+/// Takes the master of a store back. Answers whether the book's numbers of all given seats are their own.
+pub fn take_back<F: Fleet, B: Naming>(store: Store<F, B>, seats: Vec<Seat<B>>) -> (Master<F>, bool)
+    ensures known { IsTrue result.1 → AreServed result.0.knows seats.items }
+    ensures made { IsMade B.made result.0.knows }
+    ensures no_others { AreOfSeats B.made.seats result.0.knows.history }
+    ensures valid { IsValid result.0.knows (F.state result.0.fleet) }
+{
+    match store.close(seats) {
+        Ok((master, _row)) => (master, true),
+        Err(master) => (master, false),
+    }
+}
