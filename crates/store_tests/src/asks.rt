@@ -1,11 +1,14 @@
 //! What the tests ask of a store, and what they are answered.
 
-use backup::MemoryFleet;
+use crate::marks::is_free;
+use crate::slow::Watch;
 use entry::{Key, MAX_VALUE_LEN, Value};
 use locked_log::{CallFault, CleanTurn, Naming, Receipt, Seat, Store};
 use master::{Command, If, Refusal, Reply, StepAnswer};
+use replica::{Bench, Fleet};
 use std::alloc::Global;
 use std::sync::Wait;
+use std::thread::Threads;
 
 /// A command of the tests. A put has a key and a value.
 pub enum Do {
@@ -21,18 +24,22 @@ pub type Told = (&'static str, u64);
 pub enum Act {
     /// A call, with the place of its receipt and the reply.
     Calls(Do, u64, Told),
-    /// A call that has no answer: the fault, the place if the record is there, and the refusal.
-    Fails(Do, (&'static str, u64, &'static str)),
+    /// A call that has no answer: the place if its record is there, and the refusal.
+    Fails(Do, Option<u64>, Refusal),
     /// The next turn of a cleaner: what it did, and its two numbers.
     Turns((&'static str, u64, u64)),
     /// The fleet takes so many more ops.
     Limits(u64),
     /// It is shown the receipt of this number, from 0.
     Meets(usize),
+    /// The receipt of this number agrees with a second one of its place.
+    Agrees(usize),
     /// It raises the mark by the receipt of this number.
     Raises(usize),
     /// It reads the mark.
     Reads(u64),
+    /// Seat 0 raises the mark by the receipt of this number, and seat 1 reads it, while another thread holds the lock.
+    Overtakes(usize),
     /// The last place that it was acknowledged or met, plus 1, and how many records its calls made.
     Counts(u64, u64),
 }
@@ -63,16 +70,6 @@ fn told(reply: &Reply) -> Told {
     }
 }
 
-fn refusal_name(refusal: &Refusal) -> &'static str {
-    match refusal {
-        Refusal::Full => "Full",
-        Refusal::Spent => "Spent",
-        Refusal::TooBig => "TooBig",
-        Refusal::Nothing => "Nothing",
-        _ => "refused",
-    }
-}
-
 fn kind(answer: &Result<StepAnswer, Refusal>) -> (&'static str, u64, u64) {
     match answer {
         Ok(StepAnswer::Begun(id)) => ("begun", *id, 0),
@@ -85,23 +82,14 @@ fn kind(answer: &Result<StepAnswer, Refusal>) -> (&'static str, u64, u64) {
         Ok(StepAnswer::Closed(backup, id)) => ("closed", *backup, *id),
         Ok(StepAnswer::Freed(id, backup)) => ("freed", *id, *backup),
         Ok(_) => ("other", 0, 0),
-        Err(refusal) => (refusal_name(refusal), 0, 0),
-    }
-}
-
-fn fault_of(fault: &CallFault) -> (&'static str, u64, &'static str) {
-    match fault {
-        CallFault::Refused(refusal) => ("refused", 0, refusal_name(refusal)),
-        CallFault::Unsure(place, refusal) => ("unsure", *place, refusal_name(refusal)),
-        CallFault::SeatUnknown => ("SeatUnknown", 0, ""),
-        CallFault::CellRefused => ("CellRefused", 0, ""),
+        Err(_) => ("refused", 0, 0),
     }
 }
 
 /// Makes the call and keeps its receipt. Whether those are its place and reply.
-fn calls<B: Naming, R: Wait>(
+fn calls<F: Fleet, B: Naming, R: Wait>(
     rt: &R,
-    store: &Store<MemoryFleet, B>,
+    store: &Store<F, B>,
     seat: &mut Seat<B>,
     receipts: &mut Vec<Receipt<B>>,
     command: Command,
@@ -116,35 +104,48 @@ fn calls<B: Naming, R: Wait>(
     }
 }
 
-fn fails<B: Naming, R: Wait>(
+/// Makes the call. Whether the record is there as wanted, without an answer, for this refusal.
+fn fails<F: Fleet, B: Naming, R: Wait>(
     rt: &R,
-    store: &Store<MemoryFleet, B>,
+    store: &Store<F, B>,
     seat: &mut Seat<B>,
     command: Command,
-    want: (&'static str, u64, &'static str),
+    want: Option<u64>,
+    why: Refusal,
 ) -> bool {
-    match &store.call(rt, seat, command) {
-        Ok(_) => false,
-        Err(fault) => fault_of(fault) == want,
+    let answer = store.call(rt, seat, command);
+    is_left(&answer, want, why)
+}
+
+fn is_left<B: Naming>(
+    answer: &Result<(Reply, Receipt<B>), CallFault>,
+    want: Option<u64>,
+    why: Refusal,
+) -> bool {
+    match answer {
+        Err(CallFault::Refused(refusal)) => want.is_none() && *refusal == why,
+        Err(CallFault::Unsure(place, refusal)) => want == Some(*place) && *refusal == why,
+        _ => false,
     }
 }
 
-fn turns<B: Naming, R: Wait>(
+fn turns<F: Fleet, B: Naming, R: Wait>(
     rt: &R,
-    store: &Store<MemoryFleet, B>,
+    store: &Store<F, B>,
     want: (&'static str, u64, u64),
 ) -> bool {
-    kind(&store.turn(rt, CleanTurn::Next)) == want
+    let kind = kind(&store.turn(rt, CleanTurn::Next));
+    kind == want
 }
 
-fn limits<B: Naming, R: Wait>(rt: &R, store: &Store<MemoryFleet, B>, takes: u64) -> bool {
+fn limits<F: Bench, B: Naming, R: Wait>(rt: &R, store: &Store<F, B>, takes: u64) -> bool {
     store.limit(rt, takes);
     true
 }
 
-fn meets<B: Naming, R: Wait>(
+fn meets<F: Fleet, B: Naming, R: Wait>(
     rt: &R,
-    store: &Store<MemoryFleet, B>,
+    store: &Store<F, B>,
     seat: &mut Seat<B>,
     receipts: &[Receipt<B>],
     at: usize,
@@ -155,8 +156,20 @@ fn meets<B: Naming, R: Wait>(
     }
 }
 
-fn raises<B: Naming>(
-    store: &Store<MemoryFleet, B>,
+fn agrees<B: Naming>(receipts: &mut Vec<Receipt<B>>, at: usize) -> bool {
+    match receipts.get_mut(at) {
+        Some(receipt) => {
+            let place = receipt.place();
+            let mut second = receipt.again();
+            receipt.agree(&mut second);
+            receipt.place() == place && second.place() == place
+        }
+        None => false,
+    }
+}
+
+fn raises<F: Fleet, B: Naming>(
+    store: &Store<F, B>,
     seat: &mut Seat<B>,
     receipts: &[Receipt<B>],
     at: usize,
@@ -170,11 +183,11 @@ fn raises<B: Naming>(
     }
 }
 
-/// Does what is asked. Whether that is the answer.
-pub fn is_answered<B: Naming, R: Wait>(
+/// Does what a seat asks. Whether that is the answer.
+fn is_told<F: Fleet, B: Naming, R: Wait>(
     rt: &R,
     alloc: Global,
-    store: &Store<MemoryFleet, B>,
+    store: &Store<F, B>,
     seat: &mut Seat<B>,
     receipts: &mut Vec<Receipt<B>>,
     act: &Act,
@@ -184,15 +197,36 @@ pub fn is_answered<B: Naming, R: Wait>(
             Some(command) => calls(rt, store, seat, receipts, command, (*place, *reply)),
             None => false,
         },
-        Act::Fails(what, want) => match command_of(alloc, what) {
-            Some(command) => fails(rt, store, seat, command, *want),
+        Act::Fails(what, place, why) => match command_of(alloc, what) {
+            Some(command) => fails(rt, store, seat, command, *place, *why),
             None => false,
         },
-        Act::Turns(want) => turns(rt, store, *want),
-        Act::Limits(takes) => limits(rt, store, *takes),
         Act::Meets(at) => meets(rt, store, seat, receipts.as_slice(), *at),
         Act::Raises(at) => raises(store, seat, receipts.as_slice(), *at),
         Act::Reads(place) => store.mark(seat) == *place,
         Act::Counts(first, count) => seat.first() == *first && seat.count() == *count,
+        _ => false,
+    }
+}
+
+/// Does what is asked. Whether that is the answer.
+pub fn is_answered<F: Bench + Send, B: Naming + Send + Sync, R: Threads + Wait + Sync>(
+    rt: &R,
+    alloc: Global,
+    store: &Store<F, B>,
+    watch: &Watch,
+    seats: &mut Vec<Seat<B>>,
+    receipts: &mut Vec<Receipt<B>>,
+    ask: &(usize, Act),
+) -> bool {
+    match &ask.1 {
+        Act::Turns(want) => turns(rt, store, *want),
+        Act::Limits(takes) => limits(rt, store, *takes),
+        Act::Agrees(at) => agrees(receipts, *at),
+        Act::Overtakes(at) => is_free(rt, store, seats, receipts.as_slice(), *at, watch),
+        act => match seats.get_mut(ask.0) {
+            Some(seat) => is_told(rt, alloc, store, seat, receipts, act),
+            None => false,
+        },
     }
 }

@@ -1,9 +1,10 @@
 //! Days of a store with one seat or two: what a seat is answered, a record that is left without an answer, receipts that
-//! another seat is shown, the mark, and a cleaner that makes room.
+//! another seat is shown, the mark, also while a push waits, and a cleaner that makes room.
 
 use crate::asks::{Act, Do};
+use crate::slow::Watch;
 use crate::stores::run_day;
-use master::If;
+use master::{If, Refusal};
 use std::test::Fail;
 
 /// Puts and a delete whose conditions hold or don't.
@@ -38,12 +39,12 @@ const UNSURE: &[(usize, Act)] = &[
     (0, Act::Calls(Do::Put(b"a", b"x", If::Any), 0, ("ok", 1))),
     (
         0,
-        Act::Fails(Do::Put(b"a", LONG, If::Any), ("refused", 0, "TooBig")),
+        Act::Fails(Do::Put(b"a", LONG, If::Any), None, Refusal::TooBig),
     ),
     (0, Act::Limits(1)),
     (
         0,
-        Act::Fails(Do::Put(b"b", b"y", If::Any), ("unsure", 1, "Spent")),
+        Act::Fails(Do::Put(b"b", b"y", If::Any), Some(1), Refusal::Spent),
     ),
     (0, Act::Counts(1, 2)),
     (0, Act::Limits(u64::MAX)),
@@ -51,8 +52,8 @@ const UNSURE: &[(usize, Act)] = &[
     (0, Act::Counts(3, 3)),
 ];
 
-/// One seat makes two calls. Another is shown both receipts, the later first, and its own call is above them. Then both
-/// read the mark.
+/// One seat makes two calls. Another is shown both receipts, the later first, and its own call is above them. Each
+/// receipt agrees with a second one of its place. Then both read the mark.
 const MET: &[(usize, Act)] = &[
     (0, Act::Calls(Do::Put(b"a", b"x", If::Any), 0, ("ok", 1))),
     (0, Act::Calls(Do::Put(b"a", b"x", If::Any), 1, ("ok", 2))),
@@ -62,6 +63,8 @@ const MET: &[(usize, Act)] = &[
     (1, Act::Meets(0)),
     (1, Act::Counts(2, 0)),
     (1, Act::Calls(Do::Put(b"a", b"x", If::Any), 2, ("ok", 3))),
+    (0, Act::Agrees(0)),
+    (1, Act::Agrees(2)),
     (1, Act::Raises(2)),
     (0, Act::Raises(1)),
     (0, Act::Reads(2)),
@@ -87,7 +90,7 @@ const TURNED: &[(usize, Act)] = &[
     (0, Act::Calls(X, 12, ("ok", 13))),
     (0, Act::Calls(X, 13, ("ok", 14))),
     (0, Act::Calls(X, 14, ("ok", 15))),
-    (0, Act::Fails(X, ("refused", 0, "Full"))),
+    (0, Act::Fails(X, None, Refusal::Full)),
     (0, Act::Turns(("begun", 6, 0))),
     (0, Act::Turns(("dropped", 0, 0))),
     (0, Act::Turns(("carried", 0, 0))),
@@ -130,35 +133,30 @@ const TURNED: &[(usize, Act)] = &[
     (0, Act::Calls(X, 15, ("ok", 16))),
 ];
 
-#[test]
-fn one_seat(rt: HostRuntime) -> Result<(), Fail> {
-    assert_eq!(rt;
-        run_day(&rt, rt.alloc(), 1, CONDITIONS),
-        Some((CONDITIONS.len(), 6))
-    );
-    Ok(())
-}
+/// Two calls of one seat; then a push waits, and the mark is raised to the place of the second call.
+const OVERTAKEN: &[(usize, Act)] = &[
+    (0, Act::Calls(Do::Get(b"a"), 0, ("none", 0))),
+    (0, Act::Calls(Do::Get(b"a"), 1, ("none", 0))),
+    (0, Act::Overtakes(1)),
+];
+
+/// The seats of a store, what they ask, and the place behind the last receipt that the row told at its close.
+type Day = (u64, &'static [(usize, Act)], usize);
+
+const DAYS: &[Day] = &[
+    (1, CONDITIONS, 6),
+    (1, UNSURE, 3),
+    (2, MET, 3),
+    (1, TURNED, 16),
+    (2, OVERTAKEN, 2),
+];
 
 #[test]
-fn unsure(rt: HostRuntime) -> Result<(), Fail> {
-    assert_eq!(rt;
-        run_day(&rt, rt.alloc(), 1, UNSURE),
-        Some((UNSURE.len(), 3))
-    );
-    Ok(())
-}
-
-#[test]
-fn met(rt: HostRuntime) -> Result<(), Fail> {
-    assert_eq!(rt; run_day(&rt, rt.alloc(), 2, MET), Some((MET.len(), 3)));
-    Ok(())
-}
-
-#[test]
-fn turned(rt: HostRuntime) -> Result<(), Fail> {
-    assert_eq!(rt;
-        run_day(&rt, rt.alloc(), 1, TURNED),
-        Some((TURNED.len(), 16))
-    );
+fn stores_answer_as_wanted(rt: HostRuntime) -> Result<(), Fail> {
+    for (at, day) in DAYS.iter().enumerate() {
+        let watch = Watch::new();
+        let came = run_day(&rt, rt.alloc(), &watch, day.0, day.1);
+        assert!(rt; came == Some((day.1.len(), day.2)), "day {at}");
+    }
     Ok(())
 }

@@ -1,5 +1,6 @@
-//! The tests of a store: days of its seats, each a table of what they ask and of what they are answered; and that stores,
-//! seats and receipts cross threads.
+//! The tests of a store and of its clients: days of its seats, each a table of what they ask and of what they are answered;
+//! days of a small master whose clients and cleaner make their rounds and passes; that the mark waits for nobody; and that
+//! stores, seats and receipts cross threads.
 #![tactic(auto)]
 
 mod crossing;
@@ -9,6 +10,16 @@ pub use crossing::crosses;
 #[cfg(test)]
 mod asks;
 #[cfg(test)]
+mod clients;
+#[cfg(test)]
 mod days;
+#[cfg(test)]
+mod holding;
+#[cfg(test)]
+mod marks;
+#[cfg(test)]
+mod masters;
+#[cfg(test)]
+mod slow;
 #[cfg(test)]
 mod stores;

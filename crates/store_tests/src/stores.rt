@@ -1,96 +1,35 @@
 //! Days of a store, and how they end.
 
-ghost use Rattle.std.specs.Prelude.{◌≡◌, ◌≤◌, ℕ, [], None, IfSome};
-ghost use Rattle.backup.specs.State.{fleet_state};
-ghost use Rattle.master_core.specs.Config.{config_fault};
+ghost use Rattle.std.specs.Prelude.{◌≡◌, ◌≤◌};
 ghost use Rattle.locked_log.specs.Ends.{IsFresh};
 ghost use Rattle.locked_log.specs.Made.{IsMade};
 
 use crate::asks::{Act, is_answered};
-use backup::MemoryFleet;
-use entry::{Tablet, Tablets};
+use crate::masters::{RECORDS, small_master};
+use crate::slow::{SlowFleet, Watch};
 use locked_log::{Blank, Naming, Receipt, Row, Seat, Store};
-use master::{Config, Master};
+use master::Master;
+use replica::{Bench, Fleet};
 use std::alloc::Global;
 use std::marker::Brand;
 use std::sync::Wait;
+use std::thread::Threads;
 
 /// How many were answered as wanted up to the first that was not, and the place behind the last receipt that the row told.
 pub type Evening = (usize, usize);
 
-/// How many records a history may have.
-const RECORDS: u64 = 32;
-
-/// One table.
-const TABLETS: &[Tablet] = &[Tablet {
-    table: 1,
-    first: 0,
-    last: u64::MAX,
-}];
-
-/// A configuration of three backups and two replicas, with one table.
-fn small_config(alloc: Global) -> Option<Config>
-    ensures checked { IfSome result (λ config. config_fault config ≡ None) }
-    ensures named { IfSome result (λ config. (config.master ≡ 1) × (config.backups ≡ 3) × (config.history ≡ 32)) }
-{
-    let Ok(tablets) = Vec::from_slice(alloc, TABLETS) else {
-        return None;
-    };
-    let config = Config {
-        master: 1,
-        backups: 3,
-        replicas: 2,
-        step: 1,
-        segment: 512,
-        seglet: 64,
-        seglets: 64,
-        tablets: Tablets::new(tablets),
-        history: RECORDS,
-    };
-    match config.check() {
-        Ok(()) => Some(config),
-        Err(_) => None,
-    }
-}
-
-/// A fleet of three backups, which hold nothing.
-fn small_fleet(alloc: Global) -> Option<MemoryFleet>
-    ensures backups { IfSome result (λ fleet. (fleet_state fleet).backups ≡ 3) }
-    ensures none { IfSome result (λ fleet. (b m s : ℕ) → (fleet_state fleet).picture b m s ≡ None) }
-{
-    match MemoryFleet::new(alloc, 3) {
-        Ok(fleet) => Some(fleet),
-        Err(_) => None,
-    }
-}
-
-/// Master 1, over a fleet that holds nothing.
-fn small_master(alloc: Global) -> Option<Master<MemoryFleet>>
-    ensures { IfSome result (λ m. (m.knows.config.history ≡ 32) × (m.knows.history ≡ [])) }
-{
-    let config = small_config(alloc)?;
-    let fleet = small_fleet(alloc)?;
-    match Master::new(alloc, config, fleet) {
-        Ok(master) => Some(master),
-        Err(_) => None,
-    }
-}
-
 /// How many are answered as wanted, up to the first that is not.
-fn answered<B: Naming, R: Wait>(
+fn answered<F: Bench + Send, B: Naming + Send + Sync, R: Threads + Wait + Sync>(
     rt: &R,
     alloc: Global,
-    store: &Store<MemoryFleet, B>,
+    store: &Store<F, B>,
+    watch: &Watch,
     seats: &mut Vec<Seat<B>>,
     receipts: &mut Vec<Receipt<B>>,
     asks: &[(usize, Act)],
 ) -> usize {
     for (at, ask) in asks.iter().enumerate() {
-        let is_wanted = match seats.get_mut(ask.0) {
-            Some(seat) => is_answered(rt, alloc, store, seat, receipts, &ask.1),
-            None => false,
-        };
-        if !is_wanted {
+        if !is_answered(rt, alloc, store, watch, seats, receipts, ask) {
             return at;
         }
     }
@@ -98,25 +37,25 @@ fn answered<B: Naming, R: Wait>(
 }
 
 /// How many of the receipts the row tells.
-fn told_by<B: Naming>(
-    master: &Master<MemoryFleet>,
+fn told_by<F: Fleet, B: Naming>(
+    master: &Master<F>,
     row: &mut Row<B>,
-    receipts: Vec<Receipt<B>>,
+    receipts: &mut Vec<Receipt<B>>,
 ) -> usize {
     let mut told = 0;
-    for mut receipt in receipts {
+    for receipt in receipts.iter_mut() {
         let place = receipt.place() as usize;
         if place < row.len() && place < master.history().len() {
-            row.tell(&mut receipt);
+            row.tell(receipt);
             told = place + 1;
         }
     }
     told
 }
 
-fn told_at_close<B: Naming>(
-    closed: &mut Result<(Master<MemoryFleet>, Row<B>), Master<MemoryFleet>>,
-    receipts: Vec<Receipt<B>>,
+fn told_at_close<F: Fleet, B: Naming>(
+    closed: &mut Result<(Master<F>, Row<B>), Master<F>>,
+    receipts: &mut Vec<Receipt<B>>,
 ) -> usize {
     match closed {
         Ok((master, row)) => told_by(master, row, receipts),
@@ -124,24 +63,26 @@ fn told_at_close<B: Naming>(
     }
 }
 
-fn evening<B: Naming, R: Wait>(
+fn evening<F: Bench + Send + Drop, B: Naming + Send + Sync, R: Threads + Wait + Sync>(
     rt: &R,
     alloc: Global,
-    store: Store<MemoryFleet, B>,
+    store: Store<F, B>,
+    watch: &Watch,
     mut seats: Vec<Seat<B>>,
     asks: &[(usize, Act)],
 ) -> Evening {
     let mut receipts = Vec::new(alloc);
-    let answered = answered(rt, alloc, &store, &mut seats, &mut receipts, asks);
+    let answered = answered(rt, alloc, &store, watch, &mut seats, &mut receipts, asks);
     let mut closed = store.close(seats);
-    (answered, told_at_close(&mut closed, receipts))
+    (answered, told_at_close(&mut closed, &mut receipts))
 }
 
-fn day<B: Naming, R: Wait>(
+fn day<F: Bench + Send + Drop, B: Naming + Send + Sync, R: Threads + Wait + Sync>(
     rt: &R,
     alloc: Global,
     blank: Blank,
-    master: Master<MemoryFleet>,
+    master: Master<F>,
+    watch: &Watch,
     asks: &[(usize, Act)],
 ) -> Option<Evening>
     requires fresh { IsFresh blank.row master.knows }
@@ -151,19 +92,23 @@ fn day<B: Naming, R: Wait>(
     requires mark { blank.table ≡ B.table }
     requires made { IsMade B.made master.knows }
 {
-    match Store::<MemoryFleet, B>::new(alloc, blank, master) {
-        Ok((store, seats)) => Some(evening(rt, alloc, store, seats, asks)),
+    match Store::<F, B>::new(alloc, blank, master) {
+        Ok((store, seats)) => Some(evening(rt, alloc, store, watch, seats, asks)),
         Err(_) => None,
     }
 }
 
-/// Does what is asked of a store with so many seats.
-pub fn run_day<R: Wait>(rt: &R, alloc: Global, seats: u64, asks: &[(usize, Act)]) -> Option<Evening>
-    requires { (1 ≤ seats) × (seats ≤ 64) }
-{
-    let master = small_master(alloc)?;
-    match Blank::make(alloc, RECORDS, seats) {
-        Ok(blank) => day::<Brand, R>(rt, alloc, blank, master, asks),
+/// Does what is asked of a store with so many seats, 1 to 64.
+pub fn run_day<R: Threads + Wait + Sync>(
+    rt: &R,
+    alloc: Global,
+    watch: &Watch,
+    seats: u64,
+    asks: &[(usize, Act)],
+) -> Option<Evening> {
+    let master = small_master(alloc, watch)?;
+    match Blank::make(alloc, RECORDS, seats.max(1).min(64)) {
+        Ok(blank) => day::<SlowFleet<'_>, Brand, R>(rt, alloc, blank, master, watch, asks),
         Err(_) => None,
     }
 }

@@ -1,18 +1,27 @@
-//! A small master, and what it has done before its clients come.
+//! A small master, and what it has done before its day begins.
 
-ghost use Rattle.std.specs.Prelude.{◌≡◌, ◌≤◌, ℕ, None, IfSome};
+ghost use Rattle.std.specs.Prelude.{◌≡◌, ◌≤◌, ℕ, [], None, IfSome};
 ghost use Rattle.backup.specs.State.{fleet_state};
 ghost use Rattle.master_core.specs.Config.{config_fault};
 
+use crate::slow::{SlowFleet, Watch};
 use backup::MemoryFleet;
 use entry::{Row, Tablet, Tablets};
 use master::{Config, Master, PassFault, Refusal, Step};
+use replica::Fleet;
 use std::alloc::Global;
 
 /// How many records its history may have.
 pub const RECORDS: u64 = 24;
 
-/// What a master has done before its clients come.
+/// One table.
+const TABLETS: &[Tablet] = &[Tablet {
+    table: 1,
+    first: 0,
+    last: u64::MAX,
+}];
+
+/// What a master has done before its day begins.
 #[derive(Clone, Copy)]
 pub enum Morning {
     /// Nothing.
@@ -24,16 +33,11 @@ pub enum Morning {
 }
 
 /// Three backups, two replicas and one table.
-pub fn small_config(alloc: Global) -> Option<Config>
+fn small_config(alloc: Global) -> Option<Config>
     ensures fault { IfSome result (λ c. config_fault c ≡ None) }
     ensures records { IfSome result (λ c. c.history ≡ 24) }
 {
-    let tablets = &[Tablet {
-        table: 1,
-        first: 0,
-        last: u64::MAX,
-    }];
-    let Ok(tablets) = Vec::from_slice(alloc, tablets) else {
+    let Ok(tablets) = Vec::from_slice(alloc, TABLETS) else {
         return None;
     };
     let config = Config {
@@ -54,7 +58,7 @@ pub fn small_config(alloc: Global) -> Option<Config>
 }
 
 /// A fleet with the backups of the configuration. It holds nothing.
-pub fn new_fleet(alloc: Global, config: &Config) -> Option<MemoryFleet>
+fn new_fleet(alloc: Global, config: &Config) -> Option<MemoryFleet>
     ensures backups { IfSome result (λ fleet. config.now.backups ≤ (fleet_state fleet).backups) }
     ensures none { IfSome result (λ fleet. (b m s : ℕ) → (fleet_state fleet).picture b m s ≡ None) }
 {
@@ -64,29 +68,39 @@ pub fn new_fleet(alloc: Global, config: &Config) -> Option<MemoryFleet>
     }
 }
 
-/// A new master.
-pub fn small_master(alloc: Global) -> Option<Master<MemoryFleet>>
-    ensures { IfSome result (λ m. m.knows.config.history ≡ 24) }
+/// A new master. Its fleet waits when the watch says so.
+pub fn small_master<'a>(alloc: Global, watch: &'a Watch) -> Option<Master<SlowFleet<'a>>>
+    ensures { IfSome result (λ m. (m.knows.config.history ≡ 24) × (m.knows.history ≡ [])) }
 {
     let config = small_config(alloc)?;
     let fleet = new_fleet(alloc, &config)?;
-    match Master::new(alloc, config, fleet) {
+    match Master::new(alloc, config, SlowFleet { fleet, watch }) {
         Ok(master) => Some(master),
         Err(_) => None,
     }
 }
 
+/// Makes a step. If it is refused, says why.
+fn make<F: Fleet>(master: &mut Master<F>, step: Step) -> Option<Refusal>
+    ensures { master.new.knows.config ≡ master.old.knows.config }
+{
+    match &master.step(step) {
+        Ok(_) => None,
+        Err(refusal) => Some(*refusal),
+    }
+}
+
 /// Makes so many pushes.
-fn push(master: &mut Master<MemoryFleet>, times: u64)
+fn push<F: Fleet>(master: &mut Master<F>, times: u64)
     ensures { master.new.knows.config ≡ master.old.knows.config }
 {
     for _ in 0..times {
-        let _answer = master.step(Step::Push);
+        let _refused = make(master, Step::Push);
     }
 }
 
 /// Does what the master does in the morning.
-pub fn prepare(alloc: Global, master: &mut Master<MemoryFleet>, morning: Morning)
+pub fn prepare<F: Fleet>(alloc: Global, master: &mut Master<F>, morning: Morning)
     ensures { master.new.knows.config ≡ master.old.knows.config }
 {
     match morning {
@@ -94,35 +108,32 @@ pub fn prepare(alloc: Global, master: &mut Master<MemoryFleet>, morning: Morning
         Morning::Rolled => roll(master),
         Morning::Cleaning => {
             roll(master);
-            let _begun = begin(alloc, master, &[1]);
+            let _refused = begin(alloc, master, &[1]);
         }
     }
 }
 
 /// Opens the first head, and rolls to the second.
-fn roll(master: &mut Master<MemoryFleet>)
+fn roll<F: Fleet>(master: &mut Master<F>)
     ensures { master.new.knows.config ≡ master.old.knows.config }
 {
     push(master, 2);
-    let _rolling = master.step(Step::BeginRoll);
+    let _refused = make(master, Step::BeginRoll);
     push(master, 4);
 }
 
 /// Begins a pass over these segments. If it is refused, says why.
-fn begin(alloc: Global, master: &mut Master<MemoryFleet>, victims: &[u64]) -> Option<Refusal>
+fn begin<F: Fleet>(alloc: Global, master: &mut Master<F>, victims: &[u64]) -> Option<Refusal>
     ensures { master.new.knows.config ≡ master.old.knows.config }
 {
     let Ok(victims) = Vec::from_slice(alloc, victims) else {
         return Some(Refusal::NoMemory);
     };
-    match master.step(Step::BeginClean(Row::new(victims))) {
-        Ok(_) => None,
-        Err(refusal) => Some(refusal),
-    }
+    make(master, Step::BeginClean(Row::new(victims)))
 }
 
 /// Whether no pass is open.
-pub fn has_no_pass(alloc: Global, master: &mut Master<MemoryFleet>) -> bool {
+pub fn has_no_pass<F: Fleet>(alloc: Global, master: &mut Master<F>) -> bool {
     matches!(
         begin(alloc, master, &[]),
         Some(Refusal::Pass(PassFault::NoVictims))

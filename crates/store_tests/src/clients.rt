@@ -1,16 +1,18 @@
-//! Days of a master: what it has done in the morning, its clients and its cleaner, and what there is at the end.
+//! Days of clients over a master: what it has done in the morning, its clients and its cleaner, and what there is at the
+//! end.
 
 use crate::holding::Holding;
 use crate::masters::{Morning, RECORDS, has_no_pass, prepare, small_master};
-use backup::MemoryFleet;
+use crate::slow::Watch;
 use gate::{Gate, NoGate};
 use locked_log::CallFault;
 use master::{Master, Refusal, Reply};
+use replica::Fleet;
 use std::alloc::Global;
 use std::sync::Wait;
 use std::test::Fail;
 use std::thread::Threads;
-use store_clients::{Workload, clients_over};
+use store_clients::{Outcome, Workload, clients_over};
 
 /// How many clients, how many rounds of each, and how many passes.
 type Work = (u64, u64, u64);
@@ -33,7 +35,7 @@ const DAYS: &[Day] = &[
 ];
 
 /// Whether the last record found this value. Without records it is nothing.
-fn has_found(master: &Master<MemoryFleet>, value: &[u8]) -> bool {
+fn has_found<F: Fleet>(master: &Master<F>, value: &[u8]) -> bool {
     match master.history().last() {
         Some(record) => is_found(&record.reply, value),
         None => value.is_empty(),
@@ -48,9 +50,9 @@ fn is_found(reply: &Reply, value: &[u8]) -> bool {
 }
 
 /// Whether it ended as the day says.
-fn is_wanted(
+fn is_wanted<F: Fleet>(
     alloc: Global,
-    master: &mut Master<MemoryFleet>,
+    master: &mut Master<F>,
     calls: &Result<u64, CallFault>,
     day: &Day,
 ) -> bool {
@@ -70,10 +72,11 @@ fn is_wanted(
 fn ends_so<R: Threads + Wait + Sync, G: Gate + Sync>(
     rt: &R,
     alloc: Global,
+    watch: &Watch,
     day: &Day,
     gate: &G,
 ) -> bool {
-    let Some(mut master) = small_master(alloc) else {
+    let Some(mut master) = small_master(alloc, watch) else {
         return false;
     };
     prepare(alloc, &mut master, day.0);
@@ -83,14 +86,19 @@ fn ends_so<R: Threads + Wait + Sync, G: Gate + Sync>(
         rounds: rounds.min(1_000_000),
         passes,
     };
-    let mut outcome = clients_over(rt, alloc, master, RECORDS, work, gate);
-    outcome.is_known && is_wanted(alloc, &mut outcome.master, &outcome.calls, day)
+    let Outcome {
+        mut master,
+        calls,
+        is_known,
+    } = clients_over(rt, alloc, master, RECORDS, work, gate);
+    is_known && is_wanted(alloc, &mut master, &calls, day)
 }
 
 #[test]
 fn days_end_as_wanted(rt: HostRuntime) -> Result<(), Fail> {
+    let watch = Watch::new();
     for (at, day) in DAYS.iter().enumerate() {
-        assert!(rt; ends_so(&rt, rt.alloc(), day, &NoGate), "day {at}");
+        assert!(rt; ends_so(&rt, rt.alloc(), &watch, day, &NoGate), "day {at}");
     }
     Ok(())
 }
@@ -98,8 +106,9 @@ fn days_end_as_wanted(rt: HostRuntime) -> Result<(), Fail> {
 /// Two clients are there at one time.
 #[test]
 fn clients_overlap(rt: HostRuntime) -> Result<(), Fail> {
+    let watch = Watch::new();
     let gate = Holding::new();
-    assert!(rt; ends_so(&rt, rt.alloc(), &DAYS[0], &gate));
+    assert!(rt; ends_so(&rt, rt.alloc(), &watch, &DAYS[0], &gate));
     assert!(rt; gate.has_seen());
     Ok(())
 }

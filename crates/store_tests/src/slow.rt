@@ -8,7 +8,7 @@ ghost use Rattle.backup.specs.State.{fleet_state};
 
 use backup::MemoryFleet;
 use entry::NoMemory;
-use replica::{Fleet, Holding, Op, TakeFault};
+use replica::{Bench, Fleet, Holding, Op, TakeFault};
 use std::alloc::Global;
 use std::sync::atomic::{AtomicU64, Ordering};
 use std::thread;
@@ -117,5 +117,15 @@ impl<'a> Fleet for SlowFleet<'a> {
 
     fn faults(&self) -> u64 {
         self.fleet.faults()
+    }
+}
+
+impl<'a> Bench for SlowFleet<'a> {
+    fn limit(&mut self, n: u64) {
+        self.fleet.limit(n)
+    }
+
+    fn retire(&mut self, keep: u64) -> Result<(), TakeFault> {
+        self.fleet.retire(keep)
     }
 }

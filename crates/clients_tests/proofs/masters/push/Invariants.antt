@@ -1,5 +1,0 @@
-use Rattle.std.proofs.Common.{◌≡◌}
-use Rattle.clients_tests.proofs.masters.push.Given as goal
-
-abbrev pub invariant-loop : goal.invariant-loop
-invariant-loop l = l.master.knows.config ≡ l.fn.master.knows.config

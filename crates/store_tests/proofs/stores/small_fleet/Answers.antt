@@ -1,6 +1,0 @@
-use Rattle.std.proofs.Common.{ap}
-use Rattle.replica.specs.Picture.{FleetState}
-use Rattle.store_tests.proofs.stores.small_fleet.Goals as goal
-
-pub returns-in-Ok-clause-none : goal.returns-in-Ok-clause-none
-returns-in-Ok-clause-none c = λ b m s. ap (λ (f : FleetState). f.picture b m s) c.in-Ok.ensures
