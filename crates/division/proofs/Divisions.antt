@@ -5,18 +5,17 @@ use Rattle.std.specs.Prelude.{◌==◌, filter, Result, Ok, Err, if◌then◌els
 use Rattle.std.specs.Result.{is_ok, is_err}
 use Rattle.std.specs.List.{range_with_len}
 use Rattle.std.proofs.lemmas.Bool.Decides.{Decides-eqb}
-use Rattle.std.proofs.lemmas.List.{append-nil, map-append, length-map}
+use Rattle.std.proofs.lemmas.List.{append-nil, length-map}
 use Rattle.std.proofs.lemmas.List.FromFn.{length-range_with_len}
-use Rattle.entry.specs.View.{shown}
-use Rattle.entry.specs.declared.view.EntryRef.{EntryRef}
 use Rattle.division.specs.declared.fault.DivideFault.{DivideFault}
 use Rattle.division.specs.declared.fault.DivideFault.TheVariants as fault
 use Rattle.entry.specs.declared.entry.Entry.{Entry}
+use Rattle.entry.specs.declared.entry.Entry.TheVariants as entry
 use Rattle.entry.specs.Bag.{IsAmong}
+use Rattle.entry.specs.Text.{is_data}
 use Rattle.tablet_will.specs.declared.part.Part.{Part}
 use Rattle.tablet_will.specs.Parts.{partitions_of}
-use Rattle.division.specs.declared.group.Group.{Group}
-use Rattle.division.specs.Groups.{Grouped, grouped}
+use Rattle.division.specs.Groups.{Grouped}
 use Rattle.division.specs.Division.{partition_in, is_number, goes_to, group_in, groups_of, with_entry, added, numbers_of}
 use Rattle.division.specs.Division.{empty_group, IsCovered, AreCovered, IsSought, IsDivideFault}
 
@@ -26,16 +25,6 @@ range_more a (suc n) =
     let e : a + suc n ≡ (a + 1) + n = omega arith in
     let f : suc n + 1 ≡ suc (n + 1) = omega arith in
     rw (e, f) (ap (λ (ns : List ℕ). a ∷ ns) (range_more (a + 1) n))
-
-pub emptied_more : (segment n : ℕ) (gs new : List Group) (g : Group) → new ≡ gs ++ g ∷ []
-    → grouped g ≡ empty_group segment n → map grouped gs ≡ map (empty_group segment) (range_with_len 0 n)
-    → map grouped new ≡ map (empty_group segment) (range_with_len 0 (n + 1))
-emptied_more segment n gs new g pushed is held =
-    let last : 0 + n ≡ n = omega arith in
-    ap (map grouped) pushed ∙ map-append grouped gs (g ∷ [])
-    ∙ (λ i. held i ++ is i ∷ [])
-    ∙ sym (ap (map (empty_group segment)) (range_more 0 n ∙ ap (λ m. range_with_len 0 n ++ m ∷ []) last)
-    ∙ map-append (empty_group segment) (range_with_len 0 n) (n ∷ []))
 
 front : {x a : ℕ} {xs ns : List ℕ} → x ∷ xs ≡ a ∷ ns → x ≡ a
 front e = cc
@@ -197,44 +186,38 @@ numbers-empty : (segment : ℕ) (ns : List ℕ) → numbers_of (map (empty_group
 numbers-empty segment [] = refl
 numbers-empty segment (n ∷ ns) = ap (λ (ms : List ℕ). n ∷ ms) (numbers-empty segment ns)
 
-module _ (qs : List Part) (segment count : ℕ) (es left : List Entry) (gs : List Group)
-    (h : IsDividing qs es (map (empty_group segment) (range_with_len 0 count)) left (map grouped gs)) where
-  numbers : numbers_of (map grouped gs) ≡ range_with_len 0 count
+-- of things that stand for groups
+module _ {X : Type 0} (group : X → Grouped) (qs : List Part) (segment count : ℕ) (es left : List Entry) (xs : List X)
+    (h : IsDividing qs es (map (empty_group segment) (range_with_len 0 count)) left (map group xs)) where
+  numbers : numbers_of (map group xs) ≡ range_with_len 0 count
   numbers = h.numbered ∙ numbers-empty segment (range_with_len 0 count)
 
-  pub counted : length gs ≡ count
+  pub counted : length xs ≡ count
   counted =
-      sym (length-map (map grouped gs) (λ (g : Grouped). g.partition) ∙ length-map gs grouped) ∙ ap length numbers
+      sym (length-map (map group xs) (λ (g : Grouped). g.partition) ∙ length-map xs group) ∙ ap length numbers
       ∙ length-range_with_len 0 count
 
   -- the entry was put behind those of its group
-  pub entry_added : (e : Entry) (m : ℕ) (old new : Group) → m < count → partition_in qs e ≡ Some m
-      → old ≡ get_or gs m old → grouped new ≡ with_entry e (grouped old)
-      → map grouped (set gs m new) ≡ added qs e (map grouped gs)
+  pub entry_added : (e : Entry) (m : ℕ) (old new : X) → m < count → partition_in qs e ≡ Some m
+      → old ≡ get_or xs m old → group new ≡ with_entry e (group old)
+      → map group (set xs m new) ≡ added qs e (map group xs)
   entry_added e m old new lt at was is =
-      let long : length (map grouped gs) ≡ count = length-map gs grouped ∙ counted in
-      let here : grouped old ≡ get_or (map grouped gs) m (grouped old) =
-      ap grouped was ∙ sym (map-at grouped gs m old) in
-      map-set grouped gs m new
-      ∙ ap (λ (g : Grouped). set (map grouped gs) m g) (is ∙ ap (with_entry e) here)
-      ∙ added_at qs e (map grouped gs) 0 m (grouped old)
+      let long : length (map group xs) ≡ count = length-map xs group ∙ counted in
+      let here : group old ≡ get_or (map group xs) m (group old) = ap group was ∙ sym (map-at group xs m old) in
+      map-set group xs m new
+      ∙ ap (λ (g : Grouped). set (map group xs) m g) (is ∙ ap (with_entry e) here)
+      ∙ added_at qs e (map group xs) 0 m (group old)
       (numbers ∙ ap (λ n. range_with_len 0 n) (sym long)) (omega (arith, lt, long)) (at ∙ ap Some (omega arith))
-
-pub grouped_more : (old new : Group) (x : EntryRef) → new.segment ≡ old.segment → new.partition ≡ old.partition
-    → new.entries.items ≡ old.entries.items ++ x ∷ [] → grouped new ≡ with_entry (shown x) (grouped old)
-grouped_more old new x segment partition items =
-    let entries : map shown new.entries.items ≡ map shown old.entries.items ++ shown x ∷ [] =
-    ap (map shown) items ∙ map-append shown old.entries.items (x ∷ []) in
-    (λ i. record { segment = segment i; partition = partition i; entries = entries i })
-
-pub dividing_as : (qs : List Part) (es fs : List Entry) (before new : List Grouped) (left rest : List Entry)
-    (now : List Grouped) → es ≡ fs → before ≡ new → left ≡ rest → IsDividing qs es before left now
-    → IsDividing qs fs new rest now
-dividing_as qs es fs before new left rest now p q r h =
-    subst (λ l. IsDividing qs fs new l now) r
-    (subst (λ b. IsDividing qs fs b left now) q (subst (λ e. IsDividing qs e before left now) p h))
 
 pub fault_in : (qs : List Part) (es : List Entry) (e : Entry) (f : DivideFault) → IsAmong e es → IsSought qs e (Err f)
     → IsDivideFault qs es f
 fault_in qs es e (fault.Stray k) m h = (e, m, h)
 fault_in qs es e fault.NoMemory m h = tt
+
+-- what goes to a partition is an object or a tombstone
+pub goes_data : (qs : List Part) (n : ℕ) (e : Entry) → goes_to qs n e ≡ true → is_data e ≡ true
+goes_data qs n (entry.Header h) goes = goes
+goes_data qs n (entry.Digest ids) goes = goes
+goes_data qs n (entry.Safe version) goes = goes
+goes_data qs n (entry.Object o) goes = refl
+goes_data qs n (entry.Tombstone t) goes = refl

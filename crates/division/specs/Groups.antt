@@ -2,7 +2,6 @@
 use Rattle.std.specs.Prelude.{ℕ, List, map}
 use Rattle.std.specs.List.{flat_map}
 use Rattle.entry.specs.declared.entry.Entry.{Entry}
-use Rattle.entry.specs.View.{shown}
 use Rattle.division.specs.declared.group.Group.{Group}
 
 -- a group by its values
@@ -12,7 +11,7 @@ pub record Grouped : Type 0 where
   pub entries : List Entry
 
 abbrev pub grouped : Group → Grouped
-grouped g = record { segment = g.segment; partition = g.partition; entries = map shown g.entries.items }
+grouped g = record { segment = g.segment; partition = g.partition; entries = g.entries }
 
 -- all entries of the groups
 abbrev pub bag_of : List Grouped → List Entry

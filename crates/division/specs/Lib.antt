@@ -1,3 +1,5 @@
+pub mod Placed
 pub mod Groups
 pub mod Texts
 pub mod Division
+pub mod Gathering

@@ -1,21 +1,23 @@
 //! A segment's entries, sent to the partitions of a will.
 
-ghost use Rattle.std.specs.Prelude.{◌≡◌, ◌<◌, map, Err, IfOk, IfErr, OnOk, vec_len, vec_capacity};
-ghost use Rattle.std.specs.List.{range_with_len};
+ghost use Rattle.std.specs.Prelude.{◌≡◌, ◌<◌, map, IfOk, IfErr, OnOk, vec_len, vec_capacity};
+ghost use Rattle.entry.specs.Text.{text_of};
 ghost use Rattle.entry.specs.View.{shown, shown_key};
-ghost use Rattle.tablet_will.specs.Parts.{partitions_of};
 ghost use Rattle.division.specs.Groups.{grouped};
-ghost use Rattle.division.specs.Division.{IsDivision, AreCovered, IsDivideFault, IsCovered, IsSought, IsFound};
-ghost use Rattle.division.specs.Division.{added, numbers_of, empty_group};
+ghost use Rattle.division.specs.Division.{IsDivision, AreCovered, IsDivideFault, IsSought, IsFound};
+ghost use Rattle.division.specs.Gathering.{AreEmpty, AreGathered, ArePlaces, group_at};
 
 use crate::fault::DivideFault;
+use crate::gathered::Gathered;
 use crate::group::Group;
+use crate::placed::GroupEntries;
 use entry::{EntryRef, KeyRef, NoMemory};
 use segment::Segment;
 use std::alloc::Global;
 use tablet_will::Will;
 
 /// The partition of a key, which is named if it has none.
+#[inline(always)]
 fn find(alloc: Global, key: &KeyRef<'_>, will: &Will) -> Result<Option<u32>, DivideFault>
     ensures { IsFound will.now (shown_key key.now) result }
 {
@@ -29,6 +31,7 @@ fn find(alloc: Global, key: &KeyRef<'_>, will: &Will) -> Result<Option<u32>, Div
 }
 
 /// The partition of an object's or a tombstone's key. Another entry has none.
+#[inline(always)]
 fn sought(alloc: Global, entry: &EntryRef<'_>, will: &Will) -> Result<Option<u32>, DivideFault>
     ensures { IsSought will.now (shown entry.now) result }
 {
@@ -39,43 +42,86 @@ fn sought(alloc: Global, entry: &EntryRef<'_>, will: &Will) -> Result<Option<u32
     }
 }
 
-/// A group without entries for each partition.
-fn empty_groups<'a>(
-    alloc: Global,
-    segment: u64,
-    partitions: u32,
-) -> Result<Vec<Group<'a>>, NoMemory>
-    ensures { IfOk result (λ groups.
-        map grouped groups.items ≡ map (empty_group segment) (range_with_len 0 partitions)) }
+/// No places, for each partition.
+fn none_gathered(alloc: Global, partitions: u32) -> Result<Vec<Gathered>, NoMemory>
+    ensures { IfOk result (λ all. AreEmpty partitions all.items) }
 {
-    let mut empty = Vec::with_capacity(alloc, partitions as usize)?;
+    let mut all = Vec::with_capacity(alloc, partitions as usize)?;
     for partition in 0..partitions {
-        let group = Group {
-            segment,
+        let none = Gathered {
             partition,
-            entries: Vec::new(alloc),
+            places: Vec::new(alloc),
         };
-        if empty.push(group).is_err() {
+        if all.push(none).is_err() {
             return Err(NoMemory);
         }
     }
-    Ok(empty)
+    Ok(all)
 }
 
-/// Takes memory for one more entry if there is none: for as many as there are. The first gets memory for itself alone,
+/// Takes memory for one more place if there is none: for as many as there are. The first gets memory for itself alone,
 /// since with many partitions most groups of a segment have an entry or two.
-fn make_room(entries: &mut Vec<EntryRef<'_>>) -> Result<(), NoMemory>
-    ensures items { entries.new.items ≡ entries.old.items }
-    ensures room { OnOk result (vec_len entries.new < vec_capacity entries.new) }
+fn make_room(places: &mut Vec<u32>) -> Result<(), NoMemory>
+    ensures items { places.new.items ≡ places.old.items }
+    ensures room { OnOk result (vec_len places.new < vec_capacity places.new) }
 {
-    if entries.len() < entries.capacity() {
+    if places.len() < places.capacity() {
         return Ok(());
     }
-    entries.reserve_exact(entries.len().max(1))
+    places.reserve_exact(places.len().max(1))
+}
+
+/// The places of the objects and tombstones of a segment, for each partition of the will.
+fn gather(alloc: Global, segment: &Segment, will: &Will) -> Result<Vec<Gathered>, DivideFault>
+    ensures ok { IfOk result (λ all. AreGathered will.now segment.now all.items) }
+    ensures covered { OnOk result (AreCovered will.now segment.now) }
+    ensures fault { IfErr result (IsDivideFault will.now segment.now) }
+{
+    let mut all = none_gathered(alloc, will.partitions())?;
+    let text = segment.bytes();
+    let mut at = 0;
+    while at < text.len() {
+        let Ok((entry, taken)) = EntryRef::read(&text[at..]) else {
+            unreachable!()
+        };
+        if let Some(partition) = sought(alloc, &entry, will)? {
+            let gathered = &mut all[partition as usize];
+            make_room(&mut gathered.places)?;
+            gathered.places.push_reserved(at as u32);
+        }
+        at += taken;
+    }
+    Ok(all)
+}
+
+/// The groups of the entries at these places of the segment, which has this id.
+fn groups_at<'a>(
+    alloc: Global,
+    id: u64,
+    segment: &'a Segment,
+    all: Vec<Gathered>,
+) -> Result<Vec<Group<'a>>, NoMemory>
+    requires { ArePlaces (text_of segment.now) all.items }
+    ensures { IfOk result (λ groups.
+        map grouped groups.items ≡ map (group_at id (text_of segment.entry.now)) all.items) }
+{
+    let mut groups = Vec::with_capacity(alloc, all.len())?;
+    for gathered in all {
+        let group = Group {
+            segment: id,
+            partition: gathered.partition,
+            entries: GroupEntries::at_places(segment, gathered.places),
+        };
+        if groups.push(group).is_err() {
+            return Err(NoMemory);
+        }
+    }
+    Ok(groups)
 }
 
 /// The segment's groups: for each partition of the will, in order, the objects and tombstones whose keys are in it. A
-/// group may be empty. The entries stay in the segment's bytes. A key that is in no partition is named by Stray.
+/// group may be empty. The entries stay in the segment's bytes: a group takes 4 bytes for each, and a few words besides.
+/// A key that is in no partition is named by Stray.
 pub fn divide<'a>(
     alloc: Global,
     segment: &'a Segment,
@@ -85,14 +131,7 @@ pub fn divide<'a>(
     ensures covered { OnOk result (AreCovered will.now segment.entry.now) }
     ensures fault { IfErr result (IsDivideFault will.now segment.entry.now) }
 {
+    let all = gather(alloc, segment, will)?;
     let id = segment.view().header().segment;
-    let mut groups = empty_groups(alloc, id, will.partitions())?;
-    for entry in segment.entries() {
-        if let Some(partition) = sought(alloc, &entry, will)? {
-            let group = &mut groups[partition as usize];
-            make_room(&mut group.entries)?;
-            group.entries.push_reserved(entry);
-        }
-    }
-    Ok(groups)
+    Ok(groups_at(alloc, id, segment, all)?)
 }
