@@ -24,22 +24,20 @@ use Rattle.division.specs.declared.fault.DivideFault.{DivideFault}
 use Rattle.division.specs.declared.fault.DivideFault.TheVariants as divide_fault
 use Rattle.division.specs.Groups.{Grouped, bag_of, segments_of}
 use Rattle.division.specs.Division.{is_number, goes_to, group_in, groups_of, numbers_of, AreCovered, IsDivision, IsDivideFault}
-use Rattle.rebuilding.specs.Bags.{segments_bag}
-use Rattle.rebuilding.specs.Claims.{Claimed, claims_of}
-use Rattle.rebuilding.specs.Faults.{as_replay_fault}
-use Rattle.rebuilding.specs.declared.fault.ReplayFault.{ReplayFault}
-use Rattle.rebuilding.specs.declared.fault.ReplayFault.TheVariants as fault
+use Rattle.claims.specs.Bags.{segments_bag}
+use Rattle.claims.specs.Claims.{Claimed}
+use Rattle.claims.specs.Faults.{as_replay_fault}
+use Rattle.claims.specs.declared.fault.ReplayFault.{ReplayFault}
+use Rattle.claims.specs.declared.fault.ReplayFault.TheVariants as fault
 use Rattle.rebuilding.specs.Rebuilds.{header_id, id_of, ids_of, count_of, IsDouble, IsRebuildFault, NamesEach}
-use Rattle.rebuilding.specs.Turns.{all_groups, AreAllCovered, IsGroupsFault, IsSecond, IsOrderFault, AreOf}
-use Rattle.rebuilding.proofs.Members.{flat_among, among_flat, among_filter, filter_among, range_among, map_at}
-use Rattle.rebuilding.proofs.MeaningLemmas.{claims_of-among, claims_of-has}
+use Rattle.rebuilding.specs.Turns.{all_groups, AreAllCovered, IsGroupsFault, IsSecond, IsOrderFault}
+use Rattle.claims.specs.Settled.{AreOf}
+use Rattle.claims.proofs.Members.{flat_among, among_flat, among_filter, filter_among, range_among, map_at}
+use Rattle.claims.proofs.MeaningLemmas.{claims_within}
+use Rattle.division.proofs.Divisions.{goes_data}
 use Rattle.rebuilding.proofs.Carried.{segment-at, number-at}
 
-pub claims_within : (es fs : List Entry) → ((e : Entry) → IsAmong e es → IsAmong e fs) → (c : Claimed)
-    → IsAmong c (claims_of es) → IsAmong c (claims_of fs)
-claims_within es fs h c m = let e = claims_of-among es c m in claims_of-has fs e.0 c (h e.0 e.1) e.2
-
-data_of_key : (k : Key) (e : Entry) → IsOfKey k e → is_data e ≡ true
+pub data_of_key : (k : Key) (e : Entry) → IsOfKey k e → is_data e ≡ true
 data_of_key k (entry.Header h) at = absurd at
 data_of_key k (entry.Digest ids) at = absurd at
 data_of_key k (entry.Safe version) at = absurd at
@@ -84,13 +82,6 @@ module _ (qs : List Part) where
 
   -- ---- entries
 
-  goes_data : (n : ℕ) (e : Entry) → goes_to qs n e ≡ true → is_data e ≡ true
-  goes_data n (entry.Header h) goes = goes
-  goes_data n (entry.Digest ids) goes = goes
-  goes_data n (entry.Safe version) goes = goes
-  goes_data n (entry.Object o) goes = refl
-  goes_data n (entry.Tombstone t) goes = refl
-
   module _ (segments : List (List Entry)) where
     pub to_log : (e : Entry) → IsAmong e (bag_of (all_groups qs segments)) → IsAmong e (segments_bag segments)
     to_log e m =
@@ -100,7 +91,7 @@ module _ (qs : List Part) where
         let here : IsAmong e (group_in qs (id_of es.0) es.0 n.0).entries =
         subst (λ (h : Grouped). IsAmong e h.entries) (sym n.2) g.2 in
         let in_es = among_filter (goes_to qs n.0) es.0 e here in
-        flat_among _ segments es.0 e es.1 (filter_among is_data es.0 e in_es.0 (goes_data n.0 e in_es.1))
+        flat_among _ segments es.0 e es.1 (filter_among is_data es.0 e in_es.0 (goes_data qs n.0 e in_es.1))
 
     named : (o : Option ℕ) → is_some o ≡ true → (n : ℕ) × (o ≡ Some n)
     named None h = absurd (cc)

@@ -7,9 +7,9 @@ use Rattle.entry.specs.Bag.{IsAmong}
 use Rattle.entry.proofs.BagLemmas.{among_at}
 use Rattle.division.specs.Groups.{Grouped, segments_of}
 use Rattle.division.specs.Division.{numbers_of}
-use Rattle.rebuilding.specs.Claims.{Claimed, claims_of}
+use Rattle.claims.specs.Claims.{Claimed, claims_of}
 use Rattle.rebuilding.specs.Rebuilds.{NamesEach}
-use Rattle.rebuilding.specs.Turns.{AreOf}
+use Rattle.claims.specs.Settled.{AreOf}
 
 -- ---- what calls promised, carried on
 

@@ -1,16 +1,7 @@
-pub mod KeyPlaces
-pub mod ClaimOrder
-pub mod ScanLemmas
-pub mod MeaningLemmas
-pub mod GatheringLemmas
-pub mod SiftLemmas
-pub mod ReplayLemmas
-pub mod Listed
-pub mod Settled
-pub mod Members
 pub mod Carried
 pub mod Marks
 pub mod AllGroups
 pub mod Ordered
 pub mod Twins
 pub mod Wholes
+pub mod Turned

@@ -1,14 +1,14 @@
 -- Orders: which numbers are marked.
-use Rattle.std.proofs.Common.{◌≡◌, ◌≢◌, ℕ, zero, suc, ◌+◌, ◌<◌, Bool, true, false, List, [], ◌∷◌, map, length, get_or, set, replicate}
-use Rattle.std.proofs.Common.{refl, sym, ap, subst, ◌∙◌, arith, below_more, get_or-set_same, get_or-set_other}
-use Rattle.std.specs.Prelude.{◌==◌, slice_index}
-use Rattle.std.proofs.lemmas.Bool.Decides.{Decides-eqb}
+use Rattle.std.proofs.Common.{◌≡◌, ◌≢◌, ℕ, zero, suc, ◌+◌, ◌<◌, Bool, true, false, List, [], ◌∷◌, map, length, get_or, set}
+use Rattle.std.proofs.Common.{sym, ap, subst, ◌∙◌, arith, below_more, get_or-set_same, get_or-set_other}
+use Rattle.std.specs.Prelude.{slice_index}
 use Rattle.std.proofs.lemmas.List.{length-map, get_or_default}
 use Rattle.entry.specs.Bag.{IsAmong}
 use Rattle.entry.proofs.BagLemmas.{among_at, among_place}
 use Rattle.division.specs.declared.group.Group.{Group}
 use Rattle.division.specs.Groups.{grouped, segments_of}
 use Rattle.division.specs.Division.{numbers_of}
+use Rattle.claims.proofs.Members.{same_or_not}
 use Rattle.rebuilding.specs.Rebuilds.{NamesEach}
 use Rattle.rebuilding.specs.Turns.{AreMarked, IsSecond, IsUnnamed}
 
@@ -26,22 +26,6 @@ past_end : (named : List Bool) (n : ℕ) → get_or named n false ≡ true → n
 past_end [] n on = absurd (cc)
 past_end (b ∷ named) zero on = omega arith
 past_end (b ∷ named) (suc n) on = let more = past_end named n on in omega arith
-
-pub same_or_not : (m n : ℕ) (P : Type 0) → (m ≡ n → P) → (m ≢ n → P) → P
-same_or_not m n P same other = by_test (m == n) refl
-  where
-    by_test : (b : Bool) → (m == n) ≡ b → P
-    by_test true e = same ((Decides-eqb m n).0 e)
-    by_test false e = other (λ p. let on : (m == n) ≡ true = (Decides-eqb m n).1 p in absurd (cc))
-
-pub unmarked : (m n : ℕ) → get_or (replicate m false) n false ≡ false
-unmarked zero n = refl
-unmarked (suc m) zero = refl
-unmarked (suc m) (suc n) = unmarked m n
-
-pub length-unmarked : (m : ℕ) → length (replicate m false) ≡ m
-length-unmarked zero = refl
-length-unmarked (suc m) = ap suc (length-unmarked m)
 
 pub marked_first : (order : List ℕ) (named : List Bool) → ((n : ℕ) → get_or named n false ≡ false)
     → AreMarked order 0 named

@@ -7,23 +7,23 @@ use Rattle.std.proofs.lemmas.List.{append-nil, take_more, length-map, get_or_def
 use Rattle.entry.specs.declared.entry.Entry.{Entry}
 use Rattle.entry.specs.Bag.{IsAmong}
 use Rattle.entry.specs.Text.{is_data}
-use Rattle.entry.specs.View.{shown}
 use Rattle.entry.proofs.BagLemmas.{among_at, among_place}
 use Rattle.division.specs.declared.group.Group.{Group}
 use Rattle.division.specs.Groups.{Grouped, grouped, bag_of}
-use Rattle.rebuilding.specs.Claims.{Claimed, claims_of}
+use Rattle.claims.specs.Claims.{Claimed, claims_of}
 use Rattle.rebuilding.specs.Rebuilds.{NamesEach}
-use Rattle.rebuilding.specs.Bags.{segments_bag}
-use Rattle.rebuilding.specs.Turns.{AreOf, entries_in_turn}
-use Rattle.rebuilding.proofs.AllGroups.{claims_within}
-use Rattle.rebuilding.proofs.GatheringLemmas.{claims_of-append, claims_of-data}
-use Rattle.rebuilding.proofs.Members.{flat_among, among_flat, map_at}
+use Rattle.claims.specs.Bags.{segments_bag}
+use Rattle.rebuilding.specs.Turns.{entries_in_turn}
+use Rattle.claims.specs.Settled.{AreOf}
+use Rattle.claims.proofs.MeaningLemmas.{claims_within}
+use Rattle.claims.proofs.GatheringLemmas.{claims_of-append, claims_of-data}
+use Rattle.claims.proofs.Members.{flat_among, among_flat, map_at}
 
-abbrev none : Grouped
+abbrev pub none : Grouped
 none = record { segment = 0; partition = 0; entries = [] }
 
 -- the entries of the group with this number
-abbrev entries_at : List Grouped → ℕ → List Entry
+abbrev pub entries_at : List Grouped → ℕ → List Entry
 entries_at gs n = (get_or gs n none).entries
 
 -- what the named groups claim
@@ -32,31 +32,31 @@ claims_named gs order = claims_of (flat_map (entries_at gs) order)
 
 pub named_more : (gs : List Group) (order : List ℕ) (k : ℕ) (g : Group) (was new : List Claimed) → k < length order
     → slice_index order k < length gs → g ≡ get_or gs (slice_index order k) g
-    → new ≡ was ++ claims_of (map shown g.entries.items) → was ≡ claims_named (map grouped gs) (take k order)
+    → new ≡ was ++ claims_of (g.entries) → was ≡ claims_named (map grouped gs) (take k order)
     → new ≡ claims_named (map grouped gs) (take (k + 1) order)
 named_more gs order k g was new lt inside at added held =
     let hs = map grouped gs in
     let n = slice_index order k in
     let front = take k order in
     let within : n < length hs = (let long = length-map gs grouped in omega (arith, long, inside)) in
-    let here : entries_at hs n ≡ map shown g.entries.items =
+    let here : entries_at hs n ≡ g.entries =
     ap (λ (h : Grouped). h.entries)
     (get_or_default hs n none (grouped g) within ∙ map_at grouped gs n g ∙ ap grouped (sym at)) in
-    let more : flat_map (entries_at hs) (take (k + 1) order) ≡ flat_map (entries_at hs) front ++ map shown g.entries.items =
+    let more : flat_map (entries_at hs) (take (k + 1) order) ≡ flat_map (entries_at hs) front ++ g.entries =
     ap (flat_map (entries_at hs)) (take_more order k 0 lt) ∙ flat_map-append (entries_at hs) front (n ∷ [])
     ∙ ap (λ (es : List Entry). flat_map (entries_at hs) front ++ es) (append-nil (entries_at hs n) ∙ here) in
-    added ∙ ap (λ (cs : List Claimed). cs ++ claims_of (map shown g.entries.items)) held
-    ∙ sym (ap claims_of more ∙ claims_of-append (flat_map (entries_at hs) front) (map shown g.entries.items))
+    added ∙ ap (λ (cs : List Claimed). cs ++ claims_of (g.entries)) held
+    ∙ sym (ap claims_of more ∙ claims_of-append (flat_map (entries_at hs) front) (g.entries))
 
 module _ (gs : List Grouped) (order : List ℕ) (names : NamesEach (length gs) order) where
-  to_bag : (e : Entry) → IsAmong e (flat_map (entries_at gs) order) → IsAmong e (bag_of gs)
+  pub to_bag : (e : Entry) → IsAmong e (flat_map (entries_at gs) order) → IsAmong e (bag_of gs)
   to_bag e m =
       let n = among_flat (entries_at gs) order e m in
       let inside = names.below n.0 n.1 in
       flat_among (λ (g : Grouped). g.entries) gs (get_or gs n.0 none) e
       (among_at gs n.0 (get_or gs n.0 none) inside (get_or_default gs n.0 none (get_or gs n.0 none) inside)) n.2
 
-  from_bag : (e : Entry) → IsAmong e (bag_of gs) → IsAmong e (flat_map (entries_at gs) order)
+  pub from_bag : (e : Entry) → IsAmong e (bag_of gs) → IsAmong e (flat_map (entries_at gs) order)
   from_bag e m =
       let g = among_flat (λ (h : Grouped). h.entries) gs e m in
       let at = among_place g.0 gs g.1 in

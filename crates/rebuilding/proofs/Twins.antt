@@ -9,12 +9,12 @@ use Rattle.entry.specs.declared.entry.Entry.{Entry}
 use Rattle.entry.proofs.BagLemmas.{among_at, among_place}
 use Rattle.tablet_will.specs.declared.part.Part.{Part}
 use Rattle.tablet_will.specs.Parts.{partitions_of}
-use Rattle.rebuilding.specs.declared.fault.ReplayFault.{ReplayFault}
-use Rattle.rebuilding.specs.declared.fault.ReplayFault.TheVariants as fault
+use Rattle.claims.specs.declared.fault.ReplayFault.{ReplayFault}
+use Rattle.claims.specs.declared.fault.ReplayFault.TheVariants as fault
 use Rattle.rebuilding.specs.Rebuilds.{id_of, ids_of, count_of, IsDouble, IsGroup, IsRebuildFault, NamesEach}
 use Rattle.rebuilding.specs.Turns.{AreApart, IsIdsFault, IsTwin}
-use Rattle.rebuilding.proofs.Marks.{same_or_not}
-use Rattle.rebuilding.proofs.ReplayLemmas.{id_no, id_yes}
+use Rattle.claims.proofs.Members.{same_or_not}
+use Rattle.claims.proofs.Members.{id_no, id_yes}
 use Rattle.rebuilding.proofs.Wholes.{apart_ways, row_inside}
 
 -- ---- looking through the ids

@@ -14,12 +14,12 @@ use Rattle.entry.proofs.BagLemmas.{among_permutation}
 use Rattle.entry.proofs.ListLemmas.{all_from_among}
 use Rattle.tablet_will.specs.declared.part.Part.{Part}
 use Rattle.tablet_will.specs.Parts.{partitions_of, partition_of_key}
-use Rattle.rebuilding.specs.declared.fault.ReplayFault.{ReplayFault}
-use Rattle.rebuilding.specs.declared.fault.ReplayFault.TheVariants as fault
-use Rattle.rebuilding.specs.Rebuilt.{IsRefusal}
+use Rattle.claims.specs.declared.fault.ReplayFault.{ReplayFault}
+use Rattle.claims.specs.declared.fault.ReplayFault.TheVariants as fault
+use Rattle.claims.specs.Rebuilt.{IsRefusal}
 use Rattle.rebuilding.specs.Rebuilds.{id_of, ids_of, count_of, IsDouble, IsRebuildFault, CanBeRebuilt}
-use Rattle.rebuilding.proofs.Marks.{same_or_not}
-use Rattle.rebuilding.proofs.Members.{among_range, range_among}
+use Rattle.claims.proofs.Members.{same_or_not}
+use Rattle.claims.proofs.Members.{among_range, range_among}
 
 abbrev equal : ℕ → ℕ → Bool
 equal a b = a == b

@@ -1,11 +1,2 @@
-pub mod Placed
-pub mod Claims
-pub mod Bags
-pub mod Listed
-pub mod Props
-pub mod Rebuilt
-pub mod Texts
-pub mod Faults
-pub mod Replaying
 pub mod Rebuilds
 pub mod Turns

@@ -12,9 +12,9 @@ use Rattle.entry.specs.Text.{header_of}
 use Rattle.tablet_will.specs.declared.part.Part.{Part}
 use Rattle.tablet_will.specs.Parts.{partitions_of}
 use Rattle.division.specs.Division.{AreCovered, IsStray}
-use Rattle.rebuilding.specs.Bags.{segments_bag}
-use Rattle.rebuilding.specs.declared.fault.ReplayFault.{ReplayFault}
-use Rattle.rebuilding.specs.declared.fault.ReplayFault.TheVariants as fault
+use Rattle.claims.specs.Bags.{segments_bag}
+use Rattle.claims.specs.declared.fault.ReplayFault.{ReplayFault}
+use Rattle.claims.specs.declared.fault.ReplayFault.TheVariants as fault
 
 -- ---- numbers of groups
 

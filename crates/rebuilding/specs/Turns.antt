@@ -1,20 +1,16 @@
 -- All groups of a log, the order in which they come, and what they claim.
-use Rattle.std.specs.Prelude.{◌≡◌, ℕ, ◌<◌, ◌≤◌, ◌↔◌, List, length, slice_index, ⊤}
+use Rattle.std.specs.Prelude.{◌≡◌, ℕ, ◌<◌, ◌≤◌, List, length, slice_index, ⊤}
 use Rattle.std.specs.Prelude.{◌≢◌, Bool, true, false, slice_index_or, map, []}
 use Rattle.std.specs.List.{flat_map}
 use Rattle.entry.specs.declared.entry.Entry.{Entry}
 use Rattle.entry.specs.Bag.{IsAmong}
-use Rattle.entry.specs.Meaning.{IsClean, among}
 use Rattle.tablet_will.specs.declared.part.Part.{Part}
 use Rattle.division.specs.Groups.{Grouped, segments_of}
 use Rattle.division.specs.Division.{groups_of, numbers_of, AreCovered, IsStray}
-use Rattle.rebuilding.specs.Bags.{segments_bag}
-use Rattle.rebuilding.specs.Claims.{Claimed, claims_of}
-use Rattle.rebuilding.specs.Rebuilt.{IsRebuilt, IsRefusal}
+use Rattle.claims.specs.Bags.{segments_bag}
 use Rattle.rebuilding.specs.Rebuilds.{id_of}
-use Rattle.rebuilding.specs.declared.rebuilt.Rebuilt.{Rebuilt}
-use Rattle.rebuilding.specs.declared.fault.ReplayFault.{ReplayFault}
-use Rattle.rebuilding.specs.declared.fault.ReplayFault.TheVariants as fault
+use Rattle.claims.specs.declared.fault.ReplayFault.{ReplayFault}
+use Rattle.claims.specs.declared.fault.ReplayFault.TheVariants as fault
 
 -- ---- groups
 
@@ -97,25 +93,3 @@ pub record IsTwin (ids : List ℕ) (id : ℕ) : Type 0 where
 abbrev pub IsIdsFault : List ℕ → ReplayFault → Type 0
 IsIdsFault ids (fault.Double id) = IsTwin ids id
 IsIdsFault ids _ = ⊥
-
--- ---- claims
-
--- the claims are those of the entries, in any order
-abbrev pub AreOf : List Entry → List Claimed → Type 0
-AreOf es cs = (c : Claimed) → IsAmong c cs ↔ IsAmong c (claims_of es)
-
--- ---- the end
-
--- what is rebuilt from the claims is what each log with these claims is rebuilt to
-abbrev pub AreRebuilt : List Claimed → ℕ → Rebuilt → Type 0
-AreRebuilt cs recorded r =
-    (segments : List (List Entry)) → AreOf (segments_bag segments) cs → IsRebuilt segments recorded r
-
--- each log with these claims is clean
-abbrev pub AreCleanClaims : List Claimed → Type 0
-AreCleanClaims cs = (segments : List (List Entry)) → AreOf (segments_bag segments) cs
-    → IsClean (among (segments_bag segments))
-
--- why each log with these claims is refused
-pub record AreRefused (cs : List Claimed) (f : ReplayFault) : Type 0 where
-  pub each : (segments : List (List Entry)) → AreOf (segments_bag segments) cs → IsRefusal segments f

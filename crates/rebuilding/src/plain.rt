@@ -2,13 +2,10 @@
 
 ghost use Rattle.std.specs.Prelude.{IfOk, IfErr, OnOk};
 ghost use Rattle.entry.specs.Meaning.{IsClean, among};
-ghost use Rattle.rebuilding.specs.Bags.{segments_bag};
-ghost use Rattle.rebuilding.specs.Rebuilt.{IsRebuilt, IsRefusal};
+ghost use Rattle.claims.specs.Bags.{segments_bag};
+ghost use Rattle.claims.specs.Rebuilt.{IsRebuilt, IsRefusal};
 
-use crate::fault::ReplayFault;
-use crate::gathering::claims_in;
-use crate::rebuilt::Rebuilt;
-use crate::settling::settle;
+use claims::{Rebuilt, ReplayFault, claims_in, settle};
 use recovery_plan::Plan;
 use std::alloc::Global;
 

@@ -1,41 +1,25 @@
 //! A log that is rebuilt from its groups, whatever the will and the order in which they come.
 
-ghost use Rattle.std.specs.Prelude.{◌≡◌, ◌==◌, ◌++◌, ◌<◌, ℕ, map, length, slice_index, take, IfOk, IfErr, OnOk};
-ghost use Rattle.std.specs.List.{list_any};
+ghost use Rattle.std.specs.Prelude.{◌≡◌, ◌++◌, map, length, IfOk, IfErr, OnOk};
 ghost use Rattle.entry.specs.Meaning.{IsClean, among};
 ghost use Rattle.division.specs.Division.{AreCovered};
 ghost use Rattle.division.specs.Groups.{grouped, bag_of};
-ghost use Rattle.rebuilding.specs.Bags.{segments_bag};
-ghost use Rattle.rebuilding.specs.Claims.{claimed, claims_of};
-ghost use Rattle.rebuilding.specs.Rebuilds.{IsRebuildFault, CanBeRebuilt, NamesEach, count_of, ids_of};
-ghost use Rattle.rebuilding.specs.Rebuilt.{IsRebuilt};
-ghost use Rattle.rebuilding.specs.Turns.{all_groups, entries_in_turn, replayed, AreAllCovered, AreApart, AreMarked, AreOf};
-ghost use Rattle.rebuilding.specs.Turns.{IsGroupsFault, IsIdsFault, IsOrderFault};
+ghost use Rattle.claims.specs.Bags.{segments_bag};
+ghost use Rattle.claims.specs.Claims.{claimed, claims_of};
+ghost use Rattle.rebuilding.specs.Rebuilds.{IsRebuildFault, CanBeRebuilt, NamesEach, count_of};
+ghost use Rattle.claims.specs.Rebuilt.{IsRebuilt};
+ghost use Rattle.rebuilding.specs.Turns.{all_groups, entries_in_turn, replayed, AreAllCovered, AreMarked};
+ghost use Rattle.claims.specs.Settled.{AreOf};
+ghost use Rattle.rebuilding.specs.Turns.{IsGroupsFault, IsOrderFault};
 
-use crate::claim::Claim;
-use crate::fault::ReplayFault;
-use crate::joining::add_claims;
-use crate::rebuilt::Rebuilt;
-use crate::settling::settle;
+use crate::ids::{check_ids, ids_in};
+use claims::{Claim, Rebuilt, ReplayFault, add_claims, settle};
 use division::{Group, divide};
 use entry::NoMemory;
 use recovery_plan::Plan;
 use segment::Segment;
 use std::alloc::Global;
 use tablet_will::Will;
-
-/// The ids of the segments.
-fn ids_in(alloc: Global, segments: &[Segment]) -> Result<Vec<u64>, NoMemory>
-    ensures { IfOk result (λ ids. ids.items ≡ ids_of segments.now) }
-{
-    let mut ids = Vec::with_capacity(alloc, segments.len())?;
-    for segment in segments {
-        if ids.push(segment.view().header().segment).is_err() {
-            return Err(NoMemory);
-        }
-    }
-    Ok(ids)
-}
 
 /// Puts the groups behind the others.
 fn append<'a>(all: &mut Vec<Group<'a>>, groups: Vec<Group<'a>>) -> Result<(), NoMemory>
@@ -101,32 +85,6 @@ fn check_order(alloc: Global, groups: &[Group<'_>], order: &[usize]) -> Result<(
     Ok(())
 }
 
-/// Whether the id at this place is one of those before it.
-fn is_repeated(ids: &[u64], at: usize) -> bool
-    requires { at < length ids.now }
-    ensures { result ≡ list_any (λ (id : ℕ). id == slice_index ids.now at) (take at ids.now) }
-{
-    let (before, _) = ids.split_at(at);
-    before.contains(&ids[at])
-}
-
-/// Tests that no two segments have one id. It looks back only from an id that is not the greatest so far.
-fn check_ids(ids: &[u64]) -> Result<(), ReplayFault>
-    ensures ok { OnOk result (AreApart ids.now) }
-    ensures fault { IfErr result (IsIdsFault ids.now) }
-{
-    let mut greatest = 0;
-    for at in 0..ids.len() {
-        let id = ids[at];
-        if id > greatest {
-            greatest = id;
-        } else if is_repeated(ids, at) {
-            return Err(ReplayFault::Double(id));
-        }
-    }
-    Ok(())
-}
-
 /// How many entries the groups have, for room.
 fn count_entries(groups: &[Group<'_>]) -> usize {
     let mut count: usize = 0;
@@ -149,7 +107,7 @@ fn claims_in_order<'a>(
 {
     let mut claims = Vec::with_capacity(alloc, count_entries(groups))?;
     for n in order {
-        add_claims(&mut claims, groups[*n].entries.as_slice())?;
+        add_claims(&mut claims, &groups[*n].entries)?;
     }
     Ok(claims)
 }

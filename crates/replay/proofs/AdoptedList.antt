@@ -22,7 +22,7 @@ use Rattle.master_core.specs.Loading.{restored_data, Settles}
 use Rattle.master.specs.Loading.{DeclinesLoad}
 use Rattle.master.specs.Steps.{Declines}
 use Rattle.master.specs.World.{World, world_of}
-use Rattle.rebuilding.specs.declared.rebuilt.Rebuilt.{Rebuilt}
+use Rattle.claims.specs.declared.rebuilt.Rebuilt.{Rebuilt}
 use Rattle.replay.specs.Adopting.{PushesUntil, LoadsAll, IsStuck, Stops, IsAdopted, IsAdoptedOn, AdoptsList}
 use Rattle.replay.proofs.LoadList.{contents_loaded}
 use Rattle.replay.proofs.LoadSteps.{all_keeps, nothing_waits, stacked}

@@ -1,7 +1,6 @@
 -- A list that is loaded, object by object.
-use Rattle.std.proofs.Common.{◌≡◌, ◌<◌, ◌≤◌, ℕ, suc, ◌+◌, Bool, true, false, List, [], ◌∷◌, ◌++◌, length, get_or, take, drop, drop-cons, refl, sym, ap, subst, inl, inr, ◌∙◌, arith}
-use Rattle.std.proofs.Math.Seq.{take-suc}
-use Rattle.std.proofs.lemmas.List.{append-nil, take-append-drop, take_all}
+use Rattle.std.proofs.Common.{◌≡◌, ◌<◌, ℕ, suc, Bool, true, false, List, [], ◌∷◌, ◌++◌, append_assoc, refl, sym, ap, subst, inl, inr, ◌∙◌}
+use Rattle.std.proofs.lemmas.List.{append-nil}
 use Rattle.std.specs.Prelude.{Option, Some, None, if◌then◌else◌, Result, Ok, Err, IfErr, OnOk, map}
 use Rattle.std.proofs.lemmas.List.Elements.{All-contains}
 use Rattle.std.specs.List.Sorted.{IsStrictlySortedBy}
@@ -22,11 +21,11 @@ use Rattle.master_core.specs.Data.{MasterData}
 use Rattle.master_core.specs.Loading.{restored_data, IsNewObject, Loads}
 use Rattle.master.specs.Loading.{DeclinesLoad}
 use Rattle.master.specs.World.{World}
-use Rattle.rebuilding.specs.declared.rebuilt.Rebuilt.{Rebuilt}
+use Rattle.claims.specs.declared.rebuilt.Rebuilt.{Rebuilt}
 use Rattle.replay.specs.Adopting.{PushesUntil, IsRolled, IsNotRolled, HasToWait, HasRoomMade, LoadsOne, HasLoaded, LoadsAll}
 use Rattle.replay.specs.Adopting.{IsStuck, IsFinal, Stops}
 use Rattle.replay.specs.Fresh.{AreNew}
-use Rattle.rebuilding.specs.Listed.{AreOrdered}
+use Rattle.claims.specs.Listed.{AreOrdered}
 use Rattle.replay.proofs.LoadSteps.{KeepsLoaded, stacked, room_keeps}
 
 -- ---- keys
@@ -185,38 +184,32 @@ module _ (o : Object) (a b m c : World) (r : Refusal) (made : HasRoom o a b) (de
     inr (waits_now o b m r declines is, subst (λ (w : World). IsNotRolled w why c) (load_same o b m r declines fleet) h),
   )
 
--- ---- the object at a place
-
-pub drop_at : (os : List Object) (i : ℕ) (o : Object) → i < length os → o ≡ get_or os i o → drop i os ≡ o ∷ drop (i + 1) os
-drop_at os i o lt is =
-    let one : suc i ≡ i + 1 = omega arith in
-    drop-cons os i o lt ∙ ap (λ (x : Object). x ∷ drop (suc i) os) (sym is) ∙ ap (λ (n : ℕ). o ∷ drop n os) one
-
-pub take_at : (os : List Object) (i : ℕ) (o : Object) → i < length os → o ≡ get_or os i o → take (i + 1) os ≡ take i os ++ o ∷ []
-take_at os i o lt is =
-    let one : i + 1 ≡ suc i = omega arith in
-    ap (λ (n : ℕ). take n os) one ∙ take-suc os i o lt ∙ ap (λ (x : Object). take i os ++ x ∷ []) (sym is)
-
 -- ---- a list
 
-pub stops_in_list : (os : List Object) (i : ℕ) (o : Object) (rest : List Object) (a b c : World) (r : Refusal) → drop i os ≡ o ∷ rest
-    → HasLoaded (take i os) a b → IsStuck (o ∷ []) b r c × IsFinal r → Stops os a r c
-stops_in_list os i o rest a b c r is before (stuck, final) = record {
-  loaded = take i os;
+pub done_more : (done left rest os : List Object) (o : Object) → left ≡ o ∷ rest → done ++ left ≡ os → (done ++ o ∷ []) ++ rest ≡ os
+done_more done left rest os o is whole = append_assoc done (o ∷ []) rest ∙ ap (λ (ps : List Object). done ++ ps) (sym is) ∙ whole
+
+pub stops_in_list : (os done left rest : List Object) (o : Object) (a b c : World) (r : Refusal) → left ≡ o ∷ rest → done ++ left ≡ os
+    → HasLoaded done a b → IsStuck (o ∷ []) b r c × IsFinal r → Stops os a r c
+stops_in_list os done left rest o a b c r is whole before (stuck, final) = record {
+  loaded = done;
   left = o ∷ rest;
-  parts = sym (ap (λ (ps : List Object). take i os ++ ps) (sym is) ∙ take-append-drop i os);
+  parts = sym whole ∙ ap (λ (ps : List Object). done ++ ps) is;
   mid = b;
   steps = before;
   cause = stuck;
   final = final;
 }
 
-module _ (os : List Object) (i : ℕ) (a b c : World) (past : length os ≤ i) (before : HasLoaded (take i os) a b) where
-  whole : HasLoaded os a b
-  whole = subst (λ (ps : List Object). HasLoaded ps a b) (take_all i os past) before
+module _ (os done left : List Object) (a b c : World) (past : left ≡ []) (whole : done ++ left ≡ os) (before : HasLoaded done a b) where
+  all_done : done ≡ os
+  all_done = sym (append-nil done) ∙ ap (λ (ps : List Object). done ++ ps) (sym past) ∙ whole
+
+  loaded_whole : HasLoaded os a b
+  loaded_whole = subst (λ (ps : List Object). HasLoaded ps a b) all_done before
 
   pub list_loaded : (result : Result (Unit {0}) Refusal) → OnOk result (PushesUntil b refusal.Nothing c) → OnOk result (LoadsAll os a c)
-  list_loaded (Ok u) pushes = (b, whole, pushes)
+  list_loaded (Ok u) pushes = (b, loaded_whole, pushes)
   list_loaded (Err r) pushes = tt
 
   pub list_stopped : (result : Result (Unit {0}) Refusal) → IfErr result (λ r. PushesUntil b r c × IsFinal r)
@@ -227,7 +220,7 @@ module _ (os : List Object) (i : ℕ) (a b c : World) (past : length os ≤ i) (
     left = [];
     parts = sym (append-nil os);
     mid = b;
-    steps = whole;
+    steps = loaded_whole;
     cause = until;
     final = final;
   }

@@ -17,7 +17,7 @@ use Rattle.master_core.specs.Log.{opening_of}
 use Rattle.master.specs.Loading.{DeclinesLoad}
 use Rattle.master.specs.Steps.{Accepts, Declines}
 use Rattle.master.specs.World.{World, world_of}
-use Rattle.rebuilding.specs.declared.rebuilt.Rebuilt.{Rebuilt}
+use Rattle.claims.specs.declared.rebuilt.Rebuilt.{Rebuilt}
 
 -- ---- pushes and rolls
 

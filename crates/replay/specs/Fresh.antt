@@ -4,7 +4,7 @@ use Rattle.entry.specs.declared.entry.Object.{Object}
 use Rattle.entry.specs.Bag.{IsAmong}
 use Rattle.master_core.specs.Data.{MasterData}
 use Rattle.master_core.specs.Loading.{IsNewObject}
-use Rattle.rebuilding.specs.Listed.{AreOrdered}
+use Rattle.claims.specs.Listed.{AreOrdered}
 
 -- Each key once, no key was loaded before, and each version is below the safe one.
 pub record AreNew (d : MasterData) (os : List Object) : Type 0 where

@@ -9,10 +9,10 @@ ghost use Rattle.replay.specs.Adopting.{PushesUntil, IsRolled, IsNotRolled, IsFi
 ghost use Rattle.replay.specs.Adopting.{IsAdopted, IsAdoptedOn, AdoptsList, DeclinesList};
 ghost use Rattle.replay.specs.Fresh.{AreNew};
 
+use claims::{Objects, Rebuilt};
 use entry::{NoMemory, Object};
 use master::{Loading, Master};
 use master_core::{Config, Refusal};
-use rebuilding::Rebuilt;
 use replica::Fleet;
 use std::alloc::Global;
 
@@ -68,13 +68,13 @@ fn load_one<F: Fleet>(loading: &mut Loading<F>, object: &Object) -> Result<(), R
 }
 
 /// Loads the objects in order, and pushes until nothing waits.
-fn load_all<F: Fleet>(loading: &mut Loading<F>, objects: &[Object]) -> Result<(), Refusal>
+fn load_all<F: Fleet>(loading: &mut Loading<F>, objects: &Objects) -> Result<(), Refusal>
     requires { AreNew loading.old.knows objects.now }
     ensures loaded { OnOk result (LoadsAll objects.now (world F.state loading.old) (world F.state loading.new)) }
     ensures stopped { IfErr result (λ r.
         Stops objects.now (world F.state loading.old) r (world F.state loading.new)) }
 {
-    for object in objects {
+    for object in objects.iter() {
         load_one(loading, object)?;
     }
     push_all(loading)
@@ -102,7 +102,7 @@ pub fn adopt_list<F: Fleet>(
     ensures spent { IfErr result (λ e. e.0 ≡ Refusal.Spent → (F.state e.1).takes ≡ (F.state e.1).end) }
 {
     match Master::restore(alloc, config, rebuilt.safe, fleet) {
-        Ok(mut loading) => match load_all(&mut loading, rebuilt.objects.as_slice()) {
+        Ok(mut loading) => match load_all(&mut loading, &rebuilt.objects) {
             Ok(()) => match loading.finish() {
                 Ok(master) => Ok(master),
                 Err(_) => unreachable!(),

@@ -1,10 +1,10 @@
 use Rattle.std.proofs.Common.{List, map, ap, ◌∙◌}
 use Rattle.entry.specs.declared.entry.Entry.{Entry}
-use Rattle.rebuilding.specs.Bags.{segments_bag}
-use Rattle.rebuilding.specs.Claims.{claimed, claims_of}
-use Rattle.rebuilding.specs.Rebuilt.{IsRebuilt, IsRefusal}
+use Rattle.claims.specs.Bags.{segments_bag}
+use Rattle.claims.specs.Claims.{claimed, claims_of}
+use Rattle.claims.specs.Rebuilt.{IsRebuilt, IsRefusal}
 use Rattle.entry.specs.Meaning.{IsClean, among}
-use Rattle.rebuilding.specs.Turns.{AreOf, AreRebuilt, AreCleanClaims, AreRefused}
+use Rattle.claims.specs.Settled.{AreOf, AreRebuilt, AreCleanClaims, AreRefused}
 use Rattle.rebuilding.proofs.Carried.{claims-of, if_ok, if_err, on_ok}
 use Rattle.rebuilding.proofs.plain.rebuild_plain.Goals.{After-settle}
 use Rattle.rebuilding.proofs.plain.rebuild_plain.Goals as goal

@@ -1,9 +1,10 @@
 use Rattle.std.proofs.Common.{rules, ◌∙◌, List, map, length, ap, subst, sym}
 use Rattle.division.specs.Groups.{Grouped, grouped, bag_of}
-use Rattle.rebuilding.specs.Bags.{segments_bag}
-use Rattle.rebuilding.specs.Claims.{claimed, claims_of}
+use Rattle.claims.specs.Bags.{segments_bag}
+use Rattle.claims.specs.Claims.{claimed, claims_of}
 use Rattle.rebuilding.specs.Rebuilds.{IsRebuildFault, NamesEach, count_of}
-use Rattle.rebuilding.specs.Turns.{entries_in_turn, IsIdsFault, IsOrderFault, AreOf}
+use Rattle.rebuilding.specs.Turns.{entries_in_turn, IsIdsFault, IsOrderFault}
+use Rattle.claims.specs.Settled.{AreOf}
 use Rattle.std.proofs.lemmas.List.{length-map}
 use Rattle.rebuilding.proofs.AllGroups.{order_fault, groups_fault, claims_same, all_covered, names_log}
 use Rattle.rebuilding.proofs.Twins.{ids_fault}

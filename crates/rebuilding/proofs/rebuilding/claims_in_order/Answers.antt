@@ -1,10 +1,9 @@
 use Rattle.std.proofs.Common.{rules, ◌<◌, ◌++◌, length, map, subst, ap, sym, ◌∙◌}
 use Rattle.std.specs.Prelude.{slice_index}
 use Rattle.std.proofs.lemmas.List.{take_all, length-map}
-use Rattle.entry.specs.View.{shown}
 use Rattle.division.specs.declared.group.Group.{Group}
 use Rattle.division.specs.Groups.{grouped}
-use Rattle.rebuilding.specs.Claims.{claimed, claims_of}
+use Rattle.claims.specs.Claims.{claimed, claims_of}
 use Rattle.rebuilding.specs.Rebuilds.{NamesEach}
 use Rattle.rebuilding.proofs.Carried.{number_inside}
 use Rattle.rebuilding.proofs.Ordered.{claims_named, claims_in_turn, named_more, all_named}
@@ -26,9 +25,8 @@ loop-n-preserved c =
     (map claimed c.loop-n.claims.items) _ c.loop-n-test.true
     (number_inside (length c.args.groups.now) c.loop-n.n-index c.args.order.now c.requires c.loop-n-test.true)
     c.index-groups-n.is
-    (c.in_ok-add_claims.ensures
-    ∙ ap (λ es. map claimed c.loop-n.claims.items ++ claims_of (map shown es))
-    (c.as_slice.ensures.value ∙ ap (λ (g : Group). g.entries.items) (sym c.index-groups-n.is)))
+    (c.in_ok-add_claims.ensures.ok
+    ∙ ap (λ (g : Group). map claimed c.loop-n.claims.items ++ claims_of g.entries) (sym c.index-groups-n.is))
     c.loop-n.invariant
 
 pub returns-clause-of : goal.returns-clause-of

@@ -1,6 +1,6 @@
 use Rattle.std.proofs.Common.{◌≡◌, map, take}
 use Rattle.division.specs.Groups.{grouped}
-use Rattle.rebuilding.specs.Claims.{claimed}
+use Rattle.claims.specs.Claims.{claimed}
 use Rattle.rebuilding.proofs.Ordered.{claims_named}
 use Rattle.rebuilding.proofs.rebuilding.claims_in_order.Given as goal
 

@@ -2,7 +2,7 @@ use Rattle.std.proofs.Common.{rules, map, ap, ◌∙◌}
 use Rattle.std.proofs.lemmas.List.{map-append}
 use Rattle.entry.proofs.BagLemmas.{among_at}
 use Rattle.division.specs.Groups.{grouped}
-use Rattle.rebuilding.specs.Faults.{as_replay_fault}
+use Rattle.claims.specs.Faults.{as_replay_fault}
 use Rattle.rebuilding.specs.Turns.{IsGroupsFault}
 use Rattle.rebuilding.proofs.AllGroups.{groups_more, covered_more, stray}
 use Rattle.rebuilding.proofs.rebuilding.groups_in.Goals as goal

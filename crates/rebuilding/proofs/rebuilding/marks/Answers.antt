@@ -5,7 +5,8 @@ use Rattle.entry.proofs.BagLemmas.{among_at}
 use Rattle.division.specs.declared.group.Group.{Group}
 use Rattle.division.specs.Groups.{grouped}
 use Rattle.rebuilding.specs.Turns.{IsSecond, AreMarked}
-use Rattle.rebuilding.proofs.Marks.{second_named, marked_first, marked_more, unmarked, length-unmarked}
+use Rattle.rebuilding.proofs.Marks.{second_named, marked_first, marked_more}
+use Rattle.claims.proofs.Members.{unmarked, length-unmarked}
 use Rattle.rebuilding.proofs.rebuilding.marks.Goals as goal
 
 pub loop-n-init : goal.loop-n-init

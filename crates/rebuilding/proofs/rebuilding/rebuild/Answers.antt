@@ -2,12 +2,13 @@ use Rattle.std.proofs.Common.{rules, ◌≡◌, List, map, subst}
 use Rattle.std.specs.Prelude.{IfErr}
 use Rattle.entry.specs.declared.entry.Entry.{Entry}
 use Rattle.entry.specs.Meaning.{IsClean, among}
-use Rattle.rebuilding.specs.declared.fault.ReplayFault.TheVariants as fault
-use Rattle.rebuilding.specs.Bags.{segments_bag}
-use Rattle.rebuilding.specs.Claims.{claimed, claims_of}
-use Rattle.rebuilding.specs.Rebuilt.{IsRebuilt}
+use Rattle.claims.specs.declared.fault.ReplayFault.TheVariants as fault
+use Rattle.claims.specs.Bags.{segments_bag}
+use Rattle.claims.specs.Claims.{claimed, claims_of}
+use Rattle.claims.specs.Rebuilt.{IsRebuilt}
 use Rattle.rebuilding.specs.Rebuilds.{IsRebuildFault, CanBeRebuilt}
-use Rattle.rebuilding.specs.Turns.{AreOf, AreRebuilt, AreCleanClaims, AreRefused, replayed}
+use Rattle.rebuilding.specs.Turns.{replayed}
+use Rattle.claims.specs.Settled.{AreOf, AreRebuilt, AreCleanClaims, AreRefused}
 use Rattle.rebuilding.proofs.Carried.{if_ok, if_err, on_ok}
 use Rattle.rebuilding.proofs.Ordered.{are_claims}
 use Rattle.rebuilding.proofs.Wholes.{only_memory, refusal_fault}

@@ -1,4 +1,5 @@
-use Rattle.std.proofs.Common.{take, drop}
+use Rattle.std.proofs.Common.{◌≡◌, ◌++◌, List}
+use Rattle.entry.specs.declared.entry.Object.{Object}
 use Rattle.master.specs.World.{world}
 use Rattle.replay.specs.Adopting.{HasLoaded}
 use Rattle.replay.specs.Fresh.{AreNew}
@@ -6,5 +7,6 @@ use Rattle.replay.proofs.adopting.load_all.Given as goal
 
 abbrev pub invariant-loop-object : goal.invariant-loop-object
 invariant-loop-object g l =
-    HasLoaded (take l.object-index l.objects) (world g.F.Fleet.state l.fn.loading) (world g.F.Fleet.state l.loading)
-    × AreNew l.loading.knows (drop l.object-index l.objects)
+    (done : List Object) × (done ++ l.object-iterator ≡ l.fn.objects)
+    × HasLoaded done (world g.F.Fleet.state l.fn.loading) (world g.F.Fleet.state l.loading)
+    × AreNew l.loading.knows l.object-iterator

@@ -1,0 +1,11 @@
+pub mod KeyPlaces
+pub mod ClaimOrder
+pub mod ScanLemmas
+pub mod MeaningLemmas
+pub mod GatheringLemmas
+pub mod SiftLemmas
+pub mod Members
+pub mod Bounds
+pub mod ObjectLists
+pub mod Listed
+pub mod Settled

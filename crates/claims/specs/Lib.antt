@@ -1,0 +1,10 @@
+pub mod Placed
+pub mod Objects
+pub mod Claims
+pub mod Bags
+pub mod Listed
+pub mod Props
+pub mod Rebuilt
+pub mod Texts
+pub mod Faults
+pub mod Settled

@@ -1,0 +1,87 @@
+//! What an object or a tombstone claims of its key.
+
+ghost use Rattle.std.specs.Prelude.{◌≡◌, IfOk};
+ghost use Rattle.std.specs.Option.{option_map};
+ghost use Rattle.entry.specs.Format.{IsObject};
+ghost use Rattle.entry.specs.Limits.{IsValue};
+ghost use Rattle.entry.specs.View.{shown};
+
+use crate::placed::PlacedKey;
+use entry::{EntryRef, NoMemory, Object, ObjectRef, Version};
+use std::alloc::Global;
+
+/// A key's value as of a version, or its end. Claims are ordered by key, then by version, and of one version the
+/// tombstone's is last.
+#[derive(Clone, Copy, PartialEq, Eq, PartialOrd, Ord)]
+pub struct Claim<'a> {
+    pub key: PlacedKey<'a>,
+    pub version: Version,
+    pub dead: bool,
+    /// The value of the object; of a tombstone no bytes.
+    pub value: &'a [u8],
+    ghost limits: { IsValue value.now },
+}
+
+impl<'a> Claim<'a> {
+    ghost use Rattle.claims.specs.Claims.{claimed, claim_of, object_of, is_clash};
+
+    /// The claim of an object or a tombstone.
+    pub fn of(entry: &EntryRef<'a>) -> Option<Claim<'a>>
+        ensures { option_map claimed result ≡ claim_of (shown entry.entry.now) }
+    {
+        match entry {
+            EntryRef::Object(object) => Some(Claim {
+                key: PlacedKey::of(object.key),
+                version: object.version,
+                dead: false,
+                value: object.value,
+            }),
+            EntryRef::Tombstone(tombstone) => Some(Claim {
+                key: PlacedKey::of(tombstone.key),
+                version: tombstone.version,
+                dead: true,
+                value: &[],
+            }),
+            _ => None,
+        }
+    }
+
+    /// The same claim.
+    pub fn copy(&self) -> Claim<'a>
+        ensures { claimed result ≡ claimed self.now }
+    {
+        Claim {
+            key: self.key,
+            version: self.version,
+            dead: self.dead,
+            value: self.value,
+        }
+    }
+
+    /// Whether the two are objects of one key and version with different values.
+    pub fn clashes(&self, other: &Claim<'_>) -> bool
+        ensures { result ≡ is_clash (claimed self.now) (claimed other.now) }
+    {
+        let same_key = self.key == other.key;
+        let same_version = self.version == other.version;
+        if !same_key || !same_version {
+            return false;
+        }
+        let same_value = self.value == other.value;
+        !self.dead && !other.dead && !same_value
+    }
+
+    /// The object of a claim that is not a tombstone's.
+    pub fn to_object(&self, alloc: Global) -> Result<Object, NoMemory>
+        ensures object { IfOk result (λ object. object ≡ object_of (claimed self.now)) }
+        ensures valid { IsObject (object_of (claimed self.now)) }
+    {
+        self.version.get();
+        let object = ObjectRef {
+            key: self.key.key(),
+            version: self.version,
+            value: self.value,
+        };
+        object.to_object(alloc)
+    }
+}

@@ -1,0 +1,131 @@
+//! The objects that a log is rebuilt to, in one list or in several behind one another.
+
+ghost use Rattle.std.specs.Prelude.{◌≡◌, ◌++◌, ◌∷◌, [], List, length, IsNone, IfSome, OnOk, OnErr};
+ghost use Rattle.std.specs.Iterator.{YieldsFirstRef, at_most};
+ghost use Rattle.entry.specs.declared.entry.Object.{Object as ObjectValue};
+
+use entry::{NoMemory, Object, Row};
+use std::alloc::Global;
+use std::marker::Model;
+
+/// Objects, in an order that the maker of the list promises. Those of several partitions stay in the lists of the
+/// partitions, so that nothing is copied to put them behind one another. A contract sees one list.
+#[derive(Drop)]
+pub struct Objects {
+    first: Row<Object>,
+    others: Vec<Row<Object>>,
+    // How many there are in all.
+    count: usize,
+}
+
+impl Model for Objects {
+    ghost use Rattle.std.specs.Prelude.{◌≡◌, List, length};
+    ghost use Rattle.entry.specs.declared.entry.Object.{Object as ObjectValue};
+    ghost use Rattle.claims.specs.Objects.{behind};
+
+    ghost Value = { List ObjectValue };
+
+    ghost view = { λ o. behind o.first o.others.items };
+
+    ghost invariant = { λ o. o.count ≡ length (behind o.first o.others.items) };
+}
+
+/// The objects that are still to come.
+#[derive(Drop)]
+pub struct ObjectsLeft<'a> {
+    part: &'a [Object],
+    others: &'a [Row<Object>],
+}
+
+impl<'a> Model for ObjectsLeft<'a> {
+    ghost use Rattle.std.specs.Prelude.{List};
+    ghost use Rattle.entry.specs.declared.entry.Object.{Object as ObjectValue};
+    ghost use Rattle.claims.specs.Objects.{behind};
+
+    ghost Value = { List ObjectValue };
+
+    ghost view = { λ it. behind it.part.now it.others.now };
+}
+
+impl Objects {
+    /// These objects. It takes no memory.
+    pub fn new(alloc: Global, objects: Vec<Object>) -> Objects
+        ensures { result ≡ objects.items }
+    {
+        let count = objects.len();
+        Objects {
+            first: Row::new(objects),
+            others: Vec::new(alloc),
+            count,
+        }
+    }
+
+    /// Puts a list behind the others. It is not copied. If memory runs out, nothing changes.
+    pub fn add(&mut self, objects: Vec<Object>) -> Result<(), NoMemory>
+        ensures ok { OnOk result (self.new ≡ self.old ++ objects.items) }
+        ensures err { OnErr result (self.new ≡ self.old) }
+    {
+        let Some(count) = self.count.checked_add(objects.len()) else {
+            return Err(NoMemory);
+        };
+        self.others.reserve(1)?;
+        self.others.push_reserved(Row::new(objects));
+        self.count = count;
+        Ok(())
+    }
+
+    /// How many objects there are.
+    pub fn len(&self) -> usize
+        ensures { result ≡ length self.now }
+    {
+        self.count
+    }
+
+    /// The last object. It looks back over the lists that are empty.
+    pub fn last(&self) -> Option<&Object>
+        ensures some { IfSome result (λ o. (front : List ObjectValue) × (self.now ≡ front ++ o.now ∷ [])) }
+        ensures none { IsNone result → self.now ≡ [] }
+    {
+        let mut n = self.others.len();
+        while n > 0 {
+            n -= 1;
+            if let Some(object) = self.others[n].as_slice().last() {
+                return Some(object);
+            }
+        }
+        self.first.as_slice().last()
+    }
+
+    /// The objects in order.
+    pub fn iter(&self) -> ObjectsLeft<'_>
+        ensures { result ≡ self.entry.now }
+    {
+        ObjectsLeft {
+            part: self.first.as_slice(),
+            others: self.others.as_slice(),
+        }
+    }
+}
+
+impl<'a> Iterator for ObjectsLeft<'a> {
+    type Item = &'a Object;
+
+    ghost next_gives = { YieldsFirstRef (λ os. os) };
+
+    ghost remaining = { λ os. at_most (length os) };
+
+    fn next(&mut self) -> Option<&'a Object> {
+        while self.part.is_empty() {
+            let Some((next, rest)) = self.others.split_first() else {
+                return None;
+            };
+            self.part = next.as_slice();
+            self.others = rest;
+        }
+        let Some((object, rest)) = self.part.split_first() else {
+            return None;
+        };
+        self.part = rest;
+        Some(object)
+    }
+}

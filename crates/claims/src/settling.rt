@@ -1,0 +1,29 @@
+//! What claims come to.
+
+ghost use Rattle.std.specs.Prelude.{map, IfOk, IfErr, OnOk};
+ghost use Rattle.claims.specs.Claims.{claimed};
+ghost use Rattle.claims.specs.Settled.{AreRebuilt, AreCleanClaims, AreRefused};
+
+use crate::claim::Claim;
+use crate::fault::ReplayFault;
+use crate::objects::Objects;
+use crate::rebuilt::Rebuilt;
+use crate::scanning::{safe_above, winners};
+use entry::SafeVersion;
+use std::alloc::Global;
+
+/// What a log with these claims is rebuilt to, whatever their order.
+pub fn settle(
+    alloc: Global,
+    recorded: SafeVersion,
+    claims: &mut Vec<Claim<'_>>,
+) -> Result<Rebuilt, ReplayFault>
+    ensures ok { IfOk result (AreRebuilt (map claimed claims.old.items) recorded) }
+    ensures clean { OnOk result (AreCleanClaims (map claimed claims.old.items)) }
+    ensures err { IfErr result (AreRefused (map claimed claims.old.items)) }
+{
+    let safe = safe_above(recorded, claims.as_slice());
+    claims.sort_unstable();
+    let objects = Objects::new(alloc, winners(alloc, claims.as_slice())?);
+    Ok(Rebuilt { objects, safe })
+}

@@ -1,0 +1,4 @@
+pub mod MapLemmas
+pub mod Tops
+pub mod Meant
+pub mod ReplayLemmas

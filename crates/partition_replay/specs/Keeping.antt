@@ -1,0 +1,88 @@
+-- What a replay keeps in memory: of each key the claim of greatest rank.
+use Rattle.std.specs.Prelude.{◌≡◌, ℕ, ◌+◌, ◌*◌, ◌<◌, ◌≤◌, List, ◌++◌, map, Option, Some, None}
+use Rattle.std.specs.Prelude.{Bool, true, false, if◌then◌else◌, ⊤}
+use Rattle.std.specs.Option.{option_or}
+use Rattle.std.specs.Map.{lookup}
+use Rattle.entry.specs.declared.key.Key.{Key}
+use Rattle.entry.specs.Bag.{IsAmong}
+use Rattle.entry.specs.Order.{key_eq}
+use Rattle.claims.specs.declared.placed.PlacedKey.{PlacedKey}
+use Rattle.claims.specs.declared.fault.ReplayFault.{ReplayFault}
+use Rattle.claims.specs.declared.fault.ReplayFault.TheVariants as fault
+use Rattle.claims.specs.Placed.{placed_key}
+use Rattle.claims.specs.Claims.{Claimed}
+use Rattle.partition_replay.specs.declared.kept.Kept.{Kept}
+
+-- what is kept of a key, as its claim
+abbrev pub kept_claim : Key → Kept → Claimed
+kept_claim k x = record { key = k; version = x.version; dead = x.dead; value = x.value.now }
+
+-- what a map of these entries has of a key
+abbrev pub kept_at : List (PlacedKey × Kept) → Key → Option Kept
+kept_at es k = lookup (λ (p : PlacedKey). key_eq k (placed_key p)) es
+
+-- the claims of all that is kept
+abbrev pub claims_kept : List (PlacedKey × Kept) → List Claimed
+claims_kept es = map (λ (e : PlacedKey × Kept). kept_claim (placed_key e.0) e.1) es
+
+-- what the one map has of a key, or else the other
+abbrev pub kept_in : List (PlacedKey × Kept) → List (PlacedKey × Kept) → Key → Option Kept
+kept_in fresh old k = option_or (kept_at fresh k) (kept_at old k)
+
+-- the claim is that of what is kept of its key
+abbrev pub IsKept : (Key → Option Kept) → Claimed → Type 0
+IsKept kept c = (x : Kept) × (kept c.key ≡ Some x) × (kept_claim c.key x ≡ c)
+
+-- ---- rank
+
+-- of one version the tombstone ranks above the object
+abbrev pub rank : Claimed → ℕ
+rank c = if c.dead then 2 * c.version + 1 else 2 * c.version
+
+-- The other claim of the key doesn't rank above this one. If it is an object's and ranks as high, they are one.
+pub record IsOver (d c : Claimed) : Type 0 where
+  pub ranks : rank c ≤ rank d
+  pub same : c.dead ≡ false → rank c ≡ rank d → c.value ≡ d.value
+
+-- whether the other claim of the key ranks above this one
+abbrev pub IsRanked : Claimed → Claimed → Bool → Type 0
+IsRanked d c true = rank d < rank c
+IsRanked d c false = IsOver d c
+
+-- the two claims are objects of one version with different values
+pub record DoClash (d c : Claimed) : Type 0 where
+  pub version : d.version ≡ c.version
+  pub first : d.dead ≡ false
+  pub second : c.dead ≡ false
+  pub differ : ¬ (d.value ≡ c.value)
+
+-- whether the claim ranks above what is kept of its key
+abbrev pub IsAbove : Option Kept → Claimed → Bool → Type 0
+IsAbove None c above = above ≡ true
+IsAbove (Some x) c above = IsRanked (kept_claim c.key x) c above
+
+-- the claim clashes with what is kept of its key
+abbrev pub DoesClash : Option Kept → Claimed → Type 0
+DoesClash None c = ⊥
+DoesClash (Some x) c = DoClash (kept_claim c.key x) c
+
+-- two claims of one key clash
+abbrev pub HaveClash : List Claimed → Type 0
+HaveClash cs = (d : Claimed) × (c : Claimed) × IsAmong d cs × IsAmong c cs × (d.key ≡ c.key) × DoClash d c
+
+-- ---- the map
+
+-- Of each key that has a claim one is kept: no other of the key ranks above it, and objects that rank as high are it.
+pub record AreTops (all : List Claimed) (kept : Key → Option Kept) : Type 0 where
+  pub only : (k : Key) (x : Kept) → kept k ≡ Some x → IsAmong (kept_claim k x) all
+  pub each : (c : Claimed) → IsAmong c all → (x : Kept) × (kept c.key ≡ Some x) × IsOver (kept_claim c.key x) c
+
+-- the tops of all claims, with those of a list behind them
+abbrev pub AddsTops : (Key → Option Kept) → List Claimed → (Key → Option Kept) → Type 0
+AddsTops old cs new = (all : List Claimed) → AreTops all old → AreTops (all ++ cs) new
+
+-- why claims are not kept: memory ran out, or there is a clash
+abbrev pub IsUnkept : (Key → Option Kept) → List Claimed → ReplayFault → Type 0
+IsUnkept old cs fault.NoMemory = ⊤
+IsUnkept old cs fault.Clash = (all : List Claimed) → AreTops all old → HaveClash (all ++ cs)
+IsUnkept old cs _ = ⊥

@@ -1,0 +1,7 @@
+use Rattle.rebuild_threads.proofs.Divided.{divided_none}
+use Rattle.rebuild_threads.proofs.divider.Divider.new.Goals as goal
+
+pub invariant_of-result : goal.invariant_of-result
+invariant_of-result g c =
+    divided_none g.D.Division.parts g.D.Division.segments c.args.segments.now c.args.will.now c.in_ok-vec.field-0.items
+    c.requires.segments c.requires.parts (c.in_ok-vec.ensures.items_if_clones_equal (λ y h. h))

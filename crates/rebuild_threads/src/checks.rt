@@ -1,0 +1,42 @@
+//! Tests of the order and of the segments, before a worker is started.
+
+ghost use Rattle.std.specs.Prelude.{◌≡◌, IfErr, OnOk};
+ghost use Rattle.rebuilding.specs.Rebuilds.{NamesEach};
+
+use partitions::{Setback, are_whole};
+use rebuilding::{check_ids, ids_in};
+use segment::Segment;
+use std::alloc::Global;
+
+/// Tests that the order names each number below the count, once.
+pub fn test_order(alloc: Global, count: usize, order: &[usize]) -> Result<(), Setback>
+    ensures ok { OnOk result (NamesEach count order.now) }
+    ensures setback { IfErr result (λ s. s ≡ Setback.Clash → ⊥) }
+{
+    let mut named = vec![in alloc; false; count]?;
+    for n in order {
+        if *n >= count {
+            return Err(Setback::NotWhole);
+        }
+        if named[*n] {
+            return Err(Setback::NotWhole);
+        }
+        named[*n] = true;
+    }
+    if are_whole(named.as_slice()) {
+        Ok(())
+    } else {
+        Err(Setback::NotWhole)
+    }
+}
+
+/// Tests that no two segments have one id.
+pub fn test_ids(alloc: Global, segments: &[Segment]) -> Result<(), Setback>
+    ensures { IfErr result (λ s. s ≡ Setback.Clash → ⊥) }
+{
+    let ids = ids_in(alloc, segments)?;
+    match check_ids(ids.as_slice()) {
+        Ok(()) => Ok(()),
+        Err(_) => Err(Setback::NotWhole),
+    }
+}

@@ -1,0 +1,132 @@
+//! A log that is divided segment by segment, as its groups are asked for.
+
+ghost use Rattle.std.specs.Prelude.{◌≡◌, ◌<◌, ℕ, map, length, IfOk, IfErr, OnOk, IsTrue, slice_index_or, []};
+ghost use Rattle.division.specs.Division.{AreCovered, IsDivision};
+ghost use Rattle.division.specs.Groups.{grouped};
+ghost use Rattle.claims.specs.Bags.{segments_bag};
+
+use division::{DivideFault, Group, divide};
+use partitions::{Division, Parcel, Setback, are_whole};
+use segment::Segment;
+use std::alloc::{AllocError, Global};
+use std::marker::{Model, PhantomData};
+use tablet_will::Will;
+
+/// Hands out the groups of a log by their numbers: group n is of segment n / partitions and of partition n % partitions. A
+/// segment is divided when its first group is asked for. A contract sees which segments are divided.
+#[derive(Drop)]
+pub struct Divider<'a, D: Division> {
+    segments: &'a [Segment],
+    will: &'a Will,
+    partitions: usize,
+    divided: Vec<bool>,
+    /// The groups that were not asked for, of segments that are divided.
+    parcels: Vec<Option<Parcel<'a, D>>>,
+    of: PhantomData<D>,
+}
+
+impl<'a, D: Division> Model for Divider<'a, D> {
+    ghost use Rattle.std.specs.Prelude.{List, Bool};
+    ghost use Rattle.rebuild_threads.specs.Divided.{AreDivided};
+
+    ghost Value = { List Bool };
+
+    ghost view = { λ d. d.divided.items };
+
+    ghost invariant = { λ d. AreDivided D.parts D.segments d.segments.now d.will.now d.divided.items };
+}
+
+/// Groups of the segment at this place, on their way.
+fn add_parcels<'a, D: Division>(
+    parcels: &mut [Option<Parcel<'a, D>>],
+    at: usize,
+    first: usize,
+    groups: Vec<Group<'a>>,
+)
+    requires below { at < length D.segments }
+    requires groups { IsDivision D.parts (slice_index_or D.segments at []) (map grouped groups.items) }
+{
+    for group in groups {
+        let n = first.saturating_add(group.partition as usize);
+        if n < parcels.len() {
+            parcels[n] = Some(Parcel::new(at, group));
+        }
+    }
+}
+
+/// So many places for groups.
+fn empty_places<'a, D: Division>(
+    alloc: Global,
+    count: usize,
+) -> Result<Vec<Option<Parcel<'a, D>>>, AllocError> {
+    let mut places = Vec::with_capacity(alloc, count)?;
+    for _ in 0..count {
+        places.push(None)?;
+    }
+    Ok(places)
+}
+
+impl<'a, D: Division> Divider<'a, D> {
+    /// A divider of these segments by the will, which has so many groups.
+    pub fn new(
+        alloc: Global,
+        segments: &'a [Segment],
+        will: &'a Will,
+        count: usize,
+    ) -> Result<Divider<'a, D>, AllocError>
+        requires segments { segments.now ≡ D.segments }
+        requires parts { will.now ≡ D.parts }
+    {
+        Ok(Divider {
+            segments,
+            will,
+            partitions: will.partitions() as usize,
+            divided: vec![in alloc; false; segments.len()]?,
+            parcels: empty_places(alloc, count)?,
+            of: PhantomData,
+        })
+    }
+
+    /// Divides the segment at this place.
+    fn divide(&mut self, alloc: Global, at: usize) -> Result<(), Setback>
+        requires { at < length self.old }
+        ensures { IfErr result (λ s. s ≡ Setback.Clash → ⊥) }
+    {
+        let Some(segment) = self.segments.get(at) else {
+            return Err(Setback::NotWhole);
+        };
+        let groups = match divide(alloc, segment, self.will) {
+            Ok(groups) => groups,
+            Err(DivideFault::NoMemory) => return Err(Setback::NoMemory),
+            Err(DivideFault::Stray(_)) => return Err(Setback::NotWhole),
+        };
+        let first = at.saturating_mul(self.partitions);
+        add_parcels(self.parcels.as_mut_slice(), at, first, groups);
+        self.divided[at] = true;
+        Ok(())
+    }
+
+    /// The group with this number, unless it was asked for before.
+    pub fn take(&mut self, alloc: Global, n: usize) -> Result<Option<Parcel<'a, D>>, Setback>
+        ensures { IfErr result (λ s. s ≡ Setback.Clash → ⊥) }
+    {
+        let at = n / self.partitions.max(1);
+        if at >= self.divided.len() {
+            return Ok(None);
+        }
+        if !self.divided[at] {
+            self.divide(alloc, at)?;
+        }
+        if n >= self.parcels.len() {
+            return Ok(None);
+        }
+        Ok(self.parcels[n].take())
+    }
+
+    /// Whether all segments are divided. Then each key has a partition.
+    pub fn is_whole(&self) -> bool
+        ensures { IsTrue result → AreCovered D.parts (segments_bag D.segments) }
+    {
+        are_whole(self.divided.as_slice())
+    }
+}

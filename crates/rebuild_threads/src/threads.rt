@@ -1,0 +1,244 @@
+//! Workers, each in a thread of its own, and what they are sent.
+
+ghost use Rattle.std.specs.Prelude.{◌≡◌, ◌≤◌, ◌<◌, ℕ, length, IfOk, IfErr, OnOk};
+ghost use Rattle.entry.specs.Meaning.{IsClean, among};
+ghost use Rattle.division.specs.Division.{AreCovered};
+ghost use Rattle.claims.specs.Bags.{segments_bag};
+ghost use Rattle.claims.specs.Rebuilt.{IsRebuilt};
+ghost use Rattle.rebuilding.specs.Rebuilds.{IsRebuildFault, CanBeRebuilt, NamesEach, count_of};
+ghost use Rattle.rebuilding.specs.Turns.{replayed};
+ghost use Rattle.partitions.specs.Setbacks.{IsSetback};
+
+use crate::checks::{test_ids, test_order};
+use crate::divider::Divider;
+use crate::lists::{empty_places, join_all, place_all};
+use crate::worker::{Work, run};
+use claims::{Rebuilt, ReplayFault};
+use crossbeam_channel::{Sender, bounded};
+use entry::SafeVersion;
+use gate::Gate;
+use partitions::{Division, Parcel, PartList, Setback};
+use rebuilding::rebuild;
+use recovery_plan::Plan;
+use std::alloc::Global;
+use std::marker::{Brand, PhantomData};
+use std::sync::Wait;
+use std::thread;
+use std::thread::{Promise, PromisedHandle, Threads};
+use tablet_will::Will;
+
+/// How many groups a worker may have waiting.
+const PLACES: usize = 4;
+
+/// What a worker promises: if it ends with a Clash, the log has one.
+#[derive(Drop)]
+struct Honest<D: Division> {
+    of: PhantomData<D>,
+}
+
+impl<D: Division> Honest<D> {
+    fn new() -> Honest<D> {
+        Honest { of: PhantomData }
+    }
+}
+
+impl<D: Division> Promise<Result<Vec<PartList<D>>, Setback>> for Honest<D> {
+    ghost use Rattle.std.specs.Prelude.{IfErr};
+    ghost use Rattle.partitions.specs.Setbacks.{IsSetback};
+
+    ghost kept_by = { λ p r. IfErr r (IsSetback D.segments) };
+}
+
+/// Divides the log, and sends its groups in the order in which they are named, each to the worker of its partition. A worker
+/// that is gone gets none.
+fn send_all<'a, D: Division, R: Wait>(
+    rt: &R,
+    alloc: Global,
+    divider: &mut Divider<'a, D>,
+    order: &[usize],
+    ends: &[Sender<Parcel<'a, D>>],
+) -> Result<(), Setback>
+    requires { 0 < length ends.now }
+    ensures { IfErr result (λ s. s ≡ Setback.Clash → ⊥) }
+{
+    for n in order {
+        if let Some(parcel) = divider.take(alloc, *n)? {
+            let to = parcel.partition() as usize % ends.len();
+            let _ = ends[to].send(rt, parcel);
+        }
+    }
+    Ok(())
+}
+
+/// The lists that the workers end with, each at the place of its partition.
+fn lists_from<D: Division, R: Threads>(
+    rt: &R,
+    alloc: Global,
+    workers: Vec<PromisedHandle<Result<Vec<PartList<D>>, Setback>, Honest<D>>>,
+    partitions: u32,
+) -> Result<Vec<Option<PartList<D>>>, Setback>
+    ensures long { IfOk result (λ places. length places.items ≡ partitions) }
+    ensures setback { IfErr result (IsSetback D.segments) }
+{
+    let mut places = empty_places(alloc, partitions)?;
+    for worker in workers {
+        let lists = worker.join(rt)?;
+        place_all(&mut places, lists);
+    }
+    Ok(places)
+}
+
+/// Starts the workers, sends them all groups, and waits for them. The answer has a place for each partition's list.
+fn lists_of<'a, D: Division + Send + Sync + 'static, R: Threads + Wait + Sync, G: Gate + Sync>(
+    rt: &R,
+    alloc: Global,
+    divider: &mut Divider<'a, D>,
+    order: &[usize],
+    recorded: SafeVersion,
+    work: Work,
+    gate: &G,
+) -> Result<Vec<Option<PartList<D>>>, Setback>
+    requires workers { 0 < work.workers }
+    requires segments { work.segments ≡ length D.segments }
+    requires recorded { recorded ≡ D.safe }
+    ensures long { IfOk result (λ places. length places.items ≡ work.partitions) }
+    ensures setback { IfErr result (IsSetback D.segments) }
+{
+    thread::scope(
+        thread::scope_env(),
+        rt,
+        |scope| -> Result<Vec<Option<PartList<D>>>, Setback>
+            requires workers { 0 < work.workers }
+            requires segments { work.segments ≡ length D.segments }
+            requires recorded { recorded ≡ D.safe }
+            ensures long { IfOk result (λ places. length places.items ≡ work.partitions) }
+            ensures setback { IfErr result (IsSetback D.segments) }
+        {
+            let partitions = work.partitions;
+            let mut ends = Vec::new(alloc);
+            let mut handles = Vec::new(alloc);
+            for worker in 0..work.workers {
+                let (to, from) = bounded(alloc, PLACES)?;
+                ends.push(to)?;
+                let job = move || -> Result<Vec<PartList<D>>, Setback>
+                    requires segments { work.segments ≡ length D.segments }
+                    requires recorded { recorded ≡ D.safe }
+                    ensures { IfErr result (IsSetback D.segments) }
+                { run(rt, alloc, from, recorded, work, worker, gate) };
+                match scope.spawn_with(Honest::<D>::new(), job) {
+                    Ok(handle) => handles.push(handle)?,
+                    Err(_) => return Err(Setback::NotWhole),
+                }
+            }
+            send_all(rt, alloc, divider, order, ends.as_slice())?;
+            drop(ends);
+            lists_from(rt, alloc, handles, partitions)
+        },
+    )
+}
+
+/// What the log of the division stands for, by workers.
+fn by_workers<'a, D: Division + Send + Sync + 'static, R: Threads + Wait + Sync, G: Gate + Sync>(
+    rt: &R,
+    alloc: Global,
+    plan: &'a Plan,
+    will: &'a Will,
+    order: &[usize],
+    workers: usize,
+    gate: &G,
+) -> Result<Rebuilt, Setback>
+    requires workers { 0 < workers }
+    requires segments { D.segments ≡ plan.now.segments }
+    requires parts { D.parts ≡ will.now }
+    requires safe { D.safe ≡ plan.now.safe }
+    ensures ok { IfOk result (IsRebuilt plan.entry.now.segments plan.entry.now.safe) }
+    ensures turns { IfOk result (IsRebuilt
+        (replayed plan.entry.now.segments will.entry.now order.now) plan.entry.now.safe) }
+    ensures clean { OnOk result (IsClean (among (segments_bag plan.entry.now.segments))) }
+    ensures covered { OnOk result (AreCovered will.entry.now (segments_bag plan.entry.now.segments)) }
+    ensures order { OnOk result (NamesEach (count_of plan.entry.now.segments will.entry.now) order.now) }
+    ensures setback { IfErr result (IsSetback plan.entry.now.segments) }
+{
+    let segments = plan.segments.as_slice();
+    let recorded = plan.safe;
+    let work = Work {
+        workers,
+        partitions: will.partitions(),
+        segments: segments.len(),
+    };
+    let Some(count) = segments.len().checked_mul(will.partitions() as usize) else {
+        return Err(Setback::NotWhole);
+    };
+    test_order(alloc, count, order)?;
+    test_ids(alloc, segments)?;
+    let mut divider = Divider::<D>::new(alloc, segments, will, count)?;
+    let mut places = lists_of(rt, alloc, &mut divider, order, recorded, work, gate)?;
+    if !divider.is_whole() {
+        return Err(Setback::NotWhole);
+    }
+    join_all(alloc, places.as_mut_slice(), recorded)
+}
+
+/// What the plan's log stands for, by workers of this division.
+fn rebuild_on<'a, D: Division + Send + Sync + 'static, R: Threads + Wait + Sync, G: Gate + Sync>(
+    rt: &R,
+    alloc: Global,
+    plan: &'a Plan,
+    will: &'a Will,
+    order: &[usize],
+    workers: usize,
+    gate: &G,
+) -> Result<Rebuilt, ReplayFault>
+    requires workers { (1 ≤ workers) × (workers ≤ 64) }
+    requires segments { D.segments ≡ plan.now.segments }
+    requires parts { D.parts ≡ will.now }
+    requires safe { D.safe ≡ plan.now.safe }
+    ensures ok { IfOk result (IsRebuilt plan.entry.now.segments plan.entry.now.safe) }
+    ensures turns { IfOk result (IsRebuilt
+        (replayed plan.entry.now.segments will.entry.now order.now) plan.entry.now.safe) }
+    ensures clean { OnOk result (IsClean (among (segments_bag plan.entry.now.segments))) }
+    ensures covered { OnOk result (AreCovered will.entry.now (segments_bag plan.entry.now.segments)) }
+    ensures order { OnOk result (NamesEach (count_of plan.entry.now.segments will.entry.now) order.now) }
+    ensures fault { IfErr result (IsRebuildFault plan.entry.now.segments will.entry.now order.now) }
+    ensures whole { IfErr result (λ fault.
+        CanBeRebuilt plan.entry.now.segments will.entry.now order.now → fault ≡ ReplayFault.NoMemory) }
+{
+    match by_workers::<D, R, G>(rt, alloc, plan, will, order, workers, gate) {
+        Ok(rebuilt) => Ok(rebuilt),
+        Err(Setback::NoMemory) => Err(ReplayFault::NoMemory),
+        Err(Setback::Clash) => Err(ReplayFault::Clash),
+        Err(Setback::NotWhole) => rebuild(alloc, plan, will, order),
+    }
+}
+
+/// The objects that the plan's segments mean, rebuilt by so many workers, 1 to 64, each in a thread of its own. The calling
+/// thread divides the segments by the will, and sends the groups in this order; partition p goes to worker p % workers,
+/// which has at most four groups waiting. The gate is told when each worker begins and ends. A worker without a partition
+/// begins and ends.
+///
+/// With Ok the result is that of `rebuild`, and it is refused for the same reasons. If a worker can't be started, or if
+/// a group did not come to its worker once, the calling thread answers by `rebuild`.
+///
+/// The calling thread takes about n + s p steps for n entries in s segments and p partitions, and each worker n log n for
+/// its own.
+pub fn rebuild_threads<R: Threads + Wait + Sync, G: Gate + Sync>(
+    rt: &R,
+    alloc: Global,
+    plan: &Plan,
+    will: &Will,
+    order: &[usize],
+    workers: usize,
+    gate: &G,
+) -> Result<Rebuilt, ReplayFault>
+    requires workers { (1 ≤ workers) × (workers ≤ 64) }
+    ensures ok { IfOk result (IsRebuilt plan.now.segments plan.now.safe) }
+    ensures turns { IfOk result (IsRebuilt (replayed plan.now.segments will.now order.now) plan.now.safe) }
+    ensures clean { OnOk result (IsClean (among (segments_bag plan.now.segments))) }
+    ensures covered { OnOk result (AreCovered will.now (segments_bag plan.now.segments)) }
+    ensures order { OnOk result (NamesEach (count_of plan.now.segments will.now) order.now) }
+    ensures fault { IfErr result (IsRebuildFault plan.now.segments will.now order.now) }
+    ensures whole { IfErr result (λ fault.
+        CanBeRebuilt plan.now.segments will.now order.now → fault ≡ ReplayFault.NoMemory) }
+{
+    rebuild_on::<Brand, R, G>(rt, alloc, plan, will, order, workers, gate)
+}

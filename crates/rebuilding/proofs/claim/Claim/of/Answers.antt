@@ -1,5 +1,0 @@
-use Rattle.std.proofs.Common.{refl}
-use Rattle.rebuilding.proofs.claim.Claim.of.Goals as goal
-
-pub returns-in-Tombstone : goal.returns-in-Tombstone
-returns-in-Tombstone c = rw (c.in-Tombstone.is, c.of-in-Tombstone.ensures) refl

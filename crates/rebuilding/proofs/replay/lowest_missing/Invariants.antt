@@ -1,7 +1,0 @@
-use Rattle.std.proofs.Common.{map, take}
-use Rattle.division.specs.Groups.{grouped}
-use Rattle.rebuilding.specs.Replaying.{IsLowest}
-use Rattle.rebuilding.proofs.replay.lowest_missing.Given as goal
-
-abbrev pub invariant-loop-id : goal.invariant-loop-id
-invariant-loop-id l = IsLowest (take l.id-index l.ids) (map grouped l.groups) l.lowest

@@ -1,5 +1,0 @@
-use Rattle.std.proofs.Common.{refl}
-use Rattle.rebuilding.proofs.winners.safe_above.Goals as goal
-
-pub loop-claim-init : goal.loop-claim-init
-loop-claim-init c = refl

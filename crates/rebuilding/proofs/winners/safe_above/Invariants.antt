@@ -1,8 +1,0 @@
-use Rattle.std.proofs.Common.{◌≡◌, max, map, drop}
-use Rattle.rebuilding.specs.Claims.{claimed, bound_of_claims}
-use Rattle.rebuilding.proofs.winners.safe_above.Given as goal
-
-abbrev pub invariant-loop-claim : goal.invariant-loop-claim
-invariant-loop-claim l =
-    max l.greatest (bound_of_claims (map claimed (drop l.claim-index l.claims)))
-    ≡ max l.fn.safe (bound_of_claims (map claimed l.claims))
