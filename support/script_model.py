@@ -5,7 +5,8 @@ refusal there are more: the step that met it was not done, and what the line did
 
 Images and replicas are bytes, in the spelling of section 2. The master answers from a table that it keeps beside them. A
 recovery reads the replicas' bytes, and nothing else. The wills of `will` change no other answer: the rebuilt list is the same
-however a log is divided, and in whatever order it is replayed. So a recovery of the model is of the whole log at once.
+however a log is divided, and in whatever order and by however many workers it is replayed. So a recovery of the model is of the
+whole log at once.
 
 One client without a cleaner has one way to run. For others no model can tell in which order threads take the lock: the model
 raises Undetermined there, and `script_witness.py` says what may come after it.
@@ -93,8 +94,13 @@ LINES = {
     "crash": (),
     "lose": (number_word,),
     "recover": (),
+    "recover reverse": (),
+    "recover threads": (number_word,),
     "holdings": (),
 }
+
+# The least and the most of the first numbers of a line.
+RANGES = {"clients": ((1, 63), (1, 1000000)), "recover threads": ((1, 64),)}
 
 
 def lines_of(text):
@@ -110,9 +116,9 @@ def parse(line, backups):
     if line[:1] in (b"", b"#"):
         return ("idle",)
     name, *words = line.split(b" ")
+    if name == b"recover" and words[:1] in ([b"reverse"], [b"threads"]):
+        name += b" " + words.pop(0)
     name = name.decode("latin-1")
-    if name == "recover" and words == [b"reverse"]:
-        return (name, "reverse")
     readers = LINES.get(name)
     if readers and readers[-1] is ...:
         # One word or more of the kind.
@@ -125,9 +131,9 @@ def parse(line, backups):
         return None
     if name == "lose" and parts[0] >= backups:
         return None
-    if name == "clients" and not (1 <= parts[0] <= 63 and 1 <= parts[1] <= 1000000):
+    if not all(least <= part <= most for part, (least, most) in zip(parts, RANGES.get(name, ()))):
         return None
-    return (name, *parts)
+    return (*name.split(" "), *parts)
 
 
 # How the last row begins of the answers with many rows.
@@ -1037,7 +1043,7 @@ class Store:
 
     # Recoveries.
 
-    def line_recover(self, _order="forward"):
+    def line_recover(self, *_order):
         for answer, refused, store in self.recovered():
             # If the recovery is refused, a master that was begun is dropped.
             yield answer, refused, replace(store, master=None) if answer.startswith("refused") else store

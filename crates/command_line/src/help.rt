@@ -33,6 +33,7 @@ pub(crate) const AFTER_HELP: &str = "Lines of a script:
   recover      Rebuilds the table from what the backups hold, divided by the will. A new master adopts it, and the
                replicas of all others are freed. Then it shows the table: 'T K VERSION VALUE' .., 'recovered N'
   recover reverse  Does the same, and replays in reverse
+  recover threads N  Does the same, and N workers (1 to 64) replay in threads of their own
   # TEXT       Does nothing, like an empty line
 
 A line that is refused prints 'refused NAME'. If the backups take no more, it prints 'stopped', and the master is gone.

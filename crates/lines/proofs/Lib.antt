@@ -5,6 +5,7 @@ pub mod Names
 pub mod NumberLines
 pub mod NumberWords
 pub mod OneLine
+pub mod Orders
 pub mod Spelling
 pub mod Taking
 pub mod Visible

@@ -6,11 +6,11 @@ use Rattle.lines.specs.Grammar.{LineValue, words_of}
 use Rattle.lines.specs.Grammar.{Idle, Put, New, Cas, Get, Del, Compact, Roll, BeginRoll, Push, Log, Room, Hex, Stop, Crash, Lose, Will, Recover, Holdings}
 use Rattle.lines.specs.Grammar.{Clean, Begin, Copy, Seal, Free, Clients}
 use Rattle.lines.specs.declared.line.ReplayOrder.{ReplayOrder}
-use Rattle.lines.specs.declared.line.ReplayOrder.TheVariants.{Forward, Reverse}
+use Rattle.lines.specs.declared.line.ReplayOrder.TheVariants.{Forward, Reverse, Threads}
 use Rattle.lines.specs.Words.{AreWordsOf, ReadsWords}
 use Rattle.lines.proofs.NumberWords.{value, values}
 
-abbrev word_at : ℕ → List (List ℕ) → List ℕ
+abbrev pub word_at : ℕ → List (List ℕ) → List ℕ
 word_at i ws = get_or ws i []
 
 abbrev number_at : ℕ → List (List ℕ) → ℕ
@@ -21,10 +21,11 @@ numbers_behind ws = map (digits_value 10) (drop 1 ws)
 
 abbrev order_behind : List (List ℕ) → ReplayOrder
 order_behind [] = Forward
-order_behind (w ∷ ws) = Reverse
+order_behind (w ∷ []) = Reverse
+order_behind (w ∷ number ∷ ws) = Threads (digits_value 10 number)
 
 -- the sum of a word's bytes, which is another for each name
-abbrev sum_of : List ℕ → ℕ
+abbrev pub sum_of : List ℕ → ℕ
 sum_of [] = 0
 sum_of (b ∷ bs) = b + sum_of bs
 
@@ -81,6 +82,8 @@ line_is words (Lose n) are = ap line_of are.spelled ∙ ap Lose (value n are.lim
 line_is words Will are = ap line_of are.spelled
 line_is words (Recover Forward) are = ap line_of are.spelled
 line_is words (Recover Reverse) are = ap line_of are.spelled
+line_is words (Recover (Threads n)) are =
+    ap line_of are.spelled ∙ ap (λ m. Recover (Threads m)) (value n (omega (arith, are.limits.1)))
 line_is words Holdings are = ap line_of are.spelled
 line_is words (Clean ns) are = ap line_of are.spelled ∙ ap Clean (values ns are.limits.1)
 line_is words (Begin ns) are = ap line_of are.spelled ∙ ap Begin (values ns are.limits.1)

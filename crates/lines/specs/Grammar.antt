@@ -6,7 +6,7 @@ use Rattle.lines.specs.Numbers.{numbers_of}
 use Rattle.lines.specs.declared.line.Line.{Line}
 use Rattle.lines.specs.declared.line.Line.TheVariants as line
 use Rattle.lines.specs.declared.line.ReplayOrder.{ReplayOrder}
-use Rattle.lines.specs.declared.line.ReplayOrder.TheVariants.{Forward, Reverse}
+use Rattle.lines.specs.declared.line.ReplayOrder.TheVariants.{Forward, Reverse, Threads}
 
 -- ---- lines
 
@@ -80,10 +80,11 @@ pub record IsKeyWord (key : List ℕ) : Type 0 where
 
 -- ---- how a line is written
 
--- the word behind `recover` that names the order of the replay; without one it goes forward
+-- the words behind `recover` that name the order of the replay; without one it goes forward
 abbrev pub order_words : ReplayOrder → List (List ℕ)
 order_words Forward = []
 order_words Reverse = codes "reverse" ∷ []
+order_words (Threads workers) = codes "threads" ∷ decimal workers ∷ []
 
 -- the words of a line that does something; a number is written in decimal digits without leading zeros
 abbrev pub words_of : LineValue → List (List ℕ)
@@ -117,6 +118,12 @@ words_of (Clients clients rounds passes) = codes "clients" ∷ decimal clients �
 abbrev pub IsWithin : ℕ → ℕ → ℕ → Type 0
 IsWithin least most n = (least ≤ n) × (n ≤ most)
 
+-- there are 1 to 64 workers
+abbrev pub IsOrder : ReplayOrder → Type 0
+IsOrder Forward = Unit {0}
+IsOrder Reverse = Unit {0}
+IsOrder (Threads workers) = IsWithin 1 64 workers
+
 -- The numbers of the line have 64 bits, its key is a key, and a list of segments has one or more.
 -- There are 1 to 63 clients, and 1 to 1,000,000 rounds.
 abbrev pub IsLine : LineValue → Type 0
@@ -137,7 +144,7 @@ IsLine (Stop takes) = takes < 2 ^ 64
 IsLine Crash = Unit {0}
 IsLine (Lose backup) = backup < 2 ^ 64
 IsLine Will = Unit {0}
-IsLine (Recover order) = Unit {0}
+IsLine (Recover order) = IsOrder order
 IsLine Holdings = Unit {0}
 IsLine (Clean segments) = (0 < length segments) × All (λ n. n < 2 ^ 64) segments
 IsLine (Begin segments) = (0 < length segments) × All (λ n. n < 2 ^ 64) segments

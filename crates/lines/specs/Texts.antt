@@ -20,7 +20,7 @@ shape_text shape.Segment = codes " has the number of a segment"
 shape_text shape.Segments = codes " has the numbers of one segment or more"
 shape_text shape.Ops = codes " has a number of ops"
 shape_text shape.Backup = codes " has the number of a backup"
-shape_text shape.Order = codes " has nothing behind it, or reverse"
+shape_text shape.Order = codes " has nothing behind it, or reverse, or threads and a number of workers (1 to 64)"
 shape_text shape.Alone = codes " has nothing behind it"
 shape_text shape.Clients = codes " has a number of clients (1 to 63), of rounds (1 to 1000000) and of passes"
 

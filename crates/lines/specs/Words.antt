@@ -3,8 +3,9 @@ use Rattle.std.specs.Prelude.{◌≡◌, ◌≢◌, ◌<◌, ◌≤◌, ◌^◌,
 use Rattle.std.specs.Prelude.{Option, Some, None}
 use Rattle.std.specs.List.{All}
 use Rattle.std.specs.Fmt.{decimal}
-use Rattle.lines.specs.Grammar.{IsLine, IsWord, LineValue, Idle, shown_line, words_of}
+use Rattle.lines.specs.Grammar.{IsLine, IsOrder, IsWord, LineValue, Idle, order_words, shown_line, words_of}
 use Rattle.lines.specs.declared.line.Line.{Line}
+use Rattle.lines.specs.declared.line.ReplayOrder.{ReplayOrder}
 
 -- the byte is one that a word may have
 abbrev pub IsVisible : ℕ → Type 0
@@ -58,3 +59,14 @@ AreWordsOf words line = Spell words line
 abbrev pub ReadsWords : List (List ℕ) → Option Line → Type 0
 ReadsWords words None = (line : LineValue) → AreWordsOf words line → ⊥
 ReadsWords words (Some line) = AreWordsOf words (shown_line line)
+
+-- the words name the order
+pub record NameOrder (words : List (List ℕ)) (order : ReplayOrder) : Type 0 where
+  pub spelled : words ≡ order_words order
+  pub each : All IsWord (order_words order)
+  pub limits : IsOrder order
+
+-- the order that the words name, or None if they name none
+abbrev pub ReadsOrder : List (List ℕ) → Option ReplayOrder → Type 0
+ReadsOrder words None = (order : ReplayOrder) → NameOrder words order → ⊥
+ReadsOrder words (Some order) = NameOrder words order

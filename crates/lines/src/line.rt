@@ -9,6 +9,8 @@ pub enum ReplayOrder {
     Forward,
     /// The last of them first.
     Reverse,
+    /// The groups in order, by this many workers, each in a thread of its own.
+    Threads(u64),
 }
 
 /// A line of a script. Keys, values and rows of numbers are borrowed from the text that was parsed.

@@ -2,8 +2,8 @@
 
 ghost use Rattle.std.specs.Prelude.{◌≡◌, ◌≢◌, ◌∷◌, ◌↔◌, ℕ, IfErr, IfOk, IfSome, IsErr, IsNone, IsTrue, codes};
 ghost use Rattle.lines.specs.Reasons.{HasReason};
-ghost use Rattle.lines.specs.Grammar.{IsIdle, LineValue, Says, order_words, shown_line};
-ghost use Rattle.lines.specs.Words.{AreNumber, IsNoLongName, ReadsWords};
+ghost use Rattle.lines.specs.Grammar.{IsIdle, IsOrder, LineValue, Says, order_words, shown_line};
+ghost use Rattle.lines.specs.Words.{AreNumber, IsNoLongName, ReadsOrder, ReadsWords};
 ghost use Rattle.lines.specs.declared.line.ReplayOrder.{ReplayOrder};
 
 use crate::line::{Line, ReplayOrder};
@@ -16,6 +16,9 @@ const MAX_CLIENTS: u64 = 63;
 
 /// The most rounds of a client.
 const MAX_ROUNDS: u64 = 1_000_000;
+
+/// The most workers of a recovery.
+const MAX_WORKERS: u64 = 64;
 
 /// Parses a line, given without its line feed. The fault is why it is bad.
 ///
@@ -209,18 +212,31 @@ fn recover(words: Words<'_>) -> Option<Line<'_>>
 
 /// The order of a replay that the words name.
 fn order(mut words: Words<'_>) -> Option<ReplayOrder>
-    ensures sound { IfSome result (λ order. words.entry ≡ order_words order) }
-    ensures complete { IsNone result → (order : ReplayOrder) → words.entry ≢ order_words order }
+    ensures { ReadsOrder words.entry result }
 {
-    let Some(word) = words.next_word() else {
-        return Some(ReplayOrder::Forward);
-    };
-    words.end()?;
-    if is(word, "reverse") {
-        Some(ReplayOrder::Reverse)
-    } else {
-        None
+    match words.next_word() {
+        Some(word) if is(word, "threads") => workers(words),
+        Some(word) if is(word, "reverse") => reverse(words),
+        Some(_) => None,
+        None => Some(ReplayOrder::Forward),
     }
+}
+
+/// The words behind `reverse`: none.
+fn reverse(words: Words<'_>) -> Option<ReplayOrder>
+    ensures { ReadsOrder (codes "reverse" ∷ words.entry) result }
+{
+    words.end()?;
+    Some(ReplayOrder::Reverse)
+}
+
+/// The words behind `threads` as how many workers there are.
+fn workers(mut words: Words<'_>) -> Option<ReplayOrder>
+    ensures { ReadsOrder (codes "threads" ∷ words.entry) result }
+{
+    let workers = words.count(MAX_WORKERS)?;
+    words.end()?;
+    Some(ReplayOrder::Threads(workers))
 }
 
 /// The words behind `clients` as how many clients there are, and how many rounds and passes.

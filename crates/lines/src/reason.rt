@@ -60,7 +60,9 @@ impl Shape {
             Shape::Segments => " has the numbers of one segment or more",
             Shape::Ops => " has a number of ops",
             Shape::Backup => " has the number of a backup",
-            Shape::Order => " has nothing behind it, or reverse",
+            Shape::Order => {
+                " has nothing behind it, or reverse, or threads and a number of workers (1 to 64)"
+            }
             Shape::Alone => " has nothing behind it",
             Shape::Clients => {
                 " has a number of clients (1 to 63), of rounds (1 to 1000000) and of passes"

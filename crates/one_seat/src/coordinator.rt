@@ -97,6 +97,8 @@ impl Coordinator {
         let groups = match order {
             ReplayOrder::Forward => GroupOrder::Forward,
             ReplayOrder::Reverse => GroupOrder::Reverse,
+            // Workers take the groups in order, and give what this one thread gives.
+            ReplayOrder::Threads(_) => GroupOrder::Forward,
         };
         recover(alloc, inventory, self.master, &self.will, &groups)
     }

@@ -3,7 +3,7 @@ use Rattle.std.proofs.Common.{◌≡◌, ℕ, List, [], ◌∷◌, inl, inr, sym
 use Rattle.std.specs.Prelude.{◌↔◌, Result, Ok, Err, IfOk, IfErr}
 use Rattle.entry.specs.Bag.{IsAmong}
 use Rattle.tablet_will.specs.declared.part.Part.{Part}
-use Rattle.rebuilding.specs.declared.rebuilt.Rebuilt.{Rebuilt}
+use Rattle.claims.specs.declared.rebuilt.Rebuilt.{Rebuilt}
 use Rattle.replica.specs.declared.holding.Holding.{Holding}
 use Rattle.replica.specs.Picture.{FleetState, left_on, shown_by, IsHeld}
 use Rattle.replica.specs.Survival.{BothSurvive}
@@ -21,8 +21,7 @@ use Rattle.recovery.specs.declared.order.GroupOrder.{GroupOrder}
 use Rattle.recovery.specs.Orders.{Covers, NamesHeld}
 use Rattle.recovery.specs.Drilled.{IsDrill, IsOfHeld}
 use Rattle.recovery.specs.Kept.{is_kept}
-use Rattle.recovery.specs.Recovered.{IsRecovered, IsLossOrMemory, IsWant, IsRebuiltFrom, IsRefusedFrom}
-use Rattle.recovery.proofs.Recoveries.{IsSomePrefix, IsSomeLoss}
+use Rattle.recovery.specs.Recovered.{IsRecovered, IsLossOrMemory, IsWant, IsRebuiltFrom, IsRefusedFrom, IsSomeLoss, IsSomePrefix}
 
 run_keeps : (old new : World) (steps : List Step) (answers : List (Result StepAnswer Refusal))
     → IsRun old steps answers new

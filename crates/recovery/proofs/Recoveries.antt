@@ -9,12 +9,13 @@ use Rattle.replica.specs.declared.holding.Holding.{Holding}
 use Rattle.replica.specs.Picture.{Picture, shown_by, survivors}
 use Rattle.replica.specs.Choice.{Choice, bag_of}
 use Rattle.replica.specs.Survival.{BothSurvive}
-use Rattle.rebuilding.specs.Bags.{segments_bag}
-use Rattle.rebuilding.specs.Rebuilt.{IsRebuilt}
-use Rattle.rebuilding.specs.Rebuilds.{CanBeRebuilt}
-use Rattle.rebuilding.specs.declared.rebuilt.Rebuilt.{Rebuilt}
-use Rattle.rebuilding.specs.declared.fault.ReplayFault.{ReplayFault}
-use Rattle.rebuilding.specs.declared.fault.ReplayFault.TheVariants as replay_fault
+use Rattle.claims.specs.Bags.{segments_bag}
+use Rattle.claims.specs.Rebuilt.{IsRebuilt}
+use Rattle.rebuilding.specs.Rebuilds.{CanBeRebuilt, NamesEach, count_of}
+use Rattle.rebuilding.specs.Turns.{replayed}
+use Rattle.claims.specs.declared.rebuilt.Rebuilt.{Rebuilt}
+use Rattle.claims.specs.declared.fault.ReplayFault.{ReplayFault}
+use Rattle.claims.specs.declared.fault.ReplayFault.TheVariants as replay_fault
 use Rattle.recovery_plan.specs.declared.chosen.Plan.{Plan}
 use Rattle.recovery_plan.specs.declared.fault.PlanFault.{PlanFault}
 use Rattle.recovery_plan.specs.declared.fault.PlanFault.TheVariants as plan_fault
@@ -25,22 +26,15 @@ use Rattle.log_model.specs.Data.{LogData, IsHome, newest_opened, state_after}
 use Rattle.log_model.specs.Sound.{IsSound}
 use Rattle.versioned_map.specs.Versioned.{IsSafeAfter}
 use Rattle.versioned_map.proofs.Meanings.{one_contents}
-use Rattle.recovery.specs.Recovered.{Shows, IsRecovered, IsPlanLoss, IsPlanWant, IsLossOrMemory, IsWant, IsReplayWant}
+use Rattle.recovery.specs.Recovered.{Shows, IsRebuiltFrom, IsPlanLoss, IsPlanWant, IsReplayWant, IsSomeLoss, IsSomePrefix}
 use Rattle.recovery.specs.declared.recovery.RecoveryFault.{RecoveryFault}
 use Rattle.recovery.specs.declared.recovery.RecoveryFault.TheVariants as fault
 use Rattle.recovery.specs.declared.order.GroupOrder.{GroupOrder}
-use Rattle.recovery.specs.Orders.{order_for, Covers, NamesGroups}
+use Rattle.recovery.specs.Orders.{order_for, Covers, IsPlan, NamesGroups}
 use Rattle.recovery.proofs.Whole.{ids_differ}
 use Rattle.recovery.proofs.Choices.{bag-of-plan, surviving-choice, shown-choice, shown-good, shown-agree}
 
 -- ---- what is recovered
-
--- a prefix of the commands, whatever the sound state is that the inventory shows a part of
-abbrev pub IsSomePrefix : List Holding → ℕ → Rebuilt → Type 0
-IsSomePrefix hs m r =
-    (d : LogData) (p : Picture) (keep : ℕ → Bool) → IsSound d p → d.config.master ≡ m
-    → Shows hs (survivors keep (shown_by p)) m →
-    (count : ℕ) × IsRecovered d count r
 
 pub rebuilt-prefix : (hs : List Holding) (m : ℕ) (c : Choice) (plan : Plan) (r : Rebuilt) →
     IsPlanOf hs m c plan → IsRebuilt plan.segments plan.safe r → IsSomePrefix hs m r
@@ -65,14 +59,21 @@ rebuilt-prefix hs m c plan r planned rebuilt d p keep sound is shows =
       },
     )
 
--- ---- what is refused
+-- what a plan of the inventory gives, by the will and the order, is what the inventory gives
+pub rebuilt-from : (hs : List Holding) (m : ℕ) (will : List Part) (order : GroupOrder) (plan : Plan) (r : Rebuilt)
+    → IsPlan hs m plan → AreCovered will (segments_bag plan.segments)
+    → NamesEach (count_of plan.segments will) (order_for plan will order) → IsRebuilt plan.segments plan.safe r
+    → IsRebuilt (replayed plan.segments will (order_for plan will order)) plan.safe r → IsRebuiltFrom hs m will order r
+rebuilt-from hs m will order plan r planned covered whole rebuilt turns = record {
+  plan = plan;
+  planned = planned;
+  covered = covered;
+  whole = whole;
+  rebuilt = rebuilt;
+  turns = turns;
+}
 
--- whatever sound state the inventory shows a part of: a loss, or memory ran out, and the latter alone if both survive
-abbrev pub IsSomeLoss : List Holding → ℕ → List Part → GroupOrder → RecoveryFault → Type 0
-IsSomeLoss hs m will order e =
-    (d : LogData) (p : Picture) (keep : ℕ → Bool) → IsSound d p → d.config.master ≡ m
-    → Shows hs (survivors keep (shown_by p)) m → Covers d.config.tablets will → NamesGroups hs m will order →
-    IsLossOrMemory e × (BothSurvive (IsHome d) (newest_opened d) (shown_by p) d.config.master keep → IsWant e)
+-- ---- what is refused
 
 module _ (hs : List Holding) (m : ℕ) (d : LogData) (p : Picture) (keep : ℕ → Bool)
     (sound : IsSound d p) (is : d.config.master ≡ m) (shows : Shows hs (survivors keep (shown_by p)) m) where

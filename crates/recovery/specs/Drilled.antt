@@ -1,7 +1,7 @@
 -- A master's steps, its end, and its recovery from what some backups hold.
 use Rattle.std.specs.Prelude.{◌≡◌, ◌⊎◌, ℕ, List, Result, Ok, Err, IfOk, IfErr}
 use Rattle.tablet_will.specs.declared.part.Part.{Part}
-use Rattle.rebuilding.specs.declared.rebuilt.Rebuilt.{Rebuilt}
+use Rattle.claims.specs.declared.rebuilt.Rebuilt.{Rebuilt}
 use Rattle.replica.specs.declared.holding.Holding.{Holding}
 use Rattle.replica.specs.Picture.{FleetState, Picture, AreHeld, left_on, shown_by}
 use Rattle.replica.specs.Survival.{BothSurvive}

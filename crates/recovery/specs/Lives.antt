@@ -3,7 +3,7 @@ use Rattle.std.specs.Prelude.{◌≡◌, ℕ, ◌<◌, ◌≤◌, ◌⊎◌, Lis
 use Rattle.entry.specs.declared.key.Key.{Key}
 use Rattle.entry.specs.Bag.{IsAmong}
 use Rattle.entry.specs.Meaning.{Versioned, contents_of}
-use Rattle.rebuilding.specs.declared.rebuilt.Rebuilt.{Rebuilt}
+use Rattle.claims.specs.declared.rebuilt.Rebuilt.{Rebuilt}
 use Rattle.versioned_map.specs.declared.command.Command.{Command}
 use Rattle.versioned_map.specs.declared.command.Command.TheVariants.{Get, Put, Delete}
 use Rattle.versioned_map.specs.History.{commands_of}

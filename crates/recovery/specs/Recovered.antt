@@ -1,32 +1,34 @@
 -- What a recovery gives back, and why it may give nothing back.
-use Rattle.std.specs.Prelude.{◌≡◌, ℕ, ◌<◌, ◌≤◌, ◌↔◌, List, map, take, length}
+use Rattle.std.specs.Prelude.{◌≡◌, ℕ, Bool, ◌<◌, ◌≤◌, ◌↔◌, List, map, take, length}
 use Rattle.std.specs.List.Sorted.{IsStrictlySortedBy}
 use Rattle.entry.specs.declared.entry.Object.{Object}
 use Rattle.entry.specs.Bag.{IsAmong}
 use Rattle.entry.specs.Meaning.{contents_of}
 use Rattle.entry.specs.Order.{key_cmp}
 use Rattle.replica.specs.declared.holding.Holding.{Holding}
-use Rattle.replica.specs.Picture.{Shown, IsHeld}
+use Rattle.replica.specs.Picture.{Picture, Shown, IsHeld, shown_by, survivors}
+use Rattle.replica.specs.Survival.{BothSurvive}
 use Rattle.tablet_will.specs.declared.part.Part.{Part}
 use Rattle.division.specs.Division.{AreCovered}
 use Rattle.recovery_plan.specs.declared.chosen.Plan.{Plan}
 use Rattle.recovery_plan.specs.declared.fault.PlanFault.{PlanFault}
 use Rattle.recovery_plan.specs.declared.fault.PlanFault.TheVariants as plan_fault
 use Rattle.recovery_plan.specs.Planned.{IsPlanFault, NamesLoss}
-use Rattle.rebuilding.specs.declared.fault.ReplayFault.{ReplayFault}
-use Rattle.rebuilding.specs.declared.fault.ReplayFault.TheVariants as replay_fault
-use Rattle.rebuilding.specs.declared.rebuilt.Rebuilt.{Rebuilt}
-use Rattle.rebuilding.specs.Bags.{segments_bag}
-use Rattle.rebuilding.specs.Rebuilt.{IsRebuilt}
+use Rattle.claims.specs.declared.fault.ReplayFault.{ReplayFault}
+use Rattle.claims.specs.declared.fault.ReplayFault.TheVariants as replay_fault
+use Rattle.claims.specs.declared.rebuilt.Rebuilt.{Rebuilt}
+use Rattle.claims.specs.Bags.{segments_bag}
+use Rattle.claims.specs.Rebuilt.{IsRebuilt}
 use Rattle.rebuilding.specs.Rebuilds.{IsRebuildFault, NamesEach, count_of}
 use Rattle.rebuilding.specs.Turns.{replayed}
 use Rattle.versioned_map.specs.History.{commands_of}
-use Rattle.log_model.specs.Data.{LogData, state_after, durable_of}
+use Rattle.log_model.specs.Data.{LogData, IsHome, newest_opened, state_after, durable_of}
+use Rattle.log_model.specs.Sound.{IsSound}
 use Rattle.versioned_map.specs.Versioned.{IsSafeAfter}
 use Rattle.recovery.specs.declared.recovery.RecoveryFault.{RecoveryFault}
 use Rattle.recovery.specs.declared.recovery.RecoveryFault.TheVariants as fault
 use Rattle.recovery.specs.declared.order.GroupOrder.{GroupOrder}
-use Rattle.recovery.specs.Orders.{IsPlan, order_for}
+use Rattle.recovery.specs.Orders.{Covers, IsPlan, NamesGroups, order_for}
 
 -- the inventory has of this master just what is shown
 abbrev pub Shows : List Holding → Shown → ℕ → Type 0
@@ -80,6 +82,22 @@ IsLossOrMemory (fault.Replay refused) = IsReplayWant refused
 abbrev pub IsWant : RecoveryFault → Type 0
 IsWant (fault.Plan loss) = IsPlanWant loss
 IsWant (fault.Replay refused) = IsReplayWant refused
+
+-- ---- any sound state, whatever it is
+
+-- of whatever sound state the inventory shows a part: the map after a prefix of its commands, each durable one among them
+abbrev pub IsSomePrefix : List Holding → ℕ → Rebuilt → Type 0
+IsSomePrefix inventory master r = (d : LogData) (p : Picture) (keep : ℕ → Bool)
+    → IsSound d p → d.config.master ≡ master → Shows inventory (survivors keep (shown_by p)) master
+    → (count : ℕ) × IsRecovered d count r
+
+-- Of such a state: a loss, or memory ran out; and memory alone if both head and segments survive. The will covers the
+-- tablets, and the order names each group once.
+abbrev pub IsSomeLoss : List Holding → ℕ → List Part → GroupOrder → RecoveryFault → Type 0
+IsSomeLoss inventory master will order e = (d : LogData) (p : Picture) (keep : ℕ → Bool)
+    → IsSound d p → d.config.master ≡ master → Shows inventory (survivors keep (shown_by p)) master
+    → Covers d.config.tablets will → NamesGroups inventory master will order
+    → IsLossOrMemory e × (BothSurvive (IsHome d) (newest_opened d) (shown_by p) d.config.master keep → IsWant e)
 
 -- ---- any inventory, whatever it shows
 

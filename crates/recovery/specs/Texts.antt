@@ -1,7 +1,7 @@
 -- The texts of faults.
 use Rattle.std.specs.Prelude.{ℕ, List}
 use Rattle.recovery_plan.specs.Texts.{plan_fault_text}
-use Rattle.rebuilding.specs.Texts.{replay_fault_text}
+use Rattle.claims.specs.Texts.{replay_fault_text}
 use Rattle.recovery.specs.declared.recovery.RecoveryFault.{RecoveryFault}
 use Rattle.recovery.specs.declared.recovery.RecoveryFault.TheVariants.{Plan, Replay}
 

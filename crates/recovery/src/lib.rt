@@ -12,7 +12,9 @@ mod laws;
 mod order;
 mod recovery;
 mod succession;
+mod threaded;
 
+pub use claims::{Rebuilt, ReplayFault};
 pub use drill::{Drill, run_drill};
 pub use inventory::inventory_of;
 pub use laws::{
@@ -20,8 +22,9 @@ pub use laws::{
     versions_rise,
 };
 pub use order::{GroupOrder, numbers};
-pub use rebuilding::{Rebuilt, ReplayFault, rebuild, rebuild_plain};
+pub use rebuilding::{rebuild, rebuild_plain};
 pub use recovery::{RecoveryFault, recover};
 pub use recovery_plan::{Plan, PlanFault, plan};
 pub use succession::{Course, Drills, End, Lived, NotAdopted, run_lives};
 pub use tablet_will::{Will, make_will};
+pub use threaded::recover_threads;

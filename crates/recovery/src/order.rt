@@ -2,10 +2,12 @@
 
 ghost use Rattle.std.specs.Prelude.{◌≡◌, IfOk};
 ghost use Rattle.std.specs.List.{range_with_len};
-ghost use Rattle.recovery.specs.Orders.{order_of};
+ghost use Rattle.recovery.specs.Orders.{order_for, order_of};
 
 use entry::{NoMemory, Row};
+use recovery_plan::Plan;
 use std::alloc::Global;
+use tablet_will::Will;
 
 /// The order in which the groups of a log are replayed. Groups are counted from 0: segment by segment, and of one
 /// segment by partition.
@@ -43,4 +45,21 @@ pub fn numbers(alloc: Global, order: &GroupOrder, count: usize) -> Result<Vec<us
         }
         GroupOrder::Given(given) => Ok(Vec::from_slice(alloc, given.as_slice())?),
     }
+}
+
+/// The numbers of the groups of a plan that is divided by the will, in this order. More groups than a `usize` counts are
+/// NoMemory.
+pub(crate) fn numbers_for(
+    alloc: Global,
+    plan: &Plan,
+    will: &Will,
+    order: &GroupOrder,
+) -> Result<Vec<usize>, NoMemory>
+    ensures { IfOk result (λ numbers. numbers.items ≡ order_for plan.now will.now order.now) }
+{
+    let segments = plan.segments.as_slice().len();
+    let Some(count) = segments.checked_mul(will.partitions() as usize) else {
+        return Err(NoMemory);
+    };
+    numbers(alloc, order, count)
 }

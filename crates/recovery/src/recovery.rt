@@ -5,8 +5,8 @@ ghost use Rattle.entry.specs.Meaning.{IsClean, among};
 ghost use Rattle.replica.specs.Picture.{Picture, shown_by, survivors};
 ghost use Rattle.replica.specs.Survival.{BothSurvive};
 ghost use Rattle.division.specs.Division.{AreCovered};
-ghost use Rattle.rebuilding.specs.Bags.{segments_bag};
-ghost use Rattle.rebuilding.specs.Rebuilt.{IsRebuilt};
+ghost use Rattle.claims.specs.Bags.{segments_bag};
+ghost use Rattle.claims.specs.Rebuilt.{IsRebuilt};
 ghost use Rattle.rebuilding.specs.Rebuilds.{IsRebuildFault, CanBeRebuilt, NamesEach, count_of};
 ghost use Rattle.rebuilding.specs.Turns.{replayed};
 ghost use Rattle.log_model.specs.Data.{LogData, IsHome, newest_opened};
@@ -15,8 +15,9 @@ ghost use Rattle.recovery.specs.Orders.{order_for, Covers, NamesGroups};
 ghost use Rattle.recovery.specs.Recovered.{Shows, IsRecovered, IsLossOrMemory, IsWant, IsRebuiltFrom, IsRefusedFrom};
 ghost use Rattle.recovery.specs.Texts.{recovery_fault_text};
 
-use crate::order::{GroupOrder, numbers};
-use rebuilding::{Rebuilt, ReplayFault, rebuild};
+use crate::order::{GroupOrder, numbers_for};
+use claims::{Rebuilt, ReplayFault};
+use rebuilding::rebuild;
 use recovery_plan::{Plan, PlanFault, plan};
 use replica::Inventory;
 use std::alloc::Global;
@@ -62,11 +63,7 @@ fn rebuild_in(
         CanBeRebuilt plan.now.segments will.now (order_for plan.now will.now order.now) →
         fault ≡ ReplayFault.NoMemory) }
 {
-    let segments = plan.segments.as_slice().len();
-    let Some(count) = segments.checked_mul(will.partitions() as usize) else {
-        return Err(ReplayFault::NoMemory);
-    };
-    let Ok(numbers) = numbers(alloc, order, count) else {
+    let Ok(numbers) = numbers_for(alloc, plan, will, order) else {
         return Err(ReplayFault::NoMemory);
     };
     rebuild(alloc, plan, will, numbers.as_slice())

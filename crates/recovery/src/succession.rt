@@ -8,9 +8,9 @@ ghost use Rattle.recovery.specs.Succession.{IsNewest, with_number, IsSuccessor, 
 use crate::drill::{Drill, run_drill};
 use crate::order::GroupOrder;
 use crate::recovery::RecoveryFault;
+use claims::Rebuilt;
 use entry::{NoMemory, Tablets};
 use master::{Config, Master, Refusal, Step, StepAnswer};
-use rebuilding::Rebuilt;
 use replay::adopt_list;
 use replica::{Bench, Fleet, TakeFault};
 use std::alloc::Global;

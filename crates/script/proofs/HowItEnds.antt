@@ -11,7 +11,7 @@ use Rattle.master_core.specs.Data.{MasterData}
 use Rattle.recovery.specs.declared.recovery.RecoveryFault.TheVariants as fault
 use Rattle.recovery.specs.Succession.{IsSuccessor}
 use Rattle.recovery_plan.specs.declared.fault.PlanFault.TheVariants as plan_fault
-use Rattle.rebuilding.specs.declared.rebuilt.Rebuilt.{Rebuilt}
+use Rattle.claims.specs.declared.rebuilt.Rebuilt.{Rebuilt}
 use Rattle.replay.specs.Adopting.{IsAdopted, IsAdoptedOn}
 use Rattle.replica.specs.declared.op.TakeFault.{TakeFault}
 use Rattle.replica.specs.Picture.{FleetState}

@@ -8,7 +8,7 @@ use Rattle.versioned_map.specs.declared.command.Record.{Record}
 use Rattle.master_core.specs.declared.config.Config.{Config}
 use Rattle.versioned_map.specs.History.{commands_of}
 use Rattle.versioned_map.specs.Versioned.{State, after as map_after, IsSafeAfter}
-use Rattle.rebuilding.specs.declared.rebuilt.Rebuilt.{Rebuilt}
+use Rattle.claims.specs.declared.rebuilt.Rebuilt.{Rebuilt}
 use Rattle.script.specs.declared.answer.Answer.{Answer}
 use Rattle.store_clients.specs.Workloads.{AreAccepted}
 use Rattle.script.specs.declared.answer.Answer.TheVariants as answer

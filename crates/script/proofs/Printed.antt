@@ -19,6 +19,11 @@ one_printed text xs i default old mid new below before one =
     let grown = flat_map_more text [] (take i xs) (get_or xs i default) ∙ ap (flat_map text) (sym (take_more xs i default below)) in
     subst (Appends old new) grown (Appends-trans old mid new _ _ before one)
 
+pub one_more_printed : {X : Type 0} (text : X → List ℕ) (done : List X) (x : X) (old mid new : Option (List ℕ)) → Appends old mid (flat_map text done)
+    → Appends mid new (text x) → Appends old new (flat_map text (done ++ x ∷ []))
+one_more_printed text done x old mid new before one =
+    subst (Appends old new) (flat_map_more text [] done x) (Appends-trans old mid new _ _ before one)
+
 -- the pieces of an object's line
 pub object_printed : (o : Object) (a b c d e : Option (List ℕ)) → Appends a b (decimal o.key.table ++ 32 ∷ []) → Appends b c o.key.bytes → Appends c d (32 ∷ [])
     → Appends d e (decimal o.version ++ 32 ∷ o.value ++ 10 ∷ []) → Appends a e (object_text o)

@@ -8,10 +8,11 @@ use Rattle.backup.specs.State.{fleet_state, lost}
 use Rattle.backup.specs.declared.fleet.MemoryFleet.{MemoryFleet}
 use Rattle.lines.specs.Grammar.{LineValue, Crash, Lose, Recover, Holdings}
 use Rattle.lines.specs.declared.line.ReplayOrder.{ReplayOrder}
+use Rattle.lines.specs.declared.line.ReplayOrder.TheVariants.{Forward, Reverse, Threads}
 use Rattle.entry.specs.declared.entry.Entry.{Entry}
 use Rattle.entry.specs.Bag.{IsAmong}
 use Rattle.entry.specs.Meaning.{IsMeaning, among, contents_of}
-use Rattle.rebuilding.specs.declared.rebuilt.Rebuilt.{Rebuilt}
+use Rattle.claims.specs.declared.rebuilt.Rebuilt.{Rebuilt}
 use Rattle.replica.specs.declared.holding.Holding.{Holding}
 use Rattle.replica.specs.Picture.{Replica, Picture, FleetState, left_on, shown_by, survivors, IsHeld, AreHeld}
 use Rattle.replica.specs.Choice.{IsShownChoice}
@@ -26,15 +27,16 @@ use Rattle.recovery.specs.Kept.{is_kept}
 use Rattle.recovery.specs.Orders.{Covers, NamesGroups}
 use Rattle.recovery.specs.declared.order.GroupOrder.{GroupOrder}
 use Rattle.tablet_will.specs.declared.part.Part.{Part}
-use Rattle.recovery.specs.Recovered.{Shows, IsRecovered, IsRebuiltFrom, IsRefusedFrom, IsLossOrMemory, IsWant}
+use Rattle.recovery.specs.Recovered.{Shows, IsRecovered, IsRebuiltFrom, IsRefusedFrom, IsLossOrMemory, IsSomeLoss, IsSomePrefix, IsWant}
 use Rattle.recovery_plan.specs.Planned.{IsPlanFault, NamesLoss}
 use Rattle.recovery.specs.declared.recovery.RecoveryFault.{RecoveryFault}
 use Rattle.recovery.specs.declared.recovery.RecoveryFault.TheVariants as fault
 use Rattle.recovery.proofs.Choices.{bag-of-plan, surviving-choice}
-use Rattle.recovery.proofs.Recoveries.{IsSomePrefix, IsSomeLoss}
+use Rattle.recovery.proofs.Counting.{orders_name}
 use Rattle.script.specs.declared.answer.Answer.TheVariants as answer
 use Rattle.script.specs.declared.node.Node.{Node}
 use Rattle.script.specs.declared.node.Node.TheVariants.{Down}
+use Rattle.script.specs.Recoveries.{order_named}
 use Rattle.script.specs.Lives.{Life, life_to, Left, left_now, is_left, IsHomeBy, Position}
 use Rattle.script.specs.Served.{IsLeftOf, IsOf, IsNodeAt, AnswersLine, is_up, life_of, held_answer}
 use Rattle.script.specs.Told.{IsRecoveredAt, IsFoundAt, AreLeft, AreHeldAt, NamesLossOf, Tells}
@@ -228,3 +230,11 @@ module _ (node : Node) (fleet : MemoryFleet) (config : Config) (d : MasterData) 
   -- a refusal for memory names no loss
   pub want_told : (order : ReplayOrder) → Tells config (life_of d) at (Recover order) (answer.NotRecovered (fault.Plan plan_fault.NoMemory)) at
   want_told order = ((order, refl), left_at.0, left_at.1, (tt, inl tt, λ both. tt), refl)
+
+-- ---- orders
+
+-- the order that a line names has each group once
+pub names_groups : (order : ReplayOrder) (hs : List Holding) (master : ℕ) (will : List Part) → NamesGroups hs master will (order_named order)
+names_groups Forward hs master will = (orders_name hs master will).0
+names_groups Reverse hs master will = (orders_name hs master will).1
+names_groups (Threads workers) hs master will = (orders_name hs master will).0

@@ -18,7 +18,7 @@ use Rattle.recovery.specs.declared.order.GroupOrder.TheVariants as group_order
 use Rattle.recovery.specs.declared.recovery.RecoveryFault.{RecoveryFault}
 use Rattle.recovery.specs.Drilled.{IsOfHeld}
 use Rattle.recovery.specs.Succession.{IsSuccessor}
-use Rattle.rebuilding.specs.declared.rebuilt.Rebuilt.{Rebuilt}
+use Rattle.claims.specs.declared.rebuilt.Rebuilt.{Rebuilt}
 use Rattle.replay.specs.Adopting.{IsAdopted, IsAdoptedOn, DeclinesList}
 use Rattle.replica.specs.declared.op.TakeFault.{TakeFault}
 use Rattle.replica.specs.declared.op.TakeFault.TheVariants as take_fault
@@ -55,10 +55,11 @@ pub record Asked : Type 0 where
 abbrev pub ask : ℕ → ℕ → List Part → GroupOrder → Asked
 ask master used will order = record { master = master; used = used; will = will; order = order }
 
--- the order of the groups that a line names
+-- the order of the groups that a line names: several workers take them in order
 abbrev pub order_named : ReplayOrder → GroupOrder
 order_named replay_order.Forward = group_order.Forward
 order_named replay_order.Reverse = group_order.Reverse
+order_named (replay_order.Threads workers) = group_order.Forward
 
 -- the line's recovery is of the session's master, by the session's will, in the order that the line names
 abbrev pub asked_of : Session → ReplayOrder → Asked

@@ -35,7 +35,7 @@ use Rattle.master.specs.Steps.{Steps}
 use Rattle.master.specs.World.{World}
 use Rattle.master_core.specs.Budget.{used_seglets, free_seglets}
 use Rattle.master_core.specs.Log.{image_of}
-use Rattle.rebuilding.specs.declared.rebuilt.Rebuilt.{Rebuilt}
+use Rattle.claims.specs.declared.rebuilt.Rebuilt.{Rebuilt}
 use Rattle.recovery.specs.declared.recovery.RecoveryFault.{RecoveryFault}
 use Rattle.recovery.specs.declared.recovery.RecoveryFault.TheVariants as recovery_fault
 use Rattle.recovery.specs.Recovered.{IsLossOrMemory, IsWant}

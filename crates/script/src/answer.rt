@@ -363,9 +363,8 @@ fn write_object<W: Write>(writer: &mut W, object: &Object) -> io::Result<()>
 fn write_rebuilt<W: Write>(writer: &mut W, rebuilt: &Rebuilt) -> io::Result<()>
     ensures { OnOk result (Appends (W.contents writer.old) (W.contents writer.new) (rebuilt_text rebuilt.now)) }
 {
-    let objects = rebuilt.objects.as_slice();
-    for object in objects {
+    for object in rebuilt.objects.iter() {
         write_object(writer, object)?;
     }
-    write_number(writer, b"recovered ", objects.len() as u64, b'\n')
+    write_number(writer, b"recovered ", rebuilt.objects.len() as u64, b'\n')
 }

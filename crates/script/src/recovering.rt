@@ -7,13 +7,13 @@ ghost use Rattle.master.specs.World.{World};
 ghost use Rattle.master_core.specs.Config.{config_fault};
 ghost use Rattle.master_core.specs.Data.{MasterData};
 ghost use Rattle.script.specs.declared.node.Node.TheVariants.{Up, Down};
-ghost use Rattle.recovery.specs.Orders.{Covers, NamesGroups};
-ghost use Rattle.replica.specs.declared.holding.Holding.{Holding as HoldingValue};
-ghost use Rattle.lines.specs.declared.line.ReplayOrder.{ReplayOrder};
+ghost use Rattle.recovery.specs.Orders.{Covers};
+ghost use Rattle.recovery.specs.Recovered.{IsRebuiltFrom, IsRefusedFrom, IsSomeLoss, IsSomePrefix};
+ghost use Rattle.lines.specs.Grammar.{IsOrder};
 ghost use Rattle.script.specs.Configuration.{config_of, tables_to};
 ghost use Rattle.script.specs.Numbers.{greatest_of, AreSpent, IsNextNumber, Renumbers};
 ghost use Rattle.script.specs.Recoveries.{Adopts, Ends, EndsFreeing, FindsNone, FindsNothing, IsFoundIn};
-ghost use Rattle.script.specs.Recoveries.{Rebuilds, Recovers, RetiresOthers, ask};
+ghost use Rattle.script.specs.Recoveries.{Rebuilds, Recovers, RetiresOthers, ask, order_named};
 ghost use Rattle.script.specs.Served.{IsNodeAt, IsOf, world_of};
 ghost use Rattle.script.specs.Served.{fleet_of, is_up};
 ghost use Rattle.script.specs.Lives.{Position};
@@ -24,12 +24,16 @@ use crate::setup::configuration;
 use backup::MemoryFleet;
 use command_line::Options;
 use entry::NoMemory;
+use gate::NoGate;
+use lines::ReplayOrder;
 use master::{Config, Refusal};
-use recovery::{GroupOrder, PlanFault, Rebuilt, RecoveryFault, recover};
+use recovery::{GroupOrder, PlanFault, Rebuilt, RecoveryFault, recover, recover_threads};
 use replay::adopt_list;
-use replica::{Bench, Holding, TakeFault};
+use replica::{Bench, Holding, Inventory, TakeFault};
 use std::alloc::Global;
 use std::mem::replace;
+use std::sync::Wait;
+use std::thread::Threads;
 use tablet_will::Will;
 
 /// What came of a recovery.
@@ -80,27 +84,71 @@ fn want() -> Answer
     Answer::NotRecovered(RecoveryFault::Plan(PlanFault::NoMemory))
 }
 
+/// The order of the groups that a line asks for. Several workers take them as one does.
+fn groups_in(order: ReplayOrder) -> GroupOrder
+    ensures { result ≡ order_named order }
+{
+    match order {
+        ReplayOrder::Forward => GroupOrder::Forward,
+        ReplayOrder::Reverse => GroupOrder::Reverse,
+        ReplayOrder::Threads(_) => GroupOrder::Forward,
+    }
+}
+
+/// What a recovery gives that is asked for by a line: by this thread, or by so many workers in threads of their own.
+fn recover_by<H: Threads + Wait + Sync>(
+    rt: &H,
+    alloc: Global,
+    inventory: &Inventory,
+    master: u64,
+    will: &Will,
+    order: ReplayOrder,
+) -> Result<Rebuilt, RecoveryFault>
+    requires order { IsOrder order }
+    ensures ok { IfOk result (IsSomePrefix inventory.now master) }
+    ensures refused { IfErr result (IsSomeLoss inventory.now master will.now (order_named order)) }
+    ensures rebuilt { IfOk result (IsRebuiltFrom inventory.now master will.now (order_named order)) }
+    ensures fault { IfErr result (IsRefusedFrom inventory.now master will.now (order_named order)) }
+{
+    let groups = groups_in(order);
+    match order {
+        ReplayOrder::Threads(workers) => recover_threads(
+            rt,
+            alloc,
+            inventory,
+            master,
+            will,
+            &groups,
+            workers as usize,
+            &NoGate,
+        ),
+        _ => recover(alloc, inventory, master, will, &groups),
+    }
+}
+
 /// Recovers the table of the master with this number, and chooses the number of the next master, above all that were
 /// used.
-fn find(
+fn find<H: Threads + Wait + Sync>(
+    rt: &H,
     alloc: Global,
     fleet: &MemoryFleet,
     options: &Options,
     master: u64,
     used: u64,
     will: &Will,
-    order: &GroupOrder,
+    order: ReplayOrder,
 ) -> Result<Found, Answer>
     requires covers { Covers (tables_to options.now.tables) will.now }
-    requires order { (hs : List HoldingValue) → NamesGroups hs master will.now order.now }
+    requires order { IsOrder order }
     ensures found { IfOk result (λ found. IsFoundIn fleet.now options.now master found.rebuilt found.config) }
     ensures fresh { IfOk result (λ found. used < found.config.master) }
     ensures least { IfOk result (λ found.
         IsNextNumber (max master used) (fleet_state fleet.now).picture found.config.master) }
     ensures none { IfErr result (FindsNone fleet.now (config_of options.now master)) }
     ensures rebuilt { IfOk result (λ found.
-        Rebuilds (fleet_state fleet.now) (ask master used will.now order.now) (Ok found.rebuilt)) }
-    ensures nothing { IfErr result (FindsNothing (fleet_state fleet.now) (ask master used will.now order.now)) }
+        Rebuilds (fleet_state fleet.now) (ask master used will.now (order_named order)) (Ok found.rebuilt)) }
+    ensures nothing { IfErr result
+        (FindsNothing (fleet_state fleet.now) (ask master used will.now (order_named order))) }
     ensures spent { IfErr result (λ a.
         a ≡ Answer.NumbersSpent → AreSpent (max master used) (fleet_state fleet.now).picture) }
 {
@@ -108,7 +156,7 @@ fn find(
         Ok(inventory) => inventory,
         Err(NoMemory) => return Err(want()),
     };
-    let rebuilt = match recover(alloc, &inventory, master, will, order) {
+    let rebuilt = match recover_by(rt, alloc, &inventory, master, will, order) {
         Ok(rebuilt) => rebuilt,
         Err(fault) => return Err(Answer::NotRecovered(fault)),
     };
@@ -123,22 +171,22 @@ fn find(
 
 impl Node {
     /// Recovers the table of the master with this number, has the next master adopt it, and frees the replicas of all
-    /// others. The will covers the tablets of the options, and the order names each group of a log once.
-    pub fn recover(
+    /// others. The will covers the tablets of the options.
+    pub fn recover<H: Threads + Wait + Sync>(
         &mut self,
+        rt: &H,
         alloc: Global,
         options: &Options,
         master: u64,
         used: u64,
         will: &Will,
-        order: &GroupOrder,
+        order: ReplayOrder,
     ) -> Recovery
         requires covers { Covers (tables_to options.now.tables) will.now }
-        requires order { (hs : List HoldingValue) → NamesGroups hs master will.now order.now }
+        requires order { IsOrder order }
         requires stands { (d : MasterData) × (at : Position) × IsNodeAt self.old (config_of options.now master) d at }
-        ensures recovers { (asked : ReplayOrder) →
-            Recovers self.old options.now master asked self.new result.answer result.master }
-        ensures ends { Ends self.old options.now (ask master used will.now order.now) result.used self.new
+        ensures recovers { Recovers self.old options.now master order self.new result.answer result.master }
+        ensures ends { Ends self.old options.now (ask master used will.now (order_named order)) result.used self.new
             result.answer result.master }
         ensures numbers { Renumbers master used result.master result.used }
         ensures least { (result.used ≡ used)
@@ -154,7 +202,7 @@ impl Node {
             };
         };
         let Found { rebuilt, config } = match find(
-            alloc, fleet, options, master, used, will, order,
+            rt, alloc, fleet, options, master, used, will, order,
         ) {
             Ok(found) => found,
             Err(answer) => {

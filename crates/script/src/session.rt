@@ -1,21 +1,18 @@
 //! What a script drives: a fleet, and the master over it if there is one.
 
 ghost use Rattle.std.specs.Prelude.{◌≡◌, ◌≤◌, ℕ, List, length, None, Some, IfOk, IfErr, IsSome};
-ghost use Rattle.lines.specs.Grammar.{Begin, Clean, Clients, Recover, IsKeyWord, IsLine, shown_line};
+ghost use Rattle.lines.specs.Grammar.{Begin, Clean, Clients, Recover, IsKeyWord, IsLine, IsOrder, shown_line};
 ghost use Rattle.lines.specs.Grammar.{Will as WillLine};
 ghost use Rattle.lines.specs.Numbers.{numbers_of};
 ghost use Rattle.master_core.specs.Config.{config_fault};
-ghost use Rattle.recovery.specs.Orders.{NamesGroups};
-ghost use Rattle.replica.specs.declared.holding.Holding.{Holding as HoldingValue};
 ghost use Rattle.script.specs.Configuration.{config_of};
 ghost use Rattle.script.specs.declared.session.LineFault.TheVariants as line_fault;
 ghost use Rattle.script.specs.Runs.{IsOfFleet};
-ghost use Rattle.script.specs.Recoveries.{RunsLine, SessionRecovers, order_named};
+ghost use Rattle.script.specs.Recoveries.{RunsLine, SessionRecovers};
 ghost use Rattle.script.specs.Served.{BeginsSession, SessionAnswers, Stands};
 ghost use Rattle.script.specs.Told.{command_of};
 ghost use Rattle.script.specs.Turns.{HasValue, RefusesLine};
 ghost use Rattle.script.specs.Waits.{AnswersAfterRoll};
-ghost use Rattle.tablet_will.specs.declared.part.Part.{Part as PartValue};
 
 use crate::answer::Answer;
 use crate::clients::Served;
@@ -28,7 +25,7 @@ use driving::push_all;
 use entry::{Key, KeyFault, MAX_VALUE_LEN, NoMemory, Row, Value};
 use lines::{Line, Numbers, ReplayOrder};
 use master::{Command, If, Master, Refusal};
-use recovery::{GroupOrder, PlanFault, RecoveryFault};
+use recovery::{PlanFault, RecoveryFault};
 use std::alloc::Global;
 use std::sync::Wait;
 use std::thread::Threads;
@@ -133,7 +130,7 @@ impl Session {
             Line::Lose { backup } if backup >= self.options.backups => Err(LineFault::Bad),
             Line::Lose { backup } => Ok(self.node.lose(backup)),
             Line::Will => Ok(self.run_will()),
-            Line::Recover { order } => Ok(self.run_recover(order)),
+            Line::Recover { order } => Ok(self.run_recover(rt, order)),
             Line::Roll => Ok(self.node.roll()),
             Line::BeginRoll => Ok(self.node.begin_roll()),
             Line::Compact { segment } => Ok(self.node.compact(segment)),
@@ -174,7 +171,8 @@ impl Session {
 
     /// Runs the line that recovers what the master left. From the end of an adoption on, the new master is the one that a
     /// recovery is for, and the will is one partition again.
-    fn run_recover(&mut self, order: ReplayOrder) -> Answer
+    fn run_recover<H: Threads + Wait + Sync>(&mut self, rt: &H, order: ReplayOrder) -> Answer
+        requires order { IsOrder order }
         requires stands { Stands self.old }
         ensures { SessionRecovers self.old (Recover order) self.new result }
     {
@@ -188,14 +186,14 @@ impl Session {
         let Ok(whole) = whole_will(self.alloc, &self.options) else {
             return Answer::NotRecovered(RecoveryFault::Plan(PlanFault::NoMemory));
         };
-        let groups = groups_in(order);
         let recovery = self.node.recover(
+            rt,
             self.alloc,
             &self.options,
             self.master,
             self.used,
             &self.will,
-            &groups,
+            order,
         );
         self.used = recovery.used;
         if recovery.master != self.master {
@@ -273,17 +271,6 @@ impl Session {
             Some(answer) => Ok(answer),
             None => Ok(Answer::Refused(Refusal::Rolling)),
         }
-    }
-}
-
-/// The order of the groups that a line asks for. It has each group once.
-fn groups_in(order: ReplayOrder) -> GroupOrder
-    ensures named { result ≡ order_named order }
-    ensures once { (hs : List HoldingValue) (master : ℕ) (will : List PartValue) → NamesGroups hs master will result }
-{
-    match order {
-        ReplayOrder::Forward => GroupOrder::Forward,
-        ReplayOrder::Reverse => GroupOrder::Reverse,
     }
 }
 

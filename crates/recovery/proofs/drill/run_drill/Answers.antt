@@ -1,14 +1,13 @@
 use Rattle.std.proofs.Common.{◌≡◌, ℕ, ap, subst, sym}
 use Rattle.std.specs.Prelude.{Result, IfOk, IfErr}
-use Rattle.rebuilding.specs.declared.rebuilt.Rebuilt.{Rebuilt}
+use Rattle.claims.specs.declared.rebuilt.Rebuilt.{Rebuilt}
 use Rattle.master.specs.World.{world}
 use Rattle.recovery.specs.declared.recovery.RecoveryFault.{RecoveryFault}
 use Rattle.recovery.specs.declared.recovery.RecoveryFault.TheVariants as fault
 use Rattle.recovery_plan.specs.declared.fault.PlanFault.TheVariants as plan_fault
 use Rattle.recovery.specs.Drilled.{IsDrill}
-use Rattle.recovery.specs.Recovered.{IsRebuiltFrom, IsRefusedFrom}
+use Rattle.recovery.specs.Recovered.{IsRebuiltFrom, IsRefusedFrom, IsSomeLoss, IsSomePrefix}
 use Rattle.recovery.proofs.Drilling.{drilled, drilled_without}
-use Rattle.recovery.proofs.Recoveries.{IsSomePrefix, IsSomeLoss}
 use Rattle.recovery.proofs.drill.run_drill.Goals.{in-Ok-inventory_of, in-Err-inventory_of}
 use Rattle.recovery.proofs.drill.run_drill.Goals as goal
 

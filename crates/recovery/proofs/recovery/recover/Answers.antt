@@ -1,4 +1,4 @@
-use Rattle.recovery.proofs.Recoveries.{rebuilt-prefix, refused-plan, refused-replay}
+use Rattle.recovery.proofs.Recoveries.{rebuilt-prefix, rebuilt-from, refused-plan, refused-replay}
 use Rattle.recovery.proofs.recovery.recover.Goals as goal
 
 pub returns-in-Err-clause-refused : goal.returns-in-Err-clause-refused
@@ -16,14 +16,10 @@ returns-in-Ok-rebuild_in-clause-ok c =
     c.in-Ok-rebuild_in.ensures.ok
 
 pub returns-in-Ok-rebuild_in-clause-rebuilt : goal.returns-in-Ok-rebuild_in-clause-rebuilt
-returns-in-Ok-rebuild_in-clause-rebuilt c = record {
-  plan = c.in-Ok.plan;
-  planned = c.in-Ok.ensures.ok;
-  covered = c.in-Ok-rebuild_in.ensures.covered;
-  whole = c.in-Ok-rebuild_in.ensures.order;
-  rebuilt = c.in-Ok-rebuild_in.ensures.ok;
-  turns = c.in-Ok-rebuild_in.ensures.turns;
-}
+returns-in-Ok-rebuild_in-clause-rebuilt c =
+    let e = c.in-Ok-rebuild_in.ensures in
+    rebuilt-from c.args.inventory.now c.args.master c.args.will.now c.args.order.now c.in-Ok.plan c.in-Ok-rebuild_in.rebuilt
+    c.in-Ok.ensures.ok e.covered e.order e.ok e.turns
 
 pub returns-clause-refused : goal.returns-clause-refused
 returns-clause-refused c =

@@ -1,6 +1,6 @@
 use Rattle.std.proofs.Common.{suc, refl, subst}
 use Rattle.std.specs.Prelude.{Result}
-use Rattle.rebuilding.specs.declared.rebuilt.Rebuilt.{Rebuilt}
+use Rattle.claims.specs.declared.rebuilt.Rebuilt.{Rebuilt}
 use Rattle.master.specs.World.{world}
 use Rattle.recovery.specs.declared.recovery.RecoveryFault.{RecoveryFault}
 use Rattle.recovery.specs.Succession.{IsDrillBy}

@@ -1,4 +1,5 @@
-use Rattle.std.proofs.Common.{take}
+use Rattle.std.proofs.Common.{◌≡◌, ◌++◌, List}
+use Rattle.entry.specs.declared.entry.Object.{Object}
 use Rattle.std.specs.List.{flat_map}
 use Rattle.std.specs.Io.KnownBytes.{Appends}
 use Rattle.script.specs.Texts.{object_text}
@@ -6,4 +7,5 @@ use Rattle.script.proofs.answer.write_rebuilt.Given as goal
 
 abbrev pub invariant-loop-object : goal.invariant-loop-object
 invariant-loop-object g l =
-    Appends (g.W.Write.contents l.fn.writer) (g.W.Write.contents l.writer) (flat_map object_text (take l.object-index l.objects))
+    (done : List Object) × (done ++ l.object-iterator ≡ l.fn.rebuilt.objects)
+    × Appends (g.W.Write.contents l.fn.writer) (g.W.Write.contents l.writer) (flat_map object_text done)

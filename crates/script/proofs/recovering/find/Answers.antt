@@ -7,27 +7,27 @@ use Rattle.script.specs.declared.answer.Answer.{Answer}
 use Rattle.script.specs.declared.node.Node.TheVariants.{Down}
 use Rattle.script.specs.Configuration.{config_of}
 use Rattle.script.specs.Numbers.{greatest_of}
-use Rattle.script.specs.Recoveries.{FindsNothing, ask}
+use Rattle.script.specs.Recoveries.{FindsNothing, ask, order_named}
 use Rattle.script.specs.Served.{life_of}
 use Rattle.script.specs.Told.{Tells}
 use Rattle.script.proofs.NextLife.{next_unused}
-use Rattle.script.proofs.WhatIsLeft.{loss_told, table_found, want_told}
+use Rattle.script.proofs.WhatIsLeft.{loss_told, names_groups, table_found, want_told}
 use Rattle.script.proofs.recovering.find.Goals as goal
 
 pub returns-in-Err-clause-none : goal.returns-in-Err-clause-none
-returns-in-Err-clause-none c = λ order d at s.
+returns-in-Err-clause-none g c = λ order d at s.
     let old = config_of c.args.options.now c.args.master in
     subst (λ (a : Answer). Tells old (life_of d) at (Recover order) a at) (sym c.want.ensures) (want_told (Down c.args.fleet.now) c.args.fleet.now old d at refl s order)
 
-pub returns-in-Err-recover-clause-none : goal.returns-in-Err-recover-clause-none
-returns-in-Err-recover-clause-none c = λ order d at s.
-    let e = c.in-Err-recover in
+pub returns-in-Err-recover_by-clause-none : goal.returns-in-Err-recover_by-clause-none
+returns-in-Err-recover_by-clause-none g c = λ order d at s.
+    let e = c.in-Err-recover_by in
     loss_told (Down c.args.fleet.now) c.args.fleet.now (config_of c.args.options.now c.args.master) d at refl s c.in-Ok.inventory c.args.master refl
-    c.in-Ok.ensures.shown e.fault c.args.will.now c.args.order.now e.ensures.refused e.ensures.fault c.requires.covers (c.requires.order c.in-Ok.inventory) order
+    c.in-Ok.ensures.shown e.fault c.args.will.now (order_named c.args.order) e.ensures.refused e.ensures.fault c.requires.covers (names_groups c.args.order c.in-Ok.inventory c.args.master c.args.will.now) order
 
 pub returns-in-Ok-configuration-clause-found : goal.returns-in-Ok-configuration-clause-found
-returns-in-Ok-configuration-clause-found c =
-    let r = c.in-Ok-recover in
+returns-in-Ok-configuration-clause-found g c =
+    let r = c.in-Ok-recover_by in
     let is = c.in-Ok-configuration.ensures.config in
     let number : c.in-Ok-configuration.config.master ≡ c.in-Some.number = ap (λ (k : Config). k.master) is in
     let least : c.max_of.result ≡ max c.args.master c.args.used = c.max_of.ensures in
@@ -35,7 +35,7 @@ returns-in-Ok-configuration-clause-found c =
     subst (λ (hs : List Holding). c.in-Some.number ≡ suc (max c.max_of.result (greatest_of hs))) c.as_slice.ensures c.in-Some.ensures.next in
     record {
       table = λ d at s. table_found (Down c.args.fleet.now) c.args.fleet.now (config_of c.args.options.now c.args.master) d at refl s c.in-Ok.inventory
-          c.args.master refl c.in-Ok.ensures.shown r.rebuilt r.ensures.ok c.args.will.now c.args.order.now r.ensures.rebuilt;
+          c.args.master refl c.in-Ok.ensures.shown r.rebuilt r.ensures.ok c.args.will.now (order_named c.args.order) r.ensures.rebuilt;
       configured = is ∙ ap (λ (n : ℕ). config_of c.args.options.now n) (sym number);
       greater = omega arith;
       unused = next_unused c.in-Ok.inventory (fleet_state c.args.fleet.now).picture c.max_of.result c.in-Ok-configuration.config.master c.in-Ok.ensures.shown
@@ -43,13 +43,13 @@ returns-in-Ok-configuration-clause-found c =
     }
 
 pub returns-clause-none : goal.returns-clause-none
-returns-clause-none c = λ order d at s.
+returns-clause-none g c = λ order d at s.
     let old = config_of c.args.options.now c.args.master in
     subst (λ (a : Answer). Tells old (life_of d) at (Recover order) a at) (sym c.want-in-Err-configuration.ensures)
     (want_told (Down c.args.fleet.now) c.args.fleet.now old d at refl s order)
 
 pub returns-in-Ok-configuration-clause-fresh : goal.returns-in-Ok-configuration-clause-fresh
-returns-in-Ok-configuration-clause-fresh c =
+returns-in-Ok-configuration-clause-fresh g c =
     let is = c.in-Ok-configuration.ensures.config in
     let number : c.in-Ok-configuration.config.master ≡ c.in-Some.number = ap (λ (k : Config). k.master) is in
     let least : c.max_of.result ≡ max c.args.master c.args.used = c.max_of.ensures in
@@ -57,7 +57,7 @@ returns-in-Ok-configuration-clause-fresh c =
     omega (arith, number, least, next)
 
 pub returns-in-Ok-configuration-clause-least : goal.returns-in-Ok-configuration-clause-least
-returns-in-Ok-configuration-clause-least c =
+returns-in-Ok-configuration-clause-least g c =
     let is = c.in-Ok-configuration.ensures.config in
     let hs = c.in-Ok.inventory in
     let number : c.in-Ok-configuration.config.master ≡ c.in-Some.number = ap (λ (k : Config). k.master) is in
@@ -66,20 +66,20 @@ returns-in-Ok-configuration-clause-least c =
     (hs, c.in-Ok.ensures.shown, number ∙ next ∙ ap (λ (m : ℕ). suc (max m (greatest_of hs))) c.max_of.ensures)
 
 pub returns-in-Err-clause-nothing : goal.returns-in-Err-clause-nothing
-returns-in-Err-clause-nothing c =
-    subst (λ (a : Answer). FindsNothing (fleet_state c.args.fleet.now) (ask c.args.master c.args.used c.args.will.now c.args.order.now) a) (sym c.want.ensures) (inl tt)
+returns-in-Err-clause-nothing g c =
+    subst (λ (a : Answer). FindsNothing (fleet_state c.args.fleet.now) (ask c.args.master c.args.used c.args.will.now (order_named c.args.order)) a) (sym c.want.ensures) (inl tt)
 
-pub returns-in-Err-recover-clause-nothing : goal.returns-in-Err-recover-clause-nothing
-returns-in-Err-recover-clause-nothing c = inr (c.in-Ok.inventory, c.in-Ok.ensures.shown, c.in-Err-recover.ensures.fault)
+pub returns-in-Err-recover_by-clause-nothing : goal.returns-in-Err-recover_by-clause-nothing
+returns-in-Err-recover_by-clause-nothing g c = inr (c.in-Ok.inventory, c.in-Ok.ensures.shown, c.in-Err-recover_by.ensures.fault)
 
 pub returns-in_default-clause-nothing : goal.returns-in_default-clause-nothing
-returns-in_default-clause-nothing c =
-    (c.in-Ok-recover.rebuilt, (c.in-Ok.inventory, c.in-Ok.ensures.shown, c.in-Ok-recover.ensures.rebuilt))
+returns-in_default-clause-nothing g c =
+    (c.in-Ok-recover_by.rebuilt, (c.in-Ok.inventory, c.in-Ok.ensures.shown, c.in-Ok-recover_by.ensures.rebuilt))
 
 pub returns-in-Ok-configuration-clause-rebuilt : goal.returns-in-Ok-configuration-clause-rebuilt
-returns-in-Ok-configuration-clause-rebuilt c = (c.in-Ok.inventory, c.in-Ok.ensures.shown, c.in-Ok-recover.ensures.rebuilt)
+returns-in-Ok-configuration-clause-rebuilt g c = (c.in-Ok.inventory, c.in-Ok.ensures.shown, c.in-Ok-recover_by.ensures.rebuilt)
 
 pub returns-clause-nothing : goal.returns-clause-nothing
-returns-clause-nothing c =
-    subst (λ (a : Answer). FindsNothing (fleet_state c.args.fleet.now) (ask c.args.master c.args.used c.args.will.now c.args.order.now) a)
+returns-clause-nothing g c =
+    subst (λ (a : Answer). FindsNothing (fleet_state c.args.fleet.now) (ask c.args.master c.args.used c.args.will.now (order_named c.args.order)) a)
     (sym c.want-in-Err-configuration.ensures) (inl tt)

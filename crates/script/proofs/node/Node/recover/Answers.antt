@@ -18,7 +18,8 @@ use Rattle.script.proofs.Standing.{stays_told}
 use Rattle.script.proofs.node.Node.recover.Goals as goal
 
 pub returns-in-Err-clause-recovers : goal.returns-in-Err-clause-recovers
-returns-in-Err-clause-recovers c = λ order.
+returns-in-Err-clause-recovers g c =
+    let order = c.args.order in
     let old = config_of c.args.options.now c.args.master in
     inl (
       refl,
@@ -27,7 +28,7 @@ returns-in-Err-clause-recovers c = λ order.
     )
 
 pub adopt-requires-clause-fleet : goal.adopt-requires-clause-fleet
-adopt-requires-clause-fleet c =
+adopt-requires-clause-fleet g c =
     let s = c.requires.stands in
     let found = c.in-Ok.ensures.found in (
       c.in-Down.fleet,
@@ -38,7 +39,8 @@ adopt-requires-clause-fleet c =
     )
 
 pub returns-in-Some-clause-recovers : goal.returns-in-Some-clause-recovers
-returns-in-Some-clause-recovers c = λ order.
+returns-in-Some-clause-recovers g c =
+    let order = c.args.order in
     inl (
       refl,
       declined_told c.in-Down.fleet c.args.options.now c.args.master c.in-Ok.found.rebuilt c.in-Ok.found.config c.in-Ok.ensures.found
@@ -46,77 +48,79 @@ returns-in-Some-clause-recovers c = λ order.
     )
 
 pub returns-in-None-clause-recovers : goal.returns-in-None-clause-recovers
-returns-in-None-clause-recovers c = λ order.
+returns-in-None-clause-recovers g c =
+    let order = c.args.order in
     let a = c.in_default-adopt.ensures c.in-Down.fleet refl in
     inr (recovered_told c.in-Down.fleet c.args.options.now c.args.master c.in-Ok.found.rebuilt c.in-Ok.found.config c.in-Ok.ensures.found
     c.args.self.now c.in-Down.is order a.0.knows a.2 c.retire.new.self
     (c.in-None.ensures.others a.0.knows (subst (λ (n : Node). IsOf n None a.0.knows) (sym a.1) (refl, refl, a.3))))
 
 pub returns-in-Some-retire-clause-recovers : goal.returns-in-Some-retire-clause-recovers
-returns-in-Some-retire-clause-recovers c = λ order.
+returns-in-Some-retire-clause-recovers g c =
+    let order = c.args.order in
     let a = c.in_default-adopt.ensures c.in-Down.fleet refl in
     inr (cut_told c.in-Down.fleet c.args.options.now c.args.master c.in-Ok.found.rebuilt c.in-Ok.found.config c.in-Ok.ensures.found
     c.args.self.now c.in-Down.is order a.0.knows a.2 c.retire.new.self c.in-Some-retire.answer
     (c.in-Some-retire.ensures.others a.0.knows (subst (λ (n : Node). IsOf n None a.0.knows) (sym a.1) (refl, refl, a.3))))
 
 pub returns-in-Err-clause-numbers : goal.returns-in-Err-clause-numbers
-returns-in-Err-clause-numbers c = record { rises = omega arith; fresh = inl refl }
+returns-in-Err-clause-numbers g c = record { rises = omega arith; fresh = inl refl }
 
 pub returns-in-Some-clause-numbers : goal.returns-in-Some-clause-numbers
-returns-in-Some-clause-numbers c = let above = c.in-Ok.ensures.fresh in record { rises = omega arith; fresh = inl refl }
+returns-in-Some-clause-numbers g c = let above = c.in-Ok.ensures.fresh in record { rises = omega arith; fresh = inl refl }
 
 pub returns-in-None-clause-numbers : goal.returns-in-None-clause-numbers
-returns-in-None-clause-numbers c = let above = c.in-Ok.ensures.fresh in record { rises = omega arith; fresh = inr (above, refl) }
+returns-in-None-clause-numbers g c = let above = c.in-Ok.ensures.fresh in record { rises = omega arith; fresh = inr (above, refl) }
 
 pub returns-in-Some-retire-clause-numbers : goal.returns-in-Some-retire-clause-numbers
-returns-in-Some-retire-clause-numbers c = let above = c.in-Ok.ensures.fresh in record { rises = omega arith; fresh = inr (above, refl) }
+returns-in-Some-retire-clause-numbers g c = let above = c.in-Ok.ensures.fresh in record { rises = omega arith; fresh = inr (above, refl) }
 
 pub returns-in-Err-clause-spent : goal.returns-in-Err-clause-spent
-returns-in-Err-clause-spent c = λ is.
+returns-in-Err-clause-spent g c = λ is.
     subst (λ (n : Node). IfSome (fleet_of n) (λ (f : FleetState). AreSpent (max c.args.master c.args.used) f.picture)) (sym c.in-Down.is)
     (c.in-Err.ensures.spent is)
 
 pub returns-in-Some-clause-spent : goal.returns-in-Some-clause-spent
-returns-in-Some-clause-spent c = λ is.
+returns-in-Some-clause-spent g c = λ is.
     let refused = c.in-Some.ensures c.in-Down.fleet refl in
     absurd (not_of_refusal refused.why (sym refused.told ∙ is))
 
 pub returns-in-None-clause-spent : goal.returns-in-None-clause-spent
-returns-in-None-clause-spent c = λ is. absurd (cc)
+returns-in-None-clause-spent g c = λ is. absurd (cc)
 
 pub returns-in-Some-retire-clause-spent : goal.returns-in-Some-retire-clause-spent
-returns-in-Some-retire-clause-spent c = λ is.
+returns-in-Some-retire-clause-spent g c = λ is.
     let a = c.in_default-adopt.ensures c.in-Down.fleet refl in
     absurd (not_of_cut a.0.knows c.retire.new.self c.in-Some-retire.answer
     (c.in-Some-retire.ensures.others a.0.knows (subst (λ (n : Node). IsOf n None a.0.knows) (sym a.1) (refl, refl, a.3))) is)
 
 pub returns-in-Err-clause-least : goal.returns-in-Err-clause-least
-returns-in-Err-clause-least c = inl refl
+returns-in-Err-clause-least g c = inl refl
 
 pub returns-in-Some-clause-least : goal.returns-in-Some-clause-least
-returns-in-Some-clause-least c = inr
+returns-in-Some-clause-least g c = inr
     (subst (λ (n : Node). IfSome (fleet_of n) (λ (f : FleetState). IsNextNumber (max c.args.master c.args.used) f.picture c.in-Ok.found.config.master))
     (sym c.in-Down.is) c.in-Ok.ensures.least)
 
 pub returns-in-None-clause-least : goal.returns-in-None-clause-least
-returns-in-None-clause-least c = inr
+returns-in-None-clause-least g c = inr
     (subst (λ (n : Node). IfSome (fleet_of n) (λ (f : FleetState). IsNextNumber (max c.args.master c.args.used) f.picture c.in-Ok.found.config.master))
     (sym c.in-Down.is) c.in-Ok.ensures.least)
 
 pub returns-in-Some-retire-clause-least : goal.returns-in-Some-retire-clause-least
-returns-in-Some-retire-clause-least c = inr
+returns-in-Some-retire-clause-least g c = inr
     (subst (λ (n : Node). IfSome (fleet_of n) (λ (f : FleetState). IsNextNumber (max c.args.master c.args.used) f.picture c.in-Ok.found.config.master))
     (sym c.in-Down.is) c.in-Ok.ensures.least)
 
 pub returns-in-Err-clause-ends : goal.returns-in-Err-clause-ends
-returns-in-Err-clause-ends c = inr (
+returns-in-Err-clause-ends g c = inr (
   fleet_state c.in-Down.fleet,
   down_on c.args.self.now c.in-Down.fleet c.in-Down.is,
   inl (c.in-Err.ensures.nothing, sym c.in-Down.is, refl, refl),
 )
 
 pub returns-in-Some-clause-ends : goal.returns-in-Some-clause-ends
-returns-in-Some-clause-ends c =
+returns-in-Some-clause-ends g c =
     let f = fleet_state c.in-Down.fleet in
     let r = c.in-Ok.found.rebuilt in
     inr (
@@ -135,7 +139,7 @@ returns-in-Some-clause-ends c =
     )
 
 pub returns-in-None-clause-ends : goal.returns-in-None-clause-ends
-returns-in-None-clause-ends c =
+returns-in-None-clause-ends g c =
     let f = fleet_state c.in-Down.fleet in
     let r = c.in-Ok.found.rebuilt in
     let a = c.in_default-adopt.ensures c.in-Down.fleet refl in
@@ -155,7 +159,7 @@ returns-in-None-clause-ends c =
     )
 
 pub returns-in-Some-retire-clause-ends : goal.returns-in-Some-retire-clause-ends
-returns-in-Some-retire-clause-ends c =
+returns-in-Some-retire-clause-ends g c =
     let f = fleet_state c.in-Down.fleet in
     let r = c.in-Ok.found.rebuilt in
     let a = c.in_default-adopt.ensures c.in-Down.fleet refl in

@@ -1,14 +1,13 @@
 use Rattle.std.proofs.Common.{ℕ, inl, inr, refl, subst, arith}
-use Rattle.recovery.specs.declared.order.GroupOrder.{GroupOrder}
 use Rattle.script.specs.Configuration.{config_of}
 use Rattle.script.specs.Numbers.{Renumbers}
-use Rattle.script.specs.Recoveries.{Ends, Recovers, ask, asked_of}
+use Rattle.script.specs.Recoveries.{Ends, Recovers, asked_of}
 use Rattle.script.proofs.HowItEnds.{down_at, limit_made, want_ends}
 use Rattle.script.proofs.Standing.{not_up, unknown_at, want_at}
 use Rattle.script.proofs.session.Session.run_recover.Goals as goal
 
 pub returns-in_default-whole_will : goal.returns-in_default-whole_will
-returns-in_default-whole_will c =
+returns-in_default-whole_will g c =
     let s = c.args.self.now in
     let config = config_of s.options s.master in
     let down = not_up s.node c.in_default.not-Up in
@@ -30,12 +29,10 @@ returns-in_default-whole_will c =
     }
 
 pub returns-else-recovery-self : goal.returns-else-recovery-self
-returns-else-recovery-self c =
+returns-else-recovery-self g c =
     let s = c.args.self.now in
     let r = c.recover-recovery in
-    let ended : Ends s.node s.options (asked_of s c.args.order) r.result.used r.new.self r.result.answer r.result.master =
-    subst (λ (o : GroupOrder). Ends s.node s.options (ask s.master s.used s.will o) r.result.used r.new.self r.result.answer r.result.master)
-    c.groups_in-groups.ensures.named r.ensures.ends in
+    let ended : Ends s.node s.options (asked_of s c.args.order) r.result.used r.new.self r.result.answer r.result.master = r.ensures.ends in
     record {
       order = c.args.order;
       asks = refl;
@@ -43,7 +40,7 @@ returns-else-recovery-self c =
       known = refl;
       covers = λ all. all.0;
       numbers = subst (λ (n : ℕ). Renumbers s.master s.used n r.result.used) c.if-recovery-self.false r.ensures.numbers;
-      recovers = subst (λ (n : ℕ). Recovers s.node s.options s.master c.args.order r.new.self r.result.answer n) c.if-recovery-self.false (r.ensures.recovers c.args.order);
+      recovers = subst (λ (n : ℕ). Recovers s.node s.options s.master c.args.order r.new.self r.result.answer n) c.if-recovery-self.false r.ensures.recovers;
       ends = inl (inr c.if-not-self.false, subst (λ (n : ℕ). Ends s.node s.options (asked_of s c.args.order) r.result.used r.new.self r.result.answer n) c.if-recovery-self.false ended);
       limit = limit_made s.node r.new.self s.options (asked_of s c.args.order) r.result.used r.result.answer r.result.master ended;
       will = inl (refl, refl);
@@ -52,12 +49,10 @@ returns-else-recovery-self c =
     }
 
 pub returns-then-recovery-self : goal.returns-then-recovery-self
-returns-then-recovery-self c =
+returns-then-recovery-self g c =
     let s = c.args.self.now in
     let r = c.recover-recovery in
-    let ended : Ends s.node s.options (asked_of s c.args.order) r.result.used r.new.self r.result.answer r.result.master =
-    subst (λ (o : GroupOrder). Ends s.node s.options (ask s.master s.used s.will o) r.result.used r.new.self r.result.answer r.result.master)
-    c.groups_in-groups.ensures.named r.ensures.ends in
+    let ended : Ends s.node s.options (asked_of s c.args.order) r.result.used r.new.self r.result.answer r.result.master = r.ensures.ends in
     record {
       order = c.args.order;
       asks = refl;
@@ -65,7 +60,7 @@ returns-then-recovery-self c =
       known = refl;
       covers = λ all. c.in-Ok.ensures.covers;
       numbers = r.ensures.numbers;
-      recovers = r.ensures.recovers c.args.order;
+      recovers = r.ensures.recovers;
       ends = inl (inr c.if-not-self.false, ended);
       limit = limit_made s.node r.new.self s.options (asked_of s c.args.order) r.result.used r.result.answer r.result.master ended;
       will = inr (c.if-recovery-self.true, c.in-Ok.ensures.whole);
@@ -73,11 +68,8 @@ returns-then-recovery-self c =
       spent = r.ensures.spent;
     }
 
-pub recover-recovery-requires-clause-order : goal.recover-recovery-requires-clause-order
-recover-recovery-requires-clause-order c = λ hs. c.groups_in-groups.ensures.once hs c.args.self.now.master c.args.self.now.will
-
 pub returns-then-not-self : goal.returns-then-not-self
-returns-then-not-self c =
+returns-then-not-self g c =
     let s = c.args.self.now in
     let config = config_of s.options s.master in
     let down = not_up s.node c.in_default.not-Up in

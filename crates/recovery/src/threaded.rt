@@ -1,0 +1,88 @@
+//! Recovery by several workers.
+
+ghost use Rattle.std.specs.Prelude.{◌≡◌, ◌≤◌, ℕ, Bool, IfOk, IfErr, OnOk};
+ghost use Rattle.replica.specs.Picture.{Picture, shown_by, survivors};
+ghost use Rattle.replica.specs.Survival.{BothSurvive};
+ghost use Rattle.division.specs.Division.{AreCovered};
+ghost use Rattle.claims.specs.Bags.{segments_bag};
+ghost use Rattle.claims.specs.Rebuilt.{IsRebuilt};
+ghost use Rattle.rebuilding.specs.Rebuilds.{IsRebuildFault, CanBeRebuilt, NamesEach, count_of};
+ghost use Rattle.rebuilding.specs.Turns.{replayed};
+ghost use Rattle.log_model.specs.Data.{LogData, IsHome, newest_opened};
+ghost use Rattle.log_model.specs.Sound.{IsSound};
+ghost use Rattle.recovery.specs.Orders.{order_for, Covers, NamesGroups};
+ghost use Rattle.recovery.specs.Recovered.{Shows, IsRecovered, IsLossOrMemory, IsWant, IsRebuiltFrom, IsRefusedFrom};
+
+use crate::order::{GroupOrder, numbers_for};
+use crate::recovery::RecoveryFault;
+use claims::{Rebuilt, ReplayFault};
+use gate::Gate;
+use rebuild_threads::rebuild_threads;
+use recovery_plan::{Plan, plan};
+use replica::Inventory;
+use std::alloc::Global;
+use std::sync::Wait;
+use std::thread::Threads;
+use tablet_will::Will;
+
+/// Rebuilds the plan by the will, group by group in this order, by so many workers.
+fn rebuild_in_threads<R: Threads + Wait + Sync, G: Gate + Sync>(
+    rt: &R,
+    alloc: Global,
+    plan: &Plan,
+    will: &Will,
+    order: &GroupOrder,
+    workers: usize,
+    gate: &G,
+) -> Result<Rebuilt, ReplayFault>
+    requires workers { (1 ≤ workers) × (workers ≤ 64) }
+    ensures ok { IfOk result (IsRebuilt plan.now.segments plan.now.safe) }
+    ensures turns { IfOk result (IsRebuilt
+        (replayed plan.now.segments will.now (order_for plan.now will.now order.now)) plan.now.safe) }
+    ensures covered { OnOk result (AreCovered will.now (segments_bag plan.now.segments)) }
+    ensures order { OnOk result
+        (NamesEach (count_of plan.now.segments will.now) (order_for plan.now will.now order.now)) }
+    ensures fault { IfErr result (IsRebuildFault plan.now.segments will.now (order_for plan.now will.now order.now)) }
+    ensures whole { IfErr result (λ fault.
+        CanBeRebuilt plan.now.segments will.now (order_for plan.now will.now order.now) →
+        fault ≡ ReplayFault.NoMemory) }
+{
+    let Ok(numbers) = numbers_for(alloc, plan, will, order) else {
+        return Err(ReplayFault::NoMemory);
+    };
+    rebuild_threads(rt, alloc, plan, will, numbers.as_slice(), workers, gate)
+}
+
+/// What `recover` gives, by so many workers, each in a thread of its own: 1 to 64. Each tells the gate when it begins and
+/// when it ends.
+pub fn recover_threads<R: Threads + Wait + Sync, G: Gate + Sync>(
+    rt: &R,
+    alloc: Global,
+    inventory: &Inventory,
+    master: u64,
+    will: &Will,
+    order: &GroupOrder,
+    workers: usize,
+    gate: &G,
+) -> Result<Rebuilt, RecoveryFault>
+    // The clauses of `recover`, word for word.
+    requires workers { (1 ≤ workers) × (workers ≤ 64) }
+    ensures ok { IfOk result (λ r. (d : LogData) (p : Picture) (keep : ℕ → Bool) →
+        IsSound d p → d.config.master ≡ master → Shows inventory.now (survivors keep (shown_by p)) master →
+        (count : ℕ) × IsRecovered d count r) }
+    ensures refused { IfErr result (λ e. (d : LogData) (p : Picture) (keep : ℕ → Bool) →
+        IsSound d p → d.config.master ≡ master → Shows inventory.now (survivors keep (shown_by p)) master →
+        Covers d.config.tablets will.now → NamesGroups inventory.now master will.now order.now →
+        IsLossOrMemory e × (BothSurvive (IsHome d) (newest_opened d) (shown_by p) d.config.master keep → IsWant e)) }
+    ensures rebuilt { IfOk result (IsRebuiltFrom inventory.now master will.now order.now) }
+    ensures fault { IfErr result (IsRefusedFrom inventory.now master will.now order.now) }
+{
+    let plan = match plan(alloc, inventory, master) {
+        Ok(plan) => plan,
+        Err(fault) => return Err(RecoveryFault::Plan(fault)),
+    };
+    match rebuild_in_threads(rt, alloc, &plan, will, order, workers, gate) {
+        Ok(rebuilt) => Ok(rebuilt),
+        Err(fault) => Err(RecoveryFault::Replay(fault)),
+    }
+}
