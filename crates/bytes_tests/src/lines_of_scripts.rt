@@ -28,6 +28,8 @@ const GOOD: &[(&str, &str)] = &[
     ("will", "Ok(Will)"),
     ("recover", "Ok(Recover { order: Forward })"),
     ("recover reverse", "Ok(Recover { order: Reverse })"),
+    ("recover threads 1", "Ok(Recover { order: Threads(1) })"),
+    ("recover threads 64", "Ok(Recover { order: Threads(64) })"),
     ("clean 1", "Ok(Clean { segments: [1] })"),
     ("clean 3 0 2", "Ok(Clean { segments: [3, 0, 2] })"),
     (
@@ -51,6 +53,10 @@ const GOOD: &[(&str, &str)] = &[
 /// What a line of clients has.
 const CLIENTS: &str =
     "clients has a number of clients (1 to 63), of rounds (1 to 1000000) and of passes";
+
+/// What a line of a recovery has.
+const RECOVER: &str =
+    "recover has nothing behind it, or reverse, or threads and a number of workers (1 to 64)";
 
 /// Bad lines, and why each is bad.
 const BAD: &[(&[u8], &str)] = &[
@@ -160,14 +166,16 @@ const BAD: &[(&[u8], &str)] = &[
     (b"lose 1 2", "lose has the number of a backup"),
     (b"clean", "clean has the numbers of one segment or more"),
     (b"begin", "begin has the numbers of one segment or more"),
-    (
-        b"recover forward",
-        "recover has nothing behind it, or reverse",
-    ),
-    (
-        b"recover reverse reverse",
-        "recover has nothing behind it, or reverse",
-    ),
+    (b"recover forward", RECOVER),
+    (b"recover reverse reverse", RECOVER),
+    (b"recover threads", RECOVER),
+    (b"recover threads 0", RECOVER),
+    (b"recover threads 65", RECOVER),
+    (b"recover threads 03", RECOVER),
+    (b"recover threads x", RECOVER),
+    (b"recover threads 3 3", RECOVER),
+    (b"recover reverse 3", RECOVER),
+    (b"recover 3", RECOVER),
     (b"will 1", "will has nothing behind it"),
     (b"crash 1", "crash has nothing behind it"),
     (b"copy 1", "copy has nothing behind it"),

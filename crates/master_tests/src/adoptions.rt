@@ -54,11 +54,7 @@ type Row = (&'static [Ask], u64, u64, Want);
 fn is_refused(refusal: Refusal, rebuilt: &Rebuilt, want: &Want) -> bool {
     match want {
         Ok(_) => false,
-        Err(want) => (
-            refusal,
-            rebuilt.objects.as_slice().len(),
-            rebuilt.safe.get(),
-        ) == *want,
+        Err(want) => (refusal, rebuilt.objects.len(), rebuilt.safe.get()) == *want,
     }
 }
 

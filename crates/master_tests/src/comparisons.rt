@@ -7,7 +7,7 @@ use backup::MemoryFleet;
 use entry::{Entry, EntryRef, Object};
 use master::{Command, Look, Master, Reply, Shown, Step};
 use recovery::{GroupOrder, recover};
-use replay::Rebuilt;
+use replay::{Objects, Rebuilt};
 use segment::SegmentRef;
 use std::alloc::Global;
 use versioned_map::{VersionedMap, meaning};
@@ -62,6 +62,23 @@ fn has(objects: &[Object], want: &Object) -> bool {
     is_found
 }
 
+fn has_rebuilt(objects: &Objects, want: &Object) -> bool {
+    let mut is_found = false;
+    for object in objects.iter() {
+        is_found = is_found || is_same_object(object, want);
+    }
+    is_found
+}
+
+/// Whether these are the objects of the map, in any order.
+fn are_rebuilt_of(objects: &Objects, map: &VersionedMap) -> bool {
+    let mut are_same = objects.len() == map.objects().len();
+    for object in map.objects() {
+        are_same = are_same && has_rebuilt(objects, object);
+    }
+    are_same
+}
+
 /// Whether these are the objects of the map, in any order.
 fn are_of(objects: &[Object], map: &VersionedMap) -> bool {
     let mut are_same = objects.len() == map.objects().len();
@@ -112,7 +129,7 @@ pub fn rebuilt(alloc: Global, fleet: &MemoryFleet) -> Option<Rebuilt> {
 
 fn is_rebuilt(alloc: Global, fleet: &MemoryFleet, map: &VersionedMap) -> bool {
     match &rebuilt(alloc, fleet) {
-        Some(rebuilt) => are_of(rebuilt.objects.as_slice(), map),
+        Some(rebuilt) => are_rebuilt_of(&rebuilt.objects, map),
         None => false,
     }
 }

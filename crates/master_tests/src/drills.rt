@@ -4,10 +4,10 @@ use crate::asks::Ask::{Get, Push, Put, Roll};
 use crate::asks::{Ask, steps_of};
 use crate::masters::{TABLETS, new_master};
 use backup::MemoryFleet;
-use entry::{NoMemory, Object, Row, Size};
+use entry::{NoMemory, Row, Size};
 use master::{If, Master};
 use recovery::{Course, Drill, GroupOrder, RecoveryFault, run_drill};
-use replay::Rebuilt;
+use replay::{Objects, Rebuilt};
 use std::alloc::Global;
 use tablet_will::{Will, make_will};
 
@@ -55,7 +55,7 @@ pub fn course_of(alloc: Global, life: &Life) -> Option<Course> {
 /// The keys of table 1 with their versions, and the safe version; or the text of the fault.
 pub type Recovered = Result<(&'static [(&'static [u8], u64)], u64), &'static str>;
 
-fn are_keys(objects: &[Object], want: &[(&'static [u8], u64)]) -> bool {
+fn are_keys(objects: &Objects, want: &[(&'static [u8], u64)]) -> bool {
     let mut are_same = objects.len() == want.len();
     for (object, (key, version)) in objects.iter().zip(want) {
         let is_key = object.key.table == 1 && object.key.bytes.as_slice() == *key;
@@ -67,9 +67,7 @@ fn are_keys(objects: &[Object], want: &[(&'static [u8], u64)]) -> bool {
 /// Whether that is what came back.
 pub fn is_rebuilt(rebuilt: &Rebuilt, want: &Recovered) -> bool {
     match want {
-        Ok((keys, safe)) => {
-            are_keys(rebuilt.objects.as_slice(), keys) && rebuilt.safe.get() == *safe
-        }
+        Ok((keys, safe)) => are_keys(&rebuilt.objects, keys) && rebuilt.safe.get() == *safe,
         Err(_) => false,
     }
 }

@@ -2,7 +2,8 @@
 
 use crate::logs::{CLASHING, LOG, Log, Shown, are_shown, is_named, segments_of};
 use backup::{Group, divide};
-use rebuilding::{Replay, ReplayFault, Replayed};
+use claims::ReplayFault;
+use partition_replay::{Replay, Replayed};
 use recovery_plan::Segments;
 use segment::Segment;
 use std::alloc::Global;
@@ -78,7 +79,7 @@ type Part = (&'static str, Result<(&'static [Shown], u64), &'static str>);
 fn is_replayed(replayed: &Replayed, want: &Part) -> bool {
     match &want.1 {
         Ok((objects, greatest)) => {
-            are_shown(replayed.objects.as_slice(), objects) && replayed.greatest == *greatest
+            are_shown(&replayed.objects, objects) && replayed.greatest == *greatest
         }
         Err(_) => false,
     }
@@ -240,6 +241,14 @@ const ROWS: &[Row] = &[
         order: &[0, 1, 2],
         all: false,
         parts: &[("Clash, ", Err("MissingGroup 2"))],
+    },
+    // A clash that a later version covers passes.
+    Row {
+        log: CLASHING,
+        table: 1,
+        order: &[2, 1, 0],
+        all: false,
+        parts: &[("", Ok((&[(1, b"a", 2, b"z")], 2)))],
     },
     Row {
         log: LOG,

@@ -1,7 +1,7 @@
 //! Bytes of segments and of their entries, and what is rebuilt from them.
 
+use claims::{Objects, Rebuilt, ReplayFault};
 use entry::Object;
-use rebuilding::{Rebuilt, ReplayFault};
 use recovery_plan::Segments;
 use segment::{Segment, read_segment};
 use std::alloc::Global;
@@ -79,7 +79,7 @@ fn is_shown(object: &Object, want: &Shown) -> bool {
 }
 
 /// Whether these are the objects, in this order.
-pub fn are_shown(objects: &[Object], want: &[Shown]) -> bool {
+pub fn are_shown(objects: &Objects, want: &[Shown]) -> bool {
     let mut are_same = objects.len() == want.len();
     for (object, shown) in objects.iter().zip(want) {
         are_same = are_same && is_shown(object, shown);
@@ -101,7 +101,7 @@ pub type Outcome = Result<(&'static [Shown], u64), &'static str>;
 fn is_rebuilt(rebuilt: &Rebuilt, want: &Outcome) -> bool {
     match want {
         Ok((objects, safe)) => {
-            are_shown(rebuilt.objects.as_slice(), objects) && rebuilt.safe.get() == *safe
+            are_shown(&rebuilt.objects, objects) && rebuilt.safe.get() == *safe
         }
         Err(_) => false,
     }

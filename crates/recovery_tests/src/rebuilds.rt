@@ -15,7 +15,7 @@ fn safe_of(used: u64) -> SafeVersion {
     }
 }
 
-fn plan_of(alloc: Global, used: u64, log: Log) -> Option<Plan> {
+pub fn plan_of(alloc: Global, used: u64, log: Log) -> Option<Plan> {
     let segments = segments_of(alloc, log)?;
     Some(Plan {
         segments,
@@ -75,7 +75,7 @@ const ROWS: &[Row] = &[
 ];
 
 /// What is left of `LOG`.
-const LEFT: Outcome = Ok((&[(1, b"a", 2, b"z")], 3));
+pub const LEFT: Outcome = Ok((&[(1, b"a", 2, b"z")], 3));
 
 #[test]
 fn logs_are_rebuilt(rt: HostRuntime) {
@@ -86,10 +86,10 @@ fn logs_are_rebuilt(rt: HostRuntime) {
 
 /// A log of three segments, the table of the will and how many partitions that has, an order of the groups, and the
 /// outcome.
-type Ordered = (Log, u64, usize, &'static [usize], Outcome);
+pub type Ordered = (Log, u64, usize, &'static [usize], Outcome);
 
 /// Whatever the will and the order, a log is rebuilt to the same, if the order names each group once.
-const ORDERED: &[Ordered] = &[
+pub const ORDERED: &[Ordered] = &[
     // forwards, backwards, and by other rules
     (LOG, 1, 1, &[0, 1, 2], LEFT),
     (LOG, 1, 1, &[2, 1, 0], LEFT),

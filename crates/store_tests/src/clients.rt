@@ -1,10 +1,10 @@
 //! Days of clients over a master: what it has done in the morning, its clients and its cleaner, and what there is at the
 //! end.
 
-use crate::holding::Holding;
 use crate::masters::{Morning, RECORDS, has_no_pass, prepare, small_master};
 use crate::slow::Watch;
 use gate::{Gate, NoGate};
+use holding::Holding;
 use locked_log::CallFault;
 use master::{Master, Refusal, Reply};
 use replica::Fleet;

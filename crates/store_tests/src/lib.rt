@@ -14,8 +14,6 @@ mod clients;
 #[cfg(test)]
 mod days;
 #[cfg(test)]
-mod holding;
-#[cfg(test)]
 mod marks;
 #[cfg(test)]
 mod masters;

@@ -1,22 +1,25 @@
-//! A gate that holds a client.
+//! A gate that holds one worker until another has begun. Tests show by it that two threads are there at one time: a body that
+//! works on one thread reaches the limit of the turns.
+#![tactic(auto)]
 
 use gate::Gate;
 use std::sync::atomic::{AtomicU64, Ordering};
 use std::thread;
 
-/// How many turns a client is held at most.
+/// How many turns a worker is held at most.
 const TURNS: u64 = 1_000_000;
 
-/// Holds client 0 at its end until client 1 has had its first answer, but no longer than for its turns.
+/// Holds worker 0 at its end until worker 1 has begun, but no longer than for its turns.
 #[derive(Drop)]
 pub struct Holding {
-    /// 1 once client 1 had its first answer.
+    /// 1 once worker 1 has begun.
     begun: AtomicU64,
-    /// 1 once client 0 has seen that.
+    /// 1 once worker 0 has seen that.
     seen: AtomicU64,
 }
 
 impl Holding {
+    /// A gate that no worker has passed.
     pub fn new() -> Holding {
         Holding {
             begun: AtomicU64::new(0),
@@ -24,7 +27,7 @@ impl Holding {
         }
     }
 
-    /// Whether client 0 has seen client 1 within its turns.
+    /// Whether worker 0 has seen worker 1 within its turns.
     pub fn has_seen(&self) -> bool {
         self.seen.load(Ordering::SeqCst) == 1
     }
