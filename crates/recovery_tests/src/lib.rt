@@ -14,4 +14,6 @@ mod plans;
 #[cfg(test)]
 mod rebuilds;
 #[cfg(test)]
+mod shares;
+#[cfg(test)]
 mod workers;
