@@ -7,12 +7,18 @@ use segment::{Segment, read_segment};
 use std::alloc::Global;
 use std::fmt::Display;
 
-/// The headers of survivors 1, 2 and 3 of master 1.
+/// The headers of survivors 1 to 6 of master 1.
 pub const ONE: &[u8] = b"\x01\0\0\0\0\0\0\0\x01\0\0\0\0\0\0\0\x01\x01";
 
 pub const TWO: &[u8] = b"\x01\0\0\0\0\0\0\0\x01\0\0\0\0\0\0\0\x02\x01";
 
 pub const THREE: &[u8] = b"\x01\0\0\0\0\0\0\0\x01\0\0\0\0\0\0\0\x03\x01";
+
+pub const FOUR: &[u8] = b"\x01\0\0\0\0\0\0\0\x01\0\0\0\0\0\0\0\x04\x01";
+
+pub const FIVE: &[u8] = b"\x01\0\0\0\0\0\0\0\x01\0\0\0\0\0\0\0\x05\x01";
+
+pub const LAST: &[u8] = b"\x01\0\0\0\0\0\0\0\x01\0\0\0\0\0\0\0\x06\x01";
 
 /// Objects of table 1, each named by its key, its version and its value.
 pub const A_1_X: &[u8] = b"\x04\0\0\0\0\0\0\0\x01\0\0\0\0\0\0\0\x01\0\x01\0\0\0\x01ax";
