@@ -1,9 +1,10 @@
 -- A master's log stands on its own replicas alone.
-use Rattle.std.proofs.Common.{◌≡◌, ℕ, Bool, true, false, inl, inr, refl, sym, ap, subst, ◌∙◌}
+use Rattle.std.proofs.Common.{◌≡◌, ℕ, Bool, false, inl, inr, refl, sym, ap, subst, ◌∙◌}
 use Rattle.std.specs.Prelude.{◌==◌, ◌&&◌, Option, Some, IsSome, if◌then◌else◌}
 use Rattle.std.specs.Option.{option_map}
 use mathlib.Core.Path.{fun_ext}
 use Rattle.std.proofs.lemmas.Bool.{cases_eq, ne_eqb}
+use Rattle.std.proofs.Math.Bool.{and-false}
 use Rattle.replica.specs.Picture.{Replica, Picture, with_replica, is_same_place}
 use Rattle.replica.specs.Take.{effect}
 use Rattle.log_model.specs.Data.{LogData}
@@ -20,7 +21,8 @@ use Rattle.clean_model.proofs.Lists.{equal_true}
 
 -- ---- what is intact
 
-module _ (d : LogData) (m : Memory) (p q : Picture) (same : (b s : ℕ) → q b d.config.master s ≡ p b d.config.master s) where
+module _ (d : LogData) (m : Memory) (p q : Picture) (same : (b s : ℕ)
+    → q b d.config.master s ≡ p b d.config.master s) where
   still_there : (b s : ℕ) → IsSome (p b d.config.master s) → IsSome (q b d.config.master s)
   still_there b s some = subst (λ (x : Option Replica). IsSome x) (sym (same b s)) some
 
@@ -101,17 +103,13 @@ own_all master p r same =
     same_pictures master r (with_own master p r) (λ b s. same b s ∙ sym (own_here master p r b s))
     (λ b n s other. sym (own_there master p r b n s other))
 
-and_false : (x y : Bool) → (x && (false && y)) ≡ false
-and_false true y = refl
-and_false false y = refl
-
 -- a changed replica of this master changes no other master's
 changed_there : (master : ℕ) (p : Picture) (b s : ℕ) (x : Option Replica) (c n t : ℕ) → (n ≡ master → ⊥)
     → with_replica p b master s x c n t ≡ p c n t
 changed_there master p b s x c n t other =
     let away : (master == n) ≡ false = ne_eqb master n (λ e. other (sym e)) in
     let e : is_same_place b master s c n t ≡ false =
-    ap (λ (y : Bool). (b == c) && (y && (s == t))) away ∙ and_false (b == c) (s == t) in
+    ap (λ (y : Bool). (b == c) && (y && (s == t))) away ∙ and-false (b == c) in
     rw e refl
 
 module _ (master : ℕ) (p q r : Picture) (same : (b s : ℕ) → r b master s ≡ q b master s) (o : LogOp) where

@@ -1,5 +1,6 @@
 -- No more is kept of segments than they have.
-use Rattle.std.proofs.Common.{◌≡◌, ℕ, zero, suc, ◌+◌, ◌-◌, ◌≤◌, Bool, true, false, cond, List, [], ◌∷◌, ◌++◌, length, drop, refl, sym, ap, ◌∙◌, arith}
+use Rattle.std.proofs.Common.{◌≡◌, ℕ, zero, suc, ◌+◌, ◌-◌, ◌≤◌, Bool, true, false, cond, List, [], ◌∷◌, ◌++◌, length}
+use Rattle.std.proofs.Common.{drop, refl, sym, ap, ◌∙◌, arith}
 use Rattle.std.specs.Bool.{then_some}
 use Rattle.std.specs.Prelude.{filter, is_some, nat_le}
 use Rattle.std.specs.List.{AllByRecursion}
@@ -22,7 +23,13 @@ cond_data : (own keeps : Bool) (e : Entry) (es later : List Entry) → is_data e
 cond_data true true e es later own rest =
     let first : length (text_of (filter is_data (e ∷ es))) ≡ length (text_of (e ∷ filter is_data es)) =
     ap (λ (b : Bool). length (text_of (cond b (e ∷ filter is_data es) (filter is_data es)))) own in
-    omega (arith, first, rest, length-append (spelling e) (text_of (filter is_data es)), length-append (spelling e) (text_of later))
+    omega (
+      arith,
+      first,
+      rest,
+      length-append (spelling e) (text_of (filter is_data es)),
+      length-append (spelling e) (text_of later),
+    )
 cond_data false true e es later own rest =
     let first : length (text_of (filter is_data (e ∷ es))) ≡ length (text_of (filter is_data es)) =
     ap (λ (b : Bool). length (text_of (cond b (e ∷ filter is_data es) (filter is_data es)))) own in
@@ -42,7 +49,8 @@ module _ (ids : List ℕ) (held : List Held) (images : ℕ → List Entry) where
       → length (text_of (filter is_data (kept_from ids held s at es))) ≤ length (text_of es)
   data_from s at [] = omega arith
   data_from s at (e ∷ later) =
-      cond_data (is_data e) (kept ids held (place_at s at) e) e (kept_from ids held s (at + length (spelling e)) later) later
+      cond_data (is_data e) (kept ids held (place_at s at) e) e
+      (kept_from ids held s (at + length (spelling e)) later) later
       refl (data_from s (at + length (spelling e)) later)
 
   -- no more is kept of some segments than they have
@@ -52,7 +60,8 @@ module _ (ids : List ℕ) (held : List Held) (images : ℕ → List Entry) where
   kept_within (s ∷ others) all =
       let here = places_from s 0 (images s) in
       let later = places_of images others in
-      let parts : kept_left ids held images (here ++ later) ≡ kept_left ids held images here + kept_left ids held images later =
+      let parts : kept_left ids held images (here ++ later)
+      ≡ kept_left ids held images here + kept_left ids held images later =
       sum_by-append (kept_len ids held images) here later in
       let first : kept_left ids held images here ≡ length (text_of (filter is_data (kept_of ids held s (images s)))) =
       left_segment ids held images s (images s) refl all.0 in
@@ -64,7 +73,8 @@ module _ (ids : List ℕ) (held : List Held) (images : ℕ → List Entry) where
     pub others : left ≡ bytes_in images (drop i victims)
     pub most : left ≤ 67108864
 
-  pub read_start : (victims : List ℕ) (left : ℕ) → left ≡ bytes_in images victims → left ≤ 67108864 → IsRead victims 0 18 left
+  pub read_start : (victims : List ℕ) (left : ℕ) → left ≡ bytes_in images victims → left ≤ 67108864
+      → IsRead victims 0 18 left
   read_start victims left is most = record { counted = fitting_start ids held images victims; others = is; most = most }
 
   -- the bytes of the next victim and those of the others
@@ -90,7 +100,8 @@ module _ (ids : List ℕ) (held : List Held) (images : ℕ → List Entry) where
       }
 
   -- all that is kept fits if what isn't read does
-  pub read_fits : (victims : List ℕ) (i kept left segment : ℕ) → AllByRecursion (λ (s : ℕ). IsSegment (images s)) victims
+  pub read_fits : (victims : List ℕ) (i kept left segment : ℕ)
+      → AllByRecursion (λ (s : ℕ). IsSegment (images s)) victims
       → IsRead victims i kept left → kept + left ≤ segment
       → true ≡ nat_le (18 + kept_left ids held images (places_of images victims)) segment
   read_fits victims i kept left segment valid r fits =

@@ -1,5 +1,6 @@
 -- One entry is treated.
-use Rattle.std.proofs.Common.{◌≡◌, ℕ, ◌+◌, ◌≤◌, Bool, true, false, cond, List, [], ◌∷◌, length, refl, sym, ap, subst, ◌∙◌, arith}
+use Rattle.std.proofs.Common.{◌≡◌, ℕ, ◌+◌, ◌≤◌, Bool, true, false, cond, List, [], ◌∷◌, length, refl, sym, ap, subst}
+use Rattle.std.proofs.Common.{◌∙◌, arith}
 use Rattle.std.specs.Prelude.{Option, Some, None, IsSome, IsSomeAnd, IfSome, unwrap_or}
 use Rattle.std.specs.Option.{option_and_then}
 use Rattle.entry.specs.declared.entry.Object.{Object}
@@ -22,10 +23,11 @@ use Rattle.cleaner.specs.declared.pass.Copied.{Copied}
 use Rattle.cleaner.specs.declared.pass.Copied.TheVariants as copied
 use Rattle.cleaner.specs.declared.ahead.Seen.{Seen}
 use Rattle.cleaner.specs.declared.ahead.Seen.TheVariants as seen
-use Rattle.cleaner.specs.declared.treating.Found.{Found}
-use Rattle.cleaner.specs.declared.treating.Found.TheVariants as found
-use Rattle.cleaner.specs.Passes.{images_in, kept_len, copied_as, copy_place, images_with, held_with, seen_of, seen_len, IsSeenAt}
-use Rattle.cleaner.specs.Walks.{found_as, IsSeen, Finds, Treats}
+use Rattle.cleaner.specs.declared.treating.Fate.{Fate}
+use Rattle.cleaner.specs.declared.treating.Fate.TheVariants as fate
+use Rattle.cleaner.specs.Passes.{images_in, kept_len, copied_as, copy_place, images_with, held_with, seen_of, seen_len}
+use Rattle.cleaner.specs.Passes.{IsSeenAt}
+use Rattle.cleaner.specs.Walks.{fate_by, IsSeen, HasFate, Treats}
 use Rattle.cleaner.proofs.Reading.{shows_data, shows_len}
 use Rattle.cleaner.proofs.Keeping.{stands, stands_data, len_stands}
 
@@ -51,7 +53,8 @@ module _ (p : Place) (survivor : ℕ) (images : List Image) (held : List Held) w
       (copied ≡ copied_as b e) × (after ≡ images_with b survivor e images)
       × (later ≡ held_with b p (copy_place survivor images) e held)
 
-  pub does_object : (b : Bool) (e : Entry) (h : Held) (after : List Image) (later : List Held) → found_as b p e ≡ found.Object h
+  pub does_object : (b : Bool) (e : Entry) (h : Held) (after : List Image) (later : List Held)
+      → fate_by b p e ≡ fate.Object h
       → after ≡ changed images survivor (with_unit (e ∷ [])) → later ≡ relocated h (copy_place survivor images) held
       → Does b e copied.Moved after later
   does_object false e h after later is grown index = absurd (cc)
@@ -64,7 +67,7 @@ module _ (p : Place) (survivor : ℕ) (images : List Image) (held : List Held) w
       let same : h ≡ own = cc in
       (refl, grown, index ∙ ap (λ (x : Held). relocated x (copy_place survivor images) held) same)
 
-  pub does_tombstone : (b : Bool) (e : Entry) (after : List Image) (later : List Held) → found_as b p e ≡ found.Tombstone
+  pub does_tombstone : (b : Bool) (e : Entry) (after : List Image) (later : List Held) → fate_by b p e ≡ fate.Tombstone
       → after ≡ changed images survivor (with_unit (e ∷ [])) → later ≡ held → Does b e copied.Carried after later
   does_tombstone false e after later is grown index = absurd (cc)
   does_tombstone true (entry.Header x) after later is grown index = (refl, grown, index)
@@ -73,7 +76,7 @@ module _ (p : Place) (survivor : ℕ) (images : List Image) (held : List Held) w
   does_tombstone true (entry.Tombstone x) after later is grown index = (refl, grown, index)
   does_tombstone true (entry.Object o) after later is grown index = absurd (cc)
 
-  pub does_dead : (b : Bool) (e : Entry) → found_as b p e ≡ found.Dead → Does b e copied.Dropped images held
+  pub does_dead : (b : Bool) (e : Entry) → fate_by b p e ≡ fate.Dead → Does b e copied.Dropped images held
   does_dead false e is = (refl, refl, refl)
   does_dead true (entry.Header x) is = absurd (cc)
   does_dead true (entry.Digest x) is = absurd (cc)
@@ -82,57 +85,58 @@ module _ (p : Place) (survivor : ℕ) (images : List Image) (held : List Held) w
   does_dead true (entry.Object x) is = absurd (cc)
 
 -- what is found as an object or a tombstone is kept
-pub object_kept : (p : Place) (b : Bool) (e : Entry) (h : Held) → found_as b p e ≡ found.Object h → b ≡ true
+pub object_kept : (p : Place) (b : Bool) (e : Entry) (h : Held) → fate_by b p e ≡ fate.Object h → b ≡ true
 object_kept p true e h is = refl
 object_kept p false e h is = absurd (cc)
 
-pub tombstone_kept : (p : Place) (b : Bool) (e : Entry) → found_as b p e ≡ found.Tombstone → b ≡ true
+pub tombstone_kept : (p : Place) (b : Bool) (e : Entry) → fate_by b p e ≡ fate.Tombstone → b ≡ true
 tombstone_kept p true e is = refl
 tombstone_kept p false e is = absurd (cc)
 
 -- ---- by what was read
 
-found_object_as : (p : Place) (o : Object) (hash : ℕ) (b : Bool) → hash_of o.key ≡ hash
-    → found_as b p (entry.Object o) ≡ cond b (found.Object (record { hash = hash; place = p })) found.Dead
-found_object_as p o hash true same = ap (λ (h : ℕ). found.Object (record { hash = h; place = p })) same
-found_object_as p o hash false same = refl
+fate_of_object_as : (p : Place) (o : Object) (hash : ℕ) (b : Bool) → hash_of o.key ≡ hash
+    → fate_by b p (entry.Object o) ≡ cond b (fate.Object (record { hash = hash; place = p })) fate.Dead
+fate_of_object_as p o hash true same = ap (λ (h : ℕ). fate.Object (record { hash = h; place = p })) same
+fate_of_object_as p o hash false same = refl
 
-found_tombstone_as : (p : Place) (t : Tombstone) (b : Bool) → found_as b p (entry.Tombstone t) ≡ cond b found.Tombstone found.Dead
-found_tombstone_as p t true = refl
-found_tombstone_as p t false = refl
+fate_of_tombstone_as : (p : Place) (t : Tombstone) (b : Bool)
+    → fate_by b p (entry.Tombstone t) ≡ cond b fate.Tombstone fate.Dead
+fate_of_tombstone_as p t true = refl
+fate_of_tombstone_as p t false = refl
 
 -- an object is found by its hash
-pub found_object : (ids : List ℕ) (held : List Held) (p : Place) (e : Entry) (hash n : ℕ) (b : Bool)
+pub fate_of_object : (ids : List ℕ) (held : List Held) (p : Place) (e : Entry) (hash n : ℕ) (b : Bool)
     → seen_of e ≡ Some (seen.Object hash n) → holds held (record { hash = hash; place = p }) ≡ b
-    → found_as (kept ids held p e) p e ≡ cond b (found.Object (record { hash = hash; place = p })) found.Dead
-found_object ids held p (entry.Header h) hash n b is test = absurd (cc)
-found_object ids held p (entry.Digest l) hash n b is test = absurd (cc)
-found_object ids held p (entry.Safe v) hash n b is test = absurd (cc)
-found_object ids held p (entry.Tombstone t) hash n b is test = absurd (cc)
-found_object ids held p (entry.Object o) hash n b is test =
+    → fate_by (kept ids held p e) p e ≡ cond b (fate.Object (record { hash = hash; place = p })) fate.Dead
+fate_of_object ids held p (entry.Header h) hash n b is test = absurd (cc)
+fate_of_object ids held p (entry.Digest l) hash n b is test = absurd (cc)
+fate_of_object ids held p (entry.Safe v) hash n b is test = absurd (cc)
+fate_of_object ids held p (entry.Tombstone t) hash n b is test = absurd (cc)
+fate_of_object ids held p (entry.Object o) hash n b is test =
     let same : hash_of o.key ≡ hash = cc in
-    ap (λ (t : Bool). found_as t p (entry.Object o))
+    ap (λ (t : Bool). fate_by t p (entry.Object o))
     (ap (λ (h : ℕ). holds held (record { hash = h; place = p })) same ∙ test)
-    ∙ found_object_as p o hash b same
+    ∙ fate_of_object_as p o hash b same
 
 -- a tombstone by the segment that it names
-pub found_tombstone : (ids : List ℕ) (held : List Held) (p : Place) (e : Entry) (segment n : ℕ) (b : Bool)
+pub fate_of_tombstone : (ids : List ℕ) (held : List Held) (p : Place) (e : Entry) (segment n : ℕ) (b : Bool)
     → seen_of e ≡ Some (seen.Tombstone segment n) → has_id ids segment ≡ b
-    → found_as (kept ids held p e) p e ≡ cond b found.Tombstone found.Dead
-found_tombstone ids held p (entry.Header h) segment n b is test = absurd (cc)
-found_tombstone ids held p (entry.Digest l) segment n b is test = absurd (cc)
-found_tombstone ids held p (entry.Safe v) segment n b is test = absurd (cc)
-found_tombstone ids held p (entry.Object o) segment n b is test = absurd (cc)
-found_tombstone ids held p (entry.Tombstone t) segment n b is test =
+    → fate_by (kept ids held p e) p e ≡ cond b fate.Tombstone fate.Dead
+fate_of_tombstone ids held p (entry.Header h) segment n b is test = absurd (cc)
+fate_of_tombstone ids held p (entry.Digest l) segment n b is test = absurd (cc)
+fate_of_tombstone ids held p (entry.Safe v) segment n b is test = absurd (cc)
+fate_of_tombstone ids held p (entry.Object o) segment n b is test = absurd (cc)
+fate_of_tombstone ids held p (entry.Tombstone t) segment n b is test =
     let same : t.segment ≡ segment = cc in
-    ap (λ (x : Bool). found_as x p (entry.Tombstone t)) (ap (has_id ids) same ∙ test)
-    ∙ found_tombstone_as p t b
+    ap (λ (x : Bool). fate_by x p (entry.Tombstone t)) (ap (has_id ids) same ∙ test)
+    ∙ fate_of_tombstone_as p t b
 
 -- what is found is seen
-pub finds : (ids : List ℕ) (held : List Held) (images : ℕ → List Entry) (p : Place) (f : Found) (x : Seen)
-    → (one : IsSeenAt (images p.segment) p.at x) → found_as (kept ids held p one.entry) p one.entry ≡ f
-    → Finds ids held images p f (seen_len x)
-finds ids held images p f x one is = (
+pub has_fate : (ids : List ℕ) (held : List Held) (images : ℕ → List Entry) (p : Place) (f : Fate) (x : Seen)
+    → (one : IsSeenAt (images p.segment) p.at x) → fate_by (kept ids held p one.entry) p one.entry ≡ f
+    → HasFate ids held images p f (seen_len x)
+has_fate ids held images p f x one is = (
   one.entry,
   record {
     stands = one.lies;

@@ -1,5 +1,6 @@
 -- How a walk over victims goes on.
-use Rattle.std.proofs.Common.{◌≡◌, ℕ, ◌+◌, ◌<◌, ◌≤◌, true, false, List, [], ◌∷◌, ◌++◌, length, drop, refl, sym, ap, subst, ◌∙◌, arith}
+use Rattle.std.proofs.Common.{◌≡◌, ℕ, ◌+◌, ◌<◌, ◌≤◌, true, false, List, [], ◌∷◌, ◌++◌, length, drop, refl, sym, ap}
+use Rattle.std.proofs.Common.{subst, ◌∙◌, arith}
 use Rattle.std.specs.Prelude.{Some, None}
 use Rattle.std.proofs.lemmas.List.{drop_all}
 use Rattle.entry.specs.declared.entry.Entry.{Entry}
@@ -9,9 +10,9 @@ use Rattle.hash_index.specs.declared.place.Place.{Place}
 use Rattle.compactor.specs.Places.{LiesAt}
 use Rattle.compactor.proofs.Cutting.{IsCut, cut_next, cut_end}
 use Rattle.compactor.proofs.Walking.{IsHere}
-use Rattle.cleaner.specs.declared.walking.Spot.{Spot}
+use Rattle.cleaner.specs.declared.walking.WalkPosition.{WalkPosition}
 use Rattle.cleaner.specs.Passes.{places_from, places_past, places_of, places_on}
-use Rattle.cleaner.specs.Walks.{IsBetween, IsSpotBetween, IsSpotAt, FindsData, GoesOn}
+use Rattle.cleaner.specs.Walks.{IsBetween, IsPositionBetween, IsSpotAt, FindsData, GoesOn}
 use Rattle.cleaner.proofs.Places.{from_data, past_cut, on_start}
 
 -- ---- in a segment
@@ -23,7 +24,8 @@ pub between_start : (es : List Entry) → IsBetween es 0
 between_start es = record { before = []; rest = es; split = refl; offset = refl }
 
 -- behind an entry
-pub between_behind : (es : List Entry) (at n : ℕ) (e : Entry) → LiesAt es at e → n ≡ length (spelling e) → IsBetween es (at + n)
+pub between_behind : (es : List Entry) (at n : ℕ) (e : Entry) → LiesAt es at e → n ≡ length (spelling e)
+    → IsBetween es (at + n)
 between_behind es at n e lies size =
     let cut = cut_next es lies.before lies.after e at (record { split = lies.split; offset = lies.offset }) in
     record {
@@ -78,35 +80,36 @@ module _ (es : List Entry) (from : ℕ) where
 -- ---- in the victims
 
 -- at the start of the first
-pub starts : (images : ℕ → List Entry) (ids : List ℕ) → IsSpotBetween images ids 0
+pub starts : (images : ℕ → List Entry) (ids : List ℕ) → IsPositionBetween images ids 0
 starts images [] = tt
 starts images (s ∷ ids) = between_start (images s)
 
-module _ (images : ℕ → List Entry) (victims : List ℕ) (from : Spot) where
+module _ (images : ℕ → List Entry) (victims : List ℕ) (from : WalkPosition) where
   -- no object or tombstone lies between the two spots
-  pub record IsGoing (now : Spot) : Type 0 where
+  pub record IsGoing (now : WalkPosition) : Type 0 where
     pub within : now.victim ≤ length victims
-    pub between : IsSpotBetween images (drop now.victim victims) now.at
+    pub between : IsPositionBetween images (drop now.victim victims) now.at
     pub rest : places_on images (drop now.victim victims) now.at ≡ places_on images (drop from.victim victims) from.at
 
-  pub going_start : from.victim ≤ length victims → IsSpotBetween images (drop from.victim victims) from.at → IsGoing from
+  pub going_start : from.victim ≤ length victims → IsPositionBetween images
+      (drop from.victim victims) from.at → IsGoing from
   going_start within between = record { within = within; between = between; rest = refl }
 
-  pub going_end : (now : Spot) → IsGoing now → length victims ≤ now.victim → GoesOn images victims from now
+  pub going_end : (now : WalkPosition) → IsGoing now → length victims ≤ now.victim → GoesOn images victims from now
   going_end now g past =
       let none : drop now.victim victims ≡ [] = drop_all now.victim victims past in
       record {
         within = g.within;
         rest = g.rest;
-        spot = subst (λ (ids : List ℕ). IsSpotAt images ids now.at) (sym none) tt;
+        position = subst (λ (ids : List ℕ). IsSpotAt images ids now.at) (sym none) tt;
       }
 
-  module _ (now : Spot) (g : IsGoing now) (s : ℕ) (ids : List ℕ) (split : drop now.victim victims ≡ s ∷ ids)
+  module _ (now : WalkPosition) (g : IsGoing now) (s : ℕ) (ids : List ℕ) (split : drop now.victim victims ≡ s ∷ ids)
       (es : List Entry) (is : es ≡ images s) where
     pub going_between : IsBetween es now.at
     going_between =
         subst (λ (xs : List Entry). IsBetween xs now.at) (sym is)
-        (subst (λ (ds : List ℕ). IsSpotBetween images ds now.at) split g.between)
+        (subst (λ (ds : List ℕ). IsPositionBetween images ds now.at) split g.between)
 
     pub going_found : (at : ℕ) → FindsData es now.at (Some at) → GoesOn images victims from (record now { at = at })
     going_found at finds = record {
@@ -118,7 +121,7 @@ module _ (images : ℕ → List Entry) (victims : List ℕ) (from : Spot) where
           ∙ ap (λ (xs : List Entry). places_past s now.at xs ++ places_of images ids) is
           ∙ ap (λ (ds : List ℕ). places_on images ds now.at) (sym split)
           ∙ g.rest;
-      spot =
+      position =
           subst (λ (ds : List ℕ). IsSpotAt images ds at) (sym split)
           (subst (λ (xs : List Entry). (e : Entry) × LiesAt xs at e × (is_data e ≡ true)) is finds.0);
     }

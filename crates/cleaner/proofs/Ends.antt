@@ -1,5 +1,6 @@
 -- The places that a pass has before it.
-use Rattle.std.proofs.Common.{◌≡◌, ℕ, ◌+◌, ◌≤◌, true, List, [], ◌∷◌, length, drop, refl, sym, ap, subst, inl, inr, arith}
+use Rattle.std.proofs.Common.{◌≡◌, ℕ, ◌+◌, ◌≤◌, true, List, [], ◌∷◌, length, drop, refl, sym, ap, subst, inl, inr}
+use Rattle.std.proofs.Common.{arith}
 use Rattle.std.specs.Prelude.{◌↔◌, Option, IsSome, unwrap_or}
 use Rattle.std.proofs.lemmas.Bool.{eqb-true, eq-eqb}
 use Rattle.std.proofs.lemmas.List.{length-drop, drop_all}
@@ -84,10 +85,12 @@ none_left images [] cursor is none = refl
 none_left images (s ∷ ids) cursor is none =
     let at = cursor.at in
     let there = ahead_data (images s) at cursor.ahead is in
-    absurd (not_none (place_at s at) (places_on images (s ∷ ids) (at + length (spelling there.0))) (places_on images (s ∷ ids) at)
+    absurd (not_none (place_at s at) (places_on images (s ∷ ids) (at + length (spelling there.0)))
+    (places_on images (s ∷ ids) at)
     (on_data images s ids at there.0 there.1 there.2) none)
 
-pub none_end : (images : List Image) (p : Pass) → IsPass images p → rest_of (images_in images) p ≡ [] → is_at_end p ≡ true
+pub none_end : (images : List Image) (p : Pass) → IsPass images p → rest_of (images_in images) p ≡ []
+    → is_at_end p ≡ true
 none_end images p pass none =
     let left = none_left (images_in images) (drop p.cursor.victim p.victims) p.cursor pass.cursor none in
     eq-eqb p.cursor.victim (length p.victims)

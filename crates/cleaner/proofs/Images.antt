@@ -1,5 +1,6 @@
 -- The entries of images.
-use Rattle.std.proofs.Common.{◌≡◌, ℕ, ◌<◌, Bool, true, false, cond, List, [], ◌∷◌, ◌++◌, length, map, refl, sym, ap, subst, ◌∙◌, arith}
+use Rattle.std.proofs.Common.{◌≡◌, ℕ, ◌<◌, Bool, true, false, cond, List, [], ◌∷◌, ◌++◌, length, map, refl, sym, ap}
+use Rattle.std.proofs.Common.{subst, ◌∙◌, arith}
 use Rattle.std.specs.Prelude.{Option, Some, None, IsSome, IsSomeAnd, unwrap_or}
 use Rattle.std.specs.List.{AllByRecursion}
 use Rattle.std.specs.Option.{option_map, option_map_or}
@@ -51,7 +52,8 @@ module _ (images : List Image) (survivor : ℕ) (e : Entry) where
   grown_other : (s : ℕ) → (s ≡ survivor → ⊥) → segment_of Grown s ≡ segment_of images s
   grown_other s other =
       segment_changed_is survivor (with_unit (e ∷ [])) (λ x. refl) images s
-      ∙ ap (λ (b : Bool). cond b (option_map (λ (x : Image). x.segment ++ e ∷ []) (image_of images survivor)) (segment_of images s))
+      ∙ ap (λ (b : Bool). cond b (option_map (λ (x : Image). x.segment ++ e ∷ []) (image_of images survivor))
+      (segment_of images s))
       (ne_eqb s survivor other)
 
   -- it ends with the entry
@@ -74,7 +76,8 @@ module _ (images : List Image) (survivor : ℕ) (e : Entry) where
   with_other true s other = grown_other s other
   with_other false s other = refl
 
-  pub with_ids : (b : Bool) → map (λ (x : Image). x.id) (images_with b survivor e images) ≡ map (λ (x : Image). x.id) images
+  pub with_ids : (b : Bool) → map (λ (x : Image). x.id) (images_with b survivor e images)
+      ≡ map (λ (x : Image). x.id) images
   with_ids true = ids_changed survivor (with_unit (e ∷ [])) (λ x. refl) images
   with_ids false = refl
 

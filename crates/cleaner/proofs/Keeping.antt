@@ -1,5 +1,6 @@
 -- The bytes of what is kept at the places of a pass.
-use Rattle.std.proofs.Common.{◌≡◌, ℕ, ◌+◌, ◌*◌, ◌≤◌, Bool, true, false, cond, List, [], ◌∷◌, ◌++◌, length, take, drop, refl, sym, ap, subst, ◌∙◌, inl, inr, arith}
+use Rattle.std.proofs.Common.{◌≡◌, ℕ, ◌+◌, ◌*◌, ◌≤◌, Bool, true, false, cond, List, [], ◌∷◌, ◌++◌, length, take, drop}
+use Rattle.std.proofs.Common.{refl, sym, ap, subst, ◌∙◌, inl, inr, arith}
 use Rattle.std.specs.Prelude.{Option, Some, None, IsSomeAnd, filter, sum_by}
 use Rattle.std.specs.List.{AllByRecursion}
 use Rattle.std.specs.Option.{option_map, option_map_or}
@@ -34,7 +35,8 @@ stands es at e valid lies =
     (front_of-spelling e (text_of lies.after) valid)
 
 -- an object or tombstone of this length
-pub stands_data : (es : List Entry) (at n : ℕ) (e : Entry) → IsEntry e → is_data e ≡ true → n ≡ length (spelling e) → LiesAt es at e
+pub stands_data : (es : List Entry) (at n : ℕ) (e : Entry) → IsEntry e → is_data e ≡ true
+    → n ≡ length (spelling e) → LiesAt es at e
     → StandsData (text_of es) at n
 stands_data es at n e valid own size lies =
     let behind : drop at (text_of es) ≡ spelling e ++ text_of lies.after =
@@ -93,11 +95,14 @@ module _ (ids : List ℕ) (held : List Held) (images : ℕ → List Entry) where
       rest ∙ ap (λ (b : Bool). length (text_of (cond b (e ∷ filter is_data es) (filter is_data es)))) (sym own)
   cond_left false false s at e ps es own keeps len rest = rest
 
-  left_from : (s at : ℕ) (es before rest : List Entry) → es ≡ images s → AllByRecursion IsEntry es → IsCut es before rest at
-      → kept_left ids held images (places_from s at rest) ≡ length (text_of (filter is_data (kept_from ids held s at rest)))
+  left_from : (s at : ℕ) (es before rest : List Entry) → es ≡ images s → AllByRecursion IsEntry es
+      → IsCut es before rest at
+      → kept_left ids held images (places_from s at rest) ≡ length
+      (text_of (filter is_data (kept_from ids held s at rest)))
   left_from s at es before [] is all cut = refl
   left_from s at es before (e ∷ later) is all cut =
-      let valid = (all_split IsEntry before (e ∷ later) (subst (λ (xs : List Entry). AllByRecursion IsEntry xs) cut.split all)).1.0 in
+      let valid = (all_split IsEntry before (e ∷ later) (subst
+      (λ (xs : List Entry). AllByRecursion IsEntry xs) cut.split all)).1.0 in
       let lies : LiesAt es at e = record { before = before; after = later; split = cut.split; offset = cut.offset } in
       let there : LiesAt (images s) at e = subst (λ (xs : List Entry). LiesAt xs at e) is lies in
       cond_left (is_data e) (kept ids held (place_at s at) e) s at e (places_from s (at + length (spelling e)) later)
@@ -172,14 +177,16 @@ len_le : (ids again : List ℕ) (held later : List Held) (p : Place) (o : Option
     → ((e : Entry) → o ≡ Some e → kept again later p e ≡ true → kept ids held p e ≡ true)
     → Len again later (λ s. []) p o ≤ Len ids held (λ s. []) p o
 len_le ids again held later p None so = omega arith
-len_le ids again held later p (Some e) so = cond_le (kept again later p e) (kept ids held p e) (length (spelling e)) (so e refl)
+len_le ids again held later p (Some e) so = cond_le (kept again later p e) (kept ids held p e)
+    (length (spelling e)) (so e refl)
 
 pub kept_no_more : (ids again : List ℕ) (held later : List Held) (images : ℕ → List Entry) (places : List Place)
     → KeepsNoMore ids again held later images places
     → kept_left again later images places ≤ kept_left ids held images places
 kept_no_more ids again held later images places so =
     sum_le (kept_len again later images) (kept_len ids held images) places
-    (λ p m. len_le ids again held later p (standing_at p.at (text_of (images p.segment))) (λ e is keeps. so p e m is keeps))
+    (λ p m. len_le ids again held later p (standing_at p.at (text_of (images p.segment)))
+    (λ e is keeps. so p e m is keeps))
 
 pub kept_same : (ids : List ℕ) (held : List Held) (images again : ℕ → List Entry) (places : List Place)
     → ((p : Place) → IsAmong p places → again p.segment ≡ images p.segment)

@@ -1,5 +1,6 @@
 -- What is left to be copied after one entry.
-use Rattle.std.proofs.Common.{◌≡◌, ℕ, ◌+◌, ◌≤◌, Bool, true, false, cond, ◌||◌, ◌==◌, List, [], ◌∷◌, length, sym, ap, subst, ◌∙◌, inl, inr, ◌++◌, arith}
+use Rattle.std.proofs.Common.{◌≡◌, ℕ, ◌+◌, ◌≤◌, Bool, true, false, cond, ◌||◌, ◌==◌, List, [], ◌∷◌, length, sym, ap}
+use Rattle.std.proofs.Common.{subst, ◌∙◌, inl, inr, ◌++◌, arith}
 use Rattle.std.specs.Prelude.{Option}
 use Rattle.std.specs.Option.{option_to_list}
 use Rattle.std.proofs.lemmas.Bool.{and_right, and_left, or_cases, or_left, or_right, ne_eqb}
@@ -17,9 +18,10 @@ use Rattle.images.specs.Sorted.{IsWhole}
 use Rattle.compactor.specs.Kept.{kept}
 use Rattle.cleaner.specs.declared.pass.Pass.{Pass}
 use Rattle.cleaner.specs.declared.pass.Copied.{Copied}
-use Rattle.cleaner.specs.Passes.{images_in, ids_in, rest_of, kept_left, IsPass, HasRoom, CopiesOne, images_with, held_with}
+use Rattle.cleaner.specs.Passes.{images_in, ids_in, rest_of, kept_left, IsPass, HasRoom, CopiesOne, images_with}
+use Rattle.cleaner.specs.Passes.{held_with}
 use Rattle.cleaner.specs.Passes.{copy_place}
-use Rattle.cleaner.proofs.Places.{ends}
+use Rattle.cleaner.proofs.Places.{length_last}
 use Rattle.cleaner.proofs.Images.{is_victim, grown_own, with_ids, with_same}
 use Rattle.cleaner.proofs.Keeping.{len_stands, left_cons, kept_no_more, kept_same}
 use Rattle.cleaner.proofs.Ends.{rest_segment}
@@ -46,7 +48,8 @@ module _ (h : Held) (to : Place) (q : Held) (other : to.segment ≡ q.place.segm
           or_right (is_same q g) (holds gs q)
           (sym (ap (λ (b : Bool). b || holds gs q) not_it) ∙ found)
       go false rest found =
-          elim (or_cases (is_same q g) (holds (relocated h to gs) q) found) as (λ _. (is_same q g || holds gs q) ≡ true) [
+          elim (or_cases (is_same q g) (holds (relocated h to gs) q) found) as (λ _.
+          (is_same q g || holds gs q) ≡ true) [
             | inl here ↦ or_left (is_same q g) (holds gs q) here
             | inr later ↦ or_right (is_same q g) (holds gs q) (rest later)
           ]
@@ -63,7 +66,8 @@ was_held_with true p to (entry.Object o) q other hs is =
     was_held (record { hash = hash_of o.key; place = p }) to q other hs is
 
 -- what is kept afterwards at a place that isn't moved to was kept before
-was_kept : (b : Bool) (p to : Place) (e : Entry) (ids : List ℕ) (hs : List Held) (q : Place) → (to.segment ≡ q.segment → ⊥)
+was_kept : (b : Bool) (p to : Place) (e : Entry) (ids : List ℕ) (hs : List Held) (q : Place)
+    → (to.segment ≡ q.segment → ⊥)
     → (f : Entry) → kept ids (held_with b p to e hs) q f ≡ true → kept ids hs q f ≡ true
 was_kept b p to e ids hs q other (entry.Header h) is = is
 was_kept b p to e ids hs q other (entry.Digest l) is = is
@@ -79,12 +83,13 @@ grown_len : (images : List Image) (survivor : ℕ) (e : Entry) (b : Bool) → Is
     ≡ length (text_of (images_in images survivor)) + cond b (length (spelling e)) 0
 grown_len images survivor e true whole =
     ap (λ (es : List Entry). length (text_of es)) (grown_own images survivor e whole)
-    ∙ ends (images_in images survivor) e
+    ∙ length_last (images_in images survivor) e
 grown_len images survivor e false whole = omega arith
 
 -- ---- what is left
 
-module _ (segment : ℕ) (ids : List ℕ) (p q : Pass) (images after : List Image) (held later : List Held) (copied : Copied)
+module _ (segment : ℕ) (ids : List ℕ) (p q : Pass) (images after : List Image)
+    (held later : List Held) (copied : Copied)
     (pass : IsPass images p) (c : CopiesOne ids p images held copied q after later) where
   abbrev keeps : Bool
   keeps = kept ids held c.place c.entry

@@ -1,5 +1,6 @@
 -- The places of a segment's objects and tombstones.
-use Rattle.std.proofs.Common.{◌≡◌, ℕ, zero, suc, ◌+◌, ◌≤◌, Bool, true, false, cond, List, [], ◌∷◌, ◌++◌, length, drop, refl, sym, ap, ◌∙◌, inl, inr, append_assoc, arith}
+use Rattle.std.proofs.Common.{◌≡◌, ℕ, zero, suc, ◌+◌, ◌≤◌, Bool, true, false, cond, List, [], ◌∷◌, ◌++◌, length, drop}
+use Rattle.std.proofs.Common.{refl, sym, ap, ◌∙◌, inl, inr, append_assoc, arith}
 use Rattle.std.specs.Prelude.{filter, nat_le}
 use Rattle.std.proofs.lemmas.Bool.{le-leb, lt-leb}
 use Rattle.std.proofs.lemmas.List.{length-append, append-nil}
@@ -9,7 +10,7 @@ use Rattle.entry.specs.Bag.{IsAmong}
 use Rattle.entry.specs.Format.{spelling}
 use Rattle.entry.specs.Text.{text_of, is_data}
 use Rattle.entry.proofs.BagLemmas.{among_either}
-use Rattle.entry.proofs.TextLemmas.{spelling-some}
+use Rattle.entry.proofs.TextLemmas.{length_first, spelling-some}
 use Rattle.segment.proofs.RowLemmas.{text_of-append}
 use Rattle.hash_index.specs.declared.place.Place.{Place}
 use Rattle.compactor.specs.Places.{LiesAt}
@@ -19,12 +20,9 @@ use Rattle.cleaner.specs.Passes.{places_from, places_past, places_of, places_on}
 abbrev pub place_at : ℕ → ℕ → Place
 place_at s at = record { segment = s; at = at }
 
--- an entry and what comes behind it
-longer : (x : Entry) (xs : List Entry) → length (text_of (x ∷ xs)) ≡ length (spelling x) + length (text_of xs)
-longer x xs = length-append (spelling x) (text_of xs)
-
-pub ends : (xs : List Entry) (x : Entry) → length (text_of (xs ++ x ∷ [])) ≡ length (text_of xs) + length (spelling x)
-ends xs x =
+pub length_last : (xs : List Entry) (x : Entry) → length (text_of (xs ++ x ∷ []))
+    ≡ length (text_of xs) + length (spelling x)
+length_last xs x =
     omega (
       arith,
       ap length (text_of-append xs (x ∷ [])),
@@ -51,7 +49,7 @@ pub from_append : (s at : ℕ) (xs ys : List Entry)
 from_append s at [] ys = ap (λ (n : ℕ). places_from s n ys) (omega arith)
 from_append s at (x ∷ xs) ys =
     let next = at + length (spelling x) in
-    let behind : next + length (text_of xs) ≡ at + length (text_of (x ∷ xs)) = omega (arith, longer x xs) in
+    let behind : next + length (text_of xs) ≡ at + length (text_of (x ∷ xs)) = omega (arith, length_first x xs) in
     ap (λ (r : List Place). cond (is_data x) (place_at s at ∷ r) r)
     (from_append s next xs ys ∙ ap (λ (n : ℕ). places_from s next xs ++ places_from s n ys) behind)
     ∙ cond_append (is_data x) (place_at s at) (places_from s next xs)
@@ -77,7 +75,7 @@ past_in false at p ps within same = same
 all_before : (s at n : ℕ) (es : List Entry) → n + length (text_of es) ≤ at → Past at (places_from s n es) ≡ []
 all_before s at n [] le = refl
 all_before s at n (e ∷ es) le =
-    let len = longer e es in
+    let len = length_first e es in
     let some = spelling-some e in
     past_out (is_data e) at (place_at s n) (places_from s (n + length (spelling e)) es)
     (lt-leb at n (omega arith)) (all_before s at (n + length (spelling e)) es (omega arith))
@@ -96,7 +94,8 @@ past_cut s at es before rest split offset =
     let there : 0 + length (text_of before) ≡ at = omega (arith, offset) in
     ap (λ (xs : List Entry). Past at (places_from s 0 xs)) split
     ∙ ap (Past at) (from_append s 0 before rest)
-    ∙ filter-append (λ (p : Place). nat_le at p.at) (places_from s 0 before) (places_from s (0 + length (text_of before)) rest)
+    ∙ filter-append (λ (p : Place). nat_le at p.at) (places_from s 0 before)
+    (places_from s (0 + length (text_of before)) rest)
     ∙ ap (λ (ps : List Place). ps ++ Past at (places_from s (0 + length (text_of before)) rest))
     (all_before s at 0 before (omega (arith, offset)))
     ∙ ap (λ (n : ℕ). Past at (places_from s n rest)) there
@@ -178,11 +177,12 @@ among_drop (suc n) (y ∷ ys) x m = inr (among_drop n ys x m)
 -- ---- an object or a tombstone at the offset
 
 -- the first of the places is its own, and the others begin behind it
-pub on_data : (images : ℕ → List Entry) (s : ℕ) (ids : List ℕ) (at : ℕ) (e : Entry) → LiesAt (images s) at e → is_data e ≡ true
+pub on_data : (images : ℕ → List Entry) (s : ℕ) (ids : List ℕ) (at : ℕ) (e : Entry) → LiesAt (images s) at e
+    → is_data e ≡ true
     → places_on images (s ∷ ids) at ≡ place_at s at ∷ places_on images (s ∷ ids) (at + length (spelling e))
 on_data images s ids at e lies is =
     let behind : at + length (spelling e) ≡ length (text_of (lies.before ++ e ∷ [])) =
-    omega (arith, lies.offset, ends lies.before e) in
+    omega (arith, lies.offset, length_last lies.before e) in
     ap (λ (ps : List Place). ps ++ places_of images ids)
     (past_cut s at (images s) lies.before (e ∷ lies.after) lies.split lies.offset
     ∙ from_data s at e lies.after true is

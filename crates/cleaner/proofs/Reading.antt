@@ -1,5 +1,6 @@
 -- Entries that were read ahead.
-use Rattle.std.proofs.Common.{◌≡◌, ℕ, zero, suc, ◌+◌, ◌-◌, ◌<◌, ◌≤◌, true, false, List, [], ◌∷◌, ◌++◌, length, take, drop, get_or, refl, sym, ap, subst, ◌∙◌, arith, add-one}
+use Rattle.std.proofs.Common.{◌≡◌, ℕ, zero, suc, ◌+◌, ◌-◌, ◌<◌, ◌≤◌, true, false, List, [], ◌∷◌, ◌++◌, length, take}
+use Rattle.std.proofs.Common.{drop, get_or, refl, sym, ap, subst, ◌∙◌, arith, add-one}
 use Rattle.std.specs.Prelude.{Some, IfSome, sum_by, slice_get}
 use Rattle.std.specs.List.{AllByRecursion}
 use Rattle.std.proofs.lemmas.List.{length-append, drop_more}
@@ -15,7 +16,7 @@ use Rattle.compactor.proofs.Walking.{here_of, not_unread}
 use Rattle.cleaner.specs.declared.ahead.Seen.{Seen}
 use Rattle.cleaner.specs.declared.pass.Cursor.{Cursor}
 use Rattle.cleaner.specs.Passes.{seen_of, seen_len, IsSeenAt, AreSeenFrom, IsAhead, IsCursorAt}
-use Rattle.cleaner.specs.Walks.{IsBetween, IsSpotBetween, IsAtData, GoesTo}
+use Rattle.cleaner.specs.Walks.{IsBetween, IsPositionBetween, IsAtData, GoesTo}
 use Rattle.cleaner.proofs.Cursors.{cut_of, between_behind}
 
 -- ---- what is remembered of an entry
@@ -60,12 +61,14 @@ module _ (es : List Entry) (at : ℕ) (text : List ℕ) (spelled : text ≡ text
 
   module _ (lt : at < length text) where
     pub never_unread : IsBetween es at
-        → ((f : Entry) (more : List ℕ) → IsEntry f → take (length text - at) (drop at text) ≡ spelling f ++ more → ⊥) → ⊥
+        → ((f : Entry) (more : List ℕ) → IsEntry f → take (length text - at) (drop at text)
+        ≡ spelling f ++ more → ⊥) → ⊥
     never_unread b none = not_unread es text spelled valid.each b.before b.rest at (cut_of es at b) lt none
 
     module _ (e : Entry) (n : ℕ) (reads : (f : Entry) (more : List ℕ) → IsEntry f
         → take (length text - at) (drop at text) ≡ spelling f ++ more → (e ≡ f) × (n ≡ length (spelling f))) where
-      pub read_seen : (x : Seen) → IsBetween es at → length text ≤ 8388608 → (n ≡ length (spelling e) → seen_of e ≡ Some x)
+      pub read_seen : (x : Seen) → IsBetween es at → length text ≤ 8388608
+          → (n ≡ length (spelling e) → seen_of e ≡ Some x)
           → IsSeenAt es at x
       read_seen x b limit shows =
           let here = here_of es text spelled valid.each b.before b.rest at (cut_of es at b) lt e n reads in
@@ -91,7 +94,8 @@ module _ (es : List Entry) (at : ℕ) (text : List ℕ) (spelled : text ≡ text
       pub read_other : is_data e ≡ false → IsAtData es at → ⊥
       read_other isnt there =
           let lies = there.1 in
-          let cut : IsCut es lies.before (there.0 ∷ lies.after) at = record { split = lies.split; offset = lies.offset } in
+          let cut : IsCut es lies.before (there.0 ∷ lies.after) at =
+          record { split = lies.split; offset = lies.offset } in
           let here = here_of es text spelled valid.each lies.before (there.0 ∷ lies.after) at cut lt e n reads in
           let same : is_data there.0 ≡ is_data e = ap is_data (heads there.0 e lies.after here.later here.is) in
           differ (sym there.2 ∙ same ∙ isnt)
@@ -107,7 +111,8 @@ module _ (es : List Entry) (at : ℕ) (text : List ℕ) (spelled : text ≡ text
 abbrev pub Bytes : List Seen → ℕ
 Bytes xs = sum_by seen_len xs
 
-seen_push : (es : List Entry) (at : ℕ) (xs : List Seen) (x : Seen) → AreSeenFrom es at xs → IsSeenAt es (at + Bytes xs) x
+seen_push : (es : List Entry) (at : ℕ) (xs : List Seen) (x : Seen) → AreSeenFrom es at xs
+    → IsSeenAt es (at + Bytes xs) x
     → AreSeenFrom es at (xs ++ x ∷ [])
 seen_push es at [] x all one = (subst (λ (n : ℕ). IsSeenAt es n x) (omega arith) one, tt)
 seen_push es at (y ∷ ys) x all one =
@@ -126,7 +131,8 @@ pub record IsGathered (es : List Entry) (from count at : ℕ) (xs : List Seen) :
   pub between : IsBetween es at
   pub few : length xs ≡ count
 
-pub gathered_start : (es : List Entry) (from : ℕ) (xs : List Seen) → xs ≡ [] → IsAtData es from → IsGathered es from 0 from xs
+pub gathered_start : (es : List Entry) (from : ℕ) (xs : List Seen) → xs ≡ [] → IsAtData es from
+    → IsGathered es from 0 from xs
 gathered_start es from xs none there =
     let lies = there.1 in
     subst (IsGathered es from 0 from) (sym none) (record {
@@ -146,12 +152,14 @@ gathered_next es from count at xs x g one = record {
 }
 
 -- at least one was read
-pub gathered_ahead : (es : List Entry) (from : ℕ) (xs : List Seen) → AreSeenFrom es from xs → (xs ≡ [] → ⊥) → IsAhead es from xs
+pub gathered_ahead : (es : List Entry) (from : ℕ) (xs : List Seen) → AreSeenFrom es from xs → (xs ≡ [] → ⊥)
+    → IsAhead es from xs
 gathered_ahead es from [] all some = absurd (some refl)
 gathered_ahead es from (x ∷ xs) all some = all
 
 -- if nothing can be read, something was
-pub gathered_some : (es : List Entry) (from count at : ℕ) (xs : List Seen) → IsGathered es from count at xs → IsAtData es from
+pub gathered_some : (es : List Entry) (from count at : ℕ) (xs : List Seen) → IsGathered es from count at xs
+    → IsAtData es from
     → (IsAtData es at → ⊥) → xs ≡ [] → ⊥
 gathered_some es from count at xs g there none is =
     let end : from ≡ at = omega (arith, g.end, ap Bytes is) in
@@ -209,9 +217,9 @@ module _ (images : ℕ → List Entry) (victims : List ℕ) (cursor : Cursor) (n
   own_ahead : IsAhead (images own) cursor.at cursor.ahead
   own_ahead = subst (λ (ids : List ℕ). IsCursorAt images ids cursor) split is
 
-  pub own_between : IsSpotBetween images (drop cursor.victim victims) (cursor.at + n)
+  pub own_between : IsPositionBetween images (drop cursor.victim victims) (cursor.at + n)
   own_between =
-      subst (λ (ids : List ℕ). IsSpotBetween images ids (cursor.at + n)) (sym split)
+      subst (λ (ids : List ℕ). IsPositionBetween images ids (cursor.at + n)) (sym split)
       (between_first (images own) cursor.at cursor.ahead n own_ahead first).0
 
   pub own_limit : cursor.at + n ≤ 8388608
@@ -228,6 +236,10 @@ module _ (images : ℕ → List Entry) (victims : List ℕ) (cursor : Cursor) (n
         within = omega (arith, lt);
         rest = refl;
         cursor =
-            subst (λ (ids : List ℕ). IsCursorAt images ids (record { victim = cursor.victim; at = cursor.at + n; ahead = rest }))
+            subst (λ (ids : List ℕ). IsCursorAt images ids (record {
+              victim = cursor.victim;
+              at = cursor.at + n;
+              ahead = rest;
+            }))
             (sym split) (subst (λ (xs : List Seen). IsAhead (images own) (cursor.at + n) xs) (sym same) ahead);
       }

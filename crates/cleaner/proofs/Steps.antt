@@ -1,5 +1,6 @@
 -- A step of a pass.
-use Rattle.std.proofs.Common.{◌≡◌, ℕ, ◌+◌, ◌<◌, ◌≤◌, Bool, true, false, List, ◌∷◌, length, drop, get_or, refl, sym, ap, subst, ◌∙◌, inl, arith}
+use Rattle.std.proofs.Common.{◌≡◌, ℕ, ◌+◌, ◌<◌, ◌≤◌, Bool, true, false, List, ◌∷◌, length, drop, get_or, refl, sym, ap}
+use Rattle.std.proofs.Common.{subst, ◌∙◌, inl, arith}
 use Rattle.std.specs.Prelude.{IsSome}
 use Rattle.std.specs.List.{AllByRecursion}
 use Rattle.std.proofs.lemmas.Bool.{eq-eqb}
@@ -115,7 +116,10 @@ module _ (p : Pass) (images : List Image) (pass : IsPass images p) (more : is_at
         ∙ ap Behind t.seen.size
 
     module _ (cursor : Cursor)
-        (goes : GoesTo (images_in after) p.victims (record { victim = p.cursor.victim; at = p.cursor.at + n }) cursor) where
+        (goes : GoesTo (images_in after) p.victims (record {
+          victim = p.cursor.victim;
+          at = p.cursor.at + n;
+        }) cursor) where
       pub copies : CopiesOne ids p images held copied (record p { cursor = cursor }) after later
       copies = record {
         place = Here;

@@ -11,7 +11,8 @@ use Rattle.images.specs.Sorted.{IsWhole, segment_of}
 use Rattle.compactor.specs.Kept.{kept}
 use Rattle.cleaner.specs.declared.pass.Pass.{Pass}
 use Rattle.cleaner.specs.declared.pass.Copied.{Copied}
-use Rattle.cleaner.specs.Passes.{images_in, ids_in, rest_of, is_at_end, kept_left, IsCursorAt, IsPass, HasRoom, CopiesOne}
+use Rattle.cleaner.specs.Passes.{images_in, ids_in, rest_of, is_at_end, kept_left, IsCursorAt, IsPass, HasRoom}
+use Rattle.cleaner.specs.Passes.{CopiesOne}
 
 -- the images are the same at each of these segments
 abbrev pub AreSameAt : (ℕ → List Entry) → (ℕ → List Entry) → List ℕ → Type 0

@@ -12,9 +12,9 @@ use Rattle.compactor.specs.Kept.{kept}
 use Rattle.compactor.specs.Places.{LiesAt, IsAtPlace}
 use Rattle.cleaner.specs.declared.pass.Cursor.{Cursor}
 use Rattle.cleaner.specs.declared.pass.Copied.{Copied}
-use Rattle.cleaner.specs.declared.treating.Found.{Found}
-use Rattle.cleaner.specs.declared.treating.Found.TheVariants as found
-use Rattle.cleaner.specs.declared.walking.Spot.{Spot}
+use Rattle.cleaner.specs.declared.treating.Fate.{Fate}
+use Rattle.cleaner.specs.declared.treating.Fate.TheVariants as fate
+use Rattle.cleaner.specs.declared.walking.WalkPosition.{WalkPosition}
 use Rattle.cleaner.specs.Passes.{images_in, places_past, places_on, IsCursorAt}
 use Rattle.cleaner.specs.Passes.{copied_as, copy_place, images_with, held_with}
 
@@ -28,9 +28,9 @@ pub record IsBetween (es : List Entry) (at : ℕ) : Type 0 where
   pub offset : at ≡ length (text_of before)
 
 -- the same of the first of these segments, if there is one
-abbrev pub IsSpotBetween : (ℕ → List Entry) → List ℕ → ℕ → Type 0
-IsSpotBetween images [] at = Unit {0}
-IsSpotBetween images (s ∷ ids) at = IsBetween (images s) at
+abbrev pub IsPositionBetween : (ℕ → List Entry) → List ℕ → ℕ → Type 0
+IsPositionBetween images [] at = Unit {0}
+IsPositionBetween images (s ∷ ids) at = IsBetween (images s) at
 
 -- an object or a tombstone stands at the offset
 abbrev pub IsAtData : List Entry → ℕ → Type 0
@@ -46,29 +46,29 @@ abbrev pub FindsData : List Entry → ℕ → Option ℕ → Type 0
 FindsData es at None = (s : ℕ) → places_past s at es ≡ []
 FindsData es at (Some n) = IsAtData es n × ((s : ℕ) → places_past s n es ≡ places_past s at es)
 
--- A spot is behind no victim but the last, at an object or tombstone if not there, and has the places before it that
--- another one has.
-pub record GoesOn (images : ℕ → List Entry) (victims : List ℕ) (from to : Spot) : Type 0 where
+-- A position is behind no victim but the last, at an object or tombstone if not there, and has the places before it
+-- that another one has.
+pub record GoesOn (images : ℕ → List Entry) (victims : List ℕ) (from to : WalkPosition) : Type 0 where
   pub within : to.victim ≤ length victims
   pub rest : places_on images (drop to.victim victims) to.at ≡ places_on images (drop from.victim victims) from.at
-  pub spot : IsSpotAt images (drop to.victim victims) to.at
+  pub position : IsSpotAt images (drop to.victim victims) to.at
 
 -- The same of a cursor, which has read ahead there.
-pub record GoesTo (images : ℕ → List Entry) (victims : List ℕ) (from : Spot) (to : Cursor) : Type 0 where
+pub record GoesTo (images : ℕ → List Entry) (victims : List ℕ) (from : WalkPosition) (to : Cursor) : Type 0 where
   pub within : to.victim ≤ length victims
   pub rest : places_on images (drop to.victim victims) to.at ≡ places_on images (drop from.victim victims) from.at
   pub cursor : IsCursorAt images (drop to.victim victims) to
 
 -- ---- the entry
 
--- what is found at a place, by whether the entry is kept
-abbrev pub found_as : Bool → Place → Entry → Found
-found_as false p e = found.Dead
-found_as true p (entry.Header h) = found.Tombstone
-found_as true p (entry.Digest ids) = found.Tombstone
-found_as true p (entry.Safe version) = found.Tombstone
-found_as true p (entry.Object o) = found.Object (record { hash = hash_of o.key; place = p })
-found_as true p (entry.Tombstone t) = found.Tombstone
+-- what becomes of the entry at a place, by whether it is kept
+abbrev pub fate_by : Bool → Place → Entry → Fate
+fate_by false p e = fate.Dead
+fate_by true p (entry.Header h) = fate.Tombstone
+fate_by true p (entry.Digest ids) = fate.Tombstone
+fate_by true p (entry.Safe version) = fate.Tombstone
+fate_by true p (entry.Object o) = fate.Object (record { hash = hash_of o.key; place = p })
+fate_by true p (entry.Tombstone t) = fate.Tombstone
 
 -- An object or tombstone of this length stands at the place.
 pub record IsSeen (images : ℕ → List Entry) (p : Place) (len : ℕ) (e : Entry) : Type 0 where
@@ -77,9 +77,9 @@ pub record IsSeen (images : ℕ → List Entry) (p : Place) (len : ℕ) (e : Ent
   pub of_data : is_data e ≡ true
   pub size : len ≡ length (spelling e)
 
--- the object or tombstone at the place is found
-abbrev pub Finds : List ℕ → List Held → (ℕ → List Entry) → Place → Found → ℕ → Type 0
-Finds ids held images p f len = (e : Entry) × IsSeen images p len e × (f ≡ found_as (kept ids held p e) p e)
+-- this becomes of the object or tombstone at the place
+abbrev pub HasFate : List ℕ → List Held → (ℕ → List Entry) → Place → Fate → ℕ → Type 0
+HasFate ids held images p f len = (e : Entry) × IsSeen images p len e × (f ≡ fate_by (kept ids held p e) p e)
 
 -- The object or tombstone at the place is treated.
 pub record Treats (ids : List ℕ) (images : List Image) (held : List Held) (p : Place) (survivor : ℕ) (copied : Copied)

@@ -7,11 +7,9 @@ ghost use Rattle.images.specs.Sorted.{segment_of};
 ghost use Rattle.cleaner.specs.Passes.{images_in, ids_in, places_of, kept_left, bytes_in};
 
 use compactor::{LogSet, kept_bytes};
+use entry::HEADER_LEN;
 use hash_index::Index;
 use images::Images;
-
-/// How many bytes a survivor begins with: its header.
-const HEADER_LEN: usize = 18;
 
 /// About this many bytes of victims that were just read are still in cache, with what the index holds of them.
 const NEAR: usize = 4_194_304;
@@ -33,9 +31,9 @@ fn bytes_in(ids: &[u64], images: &Images) -> usize
     segment.bytes().len() + bytes_in(others, images)
 }
 
-/// Answers whether a header and what is kept of at most 8 segments fit a segment of this many bytes: `None` if they don't.
-/// Reads one segment after the other, and stops once all bytes of the rest fit. Reports how many of the first ones it
-/// read and may still be in cache.
+/// Answers whether a header and what is kept of at most 8 segments fit a segment of this many bytes: `None` if they
+/// don't. Reads one segment after the other, and stops once all bytes of the rest fit. Reports how many of the first
+/// ones it read and may still be in cache.
 pub fn fit(
     victims: &[u64],
     images: &Images,
@@ -57,6 +55,7 @@ pub fn fit(
     };
     let mut left = bytes_in(victims, images);
     let near = if left <= NEAR { victims.len() } else { 0 };
+    // A survivor begins with its header.
     let mut kept = HEADER_LEN;
     for (read, id) in victims.iter().enumerate() {
         if kept + left <= segment {

@@ -1,16 +1,17 @@
 //! A pass over some segments of the log.
 
-ghost use Rattle.std.specs.Prelude.{◌≡◌, ◌+◌, ◌<◌, ◌≤◌, false, length, drop, IfOk, IfSome, OnOk, OnErr, IsSome, slice_get};
+ghost use Rattle.std.specs.Prelude.{◌≡◌, ◌+◌, ◌<◌, ◌≤◌, false, length, drop, IfOk, IfSome, OnOk, OnErr, IsSome};
+ghost use Rattle.std.specs.Prelude.{slice_get};
 ghost use Rattle.std.specs.List.{AllByRecursion};
 ghost use Rattle.images.specs.Sorted.{segment_of};
 ghost use Rattle.cleaner.specs.Passes.{images_in, ids_in, AreVictims, places_of, rest_of, is_at_end, is_ready};
 ghost use Rattle.cleaner.specs.Passes.{IsCursorAt, IsPass, HasRoom, CopiesOne};
 ghost use Rattle.cleaner.specs.Passes.{seen_len};
-ghost use Rattle.cleaner.specs.Walks.{IsSpotBetween, GoesTo};
+ghost use Rattle.cleaner.specs.Walks.{IsPositionBetween, GoesTo};
 
 use crate::ahead::Ahead;
 use crate::treating::treat;
-use crate::walking::{Spot, next_spot};
+use crate::walking::{WalkPosition, next_position};
 use entry::{NoMemory, Row};
 use hash_index::{Index, Place};
 use images::Images;
@@ -52,21 +53,21 @@ pub struct Pass {
     pub is_committing: bool,
 }
 
-/// Goes to the first object or tombstone from a spot on, or behind the last victim, and reads on there.
-fn settle(cursor: &mut Cursor, from: Spot, victims: &[u64], images: &Images)
+/// Goes to the first object or tombstone from a position on, or behind the last victim, and reads on there.
+fn go_to(cursor: &mut Cursor, from: WalkPosition, victims: &[u64], images: &Images)
     requires there { AllByRecursion (λ s. IsSome (segment_of images.now.images s)) victims.now }
     requires within { from.victim ≤ length victims.now }
-    requires between { IsSpotBetween (images_in images.now.images) (drop from.victim victims.now) from.at }
+    requires between { IsPositionBetween (images_in images.now.images) (drop from.victim victims.now) from.at }
     ensures { GoesTo (images_in images.now.images) victims.now from cursor.new }
 {
-    let spot = next_spot(victims, images, from);
-    cursor.victim = spot.victim;
-    cursor.at = spot.at;
-    if spot.victim < victims.len() {
-        let Some(segment) = images.get(victims[spot.victim]) else {
+    let position = next_position(victims, images, from);
+    cursor.victim = position.victim;
+    cursor.at = position.at;
+    if position.victim < victims.len() {
+        let Some(segment) = images.get(victims[position.victim]) else {
             unreachable!()
         };
-        cursor.ahead.read(segment, spot.at);
+        cursor.ahead.read(segment, position.at);
     }
 }
 
@@ -84,11 +85,11 @@ fn go_on(cursor: &mut Cursor, len: usize, victims: &[u64], images: &Images, inde
     if cursor.ahead.pass() {
         cursor.at = at;
     } else {
-        let behind = Spot {
+        let behind = WalkPosition {
             victim: cursor.victim,
             at,
         };
-        settle(cursor, behind, victims, images);
+        go_to(cursor, behind, victims, images);
         cursor.ahead.touch(cursor.victim, index);
     }
 }
@@ -113,8 +114,8 @@ impl Pass {
             at: 0,
             ahead: Ahead::new(near),
         };
-        let start = Spot { victim: 0, at: 0 };
-        settle(&mut cursor, start, victims.as_slice(), images);
+        let start = WalkPosition { victim: 0, at: 0 };
+        go_to(&mut cursor, start, victims.as_slice(), images);
         Pass {
             victims,
             cursor,

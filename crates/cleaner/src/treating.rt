@@ -7,7 +7,7 @@ ghost use Rattle.images.specs.Sorted.{IsWhole, segment_of, changed};
 ghost use Rattle.images.specs.Steps.{entry_at, with_unit, len_at, HasData};
 ghost use Rattle.compactor.specs.Log.{ids_of_log};
 ghost use Rattle.cleaner.specs.Passes.{images_in, ids_in, kept_len, copy_place, seen_len, IsSeenAt};
-ghost use Rattle.cleaner.specs.Walks.{Finds, Treats};
+ghost use Rattle.cleaner.specs.Walks.{HasFate, Treats};
 
 use crate::ahead::Seen;
 use crate::pass::Copied;
@@ -18,9 +18,9 @@ use images::Images;
 use segment::AppendFault;
 use std::alloc::AllocError;
 
-/// What stands at the place of a pass.
+/// What becomes of the entry at the place of a pass.
 #[derive(Clone, Copy)]
-pub(crate) enum Found {
+pub(crate) enum Fate {
     /// An object that is kept, as the index holds it.
     Object(Held),
     /// A tombstone that is kept.
@@ -29,33 +29,34 @@ pub(crate) enum Found {
     Dead,
 }
 
-/// What stands at a place, of which this is known.
+/// What becomes of the entry at a place, of which this is known.
 #[inline(always)]
-fn find(seen: Seen, place: Place, index: &Index, log: &LogSet<'_>) -> Found
+fn fate_of(seen: Seen, place: Place, index: &Index, log: &LogSet<'_>) -> Fate
     requires { IsSeenAt (images_in log.now.closed.now.images place.segment) place.at seen }
-    ensures { Finds (ids_of_log log.now) index.now.held (images_in log.now.closed.now.images) place result (seen_len seen) }
+    ensures { HasFate (ids_of_log log.now) index.now.held (images_in log.now.closed.now.images) place result
+        (seen_len seen) }
 {
     match seen {
         Seen::Object(hash, _) => {
             let held = Held { hash, place };
             if index.holds(held) {
-                Found::Object(held)
+                Fate::Object(held)
             } else {
-                Found::Dead
+                Fate::Dead
             }
         }
         Seen::Tombstone(segment, _) => {
             if log.has(segment) {
-                Found::Tombstone
+                Fate::Tombstone
             } else {
-                Found::Dead
+                Fate::Dead
             }
         }
     }
 }
 
-/// Copies the object or tombstone at a place, of this length, to the end of the survivor's image, which has room for it.
-/// The answer is the place of the copy.
+/// Copies the object or tombstone at a place, of this length, to the end of the survivor's image, which has room for
+/// it. The answer is the place of the copy.
 fn copy(images: &mut Images, place: Place, len: usize, survivor: u64) -> Result<Place, NoMemory>
     requires order { place.segment < survivor }
     requires whole { IsWhole images.old.images survivor }
@@ -104,16 +105,16 @@ pub(crate) fn treat(
         head,
         new,
     };
-    match find(seen, place, index, &log) {
-        Found::Object(held) => {
+    match fate_of(seen, place, index, &log) {
+        Fate::Object(held) => {
             let to = copy(images, place, seen.len(), survivor)?;
             index.relocate(held, to);
             Ok(Copied::Moved)
         }
-        Found::Tombstone => {
+        Fate::Tombstone => {
             copy(images, place, seen.len(), survivor)?;
             Ok(Copied::Carried)
         }
-        Found::Dead => Ok(Copied::Dropped),
+        Fate::Dead => Ok(Copied::Dropped),
     }
 }

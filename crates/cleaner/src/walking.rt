@@ -6,15 +6,15 @@ ghost use Rattle.entry.specs.Text.{is_data};
 ghost use Rattle.entry.specs.View.{shown};
 ghost use Rattle.images.specs.Sorted.{segment_of};
 ghost use Rattle.cleaner.specs.Passes.{images_in};
-ghost use Rattle.cleaner.specs.Walks.{IsBetween, IsSpotBetween, FindsData, GoesOn};
+ghost use Rattle.cleaner.specs.Walks.{IsBetween, IsPositionBetween, FindsData, GoesOn};
 
 use entry::EntryRef;
 use images::Images;
 use segment::Segment;
 
-/// A place in a victim.
+/// Where a cursor stands.
 #[derive(Clone, Copy)]
-pub(crate) struct Spot {
+pub(crate) struct WalkPosition {
     /// Which victim, in the order in which they were given. Behind the last one nothing is left.
     pub victim: usize,
     /// The offset in its image, in bytes.
@@ -47,25 +47,25 @@ fn next_data(segment: &Segment, from: usize) -> Option<usize>
     None
 }
 
-/// The spot of the first object or tombstone from this spot on, or behind the last victim.
-pub(crate) fn next_spot(victims: &[u64], images: &Images, from: Spot) -> Spot
+/// The position of the first object or tombstone from this position on, or behind the last victim.
+pub(crate) fn next_position(victims: &[u64], images: &Images, from: WalkPosition) -> WalkPosition
     requires there { AllByRecursion (λ s. IsSome (segment_of images.now.images s)) victims.now }
     requires within { from.victim ≤ length victims.now }
-    requires between { IsSpotBetween (images_in images.now.images) (drop from.victim victims.now) from.at }
+    requires between { IsPositionBetween (images_in images.now.images) (drop from.victim victims.now) from.at }
     ensures { GoesOn (images_in images.now.images) victims.now from result }
 {
-    let mut spot = from;
-    while spot.victim < victims.len() {
-        let Some(segment) = images.get(victims[spot.victim]) else {
+    let mut position = from;
+    while position.victim < victims.len() {
+        let Some(segment) = images.get(victims[position.victim]) else {
             unreachable!()
         };
-        if let Some(at) = next_data(segment, spot.at) {
-            return Spot { at, ..spot };
+        if let Some(at) = next_data(segment, position.at) {
+            return WalkPosition { at, ..position };
         }
-        spot = Spot {
-            victim: spot.victim + 1,
+        position = WalkPosition {
+            victim: position.victim + 1,
             at: 0,
         };
     }
-    spot
+    position
 }

@@ -1,10 +1,12 @@
 -- After a compaction an index that follows it leads to the same objects.
-use Rattle.std.proofs.Common.{◌≡◌, ℕ, ◌+◌, Bool, true, false, ◌||◌, ◌==◌, List, [], ◌∷◌, ◌++◌, length, drop, refl, sym, ap, subst, ◌∙◌, inl, inr, arith, if◌then◌else◌}
+use Rattle.std.proofs.Common.{◌≡◌, ℕ, ◌+◌, Bool, true, false, ◌||◌, ◌==◌, List, [], ◌∷◌, ◌++◌, length, drop, refl, sym}
+use Rattle.std.proofs.Common.{ap, subst, ◌∙◌, inl, inr, arith, if◌then◌else◌}
 use Rattle.std.specs.Prelude.{Option, Some}
 use Rattle.std.specs.List.{AllByRecursion}
 use Rattle.std.specs.Option.{option_map, option_and_then}
 use Rattle.std.proofs.lemmas.Bool.{and_from}
 use Rattle.std.proofs.lemmas.Bool.Decides.{Decides-eqb}
+use Rattle.std.proofs.Math.Bool.{or-true}
 use Rattle.entry.specs.Bag.{IsAmong}
 use Rattle.entry.specs.declared.key.Key.{Key}
 use Rattle.entry.specs.declared.entry.Object.{Object}
@@ -33,11 +35,13 @@ use Rattle.compactor.proofs.FollowPlaces.{IsSeen, found_carried, kept_carried, a
 stands_at : (image : List Entry) (at : ℕ) (e : Entry) → AllByRecursion IsEntry image → LiesAt image at e
     → standing_at at (text_of image) ≡ Some e
 stands_at image at e each s =
-    let parts = all_split IsEntry s.before (e ∷ s.after) (subst (λ (xs : List Entry). AllByRecursion IsEntry xs) s.split each) in
+    let parts = all_split IsEntry s.before (e ∷ s.after) (subst
+    (λ (xs : List Entry). AllByRecursion IsEntry xs) s.split each) in
     let behind : drop at (text_of image) ≡ spelling e ++ text_of s.after =
     behind_cut image s.before (e ∷ s.after) at (record { split = s.split; offset = s.offset }) in
     ap (λ (bytes : List ℕ). option_map (λ (f : Entry × ℕ). f.0) (front_of bytes)) behind
-    ∙ ap (λ (front : Option (Entry × ℕ)). option_map (λ (f : Entry × ℕ). f.0) front) (front_of-spelling e (text_of s.after) parts.1.0)
+    ∙ ap (λ (front : Option (Entry × ℕ)). option_map (λ (f : Entry × ℕ). f.0) front)
+    (front_of-spelling e (text_of s.after) parts.1.0)
 
 -- the key that stands at an offset
 abbrev key_in : List Entry → ℕ → Option Key
@@ -46,24 +50,23 @@ key_in image at = option_map (λ (o : Object). o.key) (object_in image at)
 key_lies : (image : List Entry) (at : ℕ) (o : Object) → AllByRecursion IsEntry image → LiesAt image at (entry.Object o)
     → key_in image at ≡ Some o.key
 key_lies image at o each s =
-    ap (λ (e : Option Entry). option_map (λ (x : Object). x.key) (option_and_then as_object e)) (stands_at image at (entry.Object o) each s)
+    ap (λ (e : Option Entry). option_map (λ (x : Object). x.key) (option_and_then as_object e))
+    (stands_at image at (entry.Object o) each s)
 
 -- ---- what is held is kept
-
-or_true : (b : Bool) → (b || true) ≡ true
-or_true true = refl
-or_true false = refl
 
 among_holds : (hs : List Held) (h g : Held) → IsAmong h hs → is_same g h ≡ true → holds hs g ≡ true
 among_holds [] h g m same = absurd m
 among_holds (x ∷ xs) h g (inl e) same = ap (λ (b : Bool). b || holds xs g) (ap (λ (y : Held). is_same g y) e ∙ same)
-among_holds (x ∷ xs) h g (inr m) same = ap (λ (b : Bool). is_same g x || b) (among_holds xs h g m same) ∙ or_true (is_same g x)
+among_holds (x ∷ xs) h g (inr m) same = ap (λ (b : Bool). is_same g x || b) (among_holds xs h g m same)
+    ∙ or-true (is_same g x)
 
 is_itself : (h : Held) (hash segment at : ℕ) → h.hash ≡ hash → h.place.segment ≡ segment → h.place.at ≡ at
     → is_same (record { hash = hash; place = record { segment = segment; at = at } }) h ≡ true
 is_itself h hash segment at e f g =
     and_from (h.hash == hash) _ ((Decides-eqb h.hash hash).1 e)
-    (and_from (h.place.segment == segment) (h.place.at == at) ((Decides-eqb h.place.segment segment).1 f) ((Decides-eqb h.place.at at).1 g))
+    (and_from (h.place.segment == segment) (h.place.at == at) ((Decides-eqb h.place.segment segment).1 f)
+    ((Decides-eqb h.place.at at).1 g))
 
 -- ---- where a kept object lies
 
@@ -120,7 +123,8 @@ module _ (ids : List ℕ) (held : List Held) (images : ℕ → List Entry) (segm
       ap (λ (q : Place). keys_in later q) (goes_other p isnt)
       ∙ ap (λ (image : List Entry). key_in image p.at) (image_other p.segment isnt)
 
-  lies_other : (p : Place) (e : Entry) → (p.segment == segment) ≡ false → IsAtPlace images p e → IsAtPlace later (goes p) e
+  lies_other : (p : Place) (e : Entry) → (p.segment == segment) ≡ false → IsAtPlace images p e
+      → IsAtPlace later (goes p) e
   lies_other p e isnt s =
       subst (λ (q : Place). IsAtPlace later q e) (sym (goes_other p isnt))
       (subst (λ (image : List Entry). LiesAt image p.at e) (sym (image_other p.segment isnt)) s)
@@ -137,7 +141,10 @@ module _ (ids : List ℕ) (held : List Held) (images : ℕ → List Entry) (segm
     kept_here h o m so s hash =
         let same : h.place.segment ≡ segment = (Decides-eqb h.place.segment segment).0 so in
         let there = subst (λ (x : ℕ). LiesAt (images x) h.place.at (entry.Object o)) same s in
-        let keeps = among_holds held h (record { hash = hash_of o.key; place = record { segment = segment; at = h.place.at } }) m
+        let keeps = among_holds held h (record {
+          hash = hash_of o.key;
+          place = record { segment = segment; at = h.place.at };
+        }) m
         (is_itself h (hash_of o.key) segment h.place.at hash same refl) in
         record {
           here = so;
@@ -157,7 +164,8 @@ module _ (ids : List ℕ) (held : List Held) (images : ℕ → List Entry) (segm
     lies_here : (p : Place) (o : Object) → IsKeptHere p o → IsAtPlace later (goes p) (entry.Object o)
     lies_here p o k =
         subst (λ (q : Place). IsAtPlace later q (entry.Object o)) (sym (goes_here p k.here))
-        (subst (λ (image : List Entry). LiesAt image (gone p.at) (entry.Object o)) (sym (image_here p.segment k.here)) k.moved)
+        (subst (λ (image : List Entry). LiesAt image (gone p.at) (entry.Object o))
+        (sym (image_here p.segment k.here)) k.moved)
 
     module _ (lie : LieIn images held) where
       seen : (h : Held) → IsAmong h held → keys_in later (goes h.place) ≡ keys_in images h.place

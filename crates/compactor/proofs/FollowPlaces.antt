@@ -26,7 +26,8 @@ module _ (goes : Place → Place) (keys again : Place → Option Key) where
       → found again q (map carried hs) ≡ option_map goes (found keys q hs)
   found_carried [] seen q = refl
   found_carried (h ∷ hs) seen q =
-      ap (λ (o : Option Key). if option_map_or (key_eq q) o false then Some (goes h.place) else found again q (map carried hs)) seen.0
+      ap (λ (o : Option Key). if option_map_or (key_eq q) o false then Some (goes h.place)
+      else found again q (map carried hs)) seen.0
       ∙ ap (λ (f : Option Place). if tells keys q h.place then Some (goes h.place) else f) (found_carried hs seen.1 q)
       ∙ if_mapped goes (tells keys q h.place) h.place (found keys q hs)
 

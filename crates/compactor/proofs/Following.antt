@@ -1,8 +1,10 @@
 -- How the places of an index follow the objects of a segment, entry by entry.
-use Rattle.std.proofs.Common.{◌≡◌, ℕ, ◌+◌, ◌<◌, ◌≤◌, Bool, true, false, cond, ◌&&◌, ◌==◌, List, [], ◌∷◌, ◌++◌, length, map, refl, sym, ap, subst, ◌∙◌, inl, inr, arith}
+use Rattle.std.proofs.Common.{◌≡◌, ℕ, ◌+◌, ◌<◌, ◌≤◌, Bool, true, false, cond, ◌&&◌, ◌==◌, List, [], ◌∷◌, ◌++◌, length}
+use Rattle.std.proofs.Common.{map, refl, sym, ap, subst, ◌∙◌, inl, inr, arith}
 use Rattle.std.specs.Prelude.{Some, None, nat_lt}
 use Rattle.std.specs.List.{AllByRecursion}
-use Rattle.std.proofs.lemmas.Bool.{and_parts, and_from, and_left, and_right, ltb-true, lt-ltb, le-ltb, cases_lt, eqb-true, eq-eqb, false_from_ne_true}
+use Rattle.std.proofs.lemmas.Bool.{and_parts, and_from, and_left, and_right, ltb-true, lt-ltb, le-ltb, cases_lt}
+use Rattle.std.proofs.lemmas.Bool.{eqb-true, eq-eqb, false_from_ne_true}
 use Rattle.segment.proofs.RowLemmas.{text_of-append}
 use Rattle.std.proofs.lemmas.List.{length-append}
 use Rattle.entry.specs.declared.key.Key.{Key}
@@ -11,7 +13,7 @@ use Rattle.entry.specs.declared.entry.Entry.{Entry}
 use Rattle.entry.specs.declared.entry.Entry.TheVariants as entry
 use Rattle.entry.specs.Format.{spelling, IsEntry}
 use Rattle.entry.specs.Text.{text_of}
-use Rattle.entry.proofs.TextLemmas.{spelling-some}
+use Rattle.entry.proofs.TextLemmas.{length_first, spelling-some}
 use Rattle.hash_index.specs.declared.place.Place.{Place}
 use Rattle.hash_index.specs.declared.place.Held.{Held}
 use Rattle.hash_index.specs.Map.{hash_of, tells, found, IsTold, AreApart}
@@ -28,25 +30,23 @@ use Rattle.compactor.proofs.Moving.{same_true, same_itself, other_at}
 cons_same : (x y : Entry) (xs ys : List Entry) → x ∷ xs ≡ y ∷ ys → (x ≡ y) × (xs ≡ ys)
 cons_same x y xs ys is = (cc, cc)
 
-longer : (x : Entry) (xs : List Entry) → length (text_of (x ∷ xs)) ≡ length (spelling x) + length (text_of xs)
-longer x xs = length-append (spelling x) (text_of xs)
-
 -- no entry begins within another one
 one_beginning : (b c after later : List Entry) (f e : Entry) → b ++ f ∷ after ≡ c ++ e ∷ later
     → length (text_of c) ≤ length (text_of b) → length (text_of b) < length (text_of c) + length (spelling e)
     → (length (text_of b) ≡ length (text_of c)) × (f ≡ e)
 one_beginning [] [] after later f e is low high = (refl, (cons_same f e after later is).0)
-one_beginning [] (y ∷ ys) after later f e is low high = absurd (omega (arith, low, longer y ys, spelling-some y))
+one_beginning [] (y ∷ ys) after later f e is low high = absurd (omega (arith, low, length_first y ys, spelling-some y))
 one_beginning (x ∷ xs) [] after later f e is low high =
     let first : x ≡ e = (cons_same x e (xs ++ f ∷ after) later is).0 in
-    absurd (omega (arith, high, longer x xs, ap (λ (z : Entry). length (spelling z)) first))
+    absurd (omega (arith, high, length_first x xs, ap (λ (z : Entry). length (spelling z)) first))
 one_beginning (x ∷ xs) (y ∷ ys) after later f e is low high =
     let parts = cons_same x y (xs ++ f ∷ after) (ys ++ e ∷ later) is in
     let size : length (spelling x) ≡ length (spelling y) = ap (λ (z : Entry). length (spelling z)) parts.0 in
     let rest =
     one_beginning xs ys after later f e parts.1
-    (omega (arith, low, size, longer x xs, longer y ys)) (omega (arith, high, size, longer x xs, longer y ys)) in
-    (omega (arith, rest.0, size, longer x xs, longer y ys), rest.1)
+    (omega (arith, low, size, length_first x xs, length_first y ys))
+    (omega (arith, high, size, length_first x xs, length_first y ys)) in
+    (omega (arith, rest.0, size, length_first x xs, length_first y ys), rest.1)
 
 -- ---- the places that have moved
 
@@ -143,11 +143,18 @@ module _ (ids : List ℕ) (held : List Held) (segment : ℕ) (es : List Entry) w
             let here : h.place.segment ≡ segment = eqb-true h.place.segment segment eq in
             let lies = lies_here h lie.0 here in
             let o = lie.0.0 in
-            let whole : length (text_of es) ≡ length (text_of lies.before) + length (text_of (entry.Object o ∷ lies.after)) =
+            let whole : length (text_of es) ≡ length (text_of lies.before) + length
+            (text_of (entry.Object o ∷ lies.after)) =
             ap length (ap text_of lies.split ∙ text_of-append lies.before (entry.Object o ∷ lies.after))
             ∙ length-append (text_of lies.before) (text_of (entry.Object o ∷ lies.after)) in
             let within : h.place.at < length (text_of es) =
-            omega (arith, whole, lies.offset, longer (entry.Object o) lies.after, spelling-some (entry.Object o)) in
+            omega (
+              arith,
+              whole,
+              lies.offset,
+              length_first (entry.Object o) lies.after,
+              spelling-some (entry.Object o),
+            ) in
             until_test (length (text_of es)) h true (passed_true (length (text_of es)) h here within)
 
     -- ---- one entry

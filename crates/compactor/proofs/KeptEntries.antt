@@ -1,5 +1,6 @@
 -- The kept entries of a segment, and that they are a segment.
-use Rattle.std.proofs.Common.{◌≡◌, ℕ, ◌+◌, ◌≤◌, Bool, true, false, cond, List, [], ◌∷◌, ◌++◌, length, refl, ap, ◌∙◌, arith}
+use Rattle.std.proofs.Common.{◌≡◌, ℕ, ◌+◌, ◌≤◌, Bool, true, false, cond, List, [], ◌∷◌, ◌++◌, length, refl, ap, ◌∙◌}
+use Rattle.std.proofs.Common.{arith}
 use Rattle.std.specs.List.{AllByRecursion}
 use Rattle.std.proofs.lemmas.Bool.{and_parts, and_from}
 use Rattle.std.proofs.lemmas.List.{length-append}
@@ -55,7 +56,8 @@ module _ (ids : List ℕ) (held : List Held) (segment : ℕ) where
   From at es = kept_from ids held segment at es
 
   -- of two rows, one after the other
-  pub kept_append : (at : ℕ) (xs ys : List Entry) → From at (xs ++ ys) ≡ From at xs ++ From (at + length (text_of xs)) ys
+  pub kept_append : (at : ℕ) (xs ys : List Entry) → From at (xs ++ ys)
+      ≡ From at xs ++ From (at + length (text_of xs)) ys
   kept_append at [] ys = ap (λ (n : ℕ). From n ys) (omega arith)
   kept_append at (x ∷ xs) ys =
       let next = at + length (spelling x) in

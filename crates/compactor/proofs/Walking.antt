@@ -1,5 +1,6 @@
 -- What the two walks over a segment know on their way.
-use Rattle.std.proofs.Common.{◌≡◌, ℕ, ◌+◌, ◌-◌, ◌<◌, ◌≤◌, Bool, true, false, cond, List, [], ◌∷◌, ◌++◌, length, take, drop, refl, sym, ap, subst, ◌∙◌, arith}
+use Rattle.std.proofs.Common.{◌≡◌, ℕ, ◌+◌, ◌-◌, ◌<◌, ◌≤◌, Bool, true, false, cond, List, [], ◌∷◌, ◌++◌, length, take}
+use Rattle.std.proofs.Common.{drop, refl, sym, ap, subst, ◌∙◌, arith}
 use Rattle.std.specs.List.{AllByRecursion}
 use Rattle.std.proofs.lemmas.List.{length-append, append-nil}
 use Rattle.entry.specs.declared.entry.Entry.{Entry}
@@ -27,7 +28,8 @@ pub record IsHere (es before rest : List Entry) (at : ℕ) (e : Entry) (n : ℕ)
   pub cut : IsCut es before (e ∷ later) at
   pub size : n ≡ length (spelling e)
 
-module _ (es : List Entry) (text : List ℕ) (is : text ≡ text_of es) (all : AllByRecursion IsEntry es) (before rest : List Entry)
+module _ (es : List Entry) (text : List ℕ) (is : text ≡ text_of es) (all : AllByRecursion IsEntry es)
+    (before rest : List Entry)
     (at : ℕ) (cut : IsCut es before rest at) (lt : at < length text) where
   pub here_of : (e : Entry) (n : ℕ)
       → ((f : Entry) (more : List ℕ) → IsEntry f → take (length text - at) (drop at text) ≡ spelling f ++ more
@@ -44,7 +46,8 @@ module _ (es : List Entry) (text : List ℕ) (is : text ≡ text_of es) (all : A
       }
 
   -- some entry can be read
-  pub not_unread : ((f : Entry) (more : List ℕ) → IsEntry f → take (length text - at) (drop at text) ≡ spelling f ++ more → ⊥)
+  pub not_unread : ((f : Entry) (more : List ℕ) → IsEntry f
+      → take (length text - at) (drop at text) ≡ spelling f ++ more → ⊥)
       → ⊥
   not_unread none =
       let first = first_at es before rest text at cut is all lt in
@@ -289,7 +292,8 @@ module _ (ids : List ℕ) (held : List Held) (segment : ℕ) (es : List Entry) w
   pub IsCopied-text : (at : ℕ) (out : List ℕ) (capacity : ℕ) (now : List Held) → IsCopied at out capacity now
       → length (text_of es) ≤ at → out ≡ text_of (kept_of ids held segment es)
   IsCopied-text at out capacity now s past =
-      s.text ∙ ap (λ (xs : List Entry). text_of (kept_of ids held segment xs)) (whole_before s.before s.rest at s.cut past)
+      s.text ∙ ap (λ (xs : List Entry). text_of (kept_of ids held segment xs))
+      (whole_before s.before s.rest at s.cut past)
 
   pub IsCopied-follows : (all : AllByRecursion IsEntry es) (at : ℕ) (out : List ℕ) (capacity : ℕ) (now : List Held)
       → IsCopied at out capacity now → length (text_of es) ≤ at → Follows ids segment es held now

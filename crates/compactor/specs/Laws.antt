@@ -34,4 +34,5 @@ IsFollowed ids held images segment =
 
 abbrev pub CompactionFollows : Type 0
 CompactionFollows = (ids : List ℕ) (held : List Held) (images : ℕ → List Entry) (segment : ℕ)
-    → IsSegment (images segment) → LieIn images held → AreKept (keys_in images) held → IsFollowed ids held images segment
+    → IsSegment (images segment) → LieIn images held → AreKept (keys_in images) held
+    → IsFollowed ids held images segment

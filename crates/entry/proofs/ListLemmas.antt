@@ -1,5 +1,6 @@
 -- What holds of each element of a list, elements by their places, and a list that is written back.
-use Rattle.std.proofs.Common.{◌≡◌, ◌≤◌, ℕ, zero, suc, List, [], ◌∷◌, ◌++◌, length, take, Some, refl, ap, ◌∙◌, ◌⊎◌, inl, inr}
+use Rattle.std.proofs.Common.{◌≡◌, ◌≤◌, ℕ, zero, suc, List, [], ◌∷◌, ◌++◌, length, take, Some, refl, ap, ◌∙◌, ◌⊎◌, inl}
+use Rattle.std.proofs.Common.{inr}
 use Rattle.std.proofs.Common.{append-nil, arith}
 use Rattle.std.specs.List.{AllByRecursion, refill, slice_get}
 use Rattle.std.proofs.lemmas.List.{drop_all, take_all}
@@ -56,7 +57,8 @@ slice_get_push (z ∷ zs) y (suc i) x is =
 -- ---- a list that is written back
 
 -- A list that fills all places takes the place of the old one.
-pub written_back : {X : Type 0} (n : ℕ) (old new : List X) → length old ≤ length new → length new ≡ n → refill n old new ≡ new
+pub written_back : {X : Type 0} (n : ℕ) (old new : List X) → length old ≤ length new → length new ≡ n
+    → refill n old new ≡ new
 written_back {X} n old new le len =
     ap (λ (xs : List X). take n (new ++ xs)) (drop_all (length new) old le)
     ∙ ap (λ (xs : List X). take n xs) (append-nil new)

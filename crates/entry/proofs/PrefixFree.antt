@@ -57,11 +57,11 @@ ids-cancel (m ∷ a) (n ∷ b) x y a-fits b-fits len e =
     let more = ids-cancel a b x y (λ i. a-fits (suc i)) (λ i. b-fits (suc i)) (omega arith) one.1 in
     (rw (one.0, more.0) refl, more.1)
 
-tail : (a b : ℕ) (x y : List ℕ) → a ∷ x ≡ b ∷ y → x ≡ y
-tail a b x y e = cc
+same_tail : (a b : ℕ) (x y : List ℕ) → a ∷ x ≡ b ∷ y → x ≡ y
+same_tail a b x y e = cc
 
-head : (a b : ℕ) (x y : List ℕ) → a ∷ x ≡ b ∷ y → a ≡ b
-head a b x y e = cc
+same_head : (a b : ℕ) (x y : List ℕ) → a ∷ x ≡ b ∷ y → a ≡ b
+same_head a b x y e = cc
 
 role_byte-cancel : (a b : Role) → role_byte a ≡ role_byte b → a ≡ b
 role_byte-cancel Head Head e = refl
@@ -80,16 +80,16 @@ header-cancel : (a b : Header) (x y : List ℕ) → IsHeader a → IsHeader b
 header-cancel a b x y a-fits b-fits e =
     let flat : number_bytes 8 a.master ++ (number_bytes 8 a.segment ++ role_byte a.role ∷ x)
     ≡ number_bytes 8 b.master ++ (number_bytes 8 b.segment ++ role_byte b.role ∷ y) =
-    tail 1 1 _ _ (simp append_assoc at e) in
+    same_tail 1 1 _ _ (simp append_assoc at e) in
     let p =
     number-cancel 8 a.master b.master (number_bytes 8 a.segment ++ role_byte a.role ∷ x)
     (number_bytes 8 b.segment ++ role_byte b.role ∷ y) a-fits.master b-fits.master flat in
     let q =
     number-cancel 8 a.segment b.segment (role_byte a.role ∷ x) (role_byte b.role ∷ y) a-fits.segment b-fits.segment
     p.1 in
-    let r = role_byte-cancel a.role b.role (head (role_byte a.role) (role_byte b.role) x y q.1) in (
+    let r = role_byte-cancel a.role b.role (same_head (role_byte a.role) (role_byte b.role) x y q.1) in (
       header-same a.master b.master a.segment b.segment a.role b.role p.0 q.0 r,
-      tail (role_byte a.role) (role_byte b.role) x y q.1,
+      same_tail (role_byte a.role) (role_byte b.role) x y q.1,
     )
 
 digest-cancel : (a b x y : List ℕ) → AreIds a → AreIds b
@@ -97,7 +97,7 @@ digest-cancel : (a b x y : List ℕ) → AreIds a → AreIds b
 digest-cancel a b x y a-fits b-fits e =
     let flat : number_bytes 4 (length a) ++ (flat_map (number_bytes 8) a ++ x)
     ≡ number_bytes 4 (length b) ++ (flat_map (number_bytes 8) b ++ y) =
-    tail 2 2 _ _ (simp append_assoc at e) in
+    same_tail 2 2 _ _ (simp append_assoc at e) in
     let p =
     number-cancel 4 (length a) (length b) (flat_map (number_bytes 8) a ++ x) (flat_map (number_bytes 8) b ++ y)
     a-fits.count b-fits.count flat in
@@ -108,7 +108,7 @@ safe-cancel : (a b : ℕ) (x y : List ℕ) → IsSafeVersion a → IsSafeVersion
 safe-cancel a b x y a-fits b-fits e =
     let a-limit = a-fits.greatest in
     let b-limit = b-fits.greatest in
-    number-cancel 8 a b x y (omega arith) (omega arith) (tail 3 3 _ _ e)
+    number-cancel 8 a b x y (omega arith) (omega arith) (same_tail 3 3 _ _ e)
 
 pub object-same : (a b : Object) → a.key.table ≡ b.key.table → a.key.bytes ≡ b.key.bytes → a.version ≡ b.version
     → a.value ≡ b.value → a ≡ b
@@ -133,7 +133,7 @@ object-cancel a b x y a-fits b-fits e =
     ++ (number_bytes 2 (length k) ++ (number_bytes 4 (length a.value) ++ (k ++ (a.value ++ x)))))
     ≡ number_bytes 8 b.key.table ++ (number_bytes 8 b.version
     ++ (number_bytes 2 (length l) ++ (number_bytes 4 (length b.value) ++ (l ++ (b.value ++ y))))) =
-    tail 4 4 _ _ (simp append_assoc at e) in
+    same_tail 4 4 _ _ (simp append_assoc at e) in
     let p = number-cancel 8 a.key.table b.key.table _ _ a-fits.key.table b-fits.key.table flat in
     let q = number-cancel 8 a.version b.version _ _ (omega arith) (omega arith) p.1 in
     let r = number-cancel 2 (length k) (length l) _ _ (omega arith) (omega arith) q.1 in
@@ -163,7 +163,7 @@ tombstone-cancel a b x y a-fits b-fits e =
     ++ (number_bytes 8 a.segment ++ (number_bytes 2 (length k) ++ (k ++ x))))
     ≡ number_bytes 8 b.key.table ++ (number_bytes 8 b.version
     ++ (number_bytes 8 b.segment ++ (number_bytes 2 (length l) ++ (l ++ y)))) =
-    tail 5 5 _ _ (simp append_assoc at e) in
+    same_tail 5 5 _ _ (simp append_assoc at e) in
     let p = number-cancel 8 a.key.table b.key.table _ _ a-fits.key.table b-fits.key.table flat in
     let q = number-cancel 8 a.version b.version _ _ (omega arith) (omega arith) p.1 in
     let r = number-cancel 8 a.segment b.segment _ _ a-fits.segment b-fits.segment q.1 in

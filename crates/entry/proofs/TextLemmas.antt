@@ -205,6 +205,10 @@ spelling-some (entry.Safe n) = omega arith
 spelling-some (entry.Object o) = omega arith
 spelling-some (entry.Tombstone t) = omega arith
 
+-- an entry and what comes behind it
+pub length_first : (x : Entry) (xs : List Entry) → length (text_of (x ∷ xs)) ≡ length (spelling x) + length (text_of xs)
+length_first x xs = length-append (spelling x) (text_of xs)
+
 pub length-text_of : (es : List Entry) → length es ≤ length (text_of es)
 length-text_of [] = omega arith
 length-text_of (e ∷ es) = omega (arith, length-append (spelling e) (text_of es), length-text_of es, spelling-some e)

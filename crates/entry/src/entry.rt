@@ -1,6 +1,7 @@
 //! What an entry is.
 
 use crate::key::Key;
+use crate::kind::{DIGEST_LEN, HEADER_LEN, OBJECT_LEN, SAFE_LEN, TOMBSTONE_LEN};
 use crate::limits::{Ids, SafeVersion, Value, Version};
 
 /// What a segment is for.
@@ -85,23 +86,23 @@ impl Entry {
             Entry::Header(header) => {
                 let _master = header.master;
                 let _segment = header.segment;
-                18
+                HEADER_LEN
             }
-            Entry::Digest(ids) => 5 + 8 * ids.as_slice().len(),
+            Entry::Digest(ids) => DIGEST_LEN + 8 * ids.as_slice().len(),
             Entry::Safe(version) => {
                 version.get();
-                9
+                SAFE_LEN
             }
             Entry::Object(object) => {
                 object.version.get();
                 let _table = object.key.table;
-                23 + object.key.bytes.as_slice().len() + object.value.as_slice().len()
+                OBJECT_LEN + object.key.bytes.as_slice().len() + object.value.as_slice().len()
             }
             Entry::Tombstone(tombstone) => {
                 tombstone.version.get();
                 let _table = tombstone.key.table;
                 let _segment = tombstone.segment;
-                27 + tombstone.key.bytes.as_slice().len()
+                TOMBSTONE_LEN + tombstone.key.bytes.as_slice().len()
             }
         }
     }

@@ -7,6 +7,7 @@ ghost use Rattle.entry.specs.View.{shown, shown_key, shown_object, shown_tombsto
 use crate::entry::{Entry, Object, Tombstone};
 use crate::fault::NoMemory;
 use crate::key::{Key, KeyBytes};
+use crate::kind::DIGEST_LEN;
 use crate::limits::{Ids, Value};
 use crate::reading::u64_at;
 use crate::view::{DigestRef, EntryRef, KeyRef, ObjectRef, TombstoneRef};
@@ -68,7 +69,7 @@ impl<'a> DigestRef<'a> {
         requires { place < length (shown_ids self.now) }
         ensures { slice_get (shown_ids self.now) place ≡ Some result }
     {
-        u64_at(self.text, 5 + 8 * place)
+        u64_at(self.text, DIGEST_LEN + 8 * place)
     }
 
     /// The ids, in memory of their own.
@@ -77,7 +78,7 @@ impl<'a> DigestRef<'a> {
     {
         let mut ids = Vec::with_capacity(alloc, self.count)?;
         for i in 0..self.count {
-            ids.push(u64_at(self.text, 5 + 8 * i))?;
+            ids.push(u64_at(self.text, DIGEST_LEN + 8 * i))?;
         }
         Ok(Ids::new(ids))
     }

@@ -9,7 +9,7 @@ ghost use Rattle.entry.specs.View.{shown, Reads};
 use crate::entry::{Entry, Header, Role};
 use crate::fault::EntryFault;
 use crate::key::MAX_KEY_LEN;
-use crate::kind::Kind;
+use crate::kind::{DIGEST_LEN, HEADER_LEN, Kind, OBJECT_LEN, SAFE_LEN, TOMBSTONE_LEN};
 use crate::limits::{MAX_VALUE_LEN, SafeVersion, Version};
 use crate::view::{DigestRef, EntryRef, KeyRef, ObjectRef, TombstoneRef};
 use std::alloc::Global;
@@ -50,7 +50,7 @@ fn read_header(bytes: &[u8]) -> Result<(EntryRef<'_>, usize), EntryFault>
         segment: u64_at(bytes, 9),
         role,
     };
-    Ok((EntryRef::Header(header), 18))
+    Ok((EntryRef::Header(header), HEADER_LEN))
 }
 
 /// Whether the ids of a digest rise strictly.
@@ -59,7 +59,7 @@ fn ids_rise(bytes: &[u8], count: usize) -> bool
     ensures { result ≡ rises (ids_at count 5 bytes.now) }
 {
     for i in 1..count {
-        if u64_at(bytes, 5 + 8 * (i - 1)) >= u64_at(bytes, 5 + 8 * i) {
+        if u64_at(bytes, DIGEST_LEN + 8 * (i - 1)) >= u64_at(bytes, DIGEST_LEN + 8 * i) {
             return false;
         }
     }
@@ -71,7 +71,7 @@ fn read_digest(bytes: &[u8]) -> Result<(EntryRef<'_>, usize), EntryFault>
     ensures { Reads Kind.Digest bytes.entry.now result }
 {
     let count = u32_at(bytes, 1) as usize;
-    let end = 5 + 8 * count;
+    let end = DIGEST_LEN + 8 * count;
     if bytes.len() < end {
         return Err(EntryFault::Short);
     }
@@ -89,7 +89,7 @@ fn read_safe(bytes: &[u8]) -> Result<(EntryRef<'_>, usize), EntryFault>
     let Some(version) = SafeVersion::new(u64_at(bytes, 1)) else {
         return Err(EntryFault::BadField);
     };
-    Ok((EntryRef::Safe(version), 9))
+    Ok((EntryRef::Safe(version), SAFE_LEN))
 }
 
 #[inline(always)]
@@ -106,14 +106,14 @@ fn read_object(bytes: &[u8]) -> Result<(EntryRef<'_>, usize), EntryFault>
     if key_len == 0 || key_len > MAX_KEY_LEN || value_len > MAX_VALUE_LEN {
         return Err(EntryFault::BadField);
     }
-    let key_end = 23 + key_len;
+    let key_end = OBJECT_LEN + key_len;
     let end = key_end + value_len;
     if bytes.len() < end {
         return Err(EntryFault::Short);
     }
     let key = KeyRef {
         table,
-        bytes: &bytes[23..key_end],
+        bytes: &bytes[OBJECT_LEN..key_end],
     };
     let object = ObjectRef {
         key,
@@ -136,13 +136,13 @@ fn read_tombstone(bytes: &[u8]) -> Result<(EntryRef<'_>, usize), EntryFault>
     if key_len == 0 || key_len > MAX_KEY_LEN {
         return Err(EntryFault::BadField);
     }
-    let end = 27 + key_len;
+    let end = TOMBSTONE_LEN + key_len;
     if bytes.len() < end {
         return Err(EntryFault::Short);
     }
     let key = KeyRef {
         table,
-        bytes: &bytes[27..end],
+        bytes: &bytes[TOMBSTONE_LEN..end],
     };
     let tombstone = TombstoneRef {
         key,

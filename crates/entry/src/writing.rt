@@ -8,6 +8,7 @@ ghost use Rattle.entry.specs.View.{shown_key, shown_object, shown_tombstone};
 
 use crate::entry::{Entry, Role};
 use crate::fault::NoMemory;
+use crate::kind::{OBJECT_LEN, TOMBSTONE_LEN};
 use crate::limits::Version;
 use crate::view::{KeyRef, ObjectRef, TombstoneRef};
 use byteorder::{BigEndian, ByteOrder};
@@ -161,7 +162,7 @@ impl<'a> ObjectRef<'a> {
     {
         self.version.get();
         let _table = self.key.table;
-        23 + self.key.bytes.len() + self.value.len()
+        OBJECT_LEN + self.key.bytes.len() + self.value.len()
     }
 
     /// Appends the spelling.
@@ -189,7 +190,7 @@ impl<'a> TombstoneRef<'a> {
         self.version.get();
         let _table = self.key.table;
         let _segment = self.segment;
-        27 + self.key.bytes.len()
+        TOMBSTONE_LEN + self.key.bytes.len()
     }
 
     /// Appends the spelling.

@@ -1,5 +1,6 @@
 -- Rows of slots.
-use Rattle.std.proofs.Common.{◌≡◌, ◌<◌, ℕ, zero, suc, ◌+◌, List, [], ◌∷◌, ◌++◌, Option, Some, None, Bool, true, false, MatchBool, length, set, get_or, replicate, refl, sym, ap, ◌∙◌, arith, IfSome}
+use Rattle.std.proofs.Common.{◌≡◌, ◌<◌, ℕ, zero, suc, ◌+◌, List, [], ◌∷◌, ◌++◌, Option, Some, None, Bool, true, false}
+use Rattle.std.proofs.Common.{MatchBool, length, set, get_or, replicate, refl, sym, ap, ◌∙◌, arith, IfSome}
 use Rattle.std.specs.Prelude.{slice_get, slice_set}
 use Rattle.std.proofs.lemmas.List.{map-set, map-append, replicate-append-replicate}
 use Rattle.std.proofs.Math.Seq.{map-set_same}
@@ -10,18 +11,21 @@ use Rattle.history_row.specs.declared.kept.Kept.{Kept}
 use Rattle.history_row.specs.Rows.{known_of, names, row_of, IsRowOf}
 
 -- the slot that was reached stands in the row
-pub at_slot : (xs : List Slot) (i : ℕ) (s : Slot) → i < length xs → s ≡ get_or xs i s → slice_get (row_of xs) i ≡ Some (known_of s.note.known)
+pub at_slot : (xs : List Slot) (i : ℕ) (s : Slot) → i < length xs → s ≡ get_or xs i s
+    → slice_get (row_of xs) i ≡ Some (known_of s.note.known)
 at_slot [] i s h e = absurd (omega arith)
 at_slot (x ∷ xs) zero s h e = ap (λ (y : Slot). Some (known_of y.note.known)) (sym e)
 at_slot (x ∷ xs) (suc i) s h e = at_slot xs i s (omega arith) e
 
-pub at_name : (xs : List Slot) (i : ℕ) (s : Slot) → i < length xs → s ≡ get_or xs i s → slice_get (names xs) i ≡ Some s.note.cell
+pub at_name : (xs : List Slot) (i : ℕ) (s : Slot) → i < length xs → s ≡ get_or xs i s
+    → slice_get (names xs) i ≡ Some s.note.cell
 at_name [] i s h e = absurd (omega arith)
 at_name (x ∷ xs) zero s h e = ap (λ (y : Slot). Some y.note.cell) (sym e)
 at_name (x ∷ xs) (suc i) s h e = at_name xs i s (omega arith) e
 
 -- two notes that know a record know the same one
-pub shown_agree : (k o : Option Kept) (r q : Record) → IfSome o (Agrees k) → known_of o ≡ Some r → known_of k ≡ Some q → q ≡ r
+pub shown_agree : (k o : Option Kept) (r q : Record) → IfSome o (Agrees k) → known_of o ≡ Some r
+    → known_of k ≡ Some q → q ≡ r
 shown_agree None None r q h e f = cc
 shown_agree (Some x) None r q h e f = cc
 shown_agree None (Some y) r q h e f = cc
@@ -37,14 +41,19 @@ pub put_slot : (b : Bool) (xs : List Slot) (i : ℕ) (s t : Slot) (k : Kept) →
 put_slot true xs i s t k e h =
     map-set (λ (x : Slot). known_of x.note.known) xs i t ∙ ap (λ o. slice_set (row_of xs) i (known_of o)) h
 put_slot false xs i s t k e h =
-    map-set_same (λ (x : Slot). known_of x.note.known) xs i t s (ap known_of h ∙ ap (λ (x : Slot). known_of x.note.known) e)
+    map-set_same (λ (x : Slot). known_of x.note.known) xs i t s
+    (ap known_of h ∙ ap (λ (x : Slot). known_of x.note.known) e)
 
 -- one empty cell more
-pub empty_slot : (xs : List Slot) (s : Slot) (n : ℕ) → row_of xs ≡ replicate n None → s.note.known ≡ None → row_of (xs ++ s ∷ []) ≡ replicate (n + 1) None
-empty_slot xs s n e h = map-append (λ (x : Slot). known_of x.note.known) xs (s ∷ []) ∙ ap (λ l. l ++ known_of s.note.known ∷ []) e ∙ ap (λ o. replicate n None ++ known_of o ∷ []) h ∙ replicate-append-replicate n 1 None
+pub empty_slot : (xs : List Slot) (s : Slot) (n : ℕ) → row_of xs ≡ replicate n None → s.note.known ≡ None
+    → row_of (xs ++ s ∷ []) ≡ replicate (n + 1) None
+empty_slot xs s n e h = map-append (λ (x : Slot). known_of x.note.known) xs (s ∷ [])
+    ∙ ap (λ l. l ++ known_of s.note.known ∷ []) e ∙ ap (λ o. replicate n None ++ known_of o ∷ []) h
+    ∙ replicate-append-replicate n 1 None
 
 -- the row has what the history has
-pub row_has : (row : List (Option Record)) (h : List Record) (k : ℕ) → IsRowOf row h → k < length h → (q : Record) × (slice_get h k ≡ Some q) × (slice_get row k ≡ Some (Some q))
+pub row_has : (row : List (Option Record)) (h : List Record) (k : ℕ) → IsRowOf row h → k < length h → (q : Record)
+    × (slice_get h k ≡ Some q) × (slice_get row k ≡ Some (Some q))
 row_has [] [] k is l = absurd (omega arith)
 row_has [] (r ∷ rs) k is l = absurd is
 row_has (c ∷ cs) [] k is l = absurd (omega arith)

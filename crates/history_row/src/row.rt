@@ -1,6 +1,7 @@
 //! The cells of a history, in order.
 
-ghost use Rattle.std.specs.Prelude.{◌≡◌, ◌<◌, List, length, slice_get, slice_set, Some, None, IfOk, MatchBool, replicate};
+ghost use Rattle.std.specs.Prelude.{◌≡◌, ◌<◌, List, length, slice_get, slice_set, Some, None, IfOk, MatchBool};
+ghost use Rattle.std.specs.Prelude.{replicate};
 ghost use Rattle.history_row.specs.Rows.{IsRowOf};
 ghost use Rattle.versioned_map.specs.declared.command.Record.{Record};
 

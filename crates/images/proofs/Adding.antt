@@ -1,5 +1,6 @@
 -- One more image in a list by rising id.
-use Rattle.std.proofs.Common.{◌≡◌, ℕ, zero, suc, ◌+◌, ◌<◌, ◌≤◌, Bool, true, false, List, [], ◌∷◌, ◌++◌, length, get_or, map, refl, sym, ap, ◌∙◌, arith}
+use Rattle.std.proofs.Common.{◌≡◌, ℕ, zero, suc, ◌+◌, ◌<◌, ◌≤◌, Bool, true, false, List, [], ◌∷◌, ◌++◌, length, get_or}
+use Rattle.std.proofs.Common.{map, refl, sym, ap, ◌∙◌, arith}
 use Rattle.std.specs.Prelude.{◌==◌, nat_lt, if◌then◌else◌, Option, Some, None, insert, sum_by}
 use Rattle.std.specs.List.{AllByRecursion}
 use Rattle.std.specs.Option.{option_map}
@@ -13,7 +14,8 @@ use Rattle.images.proofs.Listing.{all_at, IsAbsent, image_absent, absent_from_no
 -- ---- its place
 
 -- behind all that have no higher id
-pub added_at : (xs : List Image) (i : ℕ) (y : Image) → i ≤ length xs → ((k : ℕ) (d : Image) → k < i → (get_or xs k d).id ≤ y.id)
+pub added_at : (xs : List Image) (i : ℕ) (y : Image) → i ≤ length xs
+    → ((k : ℕ) (d : Image) → k < i → (get_or xs k d).id ≤ y.id)
     → ((k : ℕ) (d : Image) → i ≤ k → k < length xs → y.id < (get_or xs k d).id) → insert xs i y ≡ added y xs
 added_at [] zero y le low high = refl
 added_at [] (suc i) y le low high = absurd (omega arith)
@@ -25,7 +27,8 @@ added_at (x ∷ xs) (suc i) y le low high =
     (λ (k : ℕ) (d : Image) (lt : k < i). low (suc k) d (omega arith))
     (λ (k : ℕ) (d : Image) (from : i ≤ k) (lt : k < length xs). high (suc k) d (omega arith) (omega arith))))
 
-pub ids_rise : (xs : List Image) → AreRising xs → (i j : ℕ) (d : Image) → i ≤ j → j < length xs → (get_or xs i d).id ≤ (get_or xs j d).id
+pub ids_rise : (xs : List Image) → AreRising xs → (i j : ℕ) (d : Image) → i ≤ j → j < length xs
+    → (get_or xs i d).id ≤ (get_or xs j d).id
 ids_rise [] rising i j d le lt = absurd (omega arith)
 ids_rise (x ∷ xs) rising zero zero d le lt = omega arith
 ids_rise (x ∷ xs) rising zero (suc j) d le lt =
@@ -49,12 +52,14 @@ below_absent (x ∷ xs) id below =
 pub below_none : (xs : List Image) (id : ℕ) → AreBelow id xs → image_of xs id ≡ None
 below_none xs id below = image_absent xs id (below_absent xs id below)
 
-pub newest_last : (y : Image) (xs : List Image) → AreBelow y.id xs → (image_of xs y.id ≡ None) × (added y xs ≡ xs ++ y ∷ [])
+pub newest_last : (y : Image) (xs : List Image) → AreBelow y.id xs → (image_of xs y.id ≡ None)
+    × (added y xs ≡ xs ++ y ∷ [])
 newest_last y xs below = (below_none xs y.id below, added_last y xs below)
 
 -- ---- each of the list
 
-pub all_added : (P : Image → Type 0) (y : Image) (xs : List Image) → AllByRecursion P xs → P y → AllByRecursion P (added y xs)
+pub all_added : (P : Image → Type 0) (y : Image) (xs : List Image) → AllByRecursion P xs → P y
+    → AllByRecursion P (added y xs)
 all_added P y [] all new = (new, tt)
 all_added P y (x ∷ xs) all new = go (nat_lt y.id x.id) refl (all_added P y xs all.1 new)
   where
@@ -62,7 +67,8 @@ all_added P y (x ∷ xs) all new = go (nat_lt y.id x.id) refl (all_added P y xs 
     go true is rest = rw is (new, all)
     go false is rest = rw is (all.0, rest)
 
-lower : (m n : ℕ) (xs : List Image) → m ≤ n → AllByRecursion (λ (x : Image). n < x.id) xs → AllByRecursion (λ (x : Image). m < x.id) xs
+lower : (m n : ℕ) (xs : List Image) → m ≤ n → AllByRecursion (λ (x : Image). n < x.id) xs
+    → AllByRecursion (λ (x : Image). m < x.id) xs
 lower m n [] le all = tt
 lower m n (x ∷ xs) le all = (let lt = all.0 in (omega arith, lower m n xs le all.1))
 
@@ -74,7 +80,8 @@ rising_added y (x ∷ xs) rising absent = go (nat_lt y.id x.id) refl (rising_add
     other = absent.0
 
     go : (t : Bool) → nat_lt y.id x.id ≡ t → AreRising (added y xs) → AreRising (added y (x ∷ xs))
-    go true is rest = (let lt = ltb-true y.id x.id is in rw is ((lt, lower y.id x.id xs (omega arith) rising.0), rising))
+    go true is rest = (let lt = ltb-true y.id x.id is in rw is
+        ((lt, lower y.id x.id xs (omega arith) rising.0), rising))
     go false is rest =
         let le = ltb-false y.id x.id is in
         let above : x.id < y.id = omega (arith, other) in
@@ -84,7 +91,8 @@ pub length_added : (y : Image) (xs : List Image) → length (added y xs) ≡ len
 length_added y [] = refl
 length_added y (x ∷ xs) = go (nat_lt y.id x.id) refl (length_added y xs)
   where
-    go : (t : Bool) → nat_lt y.id x.id ≡ t → length (added y xs) ≡ length xs + 1 → length (added y (x ∷ xs)) ≡ length (x ∷ xs) + 1
+    go : (t : Bool) → nat_lt y.id x.id ≡ t → length (added y xs) ≡ length xs + 1
+        → length (added y (x ∷ xs)) ≡ length (x ∷ xs) + 1
     go true is rest = rw is (omega arith)
     go false is rest = rw is (omega arith)
 
@@ -92,15 +100,18 @@ pub sum_added : (f : Image → ℕ) (y : Image) (xs : List Image) → sum_by f (
 sum_added f y [] = refl
 sum_added f y (x ∷ xs) = go (nat_lt y.id x.id) refl (sum_added f y xs)
   where
-    go : (t : Bool) → nat_lt y.id x.id ≡ t → sum_by f (added y xs) ≡ sum_by f xs + f y → sum_by f (added y (x ∷ xs)) ≡ sum_by f (x ∷ xs) + f y
+    go : (t : Bool) → nat_lt y.id x.id ≡ t → sum_by f (added y xs) ≡ sum_by f xs + f y
+        → sum_by f (added y (x ∷ xs)) ≡ sum_by f (x ∷ xs) + f y
     go true is rest = rw is (let all = sum_by-cons f y (x ∷ xs) in omega arith)
     go false is rest = rw is (let all = sum_by-cons f x (added y xs) in let own = sum_by-cons f x xs in omega arith)
 
-pub ids_added : (y : Image) (xs : List Image) → map (λ (x : Image). x.id) (added y xs) ≡ inserted y.id (map (λ (x : Image). x.id) xs)
+pub ids_added : (y : Image) (xs : List Image) → map (λ (x : Image). x.id) (added y xs)
+    ≡ inserted y.id (map (λ (x : Image). x.id) xs)
 ids_added y [] = refl
 ids_added y (x ∷ xs) = go (nat_lt y.id x.id) refl (ids_added y xs)
   where
-    go : (t : Bool) → nat_lt y.id x.id ≡ t → map (λ (z : Image). z.id) (added y xs) ≡ inserted y.id (map (λ (z : Image). z.id) xs)
+    go : (t : Bool) → nat_lt y.id x.id ≡ t → map (λ (z : Image). z.id) (added y xs)
+        ≡ inserted y.id (map (λ (z : Image). z.id) xs)
         → map (λ (z : Image). z.id) (added y (x ∷ xs)) ≡ inserted y.id (map (λ (z : Image). z.id) (x ∷ xs))
     go true is rest = rw is refl
     go false is rest = rw is (ap (λ (ids : List ℕ). x.id ∷ ids) rest)
@@ -126,7 +137,8 @@ image_added y (x ∷ xs) id absent = go (nat_lt y.id x.id) refl (image_added y x
     go false is rest = rw is (found (x.id == id) refl rest)
 
 mapped_if : (t : Bool) (y : Image) (o : Option Image)
-    → option_map (λ (x : Image). x.segment) (if t then Some y else o) ≡ if t then Some y.segment else option_map (λ (x : Image). x.segment) o
+    → option_map (λ (x : Image). x.segment) (if t then Some y else o) ≡ if t then Some y.segment
+    else option_map (λ (x : Image). x.segment) o
 mapped_if true y o = refl
 mapped_if false y o = refl
 
@@ -137,7 +149,8 @@ image_found y xs id none = image_added y xs id (absent_from_none xs y.id none)
 pub segment_found : (y : Image) (xs : List Image) (id : ℕ) → image_of xs y.id ≡ None
     → segment_of (added y xs) id ≡ if y.id == id then Some y.segment else segment_of xs id
 segment_found y xs id none =
-    ap (λ (o : Option Image). option_map (λ (x : Image). x.segment) o) (image_found y xs id none) ∙ mapped_if (y.id == id) y (image_of xs id)
+    ap (λ (o : Option Image). option_map (λ (x : Image). x.segment) o) (image_found y xs id none)
+    ∙ mapped_if (y.id == id) y (image_of xs id)
 
 -- the image that was added
 pub image_own : (y : Image) (xs : List Image) → image_of xs y.id ≡ None → image_of (added y xs) y.id ≡ Some y

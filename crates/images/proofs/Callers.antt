@@ -19,7 +19,8 @@ pub below_added : (xs : List Image) (y : Image) → AreBelow y.id xs → AreBelo
 below_added xs y all =
     all_added (λ (x : Image). x.id < y.id + 1) y xs (below_le xs y.id (y.id + 1) all (omega arith)) (omega arith)
 
-pub below_changed : (xs : List Image) (id n : ℕ) (f : Image → Image) → ((x : Image) → (f x).id ≡ x.id) → AreBelow n xs → AreBelow n (changed xs id f)
+pub below_changed : (xs : List Image) (id n : ℕ) (f : Image → Image) → ((x : Image) → (f x).id ≡ x.id) → AreBelow n xs
+    → AreBelow n (changed xs id f)
 below_changed [] id n f same all = tt
 below_changed (x ∷ xs) id n f same all = go (x.id == id) refl (below_changed xs id n f same all.1)
   where
@@ -33,7 +34,8 @@ below_without xs id n all = all_without (λ (x : Image). x.id < n) xs id all
 -- ---- the image of an id
 
 -- what is changed is found changed
-pub image_changed : (xs : List Image) (id : ℕ) (f : Image → Image) (y : Image) → ((x : Image) → (f x).id ≡ x.id) → image_of xs id ≡ Some y
+pub image_changed : (xs : List Image) (id : ℕ) (f : Image → Image) (y : Image) → ((x : Image) → (f x).id ≡ x.id)
+    → image_of xs id ≡ Some y
     → image_of (changed xs id f) id ≡ Some (f y)
 image_changed [] id f y same is = absurd (cc)
 image_changed (x ∷ xs) id f y same is = go (x.id == id) refl (image_changed xs id f y same)
@@ -52,20 +54,25 @@ image_changed (x ∷ xs) id f y same is = go (x.id == id) refl (image_changed xs
 -- ---- what takes appends
 
 -- the image that was added does if it is whole
-pub whole_added : (xs : List Image) (y : Image) → image_of xs y.id ≡ None → y.is_whole ≡ true → IsWhole (added y xs) y.id
-whole_added xs y none is = subst (λ (o : Option Image). IsSomeAnd o (λ (x : Image). x.is_whole ≡ true)) (sym (image_own y xs none)) is
+pub whole_added : (xs : List Image) (y : Image) → image_of xs y.id ≡ None → y.is_whole ≡ true
+    → IsWhole (added y xs) y.id
+whole_added xs y none is = subst (λ (o : Option Image). IsSomeAnd o (λ (x : Image). x.is_whole ≡ true))
+    (sym (image_own y xs none)) is
 
 -- what did still does with a unit at its end
-pub whole_grown : (xs : List Image) (id : ℕ) (unit : List Entry) → IsWhole xs id → IsWhole (changed xs id (with_unit unit)) id
+pub whole_grown : (xs : List Image) (id : ℕ) (unit : List Entry) → IsWhole xs id
+    → IsWhole (changed xs id (with_unit unit)) id
 whole_grown xs id unit whole = go (image_of xs id) refl whole
   where
-    go : (o : Option Image) → image_of xs id ≡ o → IsSomeAnd o (λ (x : Image). x.is_whole ≡ true) → IsWhole (changed xs id (with_unit unit)) id
+    go : (o : Option Image) → image_of xs id ≡ o → IsSomeAnd o (λ (x : Image). x.is_whole ≡ true)
+        → IsWhole (changed xs id (with_unit unit)) id
     go None is none = absurd none
     go (Some y) is own = subst (λ (o : Option Image). IsSomeAnd o (λ (x : Image). x.is_whole ≡ true))
         (sym (image_changed xs id (with_unit unit) y (λ (x : Image). refl) is)) own
 
 -- an append keeps it whole, the ids and the size of a segment
-pub append_keeps : (v w : ImagesValue) (id : ℕ) (unit : List Entry) → w ≡ record v { images = changed v.images id (with_unit unit) } → IsWhole v.images id
+pub append_keeps : (v w : ImagesValue) (id : ℕ) (unit : List Entry)
+    → w ≡ record v { images = changed v.images id (with_unit unit) } → IsWhole v.images id
     → IsWhole w.images id × ((n : ℕ) → AreBelow n v.images → AreBelow n w.images) × (w.segment ≡ v.segment)
 append_keeps v w id unit is whole =
     let images : w.images ≡ changed v.images id (with_unit unit) = ap (λ (u : ImagesValue). u.images) is in (

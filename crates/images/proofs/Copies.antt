@@ -1,7 +1,10 @@
 -- An entry copied from one image to a later one.
-use Rattle.std.proofs.Common.{◌≡◌, ℕ, zero, suc, ◌+◌, ◌<◌, ◌≤◌, ◌↔◌, Bool, true, false, List, [], ◌∷◌, ◌++◌, length, get_or, take, drop, refl, sym, ap, subst, ◌∙◌, arith, append-nil, get_or-take, get_or-drop, add-zero, ◌-◌}
+use Rattle.std.proofs.Common.{◌≡◌, ℕ, zero, suc, ◌+◌, ◌<◌, ◌≤◌, ◌↔◌, Bool, true, false, List, [], ◌∷◌, ◌++◌, length}
+use Rattle.std.proofs.Common.{get_or, take, drop, refl, sym, ap, subst, ◌∙◌, arith, append-nil, get_or-take}
+use Rattle.std.proofs.Common.{get_or-drop, add-zero, ◌-◌}
 use Rattle.std.proofs.Math.ListN.{set}
-use Rattle.std.specs.Prelude.{◌==◌, ◌&&◌, Option, Some, None, Result, Ok, Err, IfSome, OnOk, OnErr, IsErrOf, IsSomeAnd, sum_by}
+use Rattle.std.specs.Prelude.{◌==◌, ◌&&◌, Option, Some, None, Result, Ok, Err, IfSome, OnOk, OnErr, IsErrOf, IsSomeAnd}
+use Rattle.std.specs.Prelude.{sum_by}
 use Rattle.std.specs.List.{AllByRecursion}
 use Rattle.std.specs.Option.{option_map, option_map_or, option_and_then}
 use Rattle.std.proofs.lemmas.Bool.{eqb-true}
@@ -43,11 +46,13 @@ places_rise (x ∷ xs) a b i j rising first second lt = omega (arith, not_above)
 
 -- ---- the place of an image
 
-pub found_at : (xs : List Image) (id : ℕ) (x : Image) → image_of xs id ≡ Some x → (at : ℕ) × IsPlaceOf xs id at × (x ≡ get_or xs at x)
+pub found_at : (xs : List Image) (id : ℕ) (x : Image) → image_of xs id ≡ Some x → (at : ℕ) × IsPlaceOf xs id at
+    × (x ≡ get_or xs at x)
 found_at [] id x is = absurd (cc)
 found_at (y ∷ ys) id x is = go (y.id == id) refl (found_at ys id x)
   where
-    go : (t : Bool) → (y.id == id) ≡ t → (image_of ys id ≡ Some x → (at : ℕ) × IsPlaceOf ys id at × (x ≡ get_or ys at x))
+    go : (t : Bool) → (y.id == id) ≡ t → (image_of ys id ≡ Some x → (at : ℕ) × IsPlaceOf ys id at
+        × (x ≡ get_or ys at x))
         → (at : ℕ) × IsPlaceOf (y ∷ ys) id at × (x ≡ get_or (y ∷ ys) at x)
     go true test rest =
         let own : Some y ≡ Some x = rw test at is in
@@ -61,7 +66,8 @@ found_at (y ∷ ys) id x is = go (y.id == id) refl (found_at ys id x)
 
 -- ---- a unit at the end of a whole image
 
-pub grown : (v : ImagesValue) (id : ℕ) (unit : List Entry) → IsImages v → IsWhole v.images id → len_at v.images id + length (text_of unit) ≤ v.segment
+pub grown : (v : ImagesValue) (id : ℕ) (unit : List Entry) → IsImages v → IsWhole v.images id
+    → len_at v.images id + length (text_of unit) ≤ v.segment
     → (used_seglets v ≡ sum_by (count_of v.segment v.seglet) (changed v.images id (with_unit unit)))
     × IsImages (record v { images = changed v.images id (with_unit unit) })
 grown v id unit valid whole fits = go (image_of v.images id) refl whole
@@ -82,7 +88,8 @@ grown v id unit valid whole fits = go (image_of v.images id) refl whole
         let most = valid.fits in
         let parts = set_valid v valid id at place x read (with_unit unit x) refl (omega arith) (omega arith) in
         let total = parts.0 in
-        subst (λ (zs : List Image). (used_seglets v ≡ sum_by (count_of v.segment v.seglet) zs) × IsImages (record v { images = zs }))
+        subst (λ (zs : List Image). (used_seglets v ≡ sum_by (count_of v.segment v.seglet) zs)
+        × IsImages (record v { images = zs }))
         (changed_is v valid id at place x read (with_unit unit)) (omega arith, parts.1)
 
     go : (o : Option Image) → image_of v.images id ≡ o → IsSomeAnd o (λ (x : Image). x.is_whole ≡ true)
@@ -134,18 +141,21 @@ stood text at n there = go (standing_at at text) refl there
     go (Some e) is some = (e, is, some.0, some.1)
 
 -- the entry of an image
-pub data_of : (xs : List Image) (from at n : ℕ) → HasData xs from at n → IsSomeAnd (entry_at xs from at) (λ (e : Entry). is_data e ≡ true)
+pub data_of : (xs : List Image) (from at n : ℕ) → HasData xs from at n
+    → IsSomeAnd (entry_at xs from at) (λ (e : Entry). is_data e ≡ true)
 data_of xs from at n there = go (segment_of xs from) there
   where
     go : (o : Option (List Entry)) → IsSomeAnd o (λ (es : List Entry). StandsData (text_of es) at n)
-        → IsSomeAnd (option_and_then (λ (es : List Entry). standing_at at (text_of es)) o) (λ (e : Entry). is_data e ≡ true)
+        → IsSomeAnd (option_and_then (λ (es : List Entry). standing_at at (text_of es)) o)
+        (λ (e : Entry). is_data e ≡ true)
     go None none = absurd none
     go (Some es) some =
         let s = stood (text_of es) at n some in
         subst (λ (o : Option Entry). IsSomeAnd o (λ (e : Entry). is_data e ≡ true)) (sym s.1) s.2
 
 -- it is appended
-pub one_more : (o : Option Entry) (r : Result ℕ AppendFault) (old new more : List Entry) → IfSome o (λ (e : Entry). more ≡ e ∷ [])
+pub one_more : (o : Option Entry) (r : Result ℕ AppendFault) (old new more : List Entry)
+    → IfSome o (λ (e : Entry). more ≡ e ∷ [])
     → OnOk r (new ≡ old ++ more) → OnOk r (IfSome o (λ (e : Entry). new ≡ old ++ e ∷ []))
 one_more None (Ok n) old new more one ok = tt
 one_more (Some e) (Ok n) old new more one ok = ok ∙ ap (λ (es : List Entry). old ++ es) one
@@ -160,7 +170,8 @@ one_fits (Some e) r limit len bytes unit one full =
 
 -- ---- the copy of an entry
 
-module _ (xs : List Image) (from to source target : ℕ) (rising : AreRising xs) (first : IsPlaceOf xs from source) (second : IsPlaceOf xs to target)
+module _ (xs : List Image) (from to source target : ℕ) (rising : AreRising xs) (first : IsPlaceOf xs from source)
+    (second : IsPlaceOf xs to target)
     (front back : List Image) (is_front : front ≡ take target xs) (is_back : back ≡ drop target xs) (x y : Image) where
   pub source_below : from < to → source < target
   source_below order = places_rise xs from to source target rising first second order
@@ -168,27 +179,36 @@ module _ (xs : List Image) (from to source target : ℕ) (rising : AreRising xs)
   source_is : from < to → segment_of xs from ≡ Some (get_or front source x).segment
   source_is order =
       let below = source_below order in
-      let found : image_of xs from ≡ Some (get_or xs source x) = image_at xs from source x rising first.within (first.is x) in
-      let same : get_or front source x ≡ get_or xs source x = ap (λ (zs : List Image). get_or zs source x) is_front ∙ get_or-take target xs source x below in
-      ap (λ (o : Option Image). option_map (λ (z : Image). z.segment) o) found ∙ ap (λ (z : Image). Some z.segment) (sym same)
+      let found : image_of xs from ≡ Some (get_or xs source x) =
+      image_at xs from source x rising first.within (first.is x) in
+      let same : get_or front source x ≡ get_or xs source x = ap (λ (zs : List Image). get_or zs source x) is_front
+      ∙ get_or-take target xs source x below in
+      ap (λ (o : Option Image). option_map (λ (z : Image). z.segment) o) found
+      ∙ ap (λ (z : Image). Some z.segment) (sym same)
 
   pub entry_is : (at : ℕ) → from < to → entry_at xs from at ≡ standing_at at (text_of (get_or front source x).segment)
-  entry_is at order = ap (λ (o : Option (List Entry)). option_and_then (λ (es : List Entry). standing_at at (text_of es)) o) (source_is order)
+  entry_is at order = ap (λ (o : Option (List Entry)). option_and_then
+      (λ (es : List Entry). standing_at at (text_of es)) o) (source_is order)
 
-  pub data_is : (at n : ℕ) → from < to → HasData xs from at n → StandsData (text_of (get_or front source x).segment) at n
+  pub data_is : (at n : ℕ) → from < to → HasData xs from at n
+      → StandsData (text_of (get_or front source x).segment) at n
   data_is at n order there =
-      subst (λ (o : Option (List Entry)). IsSomeAnd o (λ (es : List Entry). StandsData (text_of es) at n)) (source_is order) there
+      subst (λ (o : Option (List Entry)). IsSomeAnd o (λ (es : List Entry). StandsData (text_of es) at n))
+      (source_is order) there
 
   target_is : get_or back 0 y ≡ get_or xs target y
-  target_is = ap (λ (zs : List Image). get_or zs 0 y) is_back ∙ get_or-drop target xs 0 y ∙ ap (λ (n : ℕ). get_or xs n y) (add-zero target)
+  target_is = ap (λ (zs : List Image). get_or zs 0 y) is_back ∙ get_or-drop target xs 0 y
+      ∙ ap (λ (n : ℕ). get_or xs n y) (add-zero target)
 
   pub len_here : len_at xs to ≡ length (text_of (get_or back 0 y).segment)
   len_here =
-      ap (λ (o : Option Image). option_map_or (λ (es : List Entry). length (text_of es)) (option_map (λ (z : Image). z.segment) o) 0)
+      ap (λ (o : Option Image). option_map_or (λ (es : List Entry). length (text_of es))
+      (option_map (λ (z : Image). z.segment) o) 0)
       (image_at xs to target y rising second.within (second.is y))
       ∙ ap (λ (z : Image). length (text_of z.segment)) (sym target_is)
 
-  pub copied_is : (o : Option Entry) (r : Result ℕ AppendFault) (new : List Entry) (zs : List Image) → zs ≡ set xs target (record (get_or back 0 y) { segment = new })
+  pub copied_is : (o : Option Entry) (r : Result ℕ AppendFault) (new : List Entry) (zs : List Image)
+      → zs ≡ set xs target (record (get_or back 0 y) { segment = new })
       → OnOk r (IfSome o (λ (e : Entry). new ≡ (get_or back 0 y).segment ++ e ∷ []))
       → OnOk r (IfSome o (λ (e : Entry). zs ≡ changed xs to (with_unit (e ∷ []))))
   copied_is None (Ok n) new zs is ok = tt
@@ -199,10 +219,12 @@ module _ (xs : List Image) (from to source target : ℕ) (rising : AreRising xs)
   copied_is o (Err fault) new zs is ok = tt
 
 -- the images stay valid, whatever comes of it
-pub copied_valid : (v : ImagesValue) (from at to : ℕ) (zs : List Image) (r : Result ℕ AppendFault) → IsImages v → IsWhole v.images to
+pub copied_valid : (v : ImagesValue) (from at to : ℕ) (zs : List Image) (r : Result ℕ AppendFault) → IsImages v
+    → IsWhole v.images to
     → IsSomeAnd (entry_at v.images from at) (λ (e : Entry). is_data e ≡ true)
     → OnOk r (IfSome (entry_at v.images from at) (λ (e : Entry). zs ≡ changed v.images to (with_unit (e ∷ []))))
-    → IfSome (entry_at v.images from at) (λ (e : Entry). IsErrOf r Full ↔ (v.segment < len_at v.images to + length (spelling e)))
+    → IfSome (entry_at v.images from at) (λ (e : Entry). IsErrOf r Full
+    ↔ (v.segment < len_at v.images to + length (spelling e)))
     → OnErr r (zs ≡ v.images)
     → (used_seglets v ≡ sum_by (count_of v.segment v.seglet) zs) × IsImages (record v { images = zs })
 copied_valid v from at to zs r valid whole some ok full err = go (entry_at v.images from at) r some ok full err
@@ -217,8 +239,10 @@ copied_valid v from at to zs r valid whole some ok full err = go (entry_at v.ima
         let fits : v.segment < len_at v.images to + length (spelling e) → ⊥ =
         (λ (over : v.segment < len_at v.images to + length (spelling e)). not_full n (within.1 over)) in
         let one = text_one e in
-        subst (λ (ys : List Image). (used_seglets v ≡ sum_by (count_of v.segment v.seglet) ys) × IsImages (record v { images = ys })) (sym is)
+        subst (λ (ys : List Image). (used_seglets v ≡ sum_by (count_of v.segment v.seglet) ys)
+        × IsImages (record v { images = ys })) (sym is)
         (grown v to (e ∷ []) valid whole (omega (arith, fits)))
     go (Some e) (Err fault) some is within same =
-        subst (λ (ys : List Image). (used_seglets v ≡ sum_by (count_of v.segment v.seglet) ys) × IsImages (record v { images = ys })) (sym same)
+        subst (λ (ys : List Image). (used_seglets v ≡ sum_by (count_of v.segment v.seglet) ys)
+        × IsImages (record v { images = ys })) (sym same)
         (refl, valid)

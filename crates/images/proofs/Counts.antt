@@ -1,5 +1,6 @@
 -- What is counted, through each step.
-use Rattle.std.proofs.Common.{◌≡◌, ℕ, ◌+◌, ◌-◌, ◌*◌, ◌/◌, ◌%◌, ◌<◌, ◌≤◌, ◌↔◌, Bool, true, false, List, ◌++◌, length, get_or, refl, sym, ap, subst, ◌∙◌, arith}
+use Rattle.std.proofs.Common.{◌≡◌, ℕ, ◌+◌, ◌-◌, ◌*◌, ◌/◌, ◌%◌, ◌<◌, ◌≤◌, ◌↔◌, Bool, true, false, List, ◌++◌, length}
+use Rattle.std.proofs.Common.{get_or, refl, sym, ap, subst, ◌∙◌, arith}
 use Rattle.std.proofs.Math.ListN.{set, length-set}
 use Rattle.std.proofs.Math.Nat.{mod-eq-sub-div-mul, div-mul-le_self, lt_of_mul-lt-mul_right}
 use Rattle.std.specs.Prelude.{Option, Some, None, Result, Ok, Err, IsSomeAnd, OnOk, OnErr, IsErrOf, remove, sum_by}
@@ -20,7 +21,8 @@ use Rattle.images.specs.Images.{ImagesValue, IsImages, count_of, count_at, used_
 use Rattle.images.specs.Sorted.{AreRising, IsWhole, image_of, added, changed, without}
 use Rattle.images.specs.Place.{IsPlaceOf}
 use Rattle.images.specs.Steps.{with_unit, trimmed, replaced_by, len_at}
-use Rattle.images.proofs.Listing.{all_at, all_set, all_without, absent_from_none, image_at, changed_at, without_at, rising_set, rising_without}
+use Rattle.images.proofs.Listing.{all_at, all_set, all_without, absent_from_none, image_at, changed_at, without_at}
+use Rattle.images.proofs.Listing.{rising_set, rising_without}
 use Rattle.images.proofs.Adding.{all_added, rising_added, sum_added}
 
 -- ---- one image
@@ -29,7 +31,8 @@ pub count_whole : (segment seglet : ℕ) (x : Image) → x.is_whole ≡ true →
 count_whole segment seglet x is = rw is refl
 
 -- a text within a segment fills no more seglets than a segment does
-pub within_whole : (segment seglet len : ℕ) → 0 < seglet → segment % seglet ≡ 0 → len ≤ segment → div_ceil len seglet ≤ segment / seglet
+pub within_whole : (segment seglet len : ℕ) → 0 < seglet → segment % seglet ≡ 0 → len ≤ segment
+    → div_ceil len seglet ≤ segment / seglet
 within_whole segment seglet len pos multiple le =
     let quotient = segment / seglet in
     let times = (div_ceil_times len seglet pos).1 in
@@ -44,15 +47,18 @@ not_full n e = cc
 
 -- the length of a text of two parts
 pub text_more : (es fs : List Entry) → length (text_of (es ++ fs)) ≡ length (text_of es) + length (text_of fs)
-text_more es fs = ap (λ (bytes : List ℕ). length bytes) (flat_map-append spelling es fs) ∙ length-append (text_of es) (text_of fs)
+text_more es fs = ap (λ (bytes : List ℕ). length bytes) (flat_map-append spelling es fs)
+    ∙ length-append (text_of es) (text_of fs)
 
 -- ---- the image of an id
 
-pub image_read : (xs : List Image) (id at : ℕ) (x : Image) → AreRising xs → IsPlaceOf xs id at → x ≡ get_or xs at x → image_of xs id ≡ Some x
+pub image_read : (xs : List Image) (id at : ℕ) (x : Image) → AreRising xs → IsPlaceOf xs id at → x ≡ get_or xs at x
+    → image_of xs id ≡ Some x
 image_read xs id at x rising place read =
     image_at xs id at x rising place.within (place.is x) ∙ ap (λ (y : Image). Some y) (sym read)
 
-module _ (v : ImagesValue) (valid : IsImages v) (id at : ℕ) (place : IsPlaceOf v.images id at) (x : Image) (read : x ≡ get_or v.images at x) where
+module _ (v : ImagesValue) (valid : IsImages v) (id at : ℕ) (place : IsPlaceOf v.images id at) (x : Image)
+    (read : x ≡ get_or v.images at x) where
   pub read_image : image_of v.images id ≡ Some x
   read_image = image_read v.images id at x valid.rising place read
 
@@ -68,24 +74,29 @@ module _ (v : ImagesValue) (valid : IsImages v) (id at : ℕ) (place : IsPlaceOf
       (get_or-le-sum_by (count_of v.segment v.seglet) v.images at x place.within)
 
   pub changed_is : (f : Image → Image) → set v.images at (f x) ≡ changed v.images id f
-  changed_is f = ap (λ (y : Image). set v.images at (f y)) read ∙ changed_at v.images id at x f valid.rising place.within (place.is x)
+  changed_is f = ap (λ (y : Image). set v.images at (f y)) read
+      ∙ changed_at v.images id at x f valid.rising place.within (place.is x)
 
   pub without_is : remove v.images at ≡ without v.images id
   without_is = without_at v.images id at x valid.rising place.within (place.is x)
 
   -- another image of the same id
-  pub set_sum : (y : Image) → sum_by (count_of v.segment v.seglet) (set v.images at y) + count_of v.segment v.seglet x ≡ used_seglets v + count_of v.segment v.seglet y
-  set_sum y = ap (λ (z : Image). sum_by (count_of v.segment v.seglet) (set v.images at y) + count_of v.segment v.seglet z) read
+  pub set_sum : (y : Image) → sum_by (count_of v.segment v.seglet) (set v.images at y) + count_of v.segment v.seglet x
+      ≡ used_seglets v + count_of v.segment v.seglet y
+  set_sum y = ap (λ (z : Image). sum_by (count_of v.segment v.seglet)
+      (set v.images at y) + count_of v.segment v.seglet z) read
       ∙ sum_by-set (count_of v.segment v.seglet) v.images at y x place.within
 
   pub set_valid : (y : Image) → y.id ≡ x.id → length (text_of y.segment) ≤ v.segment
       → used_seglets v - count_of v.segment v.seglet x + count_of v.segment v.seglet y ≤ v.seglets
-      → (used_seglets v - count_of v.segment v.seglet x + count_of v.segment v.seglet y ≡ sum_by (count_of v.segment v.seglet) (set v.images at y))
+      → (used_seglets v - count_of v.segment v.seglet x + count_of v.segment v.seglet y
+      ≡ sum_by (count_of v.segment v.seglet) (set v.images at y))
       × IsImages (record v { images = set v.images at y })
   set_valid y same len fits =
       let sum = set_sum y in
       let le = read_count in
-      let total : used_seglets v - count_of v.segment v.seglet x + count_of v.segment v.seglet y ≡ sum_by (count_of v.segment v.seglet) (set v.images at y) = omega arith in
+      let total : used_seglets v - count_of v.segment v.seglet x + count_of v.segment v.seglet y
+      ≡ sum_by (count_of v.segment v.seglet) (set v.images at y) = omega arith in
       let count = length-set v.images at y in
       let room = valid.room in (
         total,
@@ -99,12 +110,15 @@ module _ (v : ImagesValue) (valid : IsImages v) (id at : ℕ) (place : IsPlaceOf
       )
 
   -- without it
-  pub without_valid : (used_seglets v - count_of v.segment v.seglet x ≡ sum_by (count_of v.segment v.seglet) (remove v.images at))
+  pub without_valid : (used_seglets v - count_of v.segment v.seglet x
+      ≡ sum_by (count_of v.segment v.seglet) (remove v.images at))
       × IsImages (record v { images = remove v.images at })
   without_valid =
-      let sum = ap (λ (z : Image). sum_by (count_of v.segment v.seglet) (remove v.images at) + count_of v.segment v.seglet z) read
+      let sum = ap (λ (z : Image). sum_by (count_of v.segment v.seglet)
+      (remove v.images at) + count_of v.segment v.seglet z) read
       ∙ sum_by-remove (count_of v.segment v.seglet) v.images at x place.within in
-      let total : used_seglets v - count_of v.segment v.seglet x ≡ sum_by (count_of v.segment v.seglet) (remove v.images at) = omega arith in
+      let total : used_seglets v - count_of v.segment v.seglet x
+      ≡ sum_by (count_of v.segment v.seglet) (remove v.images at) = omega arith in
       let count = length-remove v.images at place.within in
       let room = valid.room in
       let most = valid.fits in (
@@ -112,7 +126,8 @@ module _ (v : ImagesValue) (valid : IsImages v) (id at : ℕ) (place : IsPlaceOf
         record {
           sizes = valid.sizes;
           rising = subst AreRising (sym without_is) (rising_without v.images id valid.rising);
-          within = subst (λ (xs : List Image). AllByRecursion (λ (z : Image). length (text_of z.segment) ≤ v.segment) xs) (sym without_is)
+          within = subst (λ (xs : List Image). AllByRecursion
+              (λ (z : Image). length (text_of z.segment) ≤ v.segment) xs) (sym without_is)
               (all_without (λ (z : Image). length (text_of z.segment) ≤ v.segment) v.images id valid.within);
           fits = omega arith;
           room = omega arith;
@@ -125,7 +140,8 @@ module _ (v : ImagesValue) (valid : IsImages v) (id at : ℕ) (place : IsPlaceOf
     where
       go : (t : Bool) → x.is_whole ≡ t → count_of v.segment v.seglet (trimmed x) ≤ count_of v.segment v.seglet x
       go true is = (let least = valid.sizes.least_seglet in
-          rw is (within_whole v.segment v.seglet (length (text_of x.segment)) (omega arith) valid.sizes.multiple read_len))
+          rw is (within_whole v.segment v.seglet (length (text_of x.segment))
+          (omega arith) valid.sizes.multiple read_len))
       go false is = rw is (omega arith)
 
   pub trimmed_valid : (used_seglets v - count_of v.segment v.seglet x + count_of v.segment v.seglet (trimmed x)
@@ -141,11 +157,13 @@ module _ (v : ImagesValue) (valid : IsImages v) (id at : ℕ) (place : IsPlaceOf
     read_whole : x.is_whole ≡ true
     read_whole = subst (λ (o : Option Image). IsSomeAnd o (λ (y : Image). y.is_whole ≡ true)) read_image whole
 
-    grown_valid : length (text_of new) ≤ v.segment → (used_seglets v ≡ sum_by (count_of v.segment v.seglet) (set v.images at (record x { segment = new })))
+    grown_valid : length (text_of new) ≤ v.segment → (used_seglets v
+        ≡ sum_by (count_of v.segment v.seglet) (set v.images at (record x { segment = new })))
         × IsImages (record v { images = set v.images at (record x { segment = new }) })
     grown_valid len =
         let same : count_of v.segment v.seglet (record x { segment = new }) ≡ count_of v.segment v.seglet x =
-        count_whole v.segment v.seglet (record x { segment = new }) read_whole ∙ sym (count_whole v.segment v.seglet x read_whole) in
+        count_whole v.segment v.seglet (record x { segment = new }) read_whole
+        ∙ sym (count_whole v.segment v.seglet x read_whole) in
         let own = read_count in let most = valid.fits in
         let parts = set_valid (record x { segment = new }) refl len (omega arith) in
         let total = parts.0 in
@@ -157,7 +175,8 @@ module _ (v : ImagesValue) (valid : IsImages v) (id at : ℕ) (place : IsPlaceOf
     appended_valid full = grown_valid (go r ok err full)
       where
         go : (q : Result ℕ AppendFault) → OnOk q (new ≡ x.segment ++ unit) → OnErr q (new ≡ x.segment)
-            → (IsErrOf q Full ↔ (v.segment < length (text_of x.segment) + length (text_of unit))) → length (text_of new) ≤ v.segment
+            → (IsErrOf q Full ↔ (v.segment < length (text_of x.segment) + length (text_of unit)))
+            → length (text_of new) ≤ v.segment
         go (Ok n) is none within =
             let len : length (text_of new) ≡ length (text_of x.segment) + length (text_of unit) =
             ap (λ (es : List Entry). length (text_of es)) is ∙ text_more x.segment unit in
@@ -166,11 +185,13 @@ module _ (v : ImagesValue) (valid : IsImages v) (id at : ℕ) (place : IsPlaceOf
             omega (arith, fits)
         go (Err e) none is within = subst (λ (es : List Entry). length (text_of es) ≤ v.segment) (sym is) read_len
 
-    pub appended_is : OnOk r (record v { images = set v.images at (record x { segment = new }) } ≡ record v { images = changed v.images id (with_unit unit) })
+    pub appended_is : OnOk r (record v { images = set v.images at (record x { segment = new }) }
+        ≡ record v { images = changed v.images id (with_unit unit) })
     appended_is = go r ok
       where
         go : (q : Result ℕ AppendFault) → OnOk q (new ≡ x.segment ++ unit)
-            → OnOk q (record v { images = set v.images at (record x { segment = new }) } ≡ record v { images = changed v.images id (with_unit unit) })
+            → OnOk q (record v { images = set v.images at (record x { segment = new }) }
+            ≡ record v { images = changed v.images id (with_unit unit) })
         go (Ok n) is = ap (λ (es : List Entry). record v { images = set v.images at (record x { segment = es }) }) is
             ∙ ap (λ (xs : List Image). record v { images = xs }) (changed_is (with_unit unit))
         go (Err e) none = tt
@@ -178,14 +199,16 @@ module _ (v : ImagesValue) (valid : IsImages v) (id at : ℕ) (place : IsPlaceOf
     pub unchanged_is : OnErr r (record v { images = set v.images at (record x { segment = new }) } ≡ v)
     unchanged_is = go r err
       where
-        go : (q : Result ℕ AppendFault) → OnErr q (new ≡ x.segment) → OnErr q (record v { images = set v.images at (record x { segment = new }) } ≡ v)
+        go : (q : Result ℕ AppendFault) → OnErr q (new ≡ x.segment)
+            → OnErr q (record v { images = set v.images at (record x { segment = new }) } ≡ v)
         go (Ok n) none = tt
         go (Err e) is = ap (λ (es : List Entry). record v { images = set v.images at (record x { segment = es }) }) is
             ∙ ap (λ (y : Image). record v { images = set v.images at y }) read
             ∙ ap (λ (xs : List Image). record v { images = xs }) (set-get_or v.images at x)
 
   pub len_is : len_at v.images id ≡ length (text_of x.segment)
-  len_is = ap (λ (o : Option Image). option_map_or (λ (es : List Entry). length (text_of es)) (option_map (λ (y : Image). y.segment) o) 0) read_image
+  len_is = ap (λ (o : Option Image). option_map_or (λ (es : List Entry). length (text_of es))
+      (option_map (λ (y : Image). y.segment) o) 0) read_image
 
   pub count_is : count_at v id ≡ count_of v.segment v.seglet x
   count_is = ap (λ (o : Option Image). option_map_or (count_of v.segment v.seglet) o 0) read_image
@@ -199,7 +222,8 @@ module _ (v : ImagesValue) (valid : IsImages v) (id at : ℕ) (place : IsPlaceOf
   replaced_valid segment len fits = set_valid (replaced_by segment x) refl len fits
 
 -- one more image
-pub added_valid : (v : ImagesValue) (y : Image) (room : ℕ) → IsImages v → image_of v.images y.id ≡ None → length (text_of y.segment) ≤ v.segment
+pub added_valid : (v : ImagesValue) (y : Image) (room : ℕ) → IsImages v → image_of v.images y.id ≡ None
+    → length (text_of y.segment) ≤ v.segment
     → count_of v.segment v.seglet y ≤ v.seglets - used_seglets v → length (added y v.images) ≤ room
     → (used_seglets v + count_of v.segment v.seglet y ≡ sum_by (count_of v.segment v.seglet) (added y v.images))
     × IsImages (record v { images = added y v.images; room = room })
@@ -218,9 +242,12 @@ added_valid v y room valid none len fits enough =
 
 -- ---- the test of a replacement, over what the code has
 
-module _ (v : ImagesValue) (x : Image) (len used old new : ℕ) (is : used ≡ used_seglets v) (was : old ≡ count_of v.segment v.seglet x)
-    (count : new ≡ div_ceil len v.seglet) (own : count_of v.segment v.seglet x ≤ used_seglets v) (most : used_seglets v ≤ v.seglets) where
-  pub enough : new ≤ v.seglets - (used - old) → used_seglets v - count_of v.segment v.seglet x + div_ceil len v.seglet ≤ v.seglets
+module _ (v : ImagesValue) (x : Image) (len used old new : ℕ) (is : used ≡ used_seglets v)
+    (was : old ≡ count_of v.segment v.seglet x)
+    (count : new ≡ div_ceil len v.seglet) (own : count_of v.segment v.seglet x ≤ used_seglets v)
+    (most : used_seglets v ≤ v.seglets) where
+  pub enough : new ≤ v.seglets - (used - old) → used_seglets v - count_of v.segment v.seglet x + div_ceil len
+      v.seglet ≤ v.seglets
   enough fits = omega arith
 
   pub too_few : v.seglets - (used - old) < new → free_seglets v + count_of v.segment v.seglet x < div_ceil len v.seglet
@@ -229,4 +256,7 @@ module _ (v : ImagesValue) (x : Image) (len used old new : ℕ) (is : used ≡ u
   pub not_too_few : new ≤ v.seglets - (used - old)
       → (false ≡ true → free_seglets v + count_of v.segment v.seglet x < div_ceil len v.seglet)
       × (free_seglets v + count_of v.segment v.seglet x < div_ceil len v.seglet → false ≡ true)
-  not_too_few fits = ((λ (e : false ≡ true). absurd (cc)), (λ (lt : free_seglets v + count_of v.segment v.seglet x < div_ceil len v.seglet). absurd (omega arith)))
+  not_too_few fits = (
+    (λ (e : false ≡ true). absurd (cc)),
+    (λ (lt : free_seglets v + count_of v.segment v.seglet x < div_ceil len v.seglet). absurd (omega arith)),
+  )

@@ -18,11 +18,13 @@ module _ (id : ℕ) (f : Image → Image) (same : (x : Image) → (f x).id ≡ x
     where
       go : (t : Bool) → (x.id == id) ≡ t → image_of (changed xs id f) id ≡ option_map f (image_of xs id)
           → image_of (changed (x ∷ xs) id f) id ≡ option_map f (image_of (x ∷ xs) id)
-      go true is rest = (let test : ((f x).id == id) ≡ true = ap (λ (n : ℕ). n == id) (same x) ∙ is in rw (is, test) refl)
+      go true is rest = (let test : ((f x).id == id) ≡ true = ap (λ (n : ℕ). n == id) (same x) ∙ is in
+          rw (is, test) refl)
       go false is rest = rw (is, is) rest
 
   -- any other is found as before
-  pub other_changed : (other : ℕ) → (other ≡ id → ⊥) → (xs : List Image) → image_of (changed xs id f) other ≡ image_of xs other
+  pub other_changed : (other : ℕ) → (other ≡ id → ⊥) → (xs : List Image)
+      → image_of (changed xs id f) other ≡ image_of xs other
   other_changed other differ [] = refl
   other_changed other differ (x ∷ xs) = go (x.id == id) refl (other_changed other differ xs)
     where
@@ -55,7 +57,8 @@ module _ (id : ℕ) (f : Image → Image) (same : (x : Image) → (f x).id ≡ x
       → segment_of (changed xs id f) other
       ≡ if other == id then option_map (λ (x : Image). (f x).segment) (image_of xs id) else segment_of xs other
   segment_changed_is xs other =
-      ap (λ (o : Option Image). option_map (λ (x : Image). x.segment) o) (image_changed_is xs other) ∙ parts (other == id) (image_of xs id) (image_of xs other)
+      ap (λ (o : Option Image). option_map (λ (x : Image). x.segment) o) (image_changed_is xs other)
+      ∙ parts (other == id) (image_of xs id) (image_of xs other)
     where
       parts : (t : Bool) (o p : Option Image) → option_map (λ (x : Image). x.segment) (if t then option_map f o else p)
           ≡ if t then option_map (λ (x : Image). (f x).segment) o else option_map (λ (x : Image). x.segment) p
@@ -72,7 +75,8 @@ module _ (id : ℕ) (f : Image → Image) (same : (x : Image) → (f x).id ≡ x
       go true is rest = rw (is, same x) (ap (λ (ids : List ℕ). x.id ∷ ids) rest)
       go false is rest = rw is (ap (λ (ids : List ℕ). x.id ∷ ids) rest)
 
-  above_changed : (n : ℕ) (xs : List Image) → AllByRecursion (λ (x : Image). n < x.id) xs → AllByRecursion (λ (x : Image). n < x.id) (changed xs id f)
+  above_changed : (n : ℕ) (xs : List Image) → AllByRecursion (λ (x : Image). n < x.id) xs
+      → AllByRecursion (λ (x : Image). n < x.id) (changed xs id f)
   above_changed n [] all = tt
   above_changed n (x ∷ xs) all = go (x.id == id) refl (above_changed n xs all.1)
     where
@@ -85,7 +89,8 @@ module _ (id : ℕ) (f : Image → Image) (same : (x : Image) → (f x).id ≡ x
   rising_changed [] rising = tt
   rising_changed (x ∷ xs) rising = go (x.id == id) refl (above_changed x.id xs rising.0) (rising_changed xs rising.1)
     where
-      go : (t : Bool) → (x.id == id) ≡ t → AllByRecursion (λ (y : Image). x.id < y.id) (changed xs id f) → AreRising (changed xs id f)
+      go : (t : Bool) → (x.id == id) ≡ t → AllByRecursion (λ (y : Image). x.id < y.id) (changed xs id f)
+          → AreRising (changed xs id f)
           → AreRising (changed (x ∷ xs) id f)
       go true is above rest = rw (is, same x) (above, rest)
       go false is above rest = rw is (above, rest)
@@ -109,26 +114,32 @@ other_stays id other differ (x ∷ xs) = go (x.id == id) refl (other_stays id ot
     kept true is rest = rw is refl
     kept false is rest = rw is rest
 
-    go : (t : Bool) → (x.id == id) ≡ t → image_of (without xs id) other ≡ image_of xs other → image_of (without (x ∷ xs) id) other ≡ image_of (x ∷ xs) other
+    go : (t : Bool) → (x.id == id) ≡ t → image_of (without xs id) other ≡ image_of xs other
+        → image_of (without (x ∷ xs) id) other ≡ image_of (x ∷ xs) other
     go true is rest =
         let own : x.id ≡ id = eqb-true x.id id is in
         let before : (x.id == other) ≡ false = other_id x.id other (λ (e : x.id ≡ other). differ (sym e ∙ own)) in
         rw (is, before) rest
     go false is rest = rw is (kept (x.id == other) refl rest)
 
-pub image_without_is : (xs : List Image) (id other : ℕ) → image_of (without xs id) other ≡ if other == id then None else image_of xs other
+pub image_without_is : (xs : List Image) (id other : ℕ)
+    → image_of (without xs id) other ≡ if other == id then None else image_of xs other
 image_without_is xs id other = go (other == id) refl
   where
-    go : (t : Bool) → (other == id) ≡ t → image_of (without xs id) other ≡ if other == id then None else image_of xs other
+    go : (t : Bool) → (other == id) ≡ t → image_of (without xs id) other ≡ if other == id then None
+        else image_of xs other
     go true is =
         let own : other ≡ id = eqb-true other id is in
         rw is (ap (λ (n : ℕ). image_of (without xs id) n) own ∙ own_gone id xs)
     go false is = rw is (other_stays id other (eqb-false other id is) xs)
 
-pub segment_without_is : (xs : List Image) (id other : ℕ) → segment_of (without xs id) other ≡ if other == id then None else segment_of xs other
+pub segment_without_is : (xs : List Image) (id other : ℕ)
+    → segment_of (without xs id) other ≡ if other == id then None else segment_of xs other
 segment_without_is xs id other =
-    ap (λ (o : Option Image). option_map (λ (x : Image). x.segment) o) (image_without_is xs id other) ∙ parts (other == id) (image_of xs other)
+    ap (λ (o : Option Image). option_map (λ (x : Image). x.segment) o) (image_without_is xs id other)
+    ∙ parts (other == id) (image_of xs other)
   where
-    parts : (t : Bool) (o : Option Image) → option_map (λ (x : Image). x.segment) (if t then None else o) ≡ if t then None else option_map (λ (x : Image). x.segment) o
+    parts : (t : Bool) (o : Option Image) → option_map (λ (x : Image). x.segment) (if t then None else o) ≡ if t
+        then None else option_map (λ (x : Image). x.segment) o
     parts true o = refl
     parts false o = refl

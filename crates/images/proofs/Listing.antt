@@ -1,5 +1,6 @@
 -- Images in a list by rising id.
-use Rattle.std.proofs.Common.{◌≡◌, ℕ, zero, suc, ◌<◌, ◌≤◌, Bool, true, false, List, [], ◌∷◌, length, get_or, refl, sym, ap, ◌∙◌, arith}
+use Rattle.std.proofs.Common.{◌≡◌, ℕ, zero, suc, ◌<◌, ◌≤◌, Bool, true, false, List, [], ◌∷◌, length, get_or, refl, sym}
+use Rattle.std.proofs.Common.{ap, ◌∙◌, arith}
 use Rattle.std.proofs.Math.ListN.{set}
 use Rattle.std.specs.Prelude.{◌==◌, Some, None, remove}
 use Rattle.std.specs.List.{AllByRecursion}
@@ -21,17 +22,20 @@ other_id a b other = go (a == b) refl where
 
 -- ---- each of a list
 
-pub all_at : (P : Image → Type 0) (xs : List Image) (at : ℕ) (d : Image) → AllByRecursion P xs → at < length xs → P (get_or xs at d)
+pub all_at : (P : Image → Type 0) (xs : List Image) (at : ℕ) (d : Image) → AllByRecursion P xs → at < length xs
+    → P (get_or xs at d)
 all_at P [] at d all lt = absurd (omega arith)
 all_at P (x ∷ xs) zero d all lt = all.0
 all_at P (x ∷ xs) (suc at) d all lt = all_at P xs at d all.1 (omega arith)
 
-pub all_set : (P : Image → Type 0) (xs : List Image) (at : ℕ) (y : Image) → AllByRecursion P xs → P y → AllByRecursion P (set xs at y)
+pub all_set : (P : Image → Type 0) (xs : List Image) (at : ℕ) (y : Image) → AllByRecursion P xs → P y
+    → AllByRecursion P (set xs at y)
 all_set P [] at y all new = tt
 all_set P (x ∷ xs) zero y all new = (new, all.1)
 all_set P (x ∷ xs) (suc at) y all new = (all.0, all_set P xs at y all.1 new)
 
-pub all_without : (P : Image → Type 0) (xs : List Image) (id : ℕ) → AllByRecursion P xs → AllByRecursion P (without xs id)
+pub all_without : (P : Image → Type 0) (xs : List Image) (id : ℕ) → AllByRecursion P xs
+    → AllByRecursion P (without xs id)
 all_without P [] id all = tt
 all_without P (x ∷ xs) id all = go (x.id == id) refl (all_without P xs id all.1)
   where
@@ -70,12 +74,16 @@ absent_from_none (x ∷ xs) id none = go (x.id == id) refl (absent_from_none xs 
     go : (t : Bool) → (x.id == id) ≡ t → (image_of xs id ≡ None → IsAbsent xs id) → IsAbsent (x ∷ xs) id
     go true is rest = (let never : Some x ≡ None = rw is at none in absurd (cc))
     go false is rest =
-        let later : image_of xs id ≡ None = rw is at none in
-        ((λ (e : x.id ≡ id). (let t = same_id x.id id e in let never : true ≡ false = sym t ∙ is in absurd (cc))), rest later)
+        let later : image_of xs id ≡ None = rw is at none in (
+          (λ (e : x.id ≡ id). (let t = same_id x.id id e in let never : true ≡ false = sym t ∙ is in
+              absurd (cc))),
+          rest later,
+        )
 
 -- ---- the one at a place
 
-later_is_other : (x : Image) (xs : List Image) (id at : ℕ) (d : Image) → AreRising (x ∷ xs) → at < length xs → (get_or xs at d).id ≡ id
+later_is_other : (x : Image) (xs : List Image) (id at : ℕ) (d : Image) → AreRising (x ∷ xs) → at < length xs
+    → (get_or xs at d).id ≡ id
     → (x.id == id) ≡ false
 later_is_other x xs id at d rising lt is =
     let above = all_at (λ (other : Image). x.id < other.id) xs at d rising.0 lt in
@@ -89,7 +97,8 @@ image_at (x ∷ xs) id (suc at) d rising lt is =
     let test = later_is_other x xs id at d rising (omega arith) is in
     rw test (image_at xs id at d rising.1 (omega arith) is)
 
-pub changed_at : (xs : List Image) (id at : ℕ) (d : Image) (f : Image → Image) → AreRising xs → at < length xs → (get_or xs at d).id ≡ id
+pub changed_at : (xs : List Image) (id at : ℕ) (d : Image) (f : Image → Image) → AreRising xs → at < length xs
+    → (get_or xs at d).id ≡ id
     → set xs at (f (get_or xs at d)) ≡ changed xs id f
 changed_at [] id at d f rising lt is = absurd (omega arith)
 changed_at (x ∷ xs) id zero d f rising lt is =
@@ -113,17 +122,21 @@ without_at (x ∷ xs) id (suc at) d rising lt is =
 
 -- ---- the order
 
-pub rising_set : (xs : List Image) (at : ℕ) (d y : Image) → AreRising xs → at < length xs → y.id ≡ (get_or xs at d).id → AreRising (set xs at y)
+pub rising_set : (xs : List Image) (at : ℕ) (d y : Image) → AreRising xs → at < length xs → y.id ≡ (get_or xs at d).id
+    → AreRising (set xs at y)
 rising_set [] at d y rising lt is = tt
 rising_set (x ∷ xs) zero d y rising lt is = (above xs rising.0, rising.1)
   where
-    above : (zs : List Image) → AllByRecursion (λ (other : Image). x.id < other.id) zs → AllByRecursion (λ (other : Image). y.id < other.id) zs
+    above : (zs : List Image) → AllByRecursion (λ (other : Image). x.id < other.id) zs
+        → AllByRecursion (λ (other : Image). y.id < other.id) zs
     above [] all = tt
     above (z ∷ zs) all = (rw is all.0, above zs all.1)
 rising_set (x ∷ xs) (suc at) d y rising lt is =
     let own = all_at (λ (other : Image). x.id < other.id) xs at d rising.0 (omega arith) in
-    let lower : x.id < y.id = omega arith in
-    (all_set (λ (other : Image). x.id < other.id) xs at y rising.0 lower, rising_set xs at d y rising.1 (omega arith) is)
+    let lower : x.id < y.id = omega arith in (
+      all_set (λ (other : Image). x.id < other.id) xs at y rising.0 lower,
+      rising_set xs at d y rising.1 (omega arith) is,
+    )
 
 pub rising_without : (xs : List Image) (id : ℕ) → AreRising xs → AreRising (without xs id)
 rising_without [] id rising = tt

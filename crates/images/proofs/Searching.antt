@@ -1,5 +1,6 @@
 -- A binary search for an id.
-use Rattle.std.proofs.Common.{◌≡◌, ℕ, zero, suc, ◌<◌, ◌≤◌, ◌-◌, false, List, [], ◌∷◌, length, get_or, refl, ap, subst, arith, add-one}
+use Rattle.std.proofs.Common.{◌≡◌, ℕ, zero, suc, ◌<◌, ◌≤◌, ◌-◌, false, List, [], ◌∷◌, length, get_or, refl, ap, subst}
+use Rattle.std.proofs.Common.{arith, add-one}
 use Rattle.std.specs.Prelude.{Option, None, Result, Ok, Err, IfSome, IfNone, MatchResult}
 use Rattle.std.specs.List.Sorted.{IsBinarySearchResult, IsSearchInRange, IsSortedBy}
 use Rattle.std.specs.Ordering.{nat_cmp, is_lt, MatchOrdering}
@@ -16,7 +17,8 @@ use Rattle.images.proofs.Adding.{ids_rise}
 use Rattle.images.proofs.Listing.{all_at, IsAbsent, image_absent}
 
 -- each id is below the next
-below_next : (xs : List Image) (k : ℕ) (d : Image) → AreRising xs → suc k < length xs → (get_or xs k d).id < (get_or xs (suc k) d).id
+below_next : (xs : List Image) (k : ℕ) (d : Image) → AreRising xs → suc k < length xs
+    → (get_or xs k d).id < (get_or xs (suc k) d).id
 below_next [] k d rising lt = absurd (omega arith)
 below_next (x ∷ xs) zero d rising lt = all_at (λ (other : Image). x.id < other.id) xs zero d rising.0 (omega arith)
 below_next (x ∷ xs) (suc k) d rising lt = below_next xs k d rising.1 (omega arith)
@@ -30,7 +32,8 @@ not_less a b lt = go (nat_cmp b a) (ranked b a (nat_cmp b a) refl)
     go Greater is = refl
 
 sorted : (xs : List Image) → AreRising xs → IsSortedBy (λ (a b : Image). is_lt (nat_cmp a.id b.id)) xs
-sorted xs rising k d low lt = rw add-one (not_less (get_or xs k d).id (get_or xs (suc k) d).id (below_next xs k d rising (omega arith)))
+sorted xs rising k d low lt = rw add-one (not_less (get_or xs k d).id (get_or xs (suc k) d).id
+    (below_next xs k d rising (omega arith)))
 
 equal_ids : (a b : ℕ) → nat_cmp a b ≡ Equal → a ≡ b
 equal_ids a b is = subst (λ (o : Ordering). MatchOrdering o (a < b) (a ≡ b) (b < a)) is (ranked a b (nat_cmp a b) refl)
@@ -39,16 +42,22 @@ less_ids : (a b : ℕ) → nat_cmp a b ≡ Less → a < b
 less_ids a b is = subst (λ (o : Ordering). MatchOrdering o (a < b) (a ≡ b) (b < a)) is (ranked a b (nat_cmp a b) refl)
 
 greater_ids : (a b : ℕ) → nat_cmp a b ≡ Greater → b < a
-greater_ids a b is = subst (λ (o : Ordering). MatchOrdering o (a < b) (a ≡ b) (b < a)) is (ranked a b (nat_cmp a b) refl)
+greater_ids a b is = subst (λ (o : Ordering). MatchOrdering o (a < b) (a ≡ b) (b < a)) is
+    (ranked a b (nat_cmp a b) refl)
 
 -- none has the id where each place has another one
-absent_by_place : (xs : List Image) (id : ℕ) → ((k : ℕ) (d : Image) → k < length xs → (get_or xs k d).id ≡ id → ⊥) → IsAbsent xs id
+absent_by_place : (xs : List Image) (id : ℕ) → ((k : ℕ) (d : Image) → k < length xs → (get_or xs k d).id ≡ id
+    → ⊥) → IsAbsent xs id
 absent_by_place [] id other = tt
-absent_by_place (x ∷ xs) id other =
-    (other zero x (omega arith), absent_by_place xs id (λ (k : ℕ) (d : Image) (lt : k < length xs). other (suc k) d (omega arith)))
+absent_by_place (x ∷ xs) id other = (
+  other zero x (omega arith),
+  absent_by_place xs id (λ (k : ℕ) (d : Image) (lt : k < length xs). other
+      (suc k) d (omega arith)),
+)
 
 -- none has an id that is above those before a place, and below those from there on
-pub absent_between : (xs : List Image) (id at : ℕ) (a b : Image) → AreRising xs → at < length xs → id < (get_or xs at a).id
+pub absent_between : (xs : List Image) (id at : ℕ) (a b : Image) → AreRising xs → at < length xs
+    → id < (get_or xs at a).id
     → ((at ≡ 0 → ⊥) → (get_or xs (at - 1) b).id < id) → image_of xs id ≡ None
 absent_between xs id at a b rising within above below = image_absent xs id (absent_by_place xs id away)
   where
@@ -68,14 +77,16 @@ absent_between xs id at a b rising within above below = image_absent xs id (abse
 
 -- what the search found, or that there is none
 pub searched : (xs : List Image) (id : ℕ) (r : Result ℕ ℕ) → AreRising xs → IsSearchInRange r (length xs)
-    → IsBinarySearchResult (λ (y : Image). nat_cmp y.id id) xs r → MatchResult r (λ (at : ℕ). IsPlaceOf xs id at) (λ (_ : ℕ). image_of xs id ≡ None)
+    → IsBinarySearchResult (λ (y : Image). nat_cmp y.id id) xs r
+    → MatchResult r (λ (at : ℕ). IsPlaceOf xs id at) (λ (_ : ℕ). image_of xs id ≡ None)
 searched xs id (Ok at) rising within found = record {
   within = within;
   is = (λ (d : Image). equal_ids (get_or xs at d).id id (found d));
 }
 searched xs id (Err i) rising within found =
     let parts = found (searchable_from_sorted nat_cmp_total (λ (y : Image). y.id) xs id (sorted xs rising)) in
-    image_absent xs id (absent_by_place xs id (λ (k : ℕ) (d : Image) (lt : k < length xs) (is : (get_or xs k d).id ≡ id). away parts k d lt is))
+    image_absent xs id (absent_by_place xs id (λ (k : ℕ) (d : Image) (lt : k < length xs) (is : (get_or xs k d).id
+    ≡ id). away parts k d lt is))
   where
     away : ((k : ℕ) (d : Image) → 0 ≤ k → k < i → nat_cmp (get_or xs k d).id id ≡ Less)
         × ((k : ℕ) (d : Image) → i ≤ k → k < length xs → nat_cmp (get_or xs k d).id id ≡ Greater)

@@ -41,8 +41,8 @@ fn append_copy(
     target.append_text(text_at(source, at, len), limit)
 }
 
-/// In a list by rising id, appends a copy of the object or tombstone of this length at an offset of one image to a later
-/// image, if that then has at most `limit` bytes. The guess is where the first image may be in the list.
+/// In a list by rising id, appends a copy of the object or tombstone of this length at an offset of one image to a
+/// later image, if that then has at most `limit` bytes. The guess is where the first image may be in the list.
 pub(crate) fn copy_entry(
     images: &mut [Image],
     from: u64,

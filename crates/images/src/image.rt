@@ -52,8 +52,8 @@ pub(crate) fn recounted(images: &[Image], segment: usize, seglet: usize) -> u64
     sum
 }
 
-/// Where the image of a segment is in a list by rising id. The hint mostly says it, or that there is none. If it doesn't, the
-/// image is searched for.
+/// Where the image of a segment is in a list by rising id. The hint mostly says it, or that there is none. If it
+/// doesn't, the image is searched for.
 #[inline(always)]
 pub(crate) fn place_of(images: &[Image], id: u64, hints: &Hints) -> Option<usize>
     requires { AreRising images.now }

@@ -1,5 +1,6 @@
 -- The digest of the next head: ids that leave it, and ids that come in.
-use Rattle.std.proofs.Common.{◌≡◌, ℕ, zero, suc, ◌+◌, ◌<◌, ◌≤◌, Bool, true, false, cond, List, [], ◌∷◌, ◌++◌, length, drop, refl}
+use Rattle.std.proofs.Common.{◌≡◌, ℕ, zero, suc, ◌+◌, ◌<◌, ◌≤◌, Bool, true, false, cond, List, [], ◌∷◌, ◌++◌, length}
+use Rattle.std.proofs.Common.{drop, refl}
 use Rattle.std.proofs.Common.{sym, ap, ◌∙◌, add-one, append_assoc, arith}
 use Rattle.std.specs.Prelude.{Option, Some, None, slice_get, nat_lt, ◌==◌, ◌||◌}
 use Rattle.std.specs.List.{list_any}
@@ -27,7 +28,8 @@ has_any [] id = refl
 has_any (v ∷ victims) id = ap (λ (b : Bool). (v == id) || b) (has_any victims id)
 
 -- the ids from a place on
-pub drop_next : (ids : List ℕ) (place id : ℕ) → slice_get ids place ≡ Some id → drop place ids ≡ id ∷ drop (place + 1) ids
+pub drop_next : (ids : List ℕ) (place id : ℕ) → slice_get ids place ≡ Some id
+    → drop place ids ≡ id ∷ drop (place + 1) ids
 drop_next ids place id is = rw add-one (go ids place is) where
   go : (ys : List ℕ) (n : ℕ) → slice_get ys n ≡ Some id → drop n ys ≡ id ∷ drop (suc n) ys
   go [] n is = absurd (cc)
@@ -39,7 +41,8 @@ module _ (victims ids : List ℕ) (place id : ℕ) (is : slice_get ids place ≡
   pub left_same : has victims id ≡ true → without victims (drop place ids) ≡ without victims (drop (place + 1) ids)
   left_same victim = ap (without victims) (drop_next ids place id is) ∙ rw victim refl
 
-  pub left_next : has victims id ≡ false → without victims (drop place ids) ≡ id ∷ without victims (drop (place + 1) ids)
+  pub left_next : has victims id ≡ false → without victims (drop place ids)
+      ≡ id ∷ without victims (drop (place + 1) ids)
   left_next other = ap (without victims) (drop_next ids place id is) ∙ rw other refl
 
 -- ---- the id that waits
@@ -47,11 +50,13 @@ module _ (victims ids : List ℕ) (place id : ℕ) (is : slice_get ids place ≡
 length_inserted : (s : ℕ) (ids : List ℕ) → length (inserted s ids) ≡ suc (length ids)
 length_inserted s [] = refl
 length_inserted s (z ∷ ids) = go (length_inserted s ids) (nat_lt s z) where
-  go : length (inserted s ids) ≡ suc (length ids) → (b : Bool) → length (cond b (s ∷ z ∷ ids) (z ∷ inserted s ids)) ≡ suc (suc (length ids))
+  go : length (inserted s ids) ≡ suc (length ids) → (b : Bool)
+      → length (cond b (s ∷ z ∷ ids) (z ∷ inserted s ids)) ≡ suc (suc (length ids))
   go later true = refl
   go later false = ap suc later
 
-pub length_with : (o : Option ℕ) (ids : List ℕ) → length (all_inserted (option_to_list o) ids) ≡ length ids + option_len o
+pub length_with : (o : Option ℕ) (ids : List ℕ) → length (all_inserted (option_to_list o) ids)
+    ≡ length ids + option_len o
 length_with None ids = omega arith
 length_with (Some s) ids = let e = length_inserted s ids in omega arith
 
@@ -70,7 +75,8 @@ abbrev pub coming : List ℕ → List ℕ → Option ℕ → ℕ → List ℕ
 coming victims ids waits place = all_inserted (option_to_list waits) (without victims (drop place ids))
 
 -- Up to this place the ids were pushed, with room for what is to come and one more.
-pub record IsPushed (victims ids : List ℕ) (survivor : Option ℕ) (pushed : List ℕ) (waits : Option ℕ) (place room : ℕ) : Type 0 where
+pub record IsPushed (victims ids : List ℕ) (survivor : Option ℕ) (pushed : List ℕ) (waits : Option ℕ)
+    (place room : ℕ) : Type 0 where
   pub all : pushed ++ coming victims ids waits place ≡ coming victims ids survivor 0
   pub fits : length (without victims ids) + option_len survivor + 1 ≤ room
 
@@ -102,24 +108,28 @@ module _ (victims ids : List ℕ) (survivor : Option ℕ) (pushed : List ℕ) (w
     pub pushed_all : pushed ++ option_to_list waits ≡ coming victims ids survivor 0
     pushed_all =
         ap (λ (l : List ℕ). pushed ++ l)
-        (sym (ap (λ (l : List ℕ). all_inserted (option_to_list waits) (without victims l)) (drop_all place ids end) ∙ alone waits))
+        (sym (ap (λ (l : List ℕ). all_inserted (option_to_list waits) (without victims l))
+        (drop_all place ids end) ∙ alone waits))
         ∙ is.all
 
   -- a turn with this id
   module _ (id : ℕ) (at : slice_get ids place ≡ Some id) where
     pub pushed_victim : has victims id ≡ true → IsPushed victims ids survivor pushed waits (place + 1) room
     pushed_victim victim = record {
-      all = ap (λ (l : List ℕ). pushed ++ all_inserted (option_to_list waits) l) (sym (left_same victims ids place id at victim)) ∙ is.all;
+      all = ap (λ (l : List ℕ). pushed ++ all_inserted (option_to_list waits) l)
+          (sym (left_same victims ids place id at victim)) ∙ is.all;
       fits = is.fits;
     }
 
     -- xs are what was pushed, with the id that waited if it is less than this one
     module _ (other : has victims id ≡ false) (xs : List ℕ) (o : Option ℕ)
-        (step : (rest : List ℕ) → xs ++ id ∷ all_inserted (option_to_list o) rest ≡ pushed ++ all_inserted (option_to_list waits) (id ∷ rest)) where
+        (step : (rest : List ℕ) → xs ++ id ∷ all_inserted (option_to_list o) rest
+        ≡ pushed ++ all_inserted (option_to_list waits) (id ∷ rest)) where
       all : xs ++ id ∷ coming victims ids o (place + 1) ≡ coming victims ids survivor 0
       all =
           step (without victims (drop (place + 1) ids))
-          ∙ ap (λ (l : List ℕ). pushed ++ all_inserted (option_to_list waits) l) (sym (left_next victims ids place id at other))
+          ∙ ap (λ (l : List ℕ). pushed ++ all_inserted (option_to_list waits) l)
+          (sym (left_next victims ids place id at other))
           ∙ is.all
 
       pub id_fits : length xs < room

@@ -1,5 +1,6 @@
 -- The head of the log that an image holds, through each step of a head.
-use Rattle.std.proofs.Common.{◌≡◌, ℕ, zero, suc, true, ◌+◌, ◌-◌, ◌≤◌, List, [], ◌∷◌, ◌++◌, length, take, drop, refl, sym, ap, subst, ◌∙◌, append_assoc, arith}
+use Rattle.std.proofs.Common.{◌≡◌, ℕ, zero, suc, true, ◌+◌, ◌-◌, ◌≤◌, List, [], ◌∷◌, ◌++◌, length, take, drop, refl}
+use Rattle.std.proofs.Common.{sym, ap, subst, ◌∙◌, append_assoc, arith}
 use Rattle.std.specs.Prelude.{filter}
 use Rattle.std.specs.List.{AllByRecursion}
 use Rattle.std.proofs.lemmas.List.{append-nil, length-append, take_at, take_all}
@@ -33,7 +34,8 @@ drop_at (x ∷ xs) ys zero is = absurd (omega arith)
 drop_at (x ∷ xs) ys (suc n) is = drop_at xs ys n (omega arith)
 
 -- the bytes of a middle part
-middle : (xs ys zs : List ℕ) (from to : ℕ) → from ≡ length xs → to ≡ from + length ys → take (to - from) (drop from (xs ++ (ys ++ zs))) ≡ ys
+middle : (xs ys zs : List ℕ) (from to : ℕ) → from ≡ length xs → to ≡ from + length ys
+    → take (to - from) (drop from (xs ++ (ys ++ zs))) ≡ ys
 middle xs ys zs from to at size =
     let len : to - from ≡ length ys = omega arith in
     ap (take (to - from)) (drop_at xs (ys ++ zs) from at) ∙ take_at ys zs (to - from) (sym len)
@@ -42,7 +44,8 @@ entries_of_cons : (u : LogUnit) (us : List LogUnit) → entries_of (u ∷ us) �
 entries_of_cons u us = refl
 
 -- the units are read from the bytes behind any others
-units_are : (us : List LogUnit) (es : List UnitEnd) (before : List ℕ) (from : ℕ) → from ≡ length before → AllByRecursion IsEntry (entries_of us) → AreEnds from es us
+units_are : (us : List LogUnit) (es : List UnitEnd) (before : List ℕ) (from : ℕ) → from ≡ length before
+    → AllByRecursion IsEntry (entries_of us) → AreEnds from es us
     → units_from (before ++ text_of (entries_of us)) from es ≡ us
 units_are [] [] before from at each ends = refl
 units_are [] (e ∷ es) before from at each ends = absurd ends
@@ -51,12 +54,14 @@ units_are (u ∷ us) (e ∷ es) before from at each ends =
     let split = all_split IsEntry u.entries (entries_of us) each in
     let own = text_of u.entries in
     let rest = text_of (entries_of us) in
-    let parts : text_of (entries_of (u ∷ us)) ≡ text_of u.entries ++ text_of (entries_of us) = text_of-append u.entries (entries_of us) in
+    let parts : text_of (entries_of (u ∷ us)) ≡ text_of u.entries ++ text_of (entries_of us) =
+    text_of-append u.entries (entries_of us) in
     let here : entries_between (before ++ text_of (entries_of (u ∷ us))) from e.end ≡ u.entries =
     ap (λ (bs : List ℕ). entries_in (take (e.end - from) (drop from (before ++ bs)))) parts
     ∙ ap entries_in (middle before own rest from e.end at ends.1)
     ∙ entries_in-text u.entries split.0 in
-    let size : e.end ≡ length (before ++ text_of u.entries) = ends.1 ∙ ap (λ (n : ℕ). n + length (text_of u.entries)) at ∙ sym (length-append before (text_of u.entries)) in
+    let size : e.end ≡ length (before ++ text_of u.entries) = ends.1 ∙ ap (λ (n : ℕ). n + length (text_of u.entries)) at
+    ∙ sym (length-append before (text_of u.entries)) in
     let later : units_from (before ++ text_of (entries_of (u ∷ us))) e.end es ≡ us =
     ap (λ (bs : List ℕ). units_from (before ++ bs) e.end es) parts
     ∙ ap (λ (bs : List ℕ). units_from bs e.end es) (sym (append_assoc before own rest))
@@ -91,10 +96,13 @@ module _ (master : ℕ) (h : HeadValue) (l : Head) (is : IsImageOf master h l) w
       let each = subst (λ (es : List Entry). AllByRecursion IsEntry es) image_is segment.each in
       let split = all_split IsEntry base_entries (entries_of l.units) each in
       let start : start_in h.id (opening_of h.image) ≡ l.start =
-      (λ i. start_in (sym is.id i) (opening_of (image_is i))) ∙ ap (λ (ids : List ℕ). record { id = l.start.id; others = ids; safe = l.start.safe }) (but_last_is l.start.others l.start.id) in
+      (λ i. start_in (sym is.id i) (opening_of (image_is i)))
+      ∙ ap (λ (ids : List ℕ). record { id = l.start.id; others = ids; safe = l.start.safe })
+      (but_last_is l.start.others l.start.id) in
       let order : is_whole (base_entries ++ entries_of l.units) ≡ true =
       subst (λ (es : List Entry). is_whole es ≡ true) image_is segment.order in
-      let objects = data_split l.loaded (entries_of l.units) (start_order master l.start (l.loaded ++ entries_of l.units) order).1 in
+      let objects = data_split l.loaded (entries_of l.units)
+      (start_order master l.start (l.loaded ++ entries_of l.units) order).1 in
       let bytes : take h.base (text_of h.image) ≡ text_of base_entries =
       ap (take h.base) text_is ∙ take_at (text_of base_entries) (text_of (entries_of l.units)) h.base (sym base_is) in
       let loaded : loaded_in h ≡ l.loaded =
@@ -106,7 +114,8 @@ module _ (master : ℕ) (h : HeadValue) (l : Head) (is : IsImageOf master h l) w
 
   -- ---- ends
 
-  ends_are : (us : List LogUnit) (es : List UnitEnd) (from n : ℕ) → AreEnds from es us → end_of from es n ≡ from + length (text_of (entries_of (take n us)))
+  ends_are : (us : List LogUnit) (es : List UnitEnd) (from n : ℕ) → AreEnds from es us
+      → end_of from es n ≡ from + length (text_of (entries_of (take n us)))
   ends_are us es from zero ends = omega arith
   ends_are [] [] from (suc n) ends = omega arith
   ends_are [] (e ∷ es) from (suc n) ends = absurd ends
@@ -122,7 +131,8 @@ module _ (master : ℕ) (h : HeadValue) (l : Head) (is : IsImageOf master h l) w
       let at = ends_are l.units h.units h.base n is.ends in
       let base = base_is in
       let parts = text_more base_entries (entries_of (take n l.units)) in
-      let whole : length (text_of (head_entries master l n)) ≡ length (text_of (base_entries ++ entries_of (take n l.units))) =
+      let whole : length (text_of (head_entries master l n))
+      ≡ length (text_of (base_entries ++ entries_of (take n l.units))) =
       ap (λ (es : List Entry). length (text_of es)) (entries_at n) in
       omega arith
 
@@ -141,9 +151,11 @@ module _ (master : ℕ) (h : HeadValue) (l : Head) (is : IsImageOf master h l) w
   take_drop zero us = refl
   take_drop (suc n) [] = refl
   take_drop (suc n) (u ∷ us) =
-      append_assoc u.entries (entries_of (take n us)) (entries_of (drop n us)) ∙ ap (λ (es : List Entry). u.entries ++ es) (take_drop n us)
+      append_assoc u.entries (entries_of (take n us)) (entries_of (drop n us))
+      ∙ ap (λ (es : List Entry). u.entries ++ es) (take_drop n us)
 
-  between : (us : List LogUnit) (m n : ℕ) → m ≤ n → entries_of (take m us) ++ entries_of (units_between us m n) ≡ entries_of (take n us)
+  between : (us : List LogUnit) (m n : ℕ) → m ≤ n → entries_of (take m us) ++ entries_of (units_between us m n)
+      ≡ entries_of (take n us)
   between us zero n le = refl
   between us (suc m) zero le = absurd (omega arith)
   between [] (suc m) (suc n) le = refl
@@ -160,8 +172,10 @@ module _ (master : ℕ) (h : HeadValue) (l : Head) (is : IsImageOf master h l) w
       image_is ∙ ap (λ (es : List Entry). base_entries ++ es) (sym (take_drop n l.units))
       ∙ sym (append_assoc base_entries (entries_of (take n l.units)) (entries_of (drop n l.units))) in
       let bytes : text_of h.image ≡ text_of front ++ text_of rest = ap text_of image ∙ text_of-append front rest in
-      let len : end_of h.base h.units n ≡ length (text_of front) = end_is n ∙ ap (λ (es : List Entry). length (text_of es)) (entries_at n) in
-      ap (take (end_of h.base h.units n)) bytes ∙ take_at (text_of front) (text_of rest) (end_of h.base h.units n) (sym len)
+      let len : end_of h.base h.units n ≡ length (text_of front) = end_is n
+      ∙ ap (λ (es : List Entry). length (text_of es)) (entries_at n) in
+      ap (take (end_of h.base h.units n)) bytes ∙ take_at (text_of front) (text_of rest)
+      (end_of h.base h.units n) (sym len)
       ∙ ap text_of (sym (entries_at n))
 
   -- the bytes of the image between two units are those of the units between them
@@ -174,12 +188,16 @@ module _ (master : ℕ) (h : HeadValue) (l : Head) (is : IsImageOf master h l) w
       let rest = entries_of (drop n l.units) in
       let image : h.image ≡ front ++ (own ++ rest) =
       image_is ∙ ap (λ (es : List Entry). base_entries ++ es)
-      (sym (take_drop n l.units) ∙ ap (λ (es : List Entry). es ++ entries_of (drop n l.units)) (sym (between l.units m n le))
-      ∙ append_assoc (entries_of (take m l.units)) (entries_of (units_between l.units m n)) (entries_of (drop n l.units)))
+      (sym (take_drop n l.units) ∙ ap (λ (es : List Entry). es ++ entries_of (drop n l.units))
+      (sym (between l.units m n le))
+      ∙ append_assoc (entries_of (take m l.units)) (entries_of (units_between l.units m n))
+      (entries_of (drop n l.units)))
       ∙ sym (append_assoc base_entries (entries_of (take m l.units)) (own ++ rest)) in
       let bytes : text_of h.image ≡ text_of front ++ (text_of own ++ text_of rest) =
-      ap text_of image ∙ text_of-append front (own ++ rest) ∙ ap (λ (bs : List ℕ). text_of front ++ bs) (text_of-append own rest) in
-      let from : end_of h.base h.units m ≡ length (text_of front) = end_is m ∙ ap (λ (es : List Entry). length (text_of es)) (entries_at m) in
+      ap text_of image ∙ text_of-append front (own ++ rest)
+      ∙ ap (λ (bs : List ℕ). text_of front ++ bs) (text_of-append own rest) in
+      let from : end_of h.base h.units m ≡ length (text_of front) = end_is m
+      ∙ ap (λ (es : List Entry). length (text_of es)) (entries_at m) in
       let upto : end_of h.base h.units n ≡ length (text_of (base_entries ++ entries_of (take n l.units))) =
       end_is n ∙ ap (λ (es : List Entry). length (text_of es)) (entries_at n) in
       let joined : base_entries ++ entries_of (take n l.units) ≡ front ++ own =
@@ -189,17 +207,21 @@ module _ (master : ℕ) (h : HeadValue) (l : Head) (is : IsImageOf master h l) w
       let whole : length (text_of (base_entries ++ entries_of (take n l.units))) ≡ length (text_of (front ++ own)) =
       ap (λ (es : List Entry). length (text_of es)) joined in
       let to : end_of h.base h.units n ≡ end_of h.base h.units m + length (text_of own) = omega arith in
-      ap (λ (bs : List ℕ). take (end_of h.base h.units n - end_of h.base h.units m) (drop (end_of h.base h.units m) bs)) bytes
+      ap (λ (bs : List ℕ). take (end_of h.base h.units n - end_of h.base h.units m)
+      (drop (end_of h.base h.units m) bs)) bytes
       ∙ middle (text_of front) (text_of own) (text_of rest) (end_of h.base h.units m) (end_of h.base h.units n) from to
 
   -- ---- steps
 
   entries_push : (us : List LogUnit) (u : LogUnit) → entries_of (us ++ u ∷ []) ≡ entries_of us ++ u.entries
   entries_push [] u = append-nil u.entries
-  entries_push (v ∷ us) u = ap (λ (es : List Entry). v.entries ++ es) (entries_push us u) ∙ sym (append_assoc v.entries (entries_of us) u.entries)
+  entries_push (v ∷ us) u = ap (λ (es : List Entry). v.entries ++ es) (entries_push us u)
+      ∙ sym (append_assoc v.entries (entries_of us) u.entries)
 
-  ends_push : (us : List LogUnit) (es : List UnitEnd) (from : ℕ) (u : LogUnit) (e : UnitEnd) → AreEnds from es us → e.number ≡ u.number
-      → e.end ≡ from + length (text_of (entries_of us)) + length (text_of u.entries) → AreEnds from (es ++ e ∷ []) (us ++ u ∷ [])
+  ends_push : (us : List LogUnit) (es : List UnitEnd) (from : ℕ) (u : LogUnit) (e : UnitEnd) → AreEnds from es us
+      → e.number ≡ u.number
+      → e.end ≡ from + length (text_of (entries_of us)) + length (text_of u.entries)
+      → AreEnds from (es ++ e ∷ []) (us ++ u ∷ [])
   ends_push [] [] from u e ends number at = (number, omega arith, tt)
   ends_push [] (x ∷ es) from u e ends number at = absurd ends
   ends_push (v ∷ us) [] from u e ends number at = absurd ends
@@ -210,11 +232,13 @@ module _ (master : ℕ) (h : HeadValue) (l : Head) (is : IsImageOf master h l) w
 
   -- with one more unit the image holds the head with one more unit
   pub image_with_unit : (number : ℕ) (unit : List Entry)
-      → IsImageOf master (with_unit_end h number unit) (record l { units = l.units ++ record { number = number; entries = unit } ∷ [] })
+      → IsImageOf master (with_unit_end h number unit) (record l
+      { units = l.units ++ record { number = number; entries = unit } ∷ [] })
   image_with_unit number unit =
       let u : LogUnit = record { number = number; entries = unit } in
       let more : List LogUnit = l.units ++ u ∷ [] in
-      let all : take (length (l.units ++ u ∷ [])) (l.units ++ u ∷ []) ≡ l.units ++ u ∷ [] = take_all (length (l.units ++ u ∷ [])) (l.units ++ u ∷ []) (omega arith) in
+      let all : take (length (l.units ++ u ∷ [])) (l.units ++ u ∷ []) ≡ l.units ++ u ∷ [] =
+      take_all (length (l.units ++ u ∷ [])) (l.units ++ u ∷ []) (omega arith) in
       let whole : text_of h.image ≡ text_of base_entries ++ text_of (entries_of l.units) = text_is in
       let size : length (text_of h.image) ≡ h.base + length (text_of (entries_of l.units)) =
       ap length text_is ∙ length-append (text_of base_entries) (text_of (entries_of l.units))
@@ -225,9 +249,11 @@ module _ (master : ℕ) (h : HeadValue) (l : Head) (is : IsImageOf master h l) w
         image = ap (λ (es : List Entry). es ++ unit) image_is
             ∙ append_assoc base_entries (entries_of l.units) unit
             ∙ ap (λ (es : List Entry). base_entries ++ es) (sym (entries_push l.units u) ∙ ap entries_of (sym all))
-            ∙ append_assoc (start_entries master l.start) l.loaded (entries_of (take (length (l.units ++ u ∷ [])) (l.units ++ u ∷ [])));
+            ∙ append_assoc (start_entries master l.start) l.loaded
+            (entries_of (take (length (l.units ++ u ∷ [])) (l.units ++ u ∷ [])));
         base = is.base;
-        ends = ends_push l.units h.units h.base u (record { number = number; end = length (text_of (h.image ++ unit)) }) is.ends refl (omega arith);
+        ends = ends_push l.units h.units h.base u (record { number = number; end = length (text_of (h.image ++ unit)) })
+            is.ends refl (omega arith);
         taken = is.taken;
       }
 
@@ -243,6 +269,7 @@ module _ (master : ℕ) (h : HeadValue) (l : Head) (is : IsImageOf master h l) w
 
 -- a head that begins
 pub image_fresh : (master replicas : ℕ) (start : Start)
-    → IsImageOf master (fresh_head master replicas start) (record { start = start; loaded = []; units = []; taken = [] })
+    → IsImageOf master (fresh_head master replicas start)
+    (record { start = start; loaded = []; units = []; taken = [] })
 image_fresh master replicas start =
     record { id = refl; image = sym (append-nil (start_entries master start)); base = refl; ends = tt; taken = refl }

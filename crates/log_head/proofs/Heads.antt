@@ -1,5 +1,6 @@
 -- Heads: where units end, and what replicas have taken.
-use Rattle.std.proofs.Common.{◌≡◌, ℕ, zero, suc, ◌+◌, ◌-◌, ◌<◌, ◌≤◌, true, false, List, [], ◌∷◌, ◌++◌, length, take, drop, get_or, Some, None, refl}
+use Rattle.std.proofs.Common.{◌≡◌, ℕ, zero, suc, ◌+◌, ◌-◌, ◌<◌, ◌≤◌, true, false, List, [], ◌∷◌, ◌++◌, length, take}
+use Rattle.std.proofs.Common.{drop, get_or, Some, None, refl}
 use Rattle.std.proofs.Common.{sym, ◌∙◌, add-one, arith}
 use Rattle.std.specs.Prelude.{slice_get, slice_set, unwrap_or, nat_lt}
 use Rattle.std.specs.List.{AllByRecursion}
@@ -34,17 +35,20 @@ pub end_of_next : (us : List UnitEnd) (from len n : ℕ) → EndAt from us len �
 end_of_next us from len n e = rw add-one (end_of_suc us from len n e)
 
 -- where units end, by the last of them
-pub end_of_last : (us : List UnitEnd) (from last : ℕ) (d : UnitEnd) → last < length us → end_of from us (last + 1) ≡ (get_or us last d).end
+pub end_of_last : (us : List UnitEnd) (from last : ℕ) (d : UnitEnd) → last < length us
+    → end_of from us (last + 1) ≡ (get_or us last d).end
 end_of_last us from last d lt = rw add-one (go us from last lt) where
   go : (us : List UnitEnd) (from n : ℕ) → n < length us → end_of from us (suc n) ≡ (get_or us n d).end
   go [] from n lt = absurd (omega arith)
   go (u ∷ us) from zero lt = refl
   go (u ∷ us) from (suc n) lt = go us u.end n (omega arith)
 
-pub unit_end_le : (us : List UnitEnd) (from len n : ℕ) (d : UnitEnd) → EndAt from us len → n < length us → (get_or us n d).end ≤ len
+pub unit_end_le : (us : List UnitEnd) (from len n : ℕ) (d : UnitEnd) → EndAt from us len → n < length us
+    → (get_or us n d).end ≤ len
 unit_end_le us from len n d e lt = rw (← end_of_last us from n d lt) (end_of_le us from len (n + 1) e)
 
-pub EndAt_push : (us : List UnitEnd) (from len : ℕ) (u : UnitEnd) → EndAt from us len → len ≤ u.end → EndAt from (us ++ u ∷ []) u.end
+pub EndAt_push : (us : List UnitEnd) (from len : ℕ) (u : UnitEnd) → EndAt from us len → len ≤ u.end
+    → EndAt from (us ++ u ∷ []) u.end
 EndAt_push [] from len u e le = (omega (arith, e), refl)
 EndAt_push (v ∷ us) from len u e le = (e.0, EndAt_push us v.end len u e.1 le)
 
@@ -82,12 +86,20 @@ all_above : (ns : List ℕ) (a b : ℕ) → a ≤ b → AllByRecursion (λ m. b 
 all_above [] a b le all = tt
 all_above (n ∷ ns) a b le all = let here = all.0 in (omega arith, all_above ns a b le all.1)
 
-pub lagging_first : (units : ℕ) (ns : List ℕ) → 1 ≤ length ns → IsLagging units (rest_in ns) None → get_or ns 0 0 < units
+pub lagging_first : (units : ℕ) (ns : List ℕ) → 1 ≤ length ns → IsLagging units (rest_in ns) None
+    → get_or ns 0 0 < units
     → IsLagging units ns (Some 0)
 lagging_first units [] some rest lt = absurd (omega arith)
-lagging_first units (n ∷ ns) some rest lt = (n, refl, lt, (omega arith, all_above ns n units (omega arith) (rw rest_of at rest)), tt)
+lagging_first units (n ∷ ns) some rest lt = (
+  n,
+  refl,
+  lt,
+  (omega arith, all_above ns n units (omega arith) (rw rest_of at rest)),
+  tt,
+)
 
-pub lagging_none : (units : ℕ) (ns : List ℕ) → 1 ≤ length ns → IsLagging units (rest_in ns) None → units ≤ get_or ns 0 0 → IsLagging units ns None
+pub lagging_none : (units : ℕ) (ns : List ℕ) → 1 ≤ length ns → IsLagging units (rest_in ns) None → units ≤ get_or ns 0 0
+    → IsLagging units ns None
 lagging_none units [] some rest le = absurd (omega arith)
 lagging_none units (n ∷ ns) some rest le = (le, rw rest_of at rest)
 
@@ -98,7 +110,8 @@ lagging_before units place [] some rest le = absurd (omega arith)
 lagging_before units place (n ∷ ns) some rest le =
     let later = rw rest_of at rest in
     let within = slice_get_within ns place later.0 later.1 in
-    let value : get_or ns place 0 ≡ later.0 = same_Some (get_or ns place 0) later.0 (sym (slice_get-get_or ns place 0 within) ∙ later.1) in
+    let value : get_or ns place 0 ≡ later.0 = same_Some (get_or ns place 0) later.0
+    (sym (slice_get-get_or ns place 0 within) ∙ later.1) in
     let order : n ≤ get_or ns place 0 = rw rest_of at le in
     let below : later.0 < units = later.2 in
     (n, refl, omega arith, (omega arith, all_above ns n later.0 (omega arith) later.3), tt)
@@ -110,7 +123,8 @@ lagging_later units place [] some rest le = absurd (omega arith)
 lagging_later units place (n ∷ ns) some rest le =
     let later = rw rest_of at rest in
     let within = slice_get_within ns place later.0 later.1 in
-    let value : get_or ns place 0 ≡ later.0 = same_Some (get_or ns place 0) later.0 (sym (slice_get-get_or ns place 0 within) ∙ later.1) in
+    let value : get_or ns place 0 ≡ later.0 = same_Some (get_or ns place 0) later.0
+    (sym (slice_get-get_or ns place 0 within) ∙ later.1) in
     let order : get_or ns place 0 < n = rw rest_of at le in
     let below : later.0 < units = later.2 in
     rw add-one (later.0, later.1, below, (omega arith, later.3), (omega arith, later.4))
@@ -124,7 +138,8 @@ fewest_above : (units n : ℕ) (ns : List ℕ) → n ≤ units → AllByRecursio
 fewest_above units n [] le all = le
 fewest_above units n (m ∷ ns) le all = let here = all.0 in let later = fewest_above units n ns le all.1 in omega arith
 
-pub fewest_at : (units n j : ℕ) (ns : List ℕ) → slice_get ns j ≡ Some n → n < units → AllByRecursion (λ m. n ≤ m) ns → fewest units ns ≡ n
+pub fewest_at : (units n j : ℕ) (ns : List ℕ) → slice_get ns j ≡ Some n → n < units → AllByRecursion (λ m. n ≤ m) ns
+    → fewest units ns ≡ n
 fewest_at units n j ns e lt all =
     let low = fewest_above units n ns (omega arith) all in
     let high = fewest_below units n j ns e in
@@ -132,7 +147,8 @@ fewest_at units n j ns e lt all =
 
 -- ---- what every replica has
 
-pub fewest_taken : (units : ℕ) (ns : List ℕ) (j : ℕ) → fewest units ns ≤ fewest units (slice_set ns j (unwrap_or (slice_get ns j) 0 + 1))
+pub fewest_taken : (units : ℕ) (ns : List ℕ) (j : ℕ) → fewest units ns
+    ≤ fewest units (slice_set ns j (unwrap_or (slice_get ns j) 0 + 1))
 fewest_taken units [] j = omega arith
 fewest_taken units (n ∷ ns) zero = omega arith
 fewest_taken units (n ∷ ns) (suc j) = let later = fewest_taken units ns j in omega arith

@@ -1,5 +1,6 @@
 -- The ids of the next head's digest rise.
-use Rattle.std.proofs.Common.{◌≡◌, ℕ, zero, suc, ◌+◌, ◌<◌, ◌≤◌, inl, inr, Bool, true, false, cond, List, [], ◌∷◌, ◌++◌, length}
+use Rattle.std.proofs.Common.{◌≡◌, ℕ, zero, suc, ◌+◌, ◌<◌, ◌≤◌, inl, inr, Bool, true, false, cond, List, [], ◌∷◌, ◌++◌}
+use Rattle.std.proofs.Common.{length}
 use Rattle.std.proofs.Common.{refl, arith, length-append}
 use Rattle.std.specs.Prelude.{Option, Some, None, IfSome, nat_lt, slice_index}
 use Rattle.std.specs.List.Sorted.{IsStrictlyIncreasing}
@@ -27,7 +28,8 @@ rises_from (x ∷ ids) low high rise le =
     let size = length-append ids (high ∷ []) in
     (le, rises_from ids (suc x) high (λ k lt. next k lt) (rise 0 (omega arith)))
   where
-    next : (k : ℕ) → k + 1 < length (ids ++ high ∷ []) → slice_index (ids ++ high ∷ []) k < slice_index (ids ++ high ∷ []) (k + 1)
+    next : (k : ℕ) → k + 1 < length (ids ++ high ∷ []) → slice_index (ids ++ high ∷ []) k
+        < slice_index (ids ++ high ∷ []) (k + 1)
     next k lt = let place : suc k + 1 ≡ suc (k + 1) = omega arith in rw place at (rise (suc k) (omega arith))
 
 rises_then : (ids : List ℕ) (low high : ℕ) → Rises low ids high → IsStrictlyIncreasing (ids ++ high ∷ [])
@@ -42,7 +44,8 @@ rises_then (x ∷ y ∷ ys) low high r (suc k) lt =
 rises_without : (victims ids : List ℕ) (low high : ℕ) → Rises low ids high → Rises low (without victims ids) high
 rises_without victims [] low high r = r
 rises_without victims (x ∷ ids) low high r = go (has victims x) (rises_without victims ids (suc x) high r.1) where
-  go : (b : Bool) → Rises (suc x) (without victims ids) high → Rises low (cond b (without victims ids) (x ∷ without victims ids)) high
+  go : (b : Bool) → Rises (suc x) (without victims ids) high
+      → Rises low (cond b (without victims ids) (x ∷ without victims ids)) high
   go true later = let here = r.0 in rises_lower (without victims ids) low (suc x) high (omega arith) later
   go false later = (r.0, later)
 
@@ -64,13 +67,15 @@ rises_inserted s (z ∷ ids) low high le lt not r =
 among_left : (victims ids : List ℕ) (s : ℕ) → IsAmong s (without victims ids) → IsAmong s ids
 among_left victims [] s m = m
 among_left victims (z ∷ ids) s m = go (has victims z) (λ l. among_left victims ids s l) m where
-  go : (b : Bool) → (IsAmong s (without victims ids) → IsAmong s ids) → IsAmong s (cond b (without victims ids) (z ∷ without victims ids))
+  go : (b : Bool) → (IsAmong s (without victims ids) → IsAmong s ids)
+      → IsAmong s (cond b (without victims ids) (z ∷ without victims ids))
       → IsAmong s (z ∷ ids)
   go true later m = inr (later m)
   go false later (inl same) = inl same
   go false later (inr m) = inr (later m)
 
-rises_with : (o : Option ℕ) (victims ids : List ℕ) (low high : ℕ) → IfSome o (λ s. (low ≤ s) × (s < high) × (IsAmong s ids → ⊥))
+rises_with : (o : Option ℕ) (victims ids : List ℕ) (low high : ℕ)
+    → IfSome o (λ s. (low ≤ s) × (s < high) × (IsAmong s ids → ⊥))
     → Rises low ids high → Rises low (all_inserted (option_to_list o) (without victims ids)) high
 rises_with None victims ids low high apart r = rises_without victims ids low high r
 rises_with (Some s) victims ids low high apart r =

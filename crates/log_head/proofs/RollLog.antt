@@ -36,10 +36,12 @@ digest_is master h l is = ap digest_of is.image
 pub phase_opened : (h : HeadValue) (r : Roll) → r.opened < h.replicas → (r.opened < h.replicas → r.closed ≡ 0)
     → phase_in h.replicas (record r { opened = suc r.opened }) ≡ one_opened h.replicas r.opened (start_of r)
 phase_opened h r few order =
-    ap (λ (k : ℕ). if suc r.opened == h.replicas then Closed k (start_of r) else Opened (suc r.opened) (start_of r)) (order few)
+    ap (λ (k : ℕ). if suc r.opened == h.replicas then Closed k (start_of r)
+    else Opened (suc r.opened) (start_of r)) (order few)
 
 -- before all of them are, the phase is this
-pub phase_opening : (h : HeadValue) (r : Roll) → r.opened < h.replicas → phase_in h.replicas r ≡ Opened r.opened (start_of r)
+pub phase_opening : (h : HeadValue) (r : Roll) → r.opened < h.replicas
+    → phase_in h.replicas r ≡ Opened r.opened (start_of r)
 phase_opening h r few = let test : (r.opened == h.replicas) ≡ false = grind (arith, nat_tests) in rw test refl
 
 -- once all are, it is this

@@ -1,6 +1,7 @@
 //! The head of the log: its image, where its units end, and what each replica of it has.
 
-ghost use Rattle.std.specs.Prelude.{◌≡◌, ◌+◌, ◌-◌, ◌<◌, ◌≤◌, ◌^◌, ◌++◌, ◌∷◌, [], ℕ, List, length, map, take, drop, true, Some, None, IfSome, IfOk, OnOk, OnErr, IsErrOf, ◌↔◌, slice_get, slice_set};
+ghost use Rattle.std.specs.Prelude.{◌≡◌, ◌+◌, ◌-◌, ◌<◌, ◌≤◌, ◌^◌, ◌++◌, ◌∷◌, [], ℕ, List, length, map, take, drop};
+ghost use Rattle.std.specs.Prelude.{true, Some, None, IfSome, IfOk, OnOk, OnErr, IsErrOf, ◌↔◌, slice_get, slice_set};
 ghost use Rattle.entry.specs.declared.entry.Entry.{Entry};
 ghost use Rattle.entry.specs.declared.entry.Role.TheVariants.{Head as head_role};
 ghost use Rattle.entry.specs.Text.{text_of, are_data};
@@ -80,7 +81,8 @@ impl Model for Head {
 
 impl Head {
     ghost use Rattle.log_head.specs.declared.head.UnitEnd.{UnitEnd as UnitValue};
-    ghost use Rattle.log_head.specs.Head.{HeadValue, IsHeadValue, end_of, record_at, len_with, everywhere, is_open, IsLagging};
+    ghost use Rattle.log_head.specs.Head.{HeadValue, IsHeadValue, end_of, record_at, len_with, everywhere, is_open};
+    ghost use Rattle.log_head.specs.Head.{IsLagging};
     ghost use Rattle.log_head.specs.Steps.{lone_start, fresh_head, with_unit_end, with_opened_replica, with_one_taken};
     ghost use Rattle.log_head.specs.Steps.{settled};
     ghost use Rattle.log_model.specs.Data.{Start};
@@ -287,7 +289,7 @@ impl Head {
     }
 
     /// Counts all that the head holds as loaded. It has no units then. Call it once each replica has all units.
-    pub fn settle(&mut self)
+    pub fn begin_history(&mut self)
         ensures settled { self.new ≡ settled self.old }
         ensures valid { IsHeadValue self.new }
     {

@@ -1,6 +1,7 @@
 //! What a head pushes next, and how it rolls to the next head.
 
-ghost use Rattle.std.specs.Prelude.{◌≡◌, ◌+◌, ◌<◌, ◌≤◌, ◌++◌, ◌∷◌, [], ℕ, List, None, Some, true, length, IfOk, IfSome, IsSome, OnOk, OnErr, vec_len, vec_capacity};
+ghost use Rattle.std.specs.Prelude.{◌≡◌, ◌+◌, ◌<◌, ◌≤◌, ◌++◌, ◌∷◌, [], ℕ, List, None, Some, true, length, IfOk, IfSome};
+ghost use Rattle.std.specs.Prelude.{IsSome, OnOk, OnErr, vec_len, vec_capacity};
 ghost use Rattle.std.specs.List.Sorted.{IsStrictlyIncreasing};
 ghost use Rattle.std.specs.Option.{option_len, option_to_list};
 ghost use Rattle.entry.specs.View.{shown_ids};
@@ -9,7 +10,8 @@ ghost use Rattle.log_model.specs.Ids.{has, all_inserted, without};
 ghost use Rattle.replica.specs.Op.{shown_op};
 ghost use Rattle.log_head.specs.Head.{digest_of, is_open, IsHeadValue};
 ghost use Rattle.log_head.specs.Next.{IsNextPush, op_of};
-ghost use Rattle.log_head.specs.Steps.{start_after, others_after, with_roll, with_new_replica, with_closed_replica, old_image};
+ghost use Rattle.log_head.specs.Steps.{start_after, others_after, with_roll, with_new_replica, with_closed_replica};
+ghost use Rattle.log_head.specs.Steps.{old_image};
 
 use crate::head::{Head, Roll};
 use crate::next::Next;
@@ -30,7 +32,7 @@ pub struct Leaving<'a> {
 
 impl Head {
     /// What the next push does. `None` if nothing waits.
-    pub fn next(&self) -> Option<Next>
+    pub fn next_push(&self) -> Option<Next>
         ensures next { IsNextPush self.now result }
         ensures valid { IsHeadValue self.now }
     {

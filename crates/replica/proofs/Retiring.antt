@@ -4,6 +4,7 @@ use Rattle.std.proofs.Common.{refl, sym, ap, subst, ◌∙◌, arith}
 use Rattle.std.specs.Prelude.{Option, Some, None, Result, Ok, Err, nat_lt, ◌==◌, ◌&&◌, if◌then◌else◌}
 use Rattle.std.proofs.lemmas.Bool.{ne_eqb}
 use Rattle.std.proofs.lemmas.Option.{same_Some}
+use Rattle.std.proofs.Math.Bool.{and-false}
 use Rattle.entry.specs.Bag.{IsAmong}
 use Rattle.entry.proofs.BagLemmas.{among_left, among_right}
 use Rattle.replica.specs.declared.op.TakeFault.{TakeFault}
@@ -20,16 +21,12 @@ pub record IsOneMore (f : FleetState) (master : ℕ) (g : FleetState) : Type 0 w
   pub takes : g.takes ≡ f.takes + 1
   pub others : (b m s : ℕ) → (master ≡ m → ⊥) → g.picture b m s ≡ f.picture b m s
 
-and_false : (x y : Bool) → (x && (false && y)) ≡ false
-and_false true y = refl
-and_false false y = refl
-
 other_master : (p : Picture) (b m s : ℕ) (r : Option Replica) (c n t : ℕ) → (m ≡ n → ⊥)
     → with_replica p b m s r c n t ≡ p c n t
 other_master p b m s r c n t other =
     let away : (m == n) ≡ false = ne_eqb m n other in
     let e : is_same_place b m s c n t ≡ false =
-    ap (λ (x : Bool). (b == c) && (x && (s == t))) away ∙ and_false (b == c) (s == t) in
+    ap (λ (x : Bool). (b == c) && (x && (s == t))) away ∙ and-false (b == c) in
     rw e refl
 
 effect_more : (f : FleetState) (b : ℕ) (op : OpValue) (e : Option (Option Replica)) (g : FleetState)

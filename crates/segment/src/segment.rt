@@ -13,18 +13,18 @@ use crate::entries::Entries;
 use crate::fault::AppendFault;
 use crate::unit::{len_within, write_all};
 use crate::view::SegmentRef;
-use entry::{Entry, EntryRef, Header, Ids, NoMemory, Role, SafeVersion, write_entry};
+use entry::{
+    DIGEST_LEN, Entry, EntryRef, HEADER_LEN, Header, Ids, NoMemory, Role, SAFE_LEN, SafeVersion,
+    write_entry,
+};
 use std::alloc::Global;
 use std::marker::Model;
 
 /// The most bytes of a segment.
 pub const MAX_SEGMENT_LEN: usize = 8_388_608;
 
-/// The bytes of a header.
-const HEADER_LEN: usize = 18;
-
 /// The bytes of a head's opening entries, but for those of its ids.
-const OPENING_LEN: usize = HEADER_LEN + 5 + 9;
+const OPENING_LEN: usize = HEADER_LEN + DIGEST_LEN + SAFE_LEN;
 
 /// A segment: its text. A contract sees the list of its entries.
 #[derive(Drop)]

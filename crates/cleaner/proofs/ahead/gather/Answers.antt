@@ -13,14 +13,16 @@ loop-preserved c =
     let xs = c.loop.seen.items in
     let x = c.in-Some.one in
     let next = gathered_next es c.args.from c.loop.counter at xs x c.loop.invariant c.in-Some.ensures.seen in
-    subst (λ (ys : List Seen). IsGathered es c.args.from (c.loop.counter + 1) (at + c.len-at.result) ys) (sym c.push.ensures.items)
+    subst (λ (ys : List Seen). IsGathered es c.args.from (c.loop.counter + 1) (at + c.len-at.result) ys)
+    (sym c.push.ensures.items)
     (subst (λ n. IsGathered es c.args.from (c.loop.counter + 1) (at + n) (xs ++ x ∷ [])) (sym c.len-at.ensures) next)
 
 pub returns-in_default : goal.returns-in_default
 returns-in_default c =
     let i = c.loop.invariant in
     gathered_ahead c.args.segment.now c.args.from c.loop.seen.items i.all
-    (gathered_some c.args.segment.now c.args.from c.loop.counter c.loop.at c.loop.seen.items i c.requires.at c.in_default.ensures.other)
+    (gathered_some c.args.segment.now c.args.from c.loop.counter c.loop.at c.loop.seen.items i c.requires.at
+    c.in_default.ensures.other)
 
 pub returns : goal.returns
 returns c =

@@ -21,7 +21,8 @@ returns-in-Object-clause-seen c =
     let is = ap shown c.in-Object.is in
     read_seen c.args.segment.now c.args.at c.bytes-text.result.now t.text t.valid c.if-at-text.false e c.in-Ok.len
     c.in-Ok.ensures.complete x c.requires t.limit
-    (λ size. ap seen_of is ∙ (λ i. Some (seen.Object (sym c.hash_key.ensures i) ((sym (size ∙ ap (λ (x : Entry). length (spelling x)) is)) i))))
+    (λ size. ap seen_of is ∙ (λ i. Some (seen.Object (sym c.hash_key.ensures i)
+    ((sym (size ∙ ap (λ (x : Entry). length (spelling x)) is)) i))))
 
 pub returns-in-Tombstone-clause-seen : goal.returns-in-Tombstone-clause-seen
 returns-in-Tombstone-clause-seen c =
@@ -31,4 +32,5 @@ returns-in-Tombstone-clause-seen c =
     let is = ap shown c.in-Tombstone.is in
     read_seen c.args.segment.now c.args.at c.bytes-text.result.now t.text t.valid c.if-at-text.false e c.in-Ok.len
     c.in-Ok.ensures.complete x c.requires t.limit
-    (λ size. ap seen_of is ∙ ap (λ n. Some (seen.Tombstone c.in-Tombstone.tombstone.segment n)) (sym (size ∙ ap (λ (x : Entry). length (spelling x)) is)))
+    (λ size. ap seen_of is ∙ ap (λ n. Some (seen.Tombstone c.in-Tombstone.tombstone.segment n))
+    (sym (size ∙ ap (λ (x : Entry). length (spelling x)) is)))

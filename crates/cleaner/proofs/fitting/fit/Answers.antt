@@ -20,8 +20,10 @@ overflow_add-kept c =
 pub returns-then-kept-left : goal.returns-then-kept-left
 returns-then-kept-left c =
     let images = c.args.images.now.images in
-    read_fits (ids_in images c.args.head c.args.new) c.args.index.now.held (images_in images) c.args.victims.now c.loop-read.read
-    c.loop-read.kept c.loop-read.left c.args.segment c.bytes_in-left.ensures.valid c.loop-read.invariant c.if-kept-left.true
+    read_fits (ids_in images c.args.head c.args.new) c.args.index.now.held
+    (images_in images) c.args.victims.now c.loop-read.read
+    c.loop-read.kept c.loop-read.left c.args.segment c.bytes_in-left.ensures.valid c.loop-read.invariant
+    c.if-kept-left.true
 
 pub overflow_sub-left : goal.overflow_sub-left
 overflow_sub-left c =
@@ -30,13 +32,21 @@ overflow_sub-left c =
     let i = c.loop-read.read in
     let s = get_or vs i 0 in
     let es = c.in-Some.victim.now in
-    let next = left_next (ids_in images c.args.head c.args.new) c.args.index.now.held (images_in images) vs i c.loop-read.kept
-    c.loop-read.left s es c.loop-read.invariant (drop_more vs i 0 c.loop-read-test.true) (image_is images s es c.in-Some.ensures) in
+    let next = left_next (ids_in images c.args.head c.args.new) c.args.index.now.held
+    (images_in images) vs i c.loop-read.kept
+    c.loop-read.left s es c.loop-read.invariant (drop_more vs i 0 c.loop-read-test.true)
+    (image_is images s es c.in-Some.ensures) in
     omega (arith, next, ap (λ (bytes : List ℕ). length bytes) c.bytes.ensures.text)
 
 pub overflow_add-kept-in-loop-read : goal.overflow_add-kept-in-loop-read
 overflow_add-kept-in-loop-read c =
-    omega (arith, c.loop-read.invariant.counted.low, c.kept_bytes-kept.ensures.limit, c.requires.few, c.loop-read-test.true)
+    omega (
+      arith,
+      c.loop-read.invariant.counted.low,
+      c.kept_bytes-kept.ensures.limit,
+      c.requires.few,
+      c.loop-read-test.true,
+    )
 
 pub loop-read-preserved : goal.loop-read-preserved
 loop-read-preserved c =

@@ -6,11 +6,12 @@ use Rattle.cleaner.proofs.pass.go_on.Goals as goal
 
 pub overflow_add-at : goal.overflow_add-at
 overflow_add-at c =
-    let limit = own_limit (images_in c.args.images.now.images) c.args.victims.now c.args.cursor.now c.args.len c.requires.within
+    let limit = own_limit (images_in c.args.images.now.images) c.args.victims.now c.args.cursor.now
+    c.args.len c.requires.within
     c.requires.cursor c.requires.len in omega (arith, limit)
 
-pub settle-requires-clause-between : goal.settle-requires-clause-between
-settle-requires-clause-between c =
+pub go_to-requires-clause-between : goal.go_to-requires-clause-between
+go_to-requires-clause-between c =
     own_between (images_in c.args.images.now.images) c.args.victims.now c.args.cursor.now c.args.len c.requires.within
     c.requires.cursor c.requires.len
 

@@ -14,13 +14,14 @@ use Rattle.cleaner.proofs.treating.treat.Goals as goal
 
 pub copy-requires-clause-of_data : goal.copy-requires-clause-of_data
 copy-requires-clause-of_data c =
-    let f = c.find.ensures in
+    let f = c.fate_of.ensures in
     rw c.len.ensures (copy_data c.args.images.now.images c.args.place (seen_len c.args.seen) f.0 c.requires.there f.1)
 
 pub copy-requires-in-Tombstone-clause-of_data : goal.copy-requires-in-Tombstone-clause-of_data
 copy-requires-in-Tombstone-clause-of_data c =
-    let f = c.find.ensures in
-    rw c.len-in-Tombstone.ensures (copy_data c.args.images.now.images c.args.place (seen_len c.args.seen) f.0 c.requires.there f.1)
+    let f = c.fate_of.ensures in
+    rw c.len-in-Tombstone.ensures (copy_data c.args.images.now.images c.args.place
+    (seen_len c.args.seen) f.0 c.requires.there f.1)
 
 pub copy-requires-clause-room : goal.copy-requires-clause-room
 copy-requires-clause-room c =
@@ -28,8 +29,9 @@ copy-requires-clause-room c =
     let ids = ids_in images c.args.head c.args.new in
     let held = c.args.index.now.held in
     let p = c.args.place in
-    let f = c.find.ensures in
-    copy_room images p (seen_len c.args.seen) f.0 c.requires.there f.1 ids held c.args.survivor c.args.images.now.segment
+    let f = c.fate_of.ensures in
+    copy_room images p (seen_len c.args.seen) f.0 c.requires.there f.1 ids held c.args.survivor
+    c.args.images.now.segment
     (object_kept p (kept ids held p f.0) f.0 c.in-Object.held (sym f.2 ∙ c.in-Object.is)) c.requires.room
 
 pub copy-requires-in-Tombstone-clause-room : goal.copy-requires-in-Tombstone-clause-room
@@ -38,25 +40,26 @@ copy-requires-in-Tombstone-clause-room c =
     let ids = ids_in images c.args.head c.args.new in
     let held = c.args.index.now.held in
     let p = c.args.place in
-    let f = c.find.ensures in
-    copy_room images p (seen_len c.args.seen) f.0 c.requires.there f.1 ids held c.args.survivor c.args.images.now.segment
+    let f = c.fate_of.ensures in
+    copy_room images p (seen_len c.args.seen) f.0 c.requires.there f.1 ids held c.args.survivor
+    c.args.images.now.segment
     (tombstone_kept p (kept ids held p f.0) f.0 (sym f.2 ∙ c.in-Tombstone.is)) c.requires.room
 
 -- the object is appended to the survivor
 object_copied : (c : In_ok-to-in-Object) → c.copy.new.images ≡ record c.args.images.now {
-  images = changed c.args.images.now.images c.args.survivor (with_unit (c.find.ensures.0 ∷ []));
+  images = changed c.args.images.now.images c.args.survivor (with_unit (c.fate_of.ensures.0 ∷ []));
 }
 object_copied c =
-    let f = c.find.ensures in
+    let f = c.fate_of.ensures in
     copied_is c.args.images.now.images c.args.place (seen_len c.args.seen) f.0 c.requires.there f.1 c.args.survivor
     c.copy.new.images c.args.images.now c.in_ok-to-in-Object.ensures.ok
 
 -- the tombstone is appended to the survivor
 tombstone_copied : (c : In_ok-copy-in-Tombstone) → c.copy-in-Tombstone.new.images ≡ record c.args.images.now {
-  images = changed c.args.images.now.images c.args.survivor (with_unit (c.find.ensures.0 ∷ []));
+  images = changed c.args.images.now.images c.args.survivor (with_unit (c.fate_of.ensures.0 ∷ []));
 }
 tombstone_copied c =
-    let f = c.find.ensures in
+    let f = c.fate_of.ensures in
     copied_is c.args.images.now.images c.args.place (seen_len c.args.seen) f.0 c.requires.there f.1 c.args.survivor
     c.copy-in-Tombstone.new.images c.args.images.now c.in_ok-copy-in-Tombstone.ensures.ok
 
@@ -66,7 +69,7 @@ returns-in_ok-to-in-Object-clause-treated c =
     let ids = ids_in images c.args.head c.args.new in
     let held = c.args.index.now.held in
     let p = c.args.place in
-    let f = c.find.ensures in
+    let f = c.fate_of.ensures in
     let h = c.in-Object.held in
     let is = object_copied (goal.at.returns-in_ok-to-in-Object-clause-treated c).In_ok-to-in-Object in
     let moved =
@@ -79,7 +82,7 @@ returns-in_ok-to-in-Object-clause-treated c =
 pub returns-in_ok-to-in-Object-clause-images : goal.returns-in_ok-to-in-Object-clause-images
 returns-in_ok-to-in-Object-clause-images c =
     others_are c.copy.new.images c.args.images.now
-    (changed c.args.images.now.images c.args.survivor (with_unit (c.find.ensures.0 ∷ [])))
+    (changed c.args.images.now.images c.args.survivor (with_unit (c.fate_of.ensures.0 ∷ [])))
     (object_copied (goal.at.returns-in_ok-to-in-Object-clause-images c).In_ok-to-in-Object)
 
 pub returns-in_ok-copy-in-Tombstone-clause-treated : goal.returns-in_ok-copy-in-Tombstone-clause-treated
@@ -88,7 +91,7 @@ returns-in_ok-copy-in-Tombstone-clause-treated c =
     let ids = ids_in images c.args.head c.args.new in
     let held = c.args.index.now.held in
     let p = c.args.place in
-    let f = c.find.ensures in
+    let f = c.fate_of.ensures in
     let after = c.copy-in-Tombstone.new.images.images in
     let is = tombstone_copied (goal.at.returns-in_ok-copy-in-Tombstone-clause-treated c).In_ok-copy-in-Tombstone in
     treats images p (seen_len c.args.seen) f.0 f.1 ids held c.args.survivor copied.Carried after held
@@ -98,5 +101,5 @@ returns-in_ok-copy-in-Tombstone-clause-treated c =
 pub returns-in_ok-copy-in-Tombstone-clause-images : goal.returns-in_ok-copy-in-Tombstone-clause-images
 returns-in_ok-copy-in-Tombstone-clause-images c =
     others_are c.copy-in-Tombstone.new.images c.args.images.now
-    (changed c.args.images.now.images c.args.survivor (with_unit (c.find.ensures.0 ∷ [])))
+    (changed c.args.images.now.images c.args.survivor (with_unit (c.fate_of.ensures.0 ∷ [])))
     (tombstone_copied (goal.at.returns-in_ok-copy-in-Tombstone-clause-images c).In_ok-copy-in-Tombstone)

@@ -1,4 +1,5 @@
-use Rattle.std.proofs.Common.{◌≡◌, ℕ, ◌≤◌, ◌+◌, ◌-◌, List, ◌++◌, [], ◌∷◌, refl, sym, ap, ◌∙◌, append_assoc, vec_capacity, vec_len, length, arith}
+use Rattle.std.proofs.Common.{◌≡◌, ℕ, ◌≤◌, ◌+◌, ◌-◌, List, ◌++◌, [], ◌∷◌, refl, sym, ap, ◌∙◌, append_assoc}
+use Rattle.std.proofs.Common.{vec_capacity, vec_len, length, arith}
 use Rattle.std.proofs.lemmas.List.{length-append, append-nil}
 use Rattle.entry.specs.Format.{spelling}
 use Rattle.entry.specs.View.{shown}
@@ -6,7 +7,8 @@ use Rattle.compactor.specs.Log.{ids_of_log}
 use Rattle.compactor.specs.Piece.{piece}
 use Rattle.compactor.proofs.KeptEntries.{kept_length}
 use Rattle.compactor.proofs.Cutting.{piece_length, piece_none, piece_more, cut_length}
-use Rattle.compactor.proofs.Walking.{IsCopied, IsCopied-start, IsCopied-kept, IsCopied-dropped, IsCopied-as, copied_room}
+use Rattle.compactor.proofs.Walking.{IsCopied, IsCopied-start, IsCopied-kept, IsCopied-dropped, IsCopied-as}
+use Rattle.compactor.proofs.Walking.{copied_room}
 use Rattle.compactor.proofs.Walking.{IsCopied-text, IsCopied-all, IsCopied-follows, here_of, not_unread, cut_behind}
 use Rattle.compactor.proofs.compacting.copy_kept.Goals.{then-not-kept_and_moved, else-not-kept_and_moved}
 use Rattle.compactor.proofs.compacting.copy_kept.Goals as goal

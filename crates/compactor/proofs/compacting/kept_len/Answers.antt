@@ -25,7 +25,8 @@ loop-at-preserved c =
     let id = c.args.id in
     let es = c.args.segment.now in
     let here =
-    here_of es c.bytes-text.result.now c.bytes-text.ensures.text c.bytes-text.ensures.valid.each s.before s.rest at s.cut
+    here_of es c.bytes-text.result.now c.bytes-text.ensures.text c.bytes-text.ensures.valid.each
+    s.before s.rest at s.cut
     c.loop-at-test.true e n c.in-Ok.ensures.complete in
     elim c.if-kept.branch as (λ _. IsSummed ids held id es (at + n) c.if-kept.len × (c.if-kept.len ≤ at + n)) [
       | then-kept w ↦ rw w.len-is
@@ -36,5 +37,6 @@ loop-at-preserved c =
 
 pub returns : goal.returns
 returns c =
-    IsSummed-end (ids_of_log c.args.log.now) c.args.index.now.held c.args.id c.args.segment.now c.loop-at.at c.loop-at.len
+    IsSummed-end (ids_of_log c.args.log.now) c.args.index.now.held c.args.id c.args.segment.now
+    c.loop-at.at c.loop-at.len
     c.loop-at.invariant.0 (rw (← c.bytes-text.ensures.text) (omega (arith, c.loop-at-test.false)))

@@ -15,7 +15,8 @@ loop-at-init c =
     let held = c.args.index.now.held in
     let id = c.args.id in
     record {
-      counted = subst (λ xs. IsCounted ids held id c.args.segment.now 0 (0 + held_bytes held id xs)) (sym c.new-asked.ensures)
+      counted = subst (λ xs. IsCounted ids held id c.args.segment.now 0 (0 + held_bytes held id xs))
+          (sym c.new-asked.ensures)
           (IsCounted-start ids held id c.args.segment.now);
       low = omega (arith, ap asked_bytes c.new-asked.ensures);
       within = omega arith;
@@ -44,7 +45,8 @@ loop-at-preserved c =
     c.loop-at-test.true e n c.in-Ok.ensures.complete in
     let b = is_data e && kept ids held (record { segment = id; at = at }) e in
     let sum = c.loop-at.len + held_bytes held id c.loop-at.asked.items in
-    let next : IsCounted ids held id es (at + n) (sum + cond b n 0) = IsCounted-next ids held id es at sum s e n here b refl in
+    let next : IsCounted ids held id es (at + n) (sum + cond b n 0) =
+    IsCounted-next ids held id es at sum s e n here b refl in
     let same : sum + cond b n 0 ≡ c.loop-at.len + c.count-len.result + held_bytes held id c.count-len.new.asked.items =
     omega (arith, c.count-len.ensures.sum) in
     record {
@@ -65,6 +67,7 @@ returns-clause-kept c =
     let id = c.args.id in
     let s = c.loop-at.invariant.counted in
     let end =
-    IsCounted-end ids held id c.args.segment.now c.loop-at.at (c.loop-at.len + held_bytes held id c.loop-at.asked.items) s
+    IsCounted-end ids held id c.args.segment.now c.loop-at.at
+    (c.loop-at.len + held_bytes held id c.loop-at.asked.items) s
     (rw (← c.bytes-text.ensures.text) (omega (arith, c.loop-at-test.false))) in
     omega (arith, end, c.held_bytes.ensures.sum, ap (held_bytes held id) c.as_slice.ensures.value)

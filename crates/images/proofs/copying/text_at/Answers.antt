@@ -21,7 +21,8 @@ returns-clause-entry c =
     let at = c.args.at in
     let n = c.args.len in
     let s = stood text at n (subst (λ (l : List ℕ). StandsData l at n) (sym c.bytes.ensures.text) c.requires) in
-    subst (λ (l : List ℕ). IfSome (standing_at at l) (λ (e : Entry). entries_in (take (at + n - at) (drop at text)) ≡ e ∷ []))
+    subst (λ (l : List ℕ). IfSome (standing_at at l) (λ (e : Entry). entries_in
+    (take (at + n - at) (drop at text)) ≡ e ∷ []))
     c.bytes.ensures.text
     (subst (λ (o : Option Entry). IfSome o (λ (e : Entry). entries_in (take (at + n - at) (drop at text)) ≡ e ∷ []))
     (sym s.1) (part_entry text at n s.0 s.3))

@@ -10,7 +10,10 @@ returns-clause-place c =
     let id = c.args.id in
     let at = c.partition_point.result in
     let parted = IsPartitionedBy-leb (λ (x : Image). x.id) xs id (ids_rise xs c.requires) in
-    let point = IsPartitionPoint-from_clause (λ (x : Image). leb x.id id) xs at c.partition_point.ensures.partitioned parted (λ a r q k. search rules) in
+    let point = IsPartitionPoint-from_clause (λ (x : Image). leb x.id id) xs at c.partition_point.ensures.partitioned
+    parted (λ a r q k. search rules) in
     λ image is. added_at xs at image c.partition_point.ensures.bound
-    (λ (k : ℕ) (d : Image) (lt : k < at). (let le = leb-true (get_or xs k d).id id (point.0 k d (omega arith) lt) in omega arith))
-    (λ (k : ℕ) (d : Image) (le : at ≤ k) (lt : k < length xs). (let above = leb-false (get_or xs k d).id id (point.1 k d le lt) in omega arith))
+    (λ (k : ℕ) (d : Image) (lt : k < at). (let le = leb-true (get_or xs k d).id id
+    (point.0 k d (omega arith) lt) in omega arith))
+    (λ (k : ℕ) (d : Image) (le : at ≤ k) (lt : k < length xs).
+    (let above = leb-false (get_or xs k d).id id (point.1 k d le lt) in omega arith))

@@ -11,12 +11,14 @@ loop-place-preserved c =
     elim c.if-not-is_victim.branch [
       | then-not-is_victim w ↦
           let same = w.left-is in
-          let step = ap length (left_next c.args.victims.now (shown_ids c.args.digest.now) c.loop-place.place c.id.result c.id.ensures
+          let step = ap length (left_next c.args.victims.now
+          (shown_ids c.args.digest.now) c.loop-place.place c.id.result c.id.ensures
           (sym c.is_victim.ensures ∙ w.if-not-is_victim.true)) in
           record { left = omega arith; few = omega arith }
       | else-not-is_victim w ↦
           let same = w.left-is in
-          let step = ap length (left_same c.args.victims.now (shown_ids c.args.digest.now) c.loop-place.place c.id.result c.id.ensures
+          let step = ap length (left_same c.args.victims.now
+          (shown_ids c.args.digest.now) c.loop-place.place c.id.result c.id.ensures
           (sym c.is_victim.ensures ∙ w.if-not-is_victim.false)) in
           record { left = omega arith; few = omega arith }
     ]

@@ -5,6 +5,7 @@ use Rattle.log_head.proofs.rolling.count_left.Given as goal
 
 abbrev pub invariant-loop-place : goal.invariant-loop-place
 invariant-loop-place l = record {
-  left : l.left + length (without l.victims (drop l.place (shown_ids l.digest))) ≡ length (without l.victims (shown_ids l.digest));
+  left : l.left + length (without l.victims (drop l.place (shown_ids l.digest)))
+      ≡ length (without l.victims (shown_ids l.digest));
   few : l.left ≤ l.place;
 }

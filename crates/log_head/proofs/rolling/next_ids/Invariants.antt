@@ -5,4 +5,5 @@ use Rattle.log_head.proofs.rolling.next_ids.Given as goal
 
 abbrev pub invariant-loop-place : goal.invariant-loop-place
 invariant-loop-place l =
-    IsPushed l.leaving.victims.now (shown_ids l.digest) l.leaving.survivor l.ids.items l.waits l.place (vec_capacity l.ids)
+    IsPushed l.leaving.victims.now (shown_ids l.digest) l.leaving.survivor l.ids.items l.waits l.place
+    (vec_capacity l.ids)

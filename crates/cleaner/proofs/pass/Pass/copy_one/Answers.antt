@@ -16,7 +16,8 @@ treat-requires-clause-room c =
 treated : (c : In_ok-copied)
     → Treats (ids_in c.args.images.now.images c.args.head c.args.new) c.args.images.now.images c.args.index.now.held
     (place_at (get_or c.args.self.now.victims c.args.self.now.cursor.victim 0) c.args.self.now.cursor.at)
-    c.args.self.now.survivor c.in_ok-copied.copied (seen_len c.in-Some.seen) c.treat.new.images.images c.treat.new.index.held
+    c.args.self.now.survivor c.in_ok-copied.copied (seen_len c.in-Some.seen) c.treat.new.images.images
+    c.treat.new.index.held
 treated c =
     let p = c.args.self.now in
     let images = c.args.images.now.images in
@@ -55,7 +56,8 @@ pub returns-clause-copied : goal.returns-clause-copied
 returns-clause-copied c =
     let images = c.args.images.now.images in
     copies c.args.self.now images c.requires.pass c.requires.more (ids_in images c.args.head c.args.new)
-    c.args.index.now.held c.in_ok-copied.copied (seen_len c.in-Some.seen) c.treat.new.images.images c.treat.new.index.held
+    c.args.index.now.held c.in_ok-copied.copied (seen_len c.in-Some.seen) c.treat.new.images.images
+    c.treat.new.index.held
     (treated (goal.at.returns-clause-copied c).In_ok-copied) c.go_on.new.cursor
     (gone (goal.at.returns-clause-copied c).After-go_on)
 
@@ -63,6 +65,7 @@ pub returns-clause-pass : goal.returns-clause-pass
 returns-clause-pass c =
     let images = c.args.images.now.images in
     stays_pass c.args.self.now images c.requires.pass c.requires.more (ids_in images c.args.head c.args.new)
-    c.args.index.now.held c.in_ok-copied.copied (seen_len c.in-Some.seen) c.treat.new.images.images c.treat.new.index.held
+    c.args.index.now.held c.in_ok-copied.copied (seen_len c.in-Some.seen) c.treat.new.images.images
+    c.treat.new.index.held
     (treated (goal.at.returns-clause-pass c).In_ok-copied) c.go_on.new.cursor
     (gone (goal.at.returns-clause-pass c).After-go_on)

@@ -9,7 +9,8 @@ use Rattle.history_row.proofs.row.Row.set.Goals as goal
 
 pub invariant_of-self : goal.invariant_of-self
 invariant_of-self g c =
-    map-set_same (λ s. s.note.cell) c.self.inside.slots.items c.args.place c.set.new.self c.index_mut-slot.result.now (c.set.ensures.cell ∙ ap (λ s. s.note.cell) c.index_mut-slot.ensures.value) ∙ c.self.invariant
+    map-set_same (λ s. s.note.cell) c.self.inside.slots.items c.args.place c.set.new.self c.index_mut-slot.result.now
+    (c.set.ensures.cell ∙ ap (λ s. s.note.cell) c.index_mut-slot.ensures.value) ∙ c.self.invariant
 
 pub returns : goal.returns
 returns g c =
@@ -18,5 +19,7 @@ returns g c =
     let what : c.in-Ok.kept.value.what ≡ c.args.what.now =
     ap (λ (k : Kept). k.what) c.in-Ok.ensures.ok ∙ c.of.ensures in
     subst (λ l. MatchBool c.set.result (row ≡ slice_set l c.args.place (Some c.args.what.now)) (row ≡ l)) c.self.view_is
-    (subst (λ (w : Record). MatchBool c.set.result (row ≡ slice_set (row_of xs) c.args.place (Some w)) (row ≡ row_of xs)) what
-    (put_slot c.set.result xs c.args.place c.index_mut-slot.result.now c.set.new.self c.in-Ok.kept.value c.index_mut-slot.ensures.value c.set.ensures.known))
+    (subst (λ (w : Record). MatchBool c.set.result (row ≡ slice_set (row_of xs) c.args.place (Some w))
+    (row ≡ row_of xs)) what
+    (put_slot c.set.result xs c.args.place c.index_mut-slot.result.now c.set.new.self c.in-Ok.kept.value
+    c.index_mut-slot.ensures.value c.set.ensures.known))

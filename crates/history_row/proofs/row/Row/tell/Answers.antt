@@ -11,17 +11,30 @@ pub compare-requires : goal.compare-requires
 compare-requires g c =
     let xs = c.self.inside.slots.items in
     let place = c.receipt.inside.place in
-    let here : place < length xs = omega (arith, length-map xs (λ s. known_of s.note.known), ap length c.self.view_is, ap (λ (t : Told). t.place) c.receipt.view_is, c.requires) in
-    some_is (ap (λ n. Some n.cell) c.again.ensures.1 ∙ sym c.receipt.invariant ∙ ap (λ l. slice_get l place) (sym c.self.invariant) ∙ at_name xs place c.index_mut-slot.result.now here c.index_mut-slot.ensures.value)
+    let here : place < length xs = omega (
+      arith,
+      length-map xs (λ s. known_of s.note.known),
+      ap length c.self.view_is,
+      ap (λ (t : Told). t.place) c.receipt.view_is,
+      c.requires,
+    ) in
+    some_is (ap (λ n. Some n.cell) c.again.ensures.1 ∙ sym c.receipt.invariant
+    ∙ ap (λ l. slice_get l place) (sym c.self.invariant)
+    ∙ at_name xs place c.index_mut-slot.result.now here c.index_mut-slot.ensures.value)
 
 pub invariant_of-self : goal.invariant_of-self
 invariant_of-self g c =
-    map-set_same (λ s. s.note.cell) c.self.inside.slots.items c.receipt.inside.place c.compare.new.self c.index_mut-slot.result.now (ap (λ n. n.cell) c.compare.ensures.same ∙ ap (λ s. s.note.cell) c.index_mut-slot.ensures.value) ∙ c.self.invariant
+    map-set_same (λ s. s.note.cell) c.self.inside.slots.items c.receipt.inside.place c.compare.new.self
+    c.index_mut-slot.result.now (ap (λ n. n.cell) c.compare.ensures.same
+    ∙ ap (λ s. s.note.cell) c.index_mut-slot.ensures.value) ∙ c.self.invariant
 
 pub returns-clause-same : goal.returns-clause-same
 returns-clause-same g c = (
-  map-set_same (λ s. known_of s.note.known) c.self.inside.slots.items c.receipt.inside.place c.compare.new.self c.index_mut-slot.result.now (ap (λ n. known_of n.known) c.compare.ensures.same ∙ ap (λ s. known_of s.note.known) c.index_mut-slot.ensures.value) ∙ c.self.view_is,
-  ap (λ n. let t : Told = record { place = c.receipt.inside.place; what = known_of n.known } in t) c.again.ensures.0 ∙ c.receipt.view_is,
+  map-set_same (λ s. known_of s.note.known) c.self.inside.slots.items c.receipt.inside.place c.compare.new.self
+      c.index_mut-slot.result.now (ap (λ n. known_of n.known) c.compare.ensures.same
+      ∙ ap (λ s. known_of s.note.known) c.index_mut-slot.ensures.value) ∙ c.self.view_is,
+  ap (λ n. let t : Told = record { place = c.receipt.inside.place; what = known_of n.known } in t) c.again.ensures.0
+      ∙ c.receipt.view_is,
 )
 
 told_lem : goal.returns-clause-told
@@ -29,10 +42,19 @@ told_lem g c r q mine its =
     let xs = c.self.inside.slots.items in
     let place = c.receipt.inside.place in
     let at : place ≡ c.args.receipt.now.place = ap (λ (t : Told). t.place) c.receipt.view_is in
-    let here : place < length xs = omega (arith, length-map xs (λ s. known_of s.note.known), ap length c.self.view_is, at, c.requires) in
+    let here : place < length xs = omega (
+      arith,
+      length-map xs (λ s. known_of s.note.known),
+      ap length c.self.view_is,
+      at,
+      c.requires,
+    ) in
     let held = at_slot xs place c.index_mut-slot.result.now here c.index_mut-slot.ensures.value in
-    let known : known_of c.index_mut-slot.result.now.note.known ≡ Some q = some_is (sym held ∙ ap (λ l. slice_get l place) c.self.view_is ∙ ap (λ n. slice_get c.args.self.now n) at ∙ its) in
-    let told : known_of c.again.result.known ≡ Some r = ap (λ n. known_of n.known) c.again.ensures.1 ∙ ap (λ (t : Told). t.what) c.receipt.view_is ∙ mine in
+    let known : known_of c.index_mut-slot.result.now.note.known ≡ Some q =
+    some_is (sym held ∙ ap (λ l. slice_get l place) c.self.view_is
+    ∙ ap (λ n. slice_get c.args.self.now n) at ∙ its) in
+    let told : known_of c.again.result.known ≡ Some r = ap (λ n. known_of n.known) c.again.ensures.1
+    ∙ ap (λ (t : Told). t.what) c.receipt.view_is ∙ mine in
     shown_agree c.index_mut-slot.result.now.note.known c.again.result.known r q c.compare.ensures.agree told known
 
 pub returns-clause-told : goal.returns-clause-told

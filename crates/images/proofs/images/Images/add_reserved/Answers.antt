@@ -10,10 +10,12 @@ use Rattle.images.proofs.images.Images.add_reserved.Goals.{After-unwrap}
 use Rattle.images.proofs.images.Images.add_reserved.Goals as goal
 
 items_are : (c : After-unwrap)
-    → c.insert.new.self.items ≡ added (record { id = c.args.id; segment = c.args.segment; is_whole = c.args.is_whole }) c.self.inside.images.items
+    → c.insert.new.self.items ≡ added (record { id = c.args.id; segment = c.args.segment; is_whole = c.args.is_whole })
+    c.self.inside.images.items
 items_are c =
     let image : Image = record { id = c.args.id; segment = c.args.segment; is_whole = c.args.is_whole } in
-    (rw c.unwrap.ensures at c.insert.ensures.items) ∙ ap (λ (xs : List Image). insert xs c.place_for-at.result image) (sym c.as_slice.ensures.value)
+    (rw c.unwrap.ensures at c.insert.ensures.items) ∙ ap (λ (xs : List Image). insert xs c.place_for-at.result image)
+    (sym c.as_slice.ensures.value)
     ∙ c.place_for-at.ensures.place image refl ∙ ap (added image) c.as_slice.ensures.value
 
 pub invariant_of-self : goal.invariant_of-self
@@ -23,7 +25,8 @@ invariant_of-self c =
     let items : c.insert.new.self.items ≡ added image v.images = items_are (goal.at.invariant_of-self c).After-unwrap in
     let other = subst (λ (w : ImagesValue). image_of w.images c.args.id ≡ None) (sym c.self.view_is) c.requires.other in
     let len = rw (← c.self.view_is) at c.requires.within in
-    let free = subst (λ (w : ImagesValue). count_of w.segment w.seglet image ≤ free_seglets w) (sym c.self.view_is) c.requires.free in
+    let free = subst (λ (w : ImagesValue). count_of w.segment w.seglet image ≤ free_seglets w)
+    (sym c.self.view_is) c.requires.free in
     let room : length c.insert.new.self.items ≤ vec_capacity c.insert.new.self = omega arith in
     let parts = added_valid v image (vec_capacity c.insert.new.self) c.self.invariant.1 other len free
     (subst (λ (xs : List Image). length xs ≤ vec_capacity c.insert.new.self) items room) in

@@ -20,14 +20,18 @@ invariant_of-self c =
     let r = c.copy_entry.result in
     let is = c.as_mut_slice.ensures.value in
     let whole = subst (λ (w : ImagesValue). IsWhole w.images c.args.to) (sym c.self.view_is) c.requires.whole in
-    let there = subst (λ (w : ImagesValue). HasData w.images c.args.from c.args.at c.args.len) (sym c.self.view_is) c.requires.data in
+    let there = subst (λ (w : ImagesValue). HasData w.images c.args.from c.args.at c.args.len)
+    (sym c.self.view_is) c.requires.data in
     let some = data_of v.images c.args.from c.args.at c.args.len there in
-    let ok = subst (λ (xs : List Image). OnOk r (IfSome (entry_at xs c.args.from c.args.at) (λ (e : Entry). new ≡ changed xs c.args.to (with_unit (e ∷ [])))))
+    let ok = subst (λ (xs : List Image). OnOk r (IfSome (entry_at xs c.args.from c.args.at)
+    (λ (e : Entry). new ≡ changed xs c.args.to (with_unit (e ∷ [])))))
     is c.copy_entry.ensures.ok in
     let full = subst (λ (xs : List Image). IfSome (entry_at xs c.args.from c.args.at)
-    (λ (e : Entry). IsErrOf r Full ↔ (v.segment < len_at xs c.args.to + length (spelling e)))) is c.copy_entry.ensures.full in
+    (λ (e : Entry). IsErrOf r Full ↔ (v.segment < len_at xs c.args.to + length (spelling e)))) is
+    c.copy_entry.ensures.full in
     let err = subst (λ (xs : List Image). OnErr r (new ≡ xs)) is c.copy_entry.ensures.err in
-    let len : length new ≡ c.self.inside.images.len = omega (arith, c.as_mut_slice.ensures.len, c.copy_entry.ensures.len) in
+    let len : length new ≡ c.self.inside.images.len = omega
+    (arith, c.as_mut_slice.ensures.len, c.copy_entry.ensures.len) in
     let le : length c.self.inside.images.items ≤ length new =
     omega (arith, ap (λ (xs : List Image). length xs) is, c.copy_entry.ensures.len) in
     rw (written_back c.self.inside.images.len c.self.inside.images.items new le len, c.self.invariant.0)

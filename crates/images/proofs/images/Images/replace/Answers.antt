@@ -18,22 +18,26 @@ invariant_of-self-2 c =
     read_count v c.self.invariant.1 c.args.id c.in-Some.at place x c.index_mut-image.ensures.value in
     let count : c.seglets_of-count.result ≡ div_ceil (length (text_of c.args.segment)) v.seglet =
     c.seglets_of-count.ensures ∙ ap (λ (n : ℕ). div_ceil n v.seglet) c.bytes_len.ensures in
-    let fits : used_seglets v - count_of v.segment v.seglet x + div_ceil (length (text_of c.args.segment)) v.seglet ≤ v.seglets =
+    let fits : used_seglets v - count_of v.segment v.seglet x + div_ceil
+    (length (text_of c.args.segment)) v.seglet ≤ v.seglets =
     enough v x (length (text_of c.args.segment)) c.self.inside.used c.count_of.result c.seglets_of-count.result
     c.self.invariant.0 c.count_of.ensures count own c.self.invariant.1.fits c.if-count-self.false in
     rw (c.self.invariant.0, c.count_of.ensures, count)
-    (replaced_valid v c.self.invariant.1 c.args.id c.in-Some.at place x c.index_mut-image.ensures.value c.args.segment len fits)
+    (replaced_valid v c.self.invariant.1 c.args.id c.in-Some.at place x c.index_mut-image.ensures.value
+    c.args.segment len fits)
 
 pub returns-clause-ok : goal.returns-clause-ok
 returns-clause-ok c =
     let place = rw c.as_slice.ensures.value at c.in-Some.ensures.found in
-    let images = changed_is (the_view c.self.inside) c.self.invariant.1 c.args.id c.in-Some.at place c.index_mut-image.result.now c.index_mut-image.ensures.value (replaced_by c.args.segment) in
+    let images = changed_is (the_view c.self.inside) c.self.invariant.1 c.args.id c.in-Some.at place
+    c.index_mut-image.result.now c.index_mut-image.ensures.value (replaced_by c.args.segment) in
     rw (← c.self.view_is) (ap (λ (xs : List Image). record (the_view c.self.inside) { images = xs }) images)
 
 pub returns-then-count-self-clause-no_room : goal.returns-then-count-self-clause-no_room
 returns-then-count-self-clause-no_room c =
     let place = rw c.as_slice.ensures.value at c.in-Some.ensures.found in
-    let count = count_is (the_view c.self.inside) c.self.invariant.1 c.args.id c.in-Some.at place c.index_mut-image.result.now c.index_mut-image.ensures.value in
+    let count = count_is (the_view c.self.inside) c.self.invariant.1 c.args.id c.in-Some.at place
+    c.index_mut-image.result.now c.index_mut-image.ensures.value in
     let v = the_view c.self.inside in
     let x = c.index_mut-image.result.now in
     let own : count_of v.segment v.seglet x ≤ used_seglets v =
@@ -49,12 +53,14 @@ returns-then-count-self-clause-no_room c =
 pub returns-clause-no_room : goal.returns-clause-no_room
 returns-clause-no_room c =
     let place = rw c.as_slice.ensures.value at c.in-Some.ensures.found in
-    let count = count_is (the_view c.self.inside) c.self.invariant.1 c.args.id c.in-Some.at place c.index_mut-image.result.now c.index_mut-image.ensures.value in
+    let count = count_is (the_view c.self.inside) c.self.invariant.1 c.args.id c.in-Some.at place
+    c.index_mut-image.result.now c.index_mut-image.ensures.value in
     let v = the_view c.self.inside in
     let x = c.index_mut-image.result.now in
     let own : count_of v.segment v.seglet x ≤ used_seglets v =
     read_count v c.self.invariant.1 c.args.id c.in-Some.at place x c.index_mut-image.ensures.value in
     let new : c.seglets_of-count.result ≡ div_ceil (length (text_of c.args.segment)) v.seglet =
     c.seglets_of-count.ensures ∙ ap (λ (n : ℕ). div_ceil n v.seglet) c.bytes_len.ensures in
-    rw (← c.self.view_is, count) (not_too_few v x (length (text_of c.args.segment)) c.self.inside.used c.count_of.result c.seglets_of-count.result
+    rw (← c.self.view_is, count) (not_too_few v x (length (text_of c.args.segment)) c.self.inside.used c.count_of.result
+    c.seglets_of-count.result
     c.self.invariant.0 c.count_of.ensures new own c.self.invariant.1.fits c.if-count-self.false)

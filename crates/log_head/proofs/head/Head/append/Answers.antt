@@ -23,8 +23,10 @@ grown c =
     let end = length c.bytes-end.result.now in
     let unit : UnitEnd = record { number = c.args.number; end = length c.bytes-end.result.now } in
     let at : length c.bytes-end.result.now ≡ length (text_of c.append.new.self) = ap length c.bytes-end.ensures.text in
-    let parts : length (text_of c.append.new.self) ≡ length (text_of c.self.inside.image) + length (text_of (map shown c.args.unit.now)) =
-    ap (λ (es : List Entry). length (text_of es)) c.in_ok-append.ensures.ok ∙ text_more c.self.inside.image (map shown c.args.unit.now) in
+    let parts : length (text_of c.append.new.self) ≡ length (text_of c.self.inside.image) + length
+    (text_of (map shown c.args.unit.now)) =
+    ap (λ (es : List Entry). length (text_of es)) c.in_ok-append.ensures.ok
+    ∙ text_more c.self.inside.image (map shown c.args.unit.now) in
     let more : length (text_of c.self.inside.image) ≤ length c.bytes-end.result.now = omega arith in
     let items : c.push_reserved.new.self.items ≡ units ++ unit ∷ [] =
     c.push_reserved.ensures.items ∙ rw c.reserve.ensures.items refl in
@@ -36,7 +38,8 @@ grown c =
       units = rw (items, ← at) ends;
       opened = old.opened;
       few = old.few;
-      taken = rw items (all_more c.self.inside.taken.items (length units) (length (units ++ unit ∷ [])) count old.taken);
+      taken = rw items (all_more c.self.inside.taken.items (length units)
+          (length (units ++ unit ∷ [])) count old.taken);
       roll = old.roll;
     }
 

@@ -6,7 +6,7 @@ use Rattle.log_head.specs.Head.{HeadValue, IsHeadValue}
 use Rattle.log_head.specs.Steps.{settled}
 use Rattle.log_head.proofs.Rolls.{zeros_are}
 use Rattle.log_head.proofs.SettledLog.{settled_valid}
-use Rattle.log_head.proofs.head.Head.settle.Goals as goal
+use Rattle.log_head.proofs.head.Head.begin_history.Goals as goal
 
 module _ (c : goal.After-fill) where
   abbrev h : HeadValue
