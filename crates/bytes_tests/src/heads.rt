@@ -25,7 +25,7 @@ fn is_settled(head: &mut Head, object: &[u8]) -> bool {
     if !append(head, object) || !append(head, object) || !is_at(head, 40, Some(0)) {
         return false;
     }
-    head.settle();
+    head.begin_history();
     is_at(head, 90, None)
 }
 

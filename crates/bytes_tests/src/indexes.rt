@@ -61,7 +61,58 @@ fn is_same(one: Option<Place>, other: Option<Place>) -> bool {
     }
 }
 
-/// Sets the place of a key in both. Now and then places wait for their chain.
+/// The place of a key in the plain index.
+fn get_plain(plain: &PlainIndex, keys: &Keys, key: &KeyRef<'_>) -> Option<Place> {
+    plain.get_hashed(hash_key(key), keys, key)
+}
+
+/// Inserts a place in both. Now and then the table doesn't grow at once.
+fn insert(index: &mut Index, plain: &mut PlainIndex, held: Held) -> bool {
+    if index.reserve(1).is_err() {
+        return false;
+    }
+    if plain.reserve(1).is_err() {
+        return false;
+    }
+    index.insert(held);
+    if held.place.segment % 4 != 0 {
+        index.settle();
+    }
+    plain.insert(held);
+    true
+}
+
+/// Whether both tell alike that they hold the place.
+fn holds(index: &Index, plain: &PlainIndex, held: Held) -> bool {
+    index.holds(held) == plain.holds(held) && (plain.holds(held) || !index.holds_first(held))
+}
+
+/// Asks both for a place and for another one under its hash, and moves the one to the other in both.
+fn relocate(index: &mut Index, plain: &mut PlainIndex, held: Held, place: Place) -> bool {
+    let hash = held.hash;
+    holds(index, plain, held)
+        && holds(index, plain, Held { hash, place })
+        && index.relocate(held, place) == plain.relocate(held, place)
+        && holds(index, plain, held)
+        && holds(index, plain, Held { hash, place })
+}
+
+/// The key gets this place in both, whether or not it had one.
+fn put(
+    index: &mut Index,
+    plain: &mut PlainIndex,
+    keys: &Keys,
+    key: &KeyRef<'_>,
+    place: Place,
+) -> bool {
+    let hash = hash_key(key);
+    match get_plain(plain, keys, key) {
+        Some(there) => relocate(index, plain, Held { hash, place: there }, place),
+        None => insert(index, plain, Held { hash, place }),
+    }
+}
+
+/// The same by the call of the index that takes a key.
 fn set(
     index: &mut Index,
     plain: &mut PlainIndex,
@@ -76,34 +127,22 @@ fn set(
         return false;
     }
     index.set(keys, key, place);
-    if place.segment % 4 != 0 {
-        index.settle();
-    }
-    plain.set(keys, key, place);
-    true
-}
-
-/// Whether both tell alike that they hold the place.
-fn holds(index: &Index, plain: &PlainIndex, held: Held) -> bool {
-    index.holds(held) == plain.holds(held) && (plain.holds(held) || !index.holds_first(held))
-}
-
-/// Asks both for the place of a key and for another one, and moves the key's place in both.
-fn relocate(
-    index: &mut Index,
-    plain: &mut PlainIndex,
-    keys: &Keys,
-    key: &KeyRef<'_>,
-    place: Place,
-) -> bool {
     let hash = hash_key(key);
-    let there = plain.get(keys, key).unwrap_or(place);
-    let held = Held { hash, place: there };
-    holds(index, plain, held)
-        && holds(index, plain, Held { hash, place })
-        && index.relocate(held, place) == plain.relocate(held, place)
-        && holds(index, plain, held)
-        && holds(index, plain, Held { hash, place })
+    match get_plain(plain, keys, key) {
+        Some(there) => plain.relocate(Held { hash, place: there }, place),
+        None => {
+            plain.insert(Held { hash, place });
+            true
+        }
+    }
+}
+
+/// What is held of a key that has a place; else this place under its hash.
+fn held_or(plain: &PlainIndex, keys: &Keys, key: &KeyRef<'_>, place: Place) -> Held {
+    Held {
+        hash: hash_key(key),
+        place: get_plain(plain, keys, key).unwrap_or(place),
+    }
 }
 
 /// One call of both with a key, and whether they answer alike.
@@ -115,14 +154,17 @@ fn answers_alike(
     place: Place,
     roll: u64,
 ) -> bool {
+    let held = held_or(plain, keys, key, place);
     match roll % 10 {
-        0 | 1 | 2 => set(index, plain, keys, key, place),
-        3 => is_same(index.get(keys, key), plain.get(keys, key)),
+        0 | 1 => put(index, plain, keys, key, place),
+        2 => set(index, plain, keys, key, place),
+        3 => is_same(index.get(keys, key), get_plain(plain, keys, key)),
         // No two of these keys have the same hash.
-        4 => is_same(index.candidate(key), plain.get(keys, key)),
-        5 => index.move_to(keys, key, place) == plain.move_to(keys, key, place),
-        6 | 7 => relocate(index, plain, keys, key, place),
-        _ => is_same(index.remove(keys, key), plain.remove(keys, key)),
+        4 => is_same(index.candidate(held.hash), get_plain(plain, keys, key)),
+        5 | 6 => relocate(index, plain, held, place),
+        7 => index.move_to(keys, key, place) == plain.relocate(held, place),
+        8 => index.remove(keys, key).is_some() == plain.take_out(held),
+        _ => index.take_out(held) == plain.take_out(held),
     }
 }
 
@@ -157,32 +199,43 @@ fn first_unlike(alloc: Global, keys: &Keys) -> Option<usize> {
 
 /// A call of an index with one key, and its answer.
 enum Call {
+    Insert(Place),
     Set(Place),
-    Get(Option<Place>),
     MoveTo(Place, bool),
+    Remove(Option<Place>),
+    Get(Option<Place>),
+    Candidate(Option<Place>),
     Holds(Place, bool),
     HoldsFirst(Place, bool),
     Relocate(Place, Place, bool),
     Len(usize),
-    Remove(Option<Place>),
+    TakeOut(Place, bool),
 }
 
 const FIRST: Place = Place { segment: 1, at: 7 };
 
 const SECOND: Place = Place { segment: 2, at: 9 };
 
-const THIRD: Place = Place { segment: 3, at: 5 };
-
 const EACH: &[Call] = &[
-    Call::Set(FIRST),
+    Call::Insert(FIRST),
     Call::Get(Some(FIRST)),
-    Call::MoveTo(SECOND, true),
-    Call::Holds(SECOND, true),
-    Call::HoldsFirst(SECOND, true),
-    Call::Relocate(SECOND, THIRD, true),
-    Call::Holds(SECOND, false),
+    Call::Candidate(Some(FIRST)),
+    Call::Holds(FIRST, true),
+    Call::HoldsFirst(FIRST, true),
+    Call::Relocate(FIRST, SECOND, true),
+    Call::Holds(FIRST, false),
     Call::Len(1),
-    Call::Remove(Some(THIRD)),
+    Call::TakeOut(FIRST, false),
+    Call::TakeOut(SECOND, true),
+    Call::Get(None),
+    Call::Remove(None),
+    Call::MoveTo(FIRST, false),
+    Call::Set(FIRST),
+    Call::Set(SECOND),
+    Call::Len(1),
+    Call::MoveTo(FIRST, true),
+    Call::Get(Some(FIRST)),
+    Call::Remove(Some(FIRST)),
     Call::Get(None),
 ];
 
@@ -194,27 +247,39 @@ fn held(key: &KeyRef<'_>, place: &Place) -> Held {
     }
 }
 
+/// Inserts a place, if memory is left.
+fn is_inserted(index: &mut Index, held: Held) -> bool {
+    if index.reserve(1).is_err() {
+        return false;
+    }
+    index.insert(held);
+    index.settle();
+    true
+}
+
 /// Sets the place of a key, if memory is left.
 fn is_set(index: &mut Index, keys: &Keys, key: &KeyRef<'_>, place: Place) -> bool {
     if index.reserve(1).is_err() {
         return false;
     }
     index.set(keys, key, place);
-    index.settle();
     true
 }
 
 /// Whether the call has its answer.
 fn is_answered(index: &mut Index, keys: &Keys, key: &KeyRef<'_>, call: &Call) -> bool {
     match call {
+        Call::Insert(place) => is_inserted(index, held(key, place)),
         Call::Set(place) => is_set(index, keys, key, *place),
-        Call::Get(place) => is_same(index.get(keys, key), *place),
         Call::MoveTo(place, had) => index.move_to(keys, key, *place) == *had,
+        Call::Remove(place) => is_same(index.remove(keys, key), *place),
+        Call::Get(place) => is_same(index.get(keys, key), *place),
+        Call::Candidate(place) => is_same(index.candidate(hash_key(key)), *place),
         Call::Holds(place, holds) => index.holds(held(key, place)) == *holds,
         Call::HoldsFirst(place, holds) => index.holds_first(held(key, place)) == *holds,
         Call::Relocate(from, to, had) => index.relocate(held(key, from), *to) == *had,
         Call::Len(len) => index.len() == *len,
-        Call::Remove(place) => is_same(index.remove(keys, key), *place),
+        Call::TakeOut(place, had) => index.take_out(held(key, place)) == *had,
     }
 }
 

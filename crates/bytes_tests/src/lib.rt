@@ -1,9 +1,9 @@
 //! The tests of the lower crates: vectors of entries and of segments, images in memory, the index, compaction, a pass,
 //! heads, wills, and the lines of scripts.
 //!
-//! What a test does is data: a table of calls, each with its answer, or of inputs, each with what comes of it. A function
-//! owns one thing at most and lends it to the next, and a test asserts that no row is answered otherwise. So a further case
-//! is a row, and costs nothing to prove.
+//! What a test does is data: a table of calls, each with its answer, or of inputs, each with what comes of it. A
+//! function owns one thing at most and lends it to the next, and a test asserts that no row is answered otherwise. So a
+//! further case is a row, and costs nothing to prove.
 #![tactic(auto)]
 
 #[cfg(test)]

@@ -10,12 +10,21 @@ const GOOD: &[(&str, &str)] = &[
     ("", "Ok(Idle)"),
     ("#", "Ok(Idle)"),
     ("# any\ttext  ", "Ok(Idle)"),
-    ("put 1 a x", "Ok(Put { table: 1, key: [97], value: [120] })"),
-    ("put 0 ! ~", "Ok(Put { table: 0, key: [33], value: [126] })"),
-    ("get 2 put", "Ok(Get { table: 2, key: [112, 117, 116] })"),
+    (
+        "put 1 a x",
+        "Ok(Command(Put { table: 1, key: KeyWord { bytes: [97] }, value: [120] }))",
+    ),
+    (
+        "put 0 ! ~",
+        "Ok(Command(Put { table: 0, key: KeyWord { bytes: [33] }, value: [126] }))",
+    ),
+    (
+        "get 2 put",
+        "Ok(Command(Get { table: 2, key: KeyWord { bytes: [112, 117, 116] } }))",
+    ),
     (
         "get 18446744073709551615 #",
-        "Ok(Get { table: 18446744073709551615, key: [35] })",
+        "Ok(Command(Get { table: 18446744073709551615, key: KeyWord { bytes: [35] } }))",
     ),
     ("hex 10", "Ok(Hex { segment: 10 })"),
     ("room", "Ok(Room)"),

@@ -9,7 +9,7 @@ use crate::compactions::{BEFORE, NEWER, OF_CLOSED, OF_NEW, OTHER, add_spelt, set
 use crate::vectors::{SURVIVOR, are_spelt};
 use cleaner::{Copied, Pass, fit};
 use entry::{Key, Row};
-use hash_index::Index;
+use hash_index::{Index, hash_key};
 use images::Images;
 use std::alloc::Global;
 
@@ -96,7 +96,7 @@ fn runs(alloc: Global, images: &mut Images, index: &mut Index) -> bool {
 /// Whether the index leads to this offset of the survivor for a key of table 1.
 fn is_found(alloc: Global, index: &Index, key: &[u8], at: usize) -> bool {
     match Key::new(alloc, 1, key) {
-        Ok(key) => match index.candidate(&key.view()) {
+        Ok(key) => match index.candidate(hash_key(&key.view())) {
             Some(place) => place.segment == 3 && place.at == at,
             None => false,
         },

@@ -14,8 +14,8 @@ use std::test::Fail;
 
 /// A call of images, and its answer.
 enum Call {
-    /// A head is added, and an object is appended to it so many times, or until it is full: how many times, or `None` if
-    /// the head isn't added.
+    /// A head is added, and an object is appended to it so many times, or until it is full: how many times, or `None`
+    /// if the head isn't added.
     Add(u64, u64, Option<u64>),
     /// A head is added, and the object at an offset of an image is copied to it: its offset there.
     Copy {
@@ -35,8 +35,8 @@ enum Call {
     Are(&'static [u64]),
 }
 
-/// Calls of images of 512 bytes in 40 seglets of 64. A head that takes appends counts 8 of them, and one without an object 1
-/// if it takes none. An object has 25 bytes, and the first lies at offset 40.
+/// Calls of images of 512 bytes in 40 seglets of 64. A head that takes appends counts 8 of them, and one without an
+/// object 1 if it takes none. An object has 25 bytes, and the first lies at offset 40.
 const RUNS: &[&[Call]] = &[
     &[
         Call::Add(1, 20, Some(18)),

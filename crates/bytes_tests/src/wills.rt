@@ -13,7 +13,8 @@ const B: u64 = 0x6200_0000_0000_0000;
 
 const LAST: u64 = u64::MAX;
 
-/// The table, the first and the last place, and the partition of each part of a will; and how many partitions there are.
+/// The table, the first and the last place, and the partition of each part of a will; and how many partitions there
+/// are.
 type Parts = (&'static [(u64, u64, u64, u32)], u32);
 
 /// The table, the first and the last place of each tablet; the table, the place and the bytes of each object; the most

@@ -10,20 +10,24 @@ use Rattle.hash_index.specs.declared.place.Held.{Held}
 use Rattle.hash_index.specs.Map.{tells, found, IsTold, AreApart, AreKept}
 
 module _ (keys again : Place → Option Key) where
-  pub found_again : (hs : List Held) → AllByRecursion (λ (h : Held). again h.place ≡ keys h.place) hs → (q : Key) → found again q hs ≡ found keys q hs
+  pub found_again : (hs : List Held) → AllByRecursion (λ (h : Held). again h.place ≡ keys h.place) hs → (q : Key)
+      → found again q hs ≡ found keys q hs
   found_again [] same q = refl
   found_again (h ∷ hs) same q =
       ap (λ (o : Option Key). if option_map_or (key_eq q) o false then Some h.place else found again q hs) same.0
       ∙ ap (λ (f : Option Place). if tells keys q h.place then Some h.place else f) (found_again hs same.1 q)
 
-  told_again : (hs : List Held) → AllByRecursion (λ (h : Held). again h.place ≡ keys h.place) hs → AllByRecursion (IsTold keys) hs → AllByRecursion (IsTold again) hs
+  told_again : (hs : List Held) → AllByRecursion (λ (h : Held). again h.place ≡ keys h.place) hs
+      → AllByRecursion (IsTold keys) hs → AllByRecursion (IsTold again) hs
   told_again [] same told = tt
   told_again (h ∷ hs) same told = ((told.0.0, same.0 ∙ told.0.1, told.0.2), told_again hs same.1 told.1)
 
-  apart_again : (hs : List Held) → AllByRecursion (λ (h : Held). again h.place ≡ keys h.place) hs → AreApart keys hs → AreApart again hs
+  apart_again : (hs : List Held) → AllByRecursion (λ (h : Held). again h.place ≡ keys h.place) hs → AreApart keys hs
+      → AreApart again hs
   apart_again [] same apart = tt
   apart_again (h ∷ hs) same apart =
       (λ k is. found_again hs same.1 k ∙ apart.0 k (sym same.0 ∙ is), apart_again hs same.1 apart.1)
 
-  pub kept_again : (hs : List Held) → AreKept keys hs → AllByRecursion (λ (h : Held). again h.place ≡ keys h.place) hs → AreKept again hs
+  pub kept_again : (hs : List Held) → AreKept keys hs → AllByRecursion (λ (h : Held). again h.place ≡ keys h.place) hs
+      → AreKept again hs
   kept_again hs all same = record { told = told_again hs same all.told; apart = apart_again hs same all.apart }

@@ -1,5 +1,6 @@
 -- A place that is put among others, or cut out, or put in place of another.
-use Rattle.std.proofs.Common.{◌≡◌, Bool, true, false, List, [], ◌∷◌, ◌++◌, refl, sym, ap, subst, ◌∙◌, ◌⊎◌, inl, inr, if◌then◌else◌}
+use Rattle.std.proofs.Common.{◌≡◌, Bool, true, false, List, [], ◌∷◌, ◌++◌, refl, sym, ap, subst, ◌∙◌, ◌⊎◌, inl, inr}
+use Rattle.std.proofs.Common.{if◌then◌else◌}
 use Rattle.std.specs.Prelude.{Option, Some, None}
 use Rattle.entry.specs.declared.key.Key.{Key}
 use Rattle.entry.specs.Order.{key_eq}
@@ -7,14 +8,17 @@ use Rattle.entry.proofs.KeyOrder.{key_eq_tells}
 use Rattle.hash_index.specs.declared.place.Place.{Place}
 use Rattle.hash_index.specs.declared.place.Held.{Held}
 use Rattle.hash_index.specs.Map.{hash_of, tells, found, IsTold, AreKept, IsSet}
-use Rattle.hash_index.proofs.Finding.{key_itself, tells_is, tells_of, other_key, found_here, found_later, kept_tail, not_first}
+use Rattle.hash_index.proofs.Finding.{key_itself, tells_is, tells_of, other_key, found_here, found_later, kept_tail}
+use Rattle.hash_index.proofs.Finding.{not_first}
 
 module _ (keys : Place → Option Key) where
-  pub kept_cons : (x : Held) (hs : List Held) → IsTold keys x → ((k : Key) → keys x.place ≡ Some k → found keys k hs ≡ None) → AreKept keys hs → AreKept keys (x ∷ hs)
+  pub kept_cons : (x : Held) (hs : List Held) → IsTold keys x
+      → ((k : Key) → keys x.place ≡ Some k → found keys k hs ≡ None) → AreKept keys hs → AreKept keys (x ∷ hs)
   kept_cons x hs told alone all = record { told = (told, all.told); apart = (alone, all.apart) }
 
   -- a change behind a place that isn't the key's
-  pub set_behind : (x : Held) (old new : List Held) (k : Key) (o : Option Place) → AreKept keys (x ∷ old) → tells keys k x.place ≡ false → IsSet keys old k o new → IsSet keys (x ∷ old) k o (x ∷ new)
+  pub set_behind : (x : Held) (old new : List Held) (k : Key) (o : Option Place) → AreKept keys (x ∷ old)
+      → tells keys k x.place ≡ false → IsSet keys old k o new → IsSet keys (x ∷ old) k o (x ∷ new)
   set_behind x old new k o all not_told s = record { kept = kept_cons x new all.told.0 alone s.kept; finds = finds }
     where
       alone : (q : Key) → keys x.place ≡ Some q → found keys q new ≡ None
@@ -26,7 +30,8 @@ module _ (keys : Place → Option Key) where
       finds : (q : Key) → found keys q (x ∷ new) ≡ (if key_eq q k then o else found keys q (x ∷ old))
       finds q = go (tells keys q x.place) refl
         where
-          go : (t : Bool) → tells keys q x.place ≡ t → found keys q (x ∷ new) ≡ (if key_eq q k then o else found keys q (x ∷ old))
+          go : (t : Bool) → tells keys q x.place ≡ t → found keys q (x ∷ new)
+              ≡ (if key_eq q k then o else found keys q (x ∷ old))
           go true so =
               let other = other_key keys q k x.place (tells_is keys q x.place so) not_told in
               found_here keys q x new so
@@ -37,10 +42,12 @@ module _ (keys : Place → Option Key) where
               ∙ s.finds q
               ∙ ap (λ (f : Option Place). if key_eq q k then o else f) (sym (found_later keys q x old isnt))
 
-  cut_here : (h : Held) (after : List Held) (k : Key) → AreKept keys (h ∷ after) → keys h.place ≡ Some k → IsSet keys (h ∷ after) k None after
+  cut_here : (h : Held) (after : List Held) (k : Key) → AreKept keys (h ∷ after) → keys h.place ≡ Some k
+      → IsSet keys (h ∷ after) k None after
   cut_here h after k all is = record { kept = kept_tail keys h after all; finds = λ q. finds q (key_eq_tells q k) }
     where
-      finds : (q : Key) → ((key_eq q k ≡ true) × (q ≡ k)) ⊎ ((key_eq q k ≡ false) × (q ≡ k → ⊥)) → found keys q after ≡ (if key_eq q k then None else found keys q (h ∷ after))
+      finds : (q : Key) → ((key_eq q k ≡ true) × (q ≡ k)) ⊎ ((key_eq q k ≡ false) × (q ≡ k → ⊥))
+          → found keys q after ≡ (if key_eq q k then None else found keys q (h ∷ after))
       finds q (inl so) =
           all.apart.0 q (is ∙ ap (λ (x : Key). Some x) (sym so.1))
           ∙ sym (ap (λ (b : Bool). if b then None else found keys q (h ∷ after)) so.0)
@@ -48,7 +55,8 @@ module _ (keys : Place → Option Key) where
           sym (found_later keys q h after (tells_of keys q k h.place is ∙ isnt.0))
           ∙ sym (ap (λ (b : Bool). if b then None else found keys q (h ∷ after)) isnt.0)
 
-  put_here : (h : Held) (after : List Held) (k : Key) → AreKept keys after → keys h.place ≡ Some k → h.hash ≡ hash_of k → found keys k after ≡ None → IsSet keys after k (Some h.place) (h ∷ after)
+  put_here : (h : Held) (after : List Held) (k : Key) → AreKept keys after → keys h.place ≡ Some k → h.hash ≡ hash_of k
+      → found keys k after ≡ None → IsSet keys after k (Some h.place) (h ∷ after)
   put_here h after k all is hash none = record { kept = kept_cons h after (k, is, hash) alone all; finds = finds }
     where
       alone : (q : Key) → keys h.place ≡ Some q → found keys q after ≡ None
@@ -61,20 +69,24 @@ module _ (keys : Place → Option Key) where
       finds q = ap (λ (b : Bool). if b then Some h.place else found keys q after) (tells_of keys q k h.place is)
 
   -- a place is cut out
-  pub cut : (before after : List Held) (h : Held) (k : Key) → AreKept keys (before ++ h ∷ after) → keys h.place ≡ Some k → IsSet keys (before ++ h ∷ after) k None (before ++ after)
+  pub cut : (before after : List Held) (h : Held) (k : Key) → AreKept keys (before ++ h ∷ after) → keys h.place ≡ Some k
+      → IsSet keys (before ++ h ∷ after) k None (before ++ after)
   cut [] after h k all is = cut_here h after k all is
   cut (x ∷ before) after h k all is =
       set_behind x (before ++ h ∷ after) (before ++ after) k None all (not_first keys k x before after h all is)
       (cut before after h k (kept_tail keys x _ all) is)
 
   -- a place of a key that has none is put among others
-  pub put : (before after : List Held) (h : Held) (k : Key) → AreKept keys (before ++ after) → keys h.place ≡ Some k → h.hash ≡ hash_of k → found keys k (before ++ after) ≡ None → IsSet keys (before ++ after) k (Some h.place) (before ++ h ∷ after)
+  pub put : (before after : List Held) (h : Held) (k : Key) → AreKept keys (before ++ after) → keys h.place ≡ Some k
+      → h.hash ≡ hash_of k → found keys k (before ++ after) ≡ None
+      → IsSet keys (before ++ after) k (Some h.place) (before ++ h ∷ after)
   put [] after h k all is hash none = put_here h after k all is hash none
   put (x ∷ before) after h k all is hash none =
       go (tells keys k x.place) refl (put before after h k (kept_tail keys x _ all) is hash)
     where
       go : (t : Bool) → tells keys k x.place ≡ t
-          → (found keys k (before ++ after) ≡ None → IsSet keys (before ++ after) k (Some h.place) (before ++ h ∷ after))
+          → (found keys k (before ++ after) ≡ None → IsSet keys (before ++ after) k (Some h.place)
+          (before ++ h ∷ after))
           → IsSet keys (x ∷ before ++ after) k (Some h.place) (x ∷ before ++ h ∷ after)
       go true so rest = let some = found_here keys k x (before ++ after) so in absurd (cc)
       go false isnt rest =
@@ -86,7 +98,8 @@ module _ (keys : Place → Option Key) where
   if_again false a b c = refl
 
   -- of two changes of one key the second counts
-  pub set_then : (old mid new : List Held) (k : Key) (a b : Option Place) → IsSet keys old k a mid → IsSet keys mid k b new → IsSet keys old k b new
+  pub set_then : (old mid new : List Held) (k : Key) (a b : Option Place) → IsSet keys old k a mid
+      → IsSet keys mid k b new → IsSet keys old k b new
   set_then old mid new k a b first second = record {
     kept = second.kept;
     finds = λ q.
@@ -100,20 +113,11 @@ module _ (keys : Place → Option Key) where
   cut_none old new k s = s.finds k ∙ ap (λ (b : Bool). if b then None else found keys k old) (key_itself k)
 
   -- a place is put in place of another
-  pub swap : (before after : List Held) (h x : Held) (k : Key) → AreKept keys (before ++ h ∷ after) → keys h.place ≡ Some k → keys x.place ≡ Some k → x.hash ≡ hash_of k → IsSet keys (before ++ h ∷ after) k (Some x.place) (before ++ x ∷ after)
+  pub swap : (before after : List Held) (h x : Held) (k : Key) → AreKept keys (before ++ h ∷ after)
+      → keys h.place ≡ Some k → keys x.place ≡ Some k → x.hash ≡ hash_of k
+      → IsSet keys (before ++ h ∷ after) k (Some x.place) (before ++ x ∷ after)
   swap before after h x k all is at hash =
       let out = cut before after h k all is in
       let none = cut_none (before ++ h ∷ after) (before ++ after) k out in
       set_then (before ++ h ∷ after) (before ++ after) (before ++ x ∷ after) k None (Some x.place) out
       (put before after x k out.kept at hash none)
-
-  if_same : {A : Type 0} (q k : Key) (f : Key → A) (a : A) → f k ≡ a → f q ≡ (if key_eq q k then a else f q)
-  if_same q k f a is = go (key_eq_tells q k)
-    where
-      go : ((key_eq q k ≡ true) × (q ≡ k)) ⊎ ((key_eq q k ≡ false) × (q ≡ k → ⊥)) → f q ≡ (if key_eq q k then a else f q)
-      go (inl so) = ap f so.1 ∙ is ∙ sym (ap (λ (b : Bool). if b then a else f q) so.0)
-      go (inr isnt) = sym (ap (λ (b : Bool). if b then a else f q) isnt.0)
-
-  -- nothing is done to a key that has no place
-  pub unset : (hs : List Held) (k : Key) → AreKept keys hs → found keys k hs ≡ None → IsSet keys hs k None hs
-  unset hs k all none = record { kept = all; finds = λ q. if_same q k (λ (x : Key). found keys x hs) None none }

@@ -16,7 +16,8 @@ each_found keys (h ∷ hs) apart = (λ k is. first k is, later hs (each_found ke
   first : (k : Key) → keys h.place ≡ Some k → found keys k (h ∷ hs) ≡ Some h.place
   first k is = let here = tells_from keys k h.place is in rw here refl
 
-  later : (rest : List Held) → AllByRecursion (λ (x : Held). (k : Key) → keys x.place ≡ Some k → found keys k hs ≡ Some x.place) rest
+  later : (rest : List Held) → AllByRecursion (λ (x : Held). (k : Key) → keys x.place ≡ Some k
+      → found keys k hs ≡ Some x.place) rest
       → AllByRecursion (λ (x : Held). (k : Key) → keys x.place ≡ Some k → found keys k (h ∷ hs) ≡ Some x.place) rest
   later [] all = tt
   later (x ∷ rest) all = (λ k is. step k is (all.0 k is), later rest all.1) where
@@ -27,7 +28,8 @@ each_found keys (h ∷ hs) apart = (λ k is. first k is, later hs (each_found ke
       go false other = rw other there
 
 -- a place that was set is there once the index is settled
-pub set_settled : (keys : Place → Option Key) (old mid new : List Held) (k : Key) (x : Option Place) → IsSet keys old k x mid
+pub set_settled : (keys : Place → Option Key) (old mid new : List Held) (k : Key) (x : Option Place)
+    → IsSet keys old k x mid
     → (AreKept keys mid → IsSameMap keys mid new) → IsSet keys old k x new
 set_settled keys old mid new k x set settled =
     let same = settled set.kept in record { kept = same.kept; finds = λ q. same.finds q ∙ set.finds q }

@@ -1,22 +1,21 @@
 -- Two lists of places as one: what is found, and what a change of the one does.
-use Rattle.std.proofs.Common.{◌≡◌, ℕ, suc, ◌+◌, ◌<◌, Bool, true, false, List, [], ◌∷◌, ◌++◌, length, get_or, take, drop, length-append, append_assoc, refl, sym, ap, subst, ◌∙◌, ◌⊎◌, inl, inr, arith, if◌then◌else◌}
+use Rattle.std.proofs.Common.{◌≡◌, ℕ, suc, ◌+◌, ◌<◌, Bool, true, false, List, [], ◌∷◌, ◌++◌, length, get_or, take, drop}
+use Rattle.std.proofs.Common.{length-append, append_assoc, refl, sym, ap, subst, ◌∙◌, arith, if◌then◌else◌}
 use Rattle.std.specs.Prelude.{Option, Some, None}
 use Rattle.std.specs.List.{remove}
 use Rattle.std.specs.Option.{option_or}
 use Rattle.std.proofs.Math.Seq.{split_at}
 use Rattle.std.proofs.lemmas.List.{take_more}
 use Rattle.entry.specs.declared.key.Key.{Key}
-use Rattle.entry.specs.Order.{key_eq}
-use Rattle.entry.proofs.KeyOrder.{key_eq_tells}
 use Rattle.entry.proofs.ListLemmas.{all_append, all_split}
 use Rattle.hash_index.specs.declared.place.Place.{Place}
 use Rattle.hash_index.specs.declared.place.Held.{Held}
-use Rattle.hash_index.specs.Map.{tells, found, IsTold, AreApart, AreKept, IsSet, IsSameMap}
+use Rattle.hash_index.specs.Map.{tells, found, IsTold, AreApart, AreKept, IsSameMap}
 use Rattle.hash_index.specs.Steps.{IsShuffled}
 use Rattle.hash_index.proofs.Finding.{tells_is, tells_from, found_here, found_later, kept_tail}
-use Rattle.hash_index.proofs.Changing.{set_behind}
 
-or_if : (t : Bool) (p : Place) (a b : Option Place) → (if t then Some p else option_or a b) ≡ option_or (if t then Some p else a) b
+or_if : (t : Bool) (p : Place) (a b : Option Place) → (if t then Some p else option_or a b)
+    ≡ option_or (if t then Some p else a) b
 or_if true p a b = refl
 or_if false p a b = refl
 
@@ -41,7 +40,8 @@ absent_turned None b alone r is = refl
 absent_turned (Some p) b alone r is = let none = alone p refl in absurd (cc)
 
 module _ (keys : Place → Option Key) where
-  pub found_append : (k : Key) (xs ys : List Held) → found keys k (xs ++ ys) ≡ option_or (found keys k xs) (found keys k ys)
+  pub found_append : (k : Key) (xs ys : List Held) → found keys k (xs ++ ys)
+      ≡ option_or (found keys k xs) (found keys k ys)
   found_append k [] ys = refl
   found_append k (h ∷ xs) ys =
       ap (λ (o : Option Place). if tells keys k h.place then Some h.place else o) (found_append k xs ys)
@@ -76,11 +76,14 @@ module _ (keys : Place → Option Key) where
   kept_right (h ∷ xs) ys all = kept_right xs ys (kept_tail keys h (xs ++ ys) all)
 
   -- a key of the first list has no place in the second
-  pub kept_across : (k : Key) (p : Place) (xs ys : List Held) → AreKept keys (xs ++ ys) → found keys k xs ≡ Some p → found keys k ys ≡ None
+  pub kept_across : (k : Key) (p : Place) (xs ys : List Held) → AreKept keys (xs ++ ys) → found keys k xs ≡ Some p
+      → found keys k ys ≡ None
   kept_across k p [] ys all is = absurd (cc)
-  kept_across k p (h ∷ xs) ys all is = go (tells keys k h.place) refl (kept_across k p xs ys (kept_tail keys h (xs ++ ys) all))
+  kept_across k p (h ∷ xs) ys all is = go (tells keys k h.place) refl
+      (kept_across k p xs ys (kept_tail keys h (xs ++ ys) all))
     where
-      go : (t : Bool) → tells keys k h.place ≡ t → (found keys k xs ≡ Some p → found keys k ys ≡ None) → found keys k ys ≡ None
+      go : (t : Bool) → tells keys k h.place ≡ t → (found keys k xs ≡ Some p → found keys k ys ≡ None)
+          → found keys k ys ≡ None
       go true so rest = none_right k xs ys (all.apart.0 k (tells_is keys k h.place so))
       go false isnt rest = rest (sym (found_later keys k h xs isnt) ∙ is)
 
@@ -105,48 +108,16 @@ module _ (keys : Place → Option Key) where
           found_right k xs ys (first.0 k is)
           ∙ across k h.place (found_here keys k h xs (tells_from keys k h.place is))
 
-  pub kept_join : (xs ys : List Held) → AreKept keys xs → AreKept keys ys → ((k : Key) (p : Place) → found keys k xs ≡ Some p → found keys k ys ≡ None) → AreKept keys (xs ++ ys)
+  pub kept_join : (xs ys : List Held) → AreKept keys xs → AreKept keys ys
+      → ((k : Key) (p : Place) → found keys k xs ≡ Some p → found keys k ys ≡ None) → AreKept keys (xs ++ ys)
   unfolding AreAcross
   kept_join xs ys first second across = record {
     told = all_append (IsTold keys) xs ys first.told second.told;
     apart = apart_join xs ys first.apart second.apart across;
   }
 
-  -- a change of the first list
-  pub set_left : (xs new ys : List Held) (k : Key) (o : Option Place) → AreKept keys (xs ++ ys) → found keys k ys ≡ None → IsSet keys xs k o new → IsSet keys (xs ++ ys) k o (new ++ ys)
-  set_left xs new ys k o all none s = record {
-    kept = kept_join new ys s.kept (kept_right xs ys all) (λ q p is. across q p is (key_eq_tells q k));
-    finds = λ q. finds q (key_eq_tells q k);
-  }
-    where
-      across : (q : Key) (p : Place) → found keys q new ≡ Some p → ((key_eq q k ≡ true) × (q ≡ k)) ⊎ ((key_eq q k ≡ false) × (q ≡ k → ⊥)) → found keys q ys ≡ None
-      across q p is (inl so) = ap (λ (x : Key). found keys x ys) so.1 ∙ none
-      across q p is (inr isnt) =
-          kept_across q p xs ys all
-          (sym (s.finds q ∙ ap (λ (b : Bool). if b then o else found keys q xs) isnt.0) ∙ is)
-
-      finds : (q : Key) → ((key_eq q k ≡ true) × (q ≡ k)) ⊎ ((key_eq q k ≡ false) × (q ≡ k → ⊥)) → found keys q (new ++ ys) ≡ (if key_eq q k then o else found keys q (xs ++ ys))
-      finds q (inl so) =
-          found_left q new ys (ap (λ (x : Key). found keys x ys) so.1 ∙ none)
-          ∙ s.finds q
-          ∙ ap (λ (b : Bool). if b then o else found keys q xs) so.0
-          ∙ sym (ap (λ (b : Bool). if b then o else found keys q (xs ++ ys)) so.0)
-      finds q (inr isnt) =
-          found_append q new ys
-          ∙ ap (λ (f : Option Place). option_or f (found keys q ys)) (s.finds q ∙ ap (λ (b : Bool). if b then o else found keys q xs) isnt.0)
-          ∙ sym (found_append q xs ys)
-          ∙ sym (ap (λ (b : Bool). if b then o else found keys q (xs ++ ys)) isnt.0)
-
-  -- a change of the second
-  pub set_right : (xs ys new : List Held) (k : Key) (o : Option Place) → AreKept keys (xs ++ ys) → found keys k xs ≡ None → IsSet keys ys k o new → IsSet keys (xs ++ ys) k o (xs ++ new)
-  set_right [] ys new k o all none s = s
-  set_right (h ∷ xs) ys new k o all none s = go (tells keys k h.place) refl (λ none'. set_right xs ys new k o (kept_tail keys h (xs ++ ys) all) none' s)
-    where
-      go : (t : Bool) → tells keys k h.place ≡ t → (found keys k xs ≡ None → IsSet keys (xs ++ ys) k o (xs ++ new)) → IsSet keys (h ∷ xs ++ ys) k o (h ∷ xs ++ new)
-      go true so rest = let some = found_here keys k h xs so in absurd (cc)
-      go false isnt rest = set_behind keys h (xs ++ ys) (xs ++ new) k o all isnt (rest (sym (found_later keys k h xs isnt) ∙ none))
-
-  same_left : (xs new ys : List Held) → IsSameMap keys xs new → AreKept keys (xs ++ ys) → IsSameMap keys (xs ++ ys) (new ++ ys)
+  same_left : (xs new ys : List Held) → IsSameMap keys xs new → AreKept keys (xs ++ ys)
+      → IsSameMap keys (xs ++ ys) (new ++ ys)
   same_left xs new ys s all = record {
     kept = kept_join new ys s.kept (kept_right xs ys all) (λ q p is. kept_across q p xs ys all (sym (s.finds q) ∙ is));
     finds = λ q.
@@ -155,7 +126,8 @@ module _ (keys : Place → Option Key) where
         ∙ sym (found_append q xs ys);
   }
 
-  same_right : (xs ys new : List Held) → IsSameMap keys ys new → AreKept keys (xs ++ ys) → IsSameMap keys (xs ++ ys) (xs ++ new)
+  same_right : (xs ys new : List Held) → IsSameMap keys ys new → AreKept keys (xs ++ ys)
+      → IsSameMap keys (xs ++ ys) (xs ++ new)
   same_right xs ys new s all = record {
     kept = kept_join xs new (kept_left xs ys all) s.kept (λ q p is. s.finds q ∙ kept_across q p xs ys all is);
     finds = λ q.
@@ -207,16 +179,20 @@ shuffled_turned xs ys = record {
 }
 
 -- one more of a list
-pub shuffled_more : (start all mid new : List Held) (i : ℕ) (d : Held) → i < length all → IsShuffled (start ++ take i all) mid → IsShuffled (mid ++ get_or all i d ∷ []) new → IsShuffled (start ++ take (i + 1) all) new
+pub shuffled_more : (start all mid new : List Held) (i : ℕ) (d : Held) → i < length all
+    → IsShuffled (start ++ take i all) mid → IsShuffled (mid ++ get_or all i d ∷ []) new
+    → IsShuffled (start ++ take (i + 1) all) new
 shuffled_more start all mid new i d below before one =
     let h = get_or all i d in
     let same : start ++ take (i + 1) all ≡ (start ++ take i all) ++ h ∷ [] =
     ap (λ (xs : List Held). start ++ xs) (take_more all i d below) ∙ sym (append_assoc start (take i all) (h ∷ [])) in
     subst (λ (xs : List Held). IsShuffled xs new) (sym same)
-    (shuffled_then ((start ++ take i all) ++ h ∷ []) (mid ++ h ∷ []) new (shuffled_left (start ++ take i all) mid (h ∷ []) before) one)
+    (shuffled_then ((start ++ take i all) ++ h ∷ []) (mid ++ h ∷ []) new
+    (shuffled_left (start ++ take i all) mid (h ∷ []) before) one)
 
 -- a place goes from the one list to the other
-pub shuffled_over : (table new waiting : List Held) (i : ℕ) (d : Held) → i < length waiting → IsShuffled (table ++ get_or waiting i d ∷ []) new → IsShuffled (table ++ waiting) (new ++ remove waiting i)
+pub shuffled_over : (table new waiting : List Held) (i : ℕ) (d : Held) → i < length waiting
+    → IsShuffled (table ++ get_or waiting i d ∷ []) new → IsShuffled (table ++ waiting) (new ++ remove waiting i)
 shuffled_over table new waiting i d below one =
     let h = get_or waiting i d in
     let before = take i waiting in
@@ -224,8 +200,10 @@ shuffled_over table new waiting i d below one =
     let front : IsShuffled (before ++ h ∷ after) (h ∷ before ++ after) =
     subst (λ (xs : List Held). IsShuffled xs (h ∷ before ++ after)) (append_assoc before (h ∷ []) after)
     (shuffled_left (before ++ h ∷ []) (h ∷ before) after (shuffled_turned before (h ∷ []))) in
-    let turned = subst (λ (xs : List Held). IsShuffled xs (h ∷ before ++ after)) (sym (split_at waiting i d below)) front in
-    let moved = subst (λ (xs : List Held). IsShuffled (table ++ waiting) xs) (sym (append_assoc table (h ∷ []) (before ++ after)))
+    let turned = subst (λ (xs : List Held). IsShuffled xs (h ∷ before ++ after))
+    (sym (split_at waiting i d below)) front in
+    let moved = subst (λ (xs : List Held). IsShuffled (table ++ waiting) xs)
+    (sym (append_assoc table (h ∷ []) (before ++ after)))
     (shuffled_right table waiting (h ∷ before ++ after) turned) in
     shuffled_then (table ++ waiting) ((table ++ h ∷ []) ++ (before ++ after)) (new ++ (before ++ after)) moved
     (shuffled_left (table ++ h ∷ []) new (before ++ after) one)

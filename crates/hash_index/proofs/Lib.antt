@@ -2,7 +2,6 @@ pub mod Finding
 pub mod Changing
 pub mod Slots
 pub mod Again
-pub mod Steps
 pub mod Joining
 pub mod Chains
 pub mod Whole
@@ -10,3 +9,5 @@ pub mod Each
 pub mod Relocating
 pub mod Parts
 pub mod Fronts
+pub mod TakingOut
+pub mod FoundPlaces

@@ -1,64 +1,21 @@
 -- A chain: its first place and the others as one list.
-use Rattle.std.proofs.Common.{◌≡◌, Bool, true, false, List, [], ◌∷◌, ◌++◌, length-append, append_assoc, refl, sym, ap, subst, ◌∙◌, arith}
-use Rattle.std.specs.Prelude.{Option, Some, None, Result, Ok, Err, OnOk}
-use Rattle.entry.specs.declared.key.Key.{Key}
+use Rattle.std.proofs.Common.{◌≡◌, true, false, List, [], ◌∷◌, ◌++◌, append_assoc, sym, ap, subst, ◌∙◌}
+use Rattle.std.specs.Prelude.{Result, Ok, Err, OnOk}
 use Rattle.entry.proofs.ListLemmas.{all_append, all_split}
 use Rattle.hash_index.specs.declared.place.Place.{Place}
 use Rattle.hash_index.specs.declared.place.Held.{Held}
 use Rattle.hash_index.specs.Relocation.{holds, relocated}
-use Rattle.hash_index.specs.Steps.{BringsNoHash, Moves, Removes, IsShuffled}
-use Rattle.hash_index.proofs.Joining.{kept_right, shuffled_itself, shuffled_then, shuffled_left, shuffled_right, shuffled_turned}
+use Rattle.hash_index.specs.Steps.{BringsNoHash, IsShuffled}
+use Rattle.hash_index.proofs.Joining.{shuffled_itself, shuffled_then, shuffled_left, shuffled_right, shuffled_turned}
 use Rattle.hash_index.proofs.Relocating.{relocated_first, relocated_right, relocated_none}
-use Rattle.hash_index.proofs.Whole.{table_had, table_set, table_removed, table_gone, waiting_set, other_had, other_gone, other_removed}
-
-pub brings_both : (xs new ys others : List Held) → BringsNoHash xs new → BringsNoHash ys others → BringsNoHash (xs ++ ys) (new ++ others)
-brings_both xs new ys others first second p all =
-    let P = λ (y : Held). p y.hash ≡ true in
-    let parts = all_split P xs ys all in
-    all_append P new others (first p parts.0) (second p parts.1)
-
-module _ (keys : Place → Option Key) (k : Key) (xs ys : List Held) where
-  pub moved_first : (p : Place) (new : List Held) → Moves keys k p xs true new → Moves keys k p (xs ++ ys) true (new ++ ys)
-  moved_first p new m = record {
-    told = λ all. table_had keys k xs ys p new m all;
-    done = λ _ all is. table_set keys k xs ys p new m all is;
-    same = λ is. absurd (cc);
-    hashes = brings_both xs new ys ys m.hashes (λ p all. all);
-    len = omega (arith, length-append xs ys, length-append new ys, m.len);
-  }
-
-  pub moved_other : (p : Place) (new others : List Held) (moved : Bool) → Moves keys k p xs false new → Moves keys k p ys moved others → Moves keys k p (xs ++ ys) moved (new ++ others)
-  moved_other p new others moved m m' = record {
-    told = λ all. other_had keys k xs ys p new m moved others m' all;
-    done = λ so all is. waiting_set keys k xs ys p new m (Some p) others all (m'.done so (kept_right keys xs ys all) is);
-    same = λ isnt. ap (λ (zs : List Held). zs ++ others) (m.same refl) ∙ ap (λ (zs : List Held). xs ++ zs) (m'.same isnt);
-    hashes = brings_both xs new ys others m.hashes m'.hashes;
-    len = omega (arith, length-append xs ys, length-append new others, m.len, m'.len);
-  }
-
-  pub removed_first : (p : Place) (new : List Held) → Removes keys k xs (Some p) new → Removes keys k (xs ++ ys) (Some p) (new ++ ys)
-  removed_first p new r = record {
-    told = λ all. table_gone keys k xs ys p new r all;
-    done = λ all. table_removed keys k xs ys p new r all;
-    same = λ is. absurd (cc);
-    hashes = brings_both xs new ys ys r.hashes (λ p all. all);
-    len = omega (arith, length-append xs ys, length-append new ys, r.len);
-  }
-
-  pub removed_other : (new others : List Held) (o : Option Place) → Removes keys k xs None new → Removes keys k ys o others → Removes keys k (xs ++ ys) o (new ++ others)
-  removed_other new others o r s = record {
-    told = λ all. other_gone keys k xs ys new r o others s all;
-    done = λ all. other_removed keys k xs ys new r o others s all;
-    same = λ is. ap (λ (zs : List Held). zs ++ others) (r.same refl) ∙ ap (λ (zs : List Held). xs ++ zs) (s.same is);
-    hashes = brings_both xs new ys others r.hashes s.hashes;
-    len = omega (arith, length-append xs ys, length-append new others, r.len, s.len);
-  }
 
 module _ (h : Held) (to : Place) (xs ys : List Held) where
-  pub relocated_in_first : (new : List Held) → holds xs h ≡ true → new ≡ relocated h to xs → new ++ ys ≡ relocated h to (xs ++ ys)
+  pub relocated_in_first : (new : List Held) → holds xs h ≡ true → new ≡ relocated h to xs
+      → new ++ ys ≡ relocated h to (xs ++ ys)
   relocated_in_first new is moved = ap (λ (zs : List Held). zs ++ ys) moved ∙ sym (relocated_first h to xs ys is)
 
-  pub relocated_in_other : (new others : List Held) → holds xs h ≡ false → new ≡ relocated h to xs → others ≡ relocated h to ys → new ++ others ≡ relocated h to (xs ++ ys)
+  pub relocated_in_other : (new others : List Held) → holds xs h ≡ false → new ≡ relocated h to xs
+      → others ≡ relocated h to ys → new ++ others ≡ relocated h to (xs ++ ys)
   relocated_in_other new others isnt first second =
       ap (λ (zs : List Held). zs ++ others) (first ∙ relocated_none h to xs isnt)
       ∙ ap (λ (zs : List Held). xs ++ zs) second
@@ -70,7 +27,8 @@ module _ (h : Held) (xs new : List Held) where
   -- a place behind those in front
   module _ (filled : new ≡ xs ++ h ∷ []) where
     pub filled_itself : IsShuffled (xs ++ h ∷ []) new
-    filled_itself = subst (λ (zs : List Held). IsShuffled (xs ++ h ∷ []) zs) (sym filled) (shuffled_itself (xs ++ h ∷ []))
+    filled_itself = subst (λ (zs : List Held). IsShuffled (xs ++ h ∷ []) zs) (sym filled)
+        (shuffled_itself (xs ++ h ∷ []))
 
     pub filled_same : BringsNoHash (xs ++ h ∷ []) new
     filled_same = subst (λ (zs : List Held). BringsNoHash (xs ++ h ∷ []) zs) (sym filled) (λ p all. all)
@@ -81,7 +39,8 @@ module _ (h : Held) (xs ys new : List Held) where
   filled_shuffled filled =
       let turned = shuffled_right xs (ys ++ h ∷ []) (h ∷ ys) (shuffled_turned ys (h ∷ [])) in
       let start = subst (λ (zs : List Held). IsShuffled zs (xs ++ h ∷ ys)) (sym (append_assoc xs ys (h ∷ []))) turned in
-      let whole = subst (λ (zs : List Held). IsShuffled zs (new ++ ys)) (append_assoc xs (h ∷ []) ys) (shuffled_left (xs ++ h ∷ []) new ys filled) in
+      let whole = subst (λ (zs : List Held). IsShuffled zs (new ++ ys)) (append_assoc xs (h ∷ []) ys)
+      (shuffled_left (xs ++ h ∷ []) new ys filled) in
       shuffled_then ((xs ++ ys) ++ h ∷ []) (xs ++ h ∷ ys) (new ++ ys) start whole
 
   pub filled_brings : BringsNoHash (xs ++ h ∷ []) new → BringsNoHash ((xs ++ ys) ++ h ∷ []) (new ++ ys)
@@ -92,27 +51,32 @@ module _ (h : Held) (xs ys new : List Held) where
       all_append P new ys (filled p (all_append P xs (h ∷ []) old.0 parts.1)) old.1
 
   -- one of the others
-  pushed_is : (others : List Held) → new ≡ xs → others ≡ ys ++ h ∷ [] → (xs ++ ys) ++ h ∷ [] ≡ new ++ others
+  pub pushed_is : (others : List Held) → new ≡ xs → others ≡ ys ++ h ∷ [] → (xs ++ ys) ++ h ∷ [] ≡ new ++ others
   pushed_is others same pushed =
       append_assoc xs ys (h ∷ [])
       ∙ ap (λ (zs : List Held). zs ++ (ys ++ h ∷ [])) (sym same)
       ∙ ap (λ (zs : List Held). new ++ zs) (sym pushed)
 
-  pub pushed_shuffled : {E : Type 0} (others : List Held) (r : Result (Unit {0}) E) → new ≡ xs → OnOk r (others ≡ ys ++ h ∷ []) → OnOk r (IsShuffled ((xs ++ ys) ++ h ∷ []) (new ++ others))
+  pub pushed_shuffled : {E : Type 0} (others : List Held) (r : Result (Unit {0}) E) → new ≡ xs
+      → OnOk r (others ≡ ys ++ h ∷ []) → OnOk r (IsShuffled ((xs ++ ys) ++ h ∷ []) (new ++ others))
   pushed_shuffled others (Ok u) same pushed =
-      subst (λ (zs : List Held). IsShuffled ((xs ++ ys) ++ h ∷ []) zs) (pushed_is others same pushed) (shuffled_itself ((xs ++ ys) ++ h ∷ []))
+      subst (λ (zs : List Held). IsShuffled ((xs ++ ys) ++ h ∷ []) zs) (pushed_is others same pushed)
+      (shuffled_itself ((xs ++ ys) ++ h ∷ []))
   pushed_shuffled others (Err e) same pushed = pushed
 
-  pub pushed_brings : {E : Type 0} (others : List Held) (r : Result (Unit {0}) E) → new ≡ xs → OnOk r (others ≡ ys ++ h ∷ []) → OnOk r (BringsNoHash ((xs ++ ys) ++ h ∷ []) (new ++ others))
+  pub pushed_brings : {E : Type 0} (others : List Held) (r : Result (Unit {0}) E) → new ≡ xs
+      → OnOk r (others ≡ ys ++ h ∷ []) → OnOk r (BringsNoHash ((xs ++ ys) ++ h ∷ []) (new ++ others))
   pushed_brings others (Ok u) same pushed =
       subst (λ (zs : List Held). BringsNoHash ((xs ++ ys) ++ h ∷ []) zs) (pushed_is others same pushed) (λ p all. all)
   pushed_brings others (Err e) same pushed = pushed
 
 -- ---- all places of a chain, one part after the other
 
-pub shuffled_parts : {E : Type 0} (start mid new xs ys all : List Held) (r : Result (Unit {0}) E) → xs ++ ys ≡ all → IsShuffled (start ++ xs) mid → OnOk r (IsShuffled (mid ++ ys) new) → OnOk r (IsShuffled (start ++ all) new)
+pub shuffled_parts : {E : Type 0} (start mid new xs ys all : List Held) (r : Result (Unit {0}) E) → xs ++ ys ≡ all
+    → IsShuffled (start ++ xs) mid → OnOk r (IsShuffled (mid ++ ys) new) → OnOk r (IsShuffled (start ++ all) new)
 shuffled_parts start mid new xs ys all (Ok u) whole first second =
-    let same : (start ++ xs) ++ ys ≡ start ++ all = append_assoc start xs ys ∙ ap (λ (zs : List Held). start ++ zs) whole in
+    let same : (start ++ xs) ++ ys ≡ start ++ all = append_assoc start xs ys
+    ∙ ap (λ (zs : List Held). start ++ zs) whole in
     subst (λ (zs : List Held). IsShuffled zs new) same
     (shuffled_then ((start ++ xs) ++ ys) (mid ++ ys) new (shuffled_left (start ++ xs) mid ys first) second)
 shuffled_parts start mid new xs ys all (Err e) whole first second = second

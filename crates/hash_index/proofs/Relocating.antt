@@ -1,5 +1,7 @@
 -- A place that moves: in a list, in two lists as one, and in the chains of a table.
-use Rattle.std.proofs.Common.{◌≡◌, ℕ, zero, suc, ◌+◌, ◌<◌, ◌≤◌, Bool, true, false, ◌&&◌, ◌||◌, ◌==◌, not, cond, List, [], ◌∷◌, ◌++◌, length, get_or, set, take, drop, refl, sym, ap, subst, ◌∙◌, arith, if◌then◌else◌}
+use Rattle.std.proofs.Common.{◌≡◌, ℕ, zero, suc, ◌+◌, ◌<◌, ◌≤◌, Bool, true, false, ◌&&◌, ◌||◌, ◌==◌, not, cond, List}
+use Rattle.std.proofs.Common.{[], ◌∷◌, ◌++◌, length, get_or, set, take, drop, refl, sym, ap, subst, ◌∙◌, arith}
+use Rattle.std.proofs.Common.{if◌then◌else◌}
 use Rattle.std.specs.Prelude.{Option, Some, None, is_some, nat_lt}
 use Rattle.std.specs.List.{list_any, position, position_or_len}
 use Rattle.std.proofs.lemmas.List.Folds.{list_any-append, list_any_at}
@@ -21,7 +23,7 @@ or_false : (a : Bool) → (a || false) ≡ a
 or_false true = refl
 or_false false = refl
 
-position_is : {X : Type 0} (p : X → Bool) (xs : List X) (i : ℕ) → position p xs ≡ Some i → position_or_len p xs ≡ i
+pub position_is : {X : Type 0} (p : X → Bool) (xs : List X) (i : ℕ) → position p xs ≡ Some i → position_or_len p xs ≡ i
 position_is p xs i some = go (nat_lt (position_or_len p xs) (length xs)) refl
   where
     go : (t : Bool) → nat_lt (position_or_len p xs) (length xs) ≡ t → position_or_len p xs ≡ i
@@ -58,16 +60,19 @@ module _ (h : Held) (to : Place) where
   relocated_none [] isnt = refl
   relocated_none (g ∷ gs) isnt = go (is_same h g) refl (relocated_none gs)
     where
-      go : (t : Bool) → is_same h g ≡ t → (holds gs h ≡ false → relocated h to gs ≡ gs) → relocated h to (g ∷ gs) ≡ g ∷ gs
+      go : (t : Bool) → is_same h g ≡ t → (holds gs h ≡ false → relocated h to gs ≡ gs)
+          → relocated h to (g ∷ gs) ≡ g ∷ gs
       go true so rest = let some = held_here g gs so in absurd (cc)
-      go false other rest = later g gs other ∙ ap (λ (xs : List Held). g ∷ xs) (rest (sym (held_later g gs other) ∙ isnt))
+      go false other rest = later g gs other ∙ ap (λ (xs : List Held). g ∷ xs)
+          (rest (sym (held_later g gs other) ∙ isnt))
 
   -- where the first list doesn't hold it
   pub relocated_right : (xs ys : List Held) → holds xs h ≡ false → relocated h to (xs ++ ys) ≡ xs ++ relocated h to ys
   relocated_right [] ys isnt = refl
   relocated_right (g ∷ gs) ys isnt = go (is_same h g) refl (relocated_right gs ys)
     where
-      go : (t : Bool) → is_same h g ≡ t → (holds gs h ≡ false → relocated h to (gs ++ ys) ≡ gs ++ relocated h to ys) → relocated h to (g ∷ gs ++ ys) ≡ g ∷ gs ++ relocated h to ys
+      go : (t : Bool) → is_same h g ≡ t → (holds gs h ≡ false → relocated h to (gs ++ ys) ≡ gs ++ relocated h to ys)
+          → relocated h to (g ∷ gs ++ ys) ≡ g ∷ gs ++ relocated h to ys
       go true so rest = let some = held_here g gs so in absurd (cc)
       go false other rest =
           later g (gs ++ ys) other
@@ -78,7 +83,8 @@ module _ (h : Held) (to : Place) where
   relocated_first [] ys is = absurd (cc)
   relocated_first (g ∷ gs) ys is = go (is_same h g) refl (relocated_first gs ys)
     where
-      go : (t : Bool) → is_same h g ≡ t → (holds gs h ≡ true → relocated h to (gs ++ ys) ≡ relocated h to gs ++ ys) → relocated h to (g ∷ gs ++ ys) ≡ relocated h to (g ∷ gs) ++ ys
+      go : (t : Bool) → is_same h g ≡ t → (holds gs h ≡ true → relocated h to (gs ++ ys) ≡ relocated h to gs ++ ys)
+          → relocated h to (g ∷ gs ++ ys) ≡ relocated h to (g ∷ gs) ++ ys
       go true so rest =
           here g (gs ++ ys) so
           ∙ ap (λ (zs : List Held). zs ++ ys) (sym (here g gs so))
@@ -103,7 +109,8 @@ module _ (h : Held) (to : Place) where
   relocated_brings [] p all = tt
   relocated_brings (g ∷ gs) p all = go (is_same h g) refl (relocated_brings gs p)
     where
-      go : (t : Bool) → is_same h g ≡ t → (HashesPass p gs → HashesPass p (relocated h to gs)) → HashesPass p (relocated h to (g ∷ gs))
+      go : (t : Bool) → is_same h g ≡ t → (HashesPass p gs → HashesPass p (relocated h to gs))
+          → HashesPass p (relocated h to (g ∷ gs))
       go true so rest = subst (λ (xs : List Held). HashesPass p xs) (sym (here g gs so)) (all.0, all.1)
       go false other rest = subst (λ (xs : List Held). HashesPass p xs) (sym (later g gs other)) (all.0, rest all.1)
 
@@ -111,7 +118,8 @@ module _ (h : Held) (to : Place) where
   relocated_len [] = refl
   relocated_len (g ∷ gs) = go (is_same h g) refl (relocated_len gs)
     where
-      go : (t : Bool) → is_same h g ≡ t → length (relocated h to gs) ≡ length gs → length (relocated h to (g ∷ gs)) ≡ length (g ∷ gs)
+      go : (t : Bool) → is_same h g ≡ t → length (relocated h to gs) ≡ length gs
+          → length (relocated h to (g ∷ gs)) ≡ length (g ∷ gs)
       go true so rest = ap (λ (xs : List Held). length xs) (here g gs so)
       go false other rest = ap (λ (xs : List Held). length xs) (later g gs other) ∙ ap (λ (n : ℕ). suc n) rest
 
@@ -142,7 +150,8 @@ module _ (h : Held) (to : Place) where
 
   pub slot_relocated : (hs : List Held) (i : ℕ) (d : Held) → position (is_same h) hs ≡ Some i
       → set hs i (record { hash = (get_or hs i d).hash; place = to }) ≡ relocated h to hs
-  slot_relocated hs i d some = slot_moves hs i d (position_is (is_same h) hs i some) (position-Some (is_same h) hs i d some).0
+  slot_relocated hs i d some = slot_moves hs i d (position_is (is_same h) hs i some)
+      (position-Some (is_same h) hs i d some).0
 
   pub slot_relocates : (hs : List Held) (i : ℕ) (x : Held) → position (is_same h) hs ≡ Some i → x ≡ get_or hs i x
       → set hs i (record { hash = x.hash; place = to }) ≡ relocated h to hs
@@ -177,7 +186,8 @@ module _ (h : Held) where
       where
         go : (b : Bool) → is_same h g ≡ b → holds gs h ≡ false → holds (g ∷ gs) h ≡ false
         go true so rest =
-            let same : g.hash ≡ h.hash = (Decides-eqb g.hash h.hash).0 (both_first (g.hash == h.hash) (is_same_place h.place g.place) so) in
+            let same : g.hash ≡ h.hash = (Decides-eqb g.hash h.hash).0
+            (both_first (g.hash == h.hash) (is_same_place h.place g.place) so) in
             let chain : chain_of n g.hash ≡ j = (Decides-eqb (chain_of n g.hash) j).0 own.0 in
             absurd (other (sym chain ∙ ap (λ (x : ℕ). chain_of n x) same ∙ sym at))
         go false isnt rest = ap (λ (b : Bool). b || holds gs h) isnt ∙ rest
@@ -188,14 +198,16 @@ module _ (h : Held) where
         lacks_both c.held (places_in cs) (other_lacks c.held j all.0 (λ same. omega arith))
         (above_lacks cs (suc j) all.1 (omega arith))
 
-    before_lacks : (cs : List IndexValue) (j i : ℕ) → AreInChains n j cs → j + i ≡ t → holds (places_in (take i cs)) h ≡ false
+    pub before_lacks : (cs : List IndexValue) (j i : ℕ) → AreInChains n j cs → j + i ≡ t
+        → holds (places_in (take i cs)) h ≡ false
     before_lacks cs j zero all sum = refl
     before_lacks [] j (suc i) all sum = refl
     before_lacks (c ∷ cs) j (suc i) all sum =
         lacks_both c.held (places_in (take i cs)) (other_lacks c.held j all.0 (λ same. omega arith))
         (before_lacks cs (suc j) i all.1 (omega arith))
 
-    after_lacks : (cs : List IndexValue) (j i : ℕ) → AreInChains n j cs → j + i ≡ t → holds (places_in (drop (suc i) cs)) h ≡ false
+    pub after_lacks : (cs : List IndexValue) (j i : ℕ) → AreInChains n j cs → j + i ≡ t
+        → holds (places_in (drop (suc i) cs)) h ≡ false
     after_lacks [] j i all sum = refl
     after_lacks (c ∷ cs) j zero all sum = above_lacks cs (suc j) all.1 (omega arith)
     after_lacks (c ∷ cs) j (suc i) all sum = after_lacks cs (suc j) i all.1 (omega arith)
@@ -215,13 +227,15 @@ module _ (h : Held) where
           ∙ or_false (holds x h)
 
       -- it moves in its chain
-      pub relocated_chain : (to : Place) (c : IndexValue) → c.held ≡ relocated h to (get_or cs t d).held → places_in (set cs t c) ≡ relocated h to (places_in cs)
+      pub relocated_chain : (to : Place) (c : IndexValue) → c.held ≡ relocated h to (get_or cs t d).held
+          → places_in (set cs t c) ≡ relocated h to (places_in cs)
       relocated_chain to c moved =
           let before = places_in (take t cs) in
           let after = places_in (drop (suc t) cs) in
           let x = (get_or cs t d).held in
           places_set cs t c below
           ∙ ap (λ (xs : List Held). before ++ (xs ++ after)) moved
-          ∙ ap (λ (xs : List Held). before ++ xs) (sym (relocated_left h to x after (after_lacks cs 0 t own (omega arith))))
+          ∙ ap (λ (xs : List Held). before ++ xs) (sym (relocated_left h to x after
+          (after_lacks cs 0 t own (omega arith))))
           ∙ sym (relocated_right h to before (x ++ after) (before_lacks cs 0 t own (omega arith)))
           ∙ ap (λ (xs : List Held). relocated h to xs) (sym (places_split cs t d below))

@@ -1,17 +1,16 @@
 -- What the slot of a key, as a walk finds it, says of the places.
-use Rattle.std.proofs.Common.{◌≡◌, ℕ, suc, ◌+◌, ◌<◌, ◌≤◌, Bool, true, false, ◌&&◌, ◌==◌, not, cond, List, [], ◌∷◌, ◌++◌, length, get_or, take, drop, ltb-false, refl, sym, ap, subst, ◌∙◌, arith}
-use Rattle.std.specs.Prelude.{Option, Some, None, slice_set, nat_lt}
-use Rattle.std.specs.List.{AllByRecursion, position, position_or_len, remove}
+use Rattle.std.proofs.Common.{◌≡◌, ℕ, suc, ◌+◌, ◌<◌, ◌≤◌, Bool, true, false, ◌&&◌, ◌==◌, not, cond, List, [], ◌∷◌, ◌++◌}
+use Rattle.std.proofs.Common.{length, get_or, take, drop, ltb-false, refl, sym, ap, subst, ◌∙◌, arith}
+use Rattle.std.specs.Prelude.{Option, Some, None, nat_lt}
+use Rattle.std.specs.List.{AllByRecursion, position, position_or_len}
 use Rattle.std.proofs.Math.Seq.{split_at}
-use Rattle.std.proofs.lemmas.List.{set_split, append-nil}
 use Rattle.std.proofs.lemmas.List.Quantifiers.{position-Some}
 use Rattle.std.proofs.lemmas.Bool.Decides.{Decides-eqb}
 use Rattle.entry.specs.declared.key.Key.{Key}
 use Rattle.hash_index.specs.declared.place.Place.{Place}
 use Rattle.hash_index.specs.declared.place.Held.{Held}
-use Rattle.hash_index.specs.Map.{hash_of, tells, has_hash, is_of, found, IsTold, AreKept, IsCandidate, IsSet}
+use Rattle.hash_index.specs.Map.{hash_of, tells, has_hash, is_of, found, IsTold, AreKept, IsCandidate}
 use Rattle.hash_index.proofs.Finding.{tells_is, found_later, found_at}
-use Rattle.hash_index.proofs.Changing.{cut, put, swap}
 
 and_second : (a b : Bool) → (a && b) ≡ true → b ≡ true
 and_second true b e = e
@@ -20,13 +19,15 @@ and_second false b e = absurd (cc)
 and_true : (a b : Bool) → a ≡ true → (a && b) ≡ b
 and_true a b so = ap (λ (t : Bool). t && b) so
 
-pub past_tail : {X : Type 0} (p : X → Bool) (x : X) (xs : List X) → p x ≡ false → length (x ∷ xs) ≤ position_or_len p (x ∷ xs) → length xs ≤ position_or_len p xs
+pub past_tail : {X : Type 0} (p : X → Bool) (x : X) (xs : List X) → p x ≡ false
+    → length (x ∷ xs) ≤ position_or_len p (x ∷ xs) → length xs ≤ position_or_len p xs
 past_tail p x xs isnt past =
     let more : position_or_len p (x ∷ xs) ≡ 1 + position_or_len p xs =
     ap (λ (b : Bool). cond (not b) (1 + position_or_len p xs) 0) isnt in
     omega arith
 
-pub not_met : {X : Type 0} (p : X → Bool) (x : X) (xs : List X) → length (x ∷ xs) ≤ position_or_len p (x ∷ xs) → p x ≡ false
+pub not_met : {X : Type 0} (p : X → Bool) (x : X) (xs : List X)
+    → length (x ∷ xs) ≤ position_or_len p (x ∷ xs) → p x ≡ false
 not_met p x xs past = go (p x) refl
   where
     go : (t : Bool) → p x ≡ t → p x ≡ false
@@ -47,7 +48,8 @@ past_none p xs none = go (nat_lt (position_or_len p xs) (length xs)) refl
     go false isnt = ltb-false (position_or_len p xs) (length xs) isnt
 
 -- what a walk by the hash over a copy of the list finds
-pub first_along : (hash : ℕ) (xs hs : List Held) (o : Option ℕ) → o ≡ position (has_hash hash) xs → xs ≡ hs → position (has_hash hash) hs ≡ o
+pub first_along : (hash : ℕ) (xs hs : List Held) (o : Option ℕ) → o ≡ position (has_hash hash) xs → xs ≡ hs
+    → position (has_hash hash) hs ≡ o
 first_along hash xs hs o found same = ap (λ (l : List Held). position (has_hash hash) l) (sym same) ∙ sym found
 
 module _ (keys : Place → Option Key) (k : Key) (hash : ℕ) where
@@ -60,15 +62,18 @@ module _ (keys : Place → Option Key) (k : Key) (hash : ℕ) where
           let both : Some told.0 ≡ Some k = sym told.1 ∙ tells_is keys k h.place so in
           let same : told.0 ≡ k = cc in
           let hashes : h.hash ≡ hash = told.2 ∙ ap (λ (x : Key). hash_of x) same ∙ sym of in
-          let is : is_of keys k hash h ≡ tells keys k h.place = and_true (h.hash == hash) (tells keys k h.place) ((Decides-eqb h.hash hash).1 hashes) in
+          let is : is_of keys k hash h ≡ tells keys k h.place =
+          and_true (h.hash == hash) (tells keys k h.place) ((Decides-eqb h.hash hash).1 hashes) in
           absurd (cc)
       go false not = not
 
   -- what a walk over a copy of the list finds
-  pub along : (xs hs : List Held) (o : Option ℕ) → o ≡ position (is_of keys k hash) xs → xs ≡ hs → position (is_of keys k hash) hs ≡ o
+  pub along : (xs hs : List Held) (o : Option ℕ) → o ≡ position (is_of keys k hash) xs → xs ≡ hs
+      → position (is_of keys k hash) hs ≡ o
   along xs hs o found same = ap (λ (l : List Held). position (is_of keys k hash) l) (sym same) ∙ sym found
 
-  none_past : (hs : List Held) → hash ≡ hash_of k → AllByRecursion (IsTold keys) hs → length hs ≤ position_or_len (is_of keys k hash) hs → found keys k hs ≡ None
+  none_past : (hs : List Held) → hash ≡ hash_of k → AllByRecursion (IsTold keys) hs
+      → length hs ≤ position_or_len (is_of keys k hash) hs → found keys k hs ≡ None
   none_past [] of told past = refl
   none_past (h ∷ hs) of told past =
       let isnt = not_met (is_of keys k hash) h hs past in
@@ -76,56 +81,37 @@ module _ (keys : Place → Option Key) (k : Key) (hash : ℕ) where
       ∙ none_past hs of told.1 (past_tail (is_of keys k hash) h hs isnt past)
 
   -- where the walk finds no slot the key has no place
-  pub slot_none : (hs : List Held) → hash ≡ hash_of k → AllByRecursion (IsTold keys) hs → position (is_of keys k hash) hs ≡ None → found keys k hs ≡ None
+  pub slot_none : (hs : List Held) → hash ≡ hash_of k → AllByRecursion (IsTold keys) hs
+      → position (is_of keys k hash) hs ≡ None → found keys k hs ≡ None
   slot_none hs of told none = none_past hs of told (past_none (is_of keys k hash) hs none)
 
   pub slot_below : (hs : List Held) (i : ℕ) (d : Held) → position (is_of keys k hash) hs ≡ Some i → i < length hs
   slot_below hs i d some = (position-Some (is_of keys k hash) hs i d some).0
 
   -- at the slot that the walk finds the key stands
-  pub slot_some : (hs : List Held) (i : ℕ) (d : Held) → position (is_of keys k hash) hs ≡ Some i → keys (get_or hs i d).place ≡ Some k
+  pub slot_some : (hs : List Held) (i : ℕ) (d : Held) → position (is_of keys k hash) hs ≡ Some i
+      → keys (get_or hs i d).place ≡ Some k
   slot_some hs i d some =
       let h = get_or hs i d in
-      tells_is keys k h.place (and_second (h.hash == hash) (tells keys k h.place) (position-Some (is_of keys k hash) hs i d some).1)
+      tells_is keys k h.place (and_second (h.hash == hash) (tells keys k h.place)
+      (position-Some (is_of keys k hash) hs i d some).1)
 
-  pub slot_split : (hs : List Held) (i : ℕ) (d : Held) → position (is_of keys k hash) hs ≡ Some i → hs ≡ take i hs ++ get_or hs i d ∷ drop (suc i) hs
+  pub slot_split : (hs : List Held) (i : ℕ) (d : Held) → position (is_of keys k hash) hs ≡ Some i
+      → hs ≡ take i hs ++ get_or hs i d ∷ drop (suc i) hs
   slot_split hs i d some = split_at hs i d (slot_below hs i d some)
 
-  pub found_slot : (hs : List Held) (i : ℕ) (d : Held) → position (is_of keys k hash) hs ≡ Some i → AreKept keys hs → found keys k hs ≡ Some (get_or hs i d).place
+  pub found_slot : (hs : List Held) (i : ℕ) (d : Held) → position (is_of keys k hash) hs ≡ Some i → AreKept keys hs
+      → found keys k hs ≡ Some (get_or hs i d).place
   found_slot hs i d some all =
       let parts = slot_split hs i d some in
       ap (λ (xs : List Held). found keys k xs) parts
       ∙ found_at keys k (take i hs) (drop (suc i) hs) (get_or hs i d)
       (subst (λ (xs : List Held). AreKept keys xs) parts all) (slot_some hs i d some)
 
-  pub set_slot : (hs : List Held) (i : ℕ) (p : Place) → position (is_of keys k hash) hs ≡ Some i → hash ≡ hash_of k → AreKept keys hs → keys p ≡ Some k → IsSet keys hs k (Some p) (slice_set hs i (record { hash = hash; place = p }))
-  set_slot hs i p some of all is =
-      let x : Held = record { hash = hash; place = p } in
-      let parts = slot_split hs i x some in
-      let done = swap keys (take i hs) (drop (suc i) hs) (get_or hs i x) x k
-      (subst (λ (xs : List Held). AreKept keys xs) parts all) (slot_some hs i x some) is of in
-      let old = subst (λ (xs : List Held). IsSet keys xs k (Some p) (take i hs ++ x ∷ drop (suc i) hs)) (sym parts) done in
-      subst (λ (xs : List Held). IsSet keys hs k (Some p) xs) (sym (set_split hs i x (slot_below hs i x some))) old
-
-  pub remove_slot : (hs : List Held) (i : ℕ) (d : Held) → position (is_of keys k hash) hs ≡ Some i → AreKept keys hs → IsSet keys hs k None (remove hs i)
-  remove_slot hs i d some all =
-      let parts = slot_split hs i d some in
-      let done = cut keys (take i hs) (drop (suc i) hs) (get_or hs i d) k
-      (subst (λ (xs : List Held). AreKept keys xs) parts all) (slot_some hs i d some) in
-      subst (λ (xs : List Held). IsSet keys xs k None (remove hs i)) (sym parts) done
-
-  -- a place of a key that had none is pushed
-  pub push_set : (hs : List Held) (p : Place) → found keys k hs ≡ None → hash ≡ hash_of k → AreKept keys hs → keys p ≡ Some k → IsSet keys hs k (Some p) (hs ++ record { hash = hash; place = p } ∷ [])
-  push_set hs p none of all is =
-      let x : Held = record { hash = hash; place = p } in
-      let same = append-nil hs in
-      let done = put keys hs [] x k (subst (λ (xs : List Held). AreKept keys xs) (sym same) all) is of
-      (ap (λ (xs : List Held). found keys k xs) same ∙ none) in
-      subst (λ (xs : List Held). IsSet keys xs k (Some p) (hs ++ x ∷ [])) same done
-
   -- ---- the first place with the hash
 
-  past_first : (hs : List Held) → hash ≡ hash_of k → AllByRecursion (IsTold keys) hs → length hs ≤ position_or_len (has_hash hash) hs → found keys k hs ≡ None
+  past_first : (hs : List Held) → hash ≡ hash_of k → AllByRecursion (IsTold keys) hs
+      → length hs ≤ position_or_len (has_hash hash) hs → found keys k hs ≡ None
   past_first [] of told past = refl
   past_first (h ∷ hs) of told past =
       let isnt = not_met (has_hash hash) h hs past in
@@ -133,11 +119,13 @@ module _ (keys : Place → Option Key) (k : Key) (hash : ℕ) where
       ∙ past_first hs of told.1 (past_tail (has_hash hash) h hs isnt past)
 
   -- where no place has the hash the key has none
-  pub first_none : (hs : List Held) → hash ≡ hash_of k → AllByRecursion (IsTold keys) hs → position (has_hash hash) hs ≡ None → found keys k hs ≡ None
+  pub first_none : (hs : List Held) → hash ≡ hash_of k → AllByRecursion (IsTold keys) hs
+      → position (has_hash hash) hs ≡ None → found keys k hs ≡ None
   first_none hs of told none = past_first hs of told (past_none (has_hash hash) hs none)
 
   -- a key that stands at the first is found there
-  pub first_some : (hs : List Held) (i : ℕ) (d : Held) → position (has_hash hash) hs ≡ Some i → AreKept keys hs → keys (get_or hs i d).place ≡ Some k → found keys k hs ≡ Some (get_or hs i d).place
+  pub first_some : (hs : List Held) (i : ℕ) (d : Held) → position (has_hash hash) hs ≡ Some i → AreKept keys hs
+      → keys (get_or hs i d).place ≡ Some k → found keys k hs ≡ Some (get_or hs i d).place
   first_some hs i d some all is =
       let parts = split_at hs i d (position-Some (has_hash hash) hs i d some).0 in
       ap (λ (xs : List Held). found keys k xs) parts
@@ -145,6 +133,7 @@ module _ (keys : Place → Option Key) (k : Key) (hash : ℕ) where
       (subst (λ (xs : List Held). AreKept keys xs) parts all) is
 
   -- another list in which the key is found as in this one has the same candidate
-  pub candidate_same : (xs ys : List Held) (o : Option Place) → found keys k ys ≡ found keys k xs → IsCandidate keys k xs o → IsCandidate keys k ys o
+  pub candidate_same : (xs ys : List Held) (o : Option Place) → found keys k ys ≡ found keys k xs
+      → IsCandidate keys k xs o → IsCandidate keys k ys o
   candidate_same xs ys None same is = same ∙ is
   candidate_same xs ys (Some p) same is = λ there. same ∙ is there

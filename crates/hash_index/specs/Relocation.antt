@@ -1,4 +1,4 @@
--- What becomes of a place that moves.
+-- What becomes of a place that moves, or that is taken out.
 use Rattle.std.specs.Prelude.{List, [], ◌∷◌, Bool, ◌==◌, ◌&&◌, if◌then◌else◌}
 use Rattle.std.specs.List.{list_any}
 use Rattle.hash_index.specs.declared.place.Place.{Place}
@@ -20,3 +20,8 @@ holds hs h = list_any (is_same h) hs
 abbrev pub relocated : Held → Place → List Held → List Held
 relocated h to [] = []
 relocated h to (g ∷ gs) = if is_same h g then record g { place = to } ∷ gs else g ∷ relocated h to gs
+
+-- the places without the first that is this one
+abbrev pub without : Held → List Held → List Held
+without h [] = []
+without h (g ∷ gs) = if is_same h g then gs else g ∷ without h gs

@@ -1,11 +1,11 @@
 -- What one step does to a list of places, and the chains of a table.
-use Rattle.std.specs.Prelude.{◌≡◌, ℕ, suc, ◌+◌, ◌-◌, List, [], ◌∷◌, length, Bool, true, false, ◌==◌, bit_and}
-use Rattle.std.specs.Prelude.{Option, Some, None, is_some, if◌then◌else◌}
+use Rattle.std.specs.Prelude.{◌≡◌, ℕ, suc, ◌-◌, List, [], ◌∷◌, length, Bool, true, ◌==◌, bit_and}
+use Rattle.std.specs.Prelude.{Option}
 use Rattle.std.specs.List.{AllByRecursion, flat_map}
 use Rattle.entry.specs.declared.key.Key.{Key}
 use Rattle.hash_index.specs.declared.place.Place.{Place}
 use Rattle.hash_index.specs.declared.place.Held.{Held}
-use Rattle.hash_index.specs.Map.{found, AreKept, IsSet, IsSameMap, IndexValue}
+use Rattle.hash_index.specs.Map.{AreKept, IsSameMap, IndexValue}
 
 -- each of the hashes passes
 abbrev pub HashesPass : (ℕ → Bool) → List Held → Type 0
@@ -14,24 +14,6 @@ HashesPass p hs = AllByRecursion (λ (h : Held). p h.hash ≡ true) hs
 -- no hash comes in that wasn't there
 abbrev pub BringsNoHash : List Held → List Held → Type 0
 BringsNoHash old new = (p : ℕ → Bool) → HashesPass p old → HashesPass p new
-
--- The place of the key becomes this one, if it has one, which the answer says.
-pub record Moves (keys : Place → Option Key) (k : Key) (p : Place) (old : List Held) (moved : Bool) (new : List Held)
-    : Type 0 where
-  pub told : AreKept keys old → moved ≡ is_some (found keys k old)
-  pub done : moved ≡ true → AreKept keys old → keys p ≡ Some k → IsSet keys old k (Some p) new
-  pub same : moved ≡ false → new ≡ old
-  pub hashes : BringsNoHash old new
-  pub len : length new ≡ length old
-
--- The key has no place any more. The answer is the place that it had.
-pub record Removes (keys : Place → Option Key) (k : Key) (old : List Held) (had : Option Place) (new : List Held)
-    : Type 0 where
-  pub told : AreKept keys old → had ≡ found keys k old
-  pub done : AreKept keys old → IsSet keys old k None new
-  pub same : had ≡ None → new ≡ old
-  pub hashes : BringsNoHash old new
-  pub len : length new + (if is_some had then 1 else 0) ≡ length old
 
 -- the same places in another order
 pub record IsShuffled (old new : List Held) : Type 0 where

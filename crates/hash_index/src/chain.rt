@@ -5,8 +5,8 @@ ghost use Rattle.entry.specs.declared.key.Key.{Key};
 ghost use Rattle.entry.specs.View.{shown_key};
 ghost use Rattle.hash_index.specs.declared.place.Place.{Place as PlaceValue};
 ghost use Rattle.hash_index.specs.Map.{found, hash_of, AreKept, IsCandidate};
-ghost use Rattle.hash_index.specs.Relocation.{holds, relocated};
-ghost use Rattle.hash_index.specs.Steps.{Moves, Removes, BringsNoHash, IsShuffled};
+ghost use Rattle.hash_index.specs.Relocation.{holds, relocated, without};
+ghost use Rattle.hash_index.specs.Steps.{BringsNoHash, IsShuffled};
 
 use crate::front::Front;
 use crate::place::{Held, Place};
@@ -16,8 +16,8 @@ use entry::{KeyRef, NoMemory};
 use std::alloc::Global;
 use std::marker::Model;
 
-/// The places of some hashes: the first few lie in the table itself, and the others in memory of their own. If one of the
-/// first is taken out, the next place that is pushed takes its room.
+/// The places of some hashes: the first few lie in the table itself, and the others in memory of their own. If one of
+/// the first is taken out, the next place that is pushed takes its room.
 #[derive(Drop)]
 pub(crate) struct Chain {
     front: Front,
@@ -54,12 +54,7 @@ impl Chain {
 
     /// The place of a key of this hash.
     #[inline]
-    pub(crate) fn get_hashed<R: Resolve>(
-        &self,
-        hash: u64,
-        resolver: &R,
-        key: &KeyRef<'_>,
-    ) -> Option<Place>
+    pub(crate) fn get<R: Resolve>(&self, hash: u64, resolver: &R, key: &KeyRef<'_>) -> Option<Place>
         requires { hash ≡ hash_of (shown_key key.now) }
         ensures { AreKept (R.keys resolver.now) self.now.held
             → result ≡ found (R.keys resolver.now) (shown_key key.now) self.now.held }
@@ -79,39 +74,6 @@ impl Chain {
         match self.front.candidate(hash) {
             Some(place) => Some(place),
             None => self.more.candidate(hash),
-        }
-    }
-
-    /// The place of a key of this hash that has one becomes this one. Whether it has one.
-    pub(crate) fn move_hashed<R: Resolve>(
-        &mut self,
-        hash: u64,
-        resolver: &R,
-        key: &KeyRef<'_>,
-        place: Place,
-    ) -> bool
-        requires { hash ≡ hash_of (shown_key key.now) }
-        ensures { Moves (R.keys resolver.now) (shown_key key.now) place self.old.held result self.new.held }
-    {
-        if self.front.move_to(hash, resolver, key, place) {
-            return true;
-        }
-        self.more.move_hashed(hash, resolver, key, place)
-    }
-
-    /// The key of this hash has no place any more. The place that it had.
-    pub(crate) fn remove_hashed<R: Resolve>(
-        &mut self,
-        hash: u64,
-        resolver: &R,
-        key: &KeyRef<'_>,
-    ) -> Option<Place>
-        requires { hash ≡ hash_of (shown_key key.now) }
-        ensures { Removes (R.keys resolver.now) (shown_key key.now) self.old.held result self.new.held }
-    {
-        match self.front.remove(hash, resolver, key) {
-            Some(place) => Some(place),
-            None => self.more.remove_hashed(hash, resolver, key),
         }
     }
 
@@ -144,6 +106,14 @@ impl Chain {
         ensures moved { self.new.held ≡ relocated held to self.old.held }
     {
         self.front.relocate(held, to) || self.more.relocate(held, to)
+    }
+
+    /// A place that it holds under this hash is taken out. Whether it was there.
+    pub(crate) fn take_out(&mut self, held: Held) -> bool
+        ensures had { result ≡ holds self.old.held held }
+        ensures taken { self.new.held ≡ without held self.old.held }
+    {
+        self.front.take_out(held) || self.more.take_out(held)
     }
 
     /// One more place: in the table if the chain has room there, or else in memory for just as many.

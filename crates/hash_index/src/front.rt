@@ -5,8 +5,7 @@ ghost use Rattle.entry.specs.declared.key.Key.{Key};
 ghost use Rattle.entry.specs.View.{shown_key};
 ghost use Rattle.hash_index.specs.declared.place.Place.{Place as PlaceValue};
 ghost use Rattle.hash_index.specs.Map.{found, hash_of, AreKept, IsCandidate};
-ghost use Rattle.hash_index.specs.Relocation.{holds, relocated};
-ghost use Rattle.hash_index.specs.Steps.{Moves, Removes};
+ghost use Rattle.hash_index.specs.Relocation.{holds, relocated, without};
 
 use crate::place::{Held, Place};
 use crate::resolve::Resolve;
@@ -72,42 +71,6 @@ impl Front {
         Some(self.held[slot].place)
     }
 
-    /// The place of a key of this hash that has one becomes this one. Whether it has one.
-    #[inline]
-    pub(crate) fn move_to<R: Resolve>(
-        &mut self,
-        hash: u64,
-        resolver: &R,
-        key: &KeyRef<'_>,
-        place: Place,
-    ) -> bool
-        requires { hash ≡ hash_of (shown_key key.now) }
-        ensures { Moves (R.keys resolver.now) (shown_key key.now) place self.old result self.new }
-    {
-        match slot_of(&self.held, hash, resolver, key) {
-            Some(slot) => {
-                self.held[slot] = Held { hash, place };
-                true
-            }
-            None => false,
-        }
-    }
-
-    /// The key of this hash has no place any more. The place that it had.
-    #[inline]
-    pub(crate) fn remove<R: Resolve>(
-        &mut self,
-        hash: u64,
-        resolver: &R,
-        key: &KeyRef<'_>,
-    ) -> Option<Place>
-        requires { hash ≡ hash_of (shown_key key.now) }
-        ensures { Removes (R.keys resolver.now) (shown_key key.now) self.old result self.new }
-    {
-        let slot = slot_of(&self.held, hash, resolver, key)?;
-        Some(self.held.remove(slot).place)
-    }
-
     /// Whether it holds this place under this hash.
     #[inline]
     pub(crate) fn holds(&self, held: Held) -> bool
@@ -146,6 +109,21 @@ impl Front {
         match slot_at(&self.held, held) {
             Some(slot) => {
                 self.held[slot].place = to;
+                true
+            }
+            None => false,
+        }
+    }
+
+    /// A place that it holds under this hash is taken out. Whether it was there.
+    #[inline]
+    pub(crate) fn take_out(&mut self, held: Held) -> bool
+        ensures had { result ≡ holds self.old held }
+        ensures taken { self.new ≡ without held self.old }
+    {
+        match slot_at(&self.held, held) {
+            Some(slot) => {
+                self.held.remove(slot);
                 true
             }
             None => false,

@@ -1,13 +1,12 @@
 //! The index.
 
-ghost use Rattle.std.specs.Prelude.{◌≡◌, ◌+◌, ◌<◌, ◌≤◌, [], ℕ, Option, Some, None, is_some, true, length, OnOk, OnErr, if◌then◌else◌};
+ghost use Rattle.std.specs.Prelude.{◌≡◌, ◌+◌, ◌<◌, ◌≤◌, [], Option, Some, None, true, false, length, OnOk, OnErr};
 ghost use Rattle.entry.specs.declared.key.Key.{Key};
 ghost use Rattle.entry.specs.View.{shown_key};
 ghost use Rattle.hash_index.specs.declared.place.Place.{Place as PlaceValue};
-ghost use Rattle.hash_index.specs.Map.{found, AreKept, IsSet, IsSameMap, IsCandidate};
+ghost use Rattle.hash_index.specs.Map.{found, hash_of, AreKept, IsSet, IsSameMap, IsCandidate};
 ghost use Rattle.hash_index.specs.Relocation.{holds, relocated};
 
-use crate::hashing::hash_key;
 use crate::place::{Held, Place};
 use crate::plain::PlainIndex;
 use crate::resolve::Resolve;
@@ -19,12 +18,30 @@ use std::marker::Model;
 /// How many keys there may be for each chain before the table grows.
 const KEYS_PER_CHAIN: usize = 3;
 
-/// A map from keys to places that holds no keys.
+/// A map from keys to places of a log. It holds no keys: whoever owns the log tells which key stands at a place (`Resolve`).
+///
+/// `get`, `set`, `remove` and `move_to` are the map's calls by key. Each hashes its key, and reads the keys at the places that are
+/// held under the same hash, mostly one. Whoever has looked a key up knows its hash and its place: `insert`, `relocate` and
+/// `take_out` take these two, hash nothing and read no key.
+///
+/// - What holds: of each key that stands at a place that is held, the map has that place (*found*). This needs a resolver that tells a
+///   key at each place held, and each key once (*AreKept*).
+/// - Refusals: `reserve` is refused if memory runs out. After `reserve(k)` the next k new keys can't fail; no other call can.
+/// - Cost: a look-up walks one chain of three places on average. A place takes 24 bytes, hash and all; `settle` makes twice as many
+///   chains now and then, and moves each place once.
+///
+/// ```text
+/// index.reserve(1)?;
+/// index.set(&images, &key, Place { segment: 3, at: 32 });     // `images` tells that this key stands there
+/// assert!(index.get(&images, &key) == Some(Place { segment: 3, at: 32 }));
+/// let hash = hash_key(&key);
+/// index.relocate(Held { hash, place: Place { segment: 3, at: 32 } }, Place { segment: 5, at: 18 });
+/// ```
 #[derive(Drop)]
 pub struct Index {
     alloc: Global,
     table: Table,
-    /// The places that were set since the last `reserve`, and those whose chain got no memory.
+    /// The places whose chain got no memory.
     waiting: PlainIndex,
     len: usize,
     room: usize,
@@ -63,27 +80,26 @@ impl Index {
         self.len
     }
 
-    /// The place of a key.
+    /// The place of a key of this hash.
     #[inline]
-    pub fn get<R: Resolve>(&self, resolver: &R, key: &KeyRef<'_>) -> Option<Place>
+    pub fn get_hashed<R: Resolve>(&self, hash: u64, resolver: &R, key: &KeyRef<'_>) -> Option<Place>
+        requires { hash ≡ hash_of (shown_key key.now) }
         ensures { AreKept (R.keys resolver.now) self.now.held
             → result ≡ found (R.keys resolver.now) (shown_key key.now) self.now.held }
     {
-        let hash = hash_key(key);
         match self.table.get(hash, resolver, key) {
             Some(place) => Some(place),
             None => self.waiting.get_hashed(hash, resolver, key),
         }
     }
 
-    /// The one place that a key may have, without a look at a key: the first held with its hash. It is the key's
-    /// if the key stands there. If another key does, only `get` can tell.
+    /// The one place that a key of this hash may have, without a look at a key: the first held with the hash. It is the
+    /// key's if the key stands there. If another key does, only `get` can tell.
     #[inline]
-    pub fn candidate(&self, key: &KeyRef<'_>) -> Option<Place>
-        ensures { (keys : PlaceValue → Option Key) → AreKept keys self.now.held
-            → IsCandidate keys (shown_key key.now) self.now.held result }
+    pub fn candidate(&self, hash: u64) -> Option<Place>
+        ensures { (keys : PlaceValue → Option Key) (k : Key) → hash ≡ hash_of k → AreKept keys self.now.held
+            → IsCandidate keys k self.now.held result }
     {
-        let hash = hash_key(key);
         match self.table.candidate(hash) {
             Some(place) => Some(place),
             None => self.waiting.candidate(hash),
@@ -106,8 +122,24 @@ impl Index {
         Ok(())
     }
 
-    /// Puts the places that were set since the last call into their chains, and makes more chains before they are
-    /// crowded. The map stays. It never fails: places for which no memory is given wait on in a list.
+    /// A key that has no place gets this one, under its hash. It never fails: if the place's chain gets no memory, the
+    /// place waits in a list. No key is read.
+    pub fn insert(&mut self, held: Held)
+        requires room { 0 < self.old.room }
+        ensures set { (keys : PlaceValue → Option Key) (k : Key) → AreKept keys self.old.held
+            → found keys k self.old.held ≡ None → keys held.place ≡ Some k → held.hash ≡ hash_of k
+            → IsSet keys self.old.held k (Some held.place) self.new.held }
+        ensures room { self.old.room ≤ self.new.room + 1 }
+    {
+        self.len += 1;
+        self.room -= 1;
+        if self.table.push(held).is_err() {
+            self.waiting.insert(held);
+        }
+    }
+
+    /// Makes more chains before they are crowded, and puts the places that wait into theirs. The map stays. It never
+    /// fails: places for which no memory is given wait on in a list.
     pub fn settle(&mut self)
         ensures same { (keys : PlaceValue → Option Key) → AreKept keys self.old.held
             → IsSameMap keys self.old.held self.new.held }
@@ -124,60 +156,6 @@ impl Index {
             }
         }
         self.table.take_in(&mut self.waiting);
-    }
-
-    /// The key's place becomes this one, whether or not the key had one. It takes no memory.
-    pub fn set<R: Resolve>(&mut self, resolver: &R, key: &KeyRef<'_>, place: Place)
-        requires room { 0 < self.old.room }
-        ensures set { let keys = R.keys resolver.now in let k = shown_key key.now in
-            AreKept keys self.old.held → keys place ≡ Some k
-            → IsSet keys self.old.held k (Some place) self.new.held }
-        ensures room { self.old.room ≤ self.new.room + 1 }
-    {
-        let hash = hash_key(key);
-        if self.table.move_to(hash, resolver, key, place) {
-            return;
-        }
-        if self.waiting.move_hashed(hash, resolver, key, place) {
-            return;
-        }
-        self.waiting.push(Held { hash, place });
-        self.len += 1;
-        self.room -= 1;
-    }
-
-    /// The key has no place any more. The place that it had.
-    pub fn remove<R: Resolve>(&mut self, resolver: &R, key: &KeyRef<'_>) -> Option<Place>
-        ensures had { AreKept (R.keys resolver.now) self.old.held
-            → result ≡ found (R.keys resolver.now) (shown_key key.now) self.old.held }
-        ensures removed { AreKept (R.keys resolver.now) self.old.held
-            → IsSet (R.keys resolver.now) self.old.held (shown_key key.now) None self.new.held }
-        ensures room { self.old.room ≤ self.new.room }
-    {
-        let hash = hash_key(key);
-        if let Some(place) = self.table.remove(hash, resolver, key) {
-            self.len -= 1;
-            return Some(place);
-        }
-        let place = self.waiting.remove_hashed(hash, resolver, key)?;
-        self.len -= 1;
-        Some(place)
-    }
-
-    /// The place of a key that has one becomes this one. Whether it has one.
-    pub fn move_to<R: Resolve>(&mut self, resolver: &R, key: &KeyRef<'_>, place: Place) -> bool
-        ensures had { let keys = R.keys resolver.now in AreKept keys self.old.held
-            → result ≡ is_some (found keys (shown_key key.now) self.old.held) }
-        ensures moved { let keys = R.keys resolver.now in let k = shown_key key.now in let old = self.old.held in
-            AreKept keys old → keys place ≡ Some k
-            → IsSet keys old k (if is_some (found keys k old) then Some place else None) self.new.held }
-        ensures room { self.new.room ≡ self.old.room }
-    {
-        let hash = hash_key(key);
-        if self.table.move_to(hash, resolver, key, place) {
-            return true;
-        }
-        self.waiting.move_hashed(hash, resolver, key, place)
     }
 
     /// Whether it holds this place under this hash. No key is read.
@@ -197,8 +175,8 @@ impl Index {
         self.table.holds_first(held)
     }
 
-    /// Prefetches the first place of the hash's chain. The result is meaningless; it only keeps the compiler from removing
-    /// the load. Several prefetches in a row overlap.
+    /// Prefetches the first place of the hash's chain. The result is meaningless; it only keeps the compiler from
+    /// removing the load. Several prefetches in a row overlap.
     #[inline(always)]
     pub fn touch(&self, hash: u64) -> u64 {
         self.table.touch(hash)
@@ -212,5 +190,26 @@ impl Index {
         ensures room { self.new.room ≡ self.old.room }
     {
         self.table.relocate(held, to) || self.waiting.relocate(held, to)
+    }
+
+    /// The key that is found at this place, and has this hash, has no place any more. Whether the place was there. No
+    /// key is read.
+    pub fn take_out(&mut self, held: Held) -> bool
+        ensures had { result ≡ holds self.old.held held }
+        ensures taken { (keys : PlaceValue → Option Key) (k : Key) → AreKept keys self.old.held
+            → found keys k self.old.held ≡ Some held.place → held.hash ≡ hash_of k
+            → IsSet keys self.old.held k None self.new.held }
+        ensures same { result ≡ false → self.new.held ≡ self.old.held }
+        ensures room { self.old.room ≤ self.new.room }
+    {
+        if self.table.take_out(held) {
+            self.len -= 1;
+            return true;
+        }
+        if self.waiting.take_out(held) {
+            self.len -= 1;
+            return true;
+        }
+        false
     }
 }

@@ -2,16 +2,16 @@
 //!
 //! It holds no keys: of each place it holds the hash of its key, and the owner of the log gives the key at each place
 //! (`Resolve`). `Index` is a table of chains of places. The first three places of a chain lie in the table itself, the
-//! others in memory of their own. A look-up takes one hash. It walks one chain, of three places on average at most, and the
-//! few places that wait for their chain. A key is read only if the hash agrees.
+//! others in memory of their own. A look-up is given the hash of its key. It walks one chain, of three places on
+//! average at most, and the few places that wait for their chain. A key is read only if the hash agrees.
 //!
-//! A key that is set waits in a list, in memory that `reserve` took for it, so `set` can't fail. `settle` puts it into
-//! its chain. It makes twice as many chains or more once there would be more than three keys for each. It puts each place
-//! anew by the hash that is held, so that no key is read. If `settle` is given no memory, keys wait on, and each look-up
-//! walks them.
+//! `insert` puts a place into its chain. If the chain gets no memory, the place waits in a list, in memory that
+//! `reserve` took for it, so `insert` can't fail. `settle` makes twice as many chains or more once there are more than
+//! three keys for each, and puts what waits into its chain. It puts each place anew by the hash that is held, so that
+//! no key is read. If it is given no memory, keys wait on, and each look-up walks them.
 //!
-//! `holds` and `relocate` are for a caller that moves objects within the log, and knows the hash and the place of each.
-//! They read no key, and their contracts speak of the list of places itself.
+//! `get`, `set`, `remove` and `move_to` take a key. Whoever looked it up, or moves objects within the log, knows its
+//! hash and its place. `insert`, `relocate`, `take_out` and `holds` take these two, and read no key.
 //!
 //! The hash is the same in each run. So whoever picks the keys can make them all fall into one chain, until the hash
 //! has a parameter of its own.
@@ -23,6 +23,7 @@ mod chain;
 mod front;
 mod hashing;
 mod index;
+mod keyed;
 mod laws;
 mod place;
 mod plain;
@@ -32,7 +33,7 @@ mod walk;
 
 pub use hashing::hash_key;
 pub use index::Index;
-pub use laws::resolvers_agree;
+pub use laws::{found_places_move, resolvers_agree};
 pub use place::{Held, Place};
 pub use plain::PlainIndex;
 pub use resolve::Resolve;

@@ -1,15 +1,13 @@
 //! The index as a list that is walked.
 
-ghost use Rattle.std.specs.Prelude.{◌≡◌, ◌+◌, ◌<◌, ◌≤◌, ◌∷◌, ◌++◌, [], ℕ, Option, Some, None, is_some, length, IfOk, OnOk, OnErr, if◌then◌else◌};
+ghost use Rattle.std.specs.Prelude.{◌≡◌, ◌+◌, ◌<◌, ◌≤◌, ◌∷◌, ◌++◌, [], Option, length, OnOk, OnErr};
 ghost use Rattle.std.specs.List.{remove};
 ghost use Rattle.entry.specs.declared.key.Key.{Key};
 ghost use Rattle.entry.specs.View.{shown_key};
 ghost use Rattle.hash_index.specs.declared.place.Place.{Place as PlaceValue};
-ghost use Rattle.hash_index.specs.Map.{found, hash_of, AreKept, IsSet, IsSameMap, IsCandidate};
-ghost use Rattle.hash_index.specs.Relocation.{holds, relocated};
-ghost use Rattle.hash_index.specs.Steps.{Moves, Removes};
+ghost use Rattle.hash_index.specs.Map.{found, hash_of, AreKept, IsCandidate};
+ghost use Rattle.hash_index.specs.Relocation.{holds, relocated, without};
 
-use crate::hashing::hash_key;
 use crate::place::{Held, Place};
 use crate::resolve::Resolve;
 use crate::walk::{first_slot, slot_at, slot_of};
@@ -56,22 +54,9 @@ impl PlainIndex {
         self.held.as_slice()
     }
 
-    /// The place of a key.
-    pub fn get<R: Resolve>(&self, resolver: &R, key: &KeyRef<'_>) -> Option<Place>
-        ensures { AreKept (R.keys resolver.now) self.now.held
-            → result ≡ found (R.keys resolver.now) (shown_key key.now) self.now.held }
-    {
-        self.get_hashed(hash_key(key), resolver, key)
-    }
-
     /// The place of a key of this hash.
     #[inline]
-    pub(crate) fn get_hashed<R: Resolve>(
-        &self,
-        hash: u64,
-        resolver: &R,
-        key: &KeyRef<'_>,
-    ) -> Option<Place>
+    pub fn get_hashed<R: Resolve>(&self, hash: u64, resolver: &R, key: &KeyRef<'_>) -> Option<Place>
         requires { hash ≡ hash_of (shown_key key.now) }
         ensures { AreKept (R.keys resolver.now) self.now.held
             → result ≡ found (R.keys resolver.now) (shown_key key.now) self.now.held }
@@ -107,8 +92,8 @@ impl PlainIndex {
         self.held.clear();
     }
 
-    /// One more place. There is room for it.
-    pub(crate) fn push(&mut self, held: Held)
+    /// One more place, of a key that has none. It takes no memory.
+    pub fn insert(&mut self, held: Held)
         requires { 0 < self.old.room }
         ensures held { self.new.held ≡ self.old.held ++ held ∷ [] }
         ensures room { self.old.room ≡ self.new.room + 1 }
@@ -135,79 +120,6 @@ impl PlainIndex {
         self.held.remove(slot);
     }
 
-    /// The key's place becomes this one, whether or not the key had one. It takes no memory.
-    pub fn set<R: Resolve>(&mut self, resolver: &R, key: &KeyRef<'_>, place: Place)
-        requires room { 0 < self.old.room }
-        ensures set { let keys = R.keys resolver.now in let k = shown_key key.now in
-            AreKept keys self.old.held → keys place ≡ Some k
-            → IsSet keys self.old.held k (Some place) self.new.held }
-        ensures room { self.old.room ≤ self.new.room + 1 }
-    {
-        let hash = hash_key(key);
-        if !self.move_hashed(hash, resolver, key, place) {
-            self.push(Held { hash, place });
-        }
-    }
-
-    /// The key has no place any more. The place that it had.
-    pub fn remove<R: Resolve>(&mut self, resolver: &R, key: &KeyRef<'_>) -> Option<Place>
-        ensures had { AreKept (R.keys resolver.now) self.old.held
-            → result ≡ found (R.keys resolver.now) (shown_key key.now) self.old.held }
-        ensures removed { AreKept (R.keys resolver.now) self.old.held
-            → IsSet (R.keys resolver.now) self.old.held (shown_key key.now) None self.new.held }
-        ensures room { self.old.room ≤ self.new.room }
-    {
-        self.remove_hashed(hash_key(key), resolver, key)
-    }
-
-    /// The same of a key of this hash.
-    pub(crate) fn remove_hashed<R: Resolve>(
-        &mut self,
-        hash: u64,
-        resolver: &R,
-        key: &KeyRef<'_>,
-    ) -> Option<Place>
-        requires { hash ≡ hash_of (shown_key key.now) }
-        ensures removes { Removes (R.keys resolver.now) (shown_key key.now) self.old.held result self.new.held }
-        ensures room { self.old.room ≤ self.new.room }
-    {
-        let slot = slot_of(&self.held, hash, resolver, key)?;
-        Some(self.held.remove(slot).place)
-    }
-
-    /// The place of a key that has one becomes this one. Whether it has one.
-    pub fn move_to<R: Resolve>(&mut self, resolver: &R, key: &KeyRef<'_>, place: Place) -> bool
-        ensures had { let keys = R.keys resolver.now in AreKept keys self.old.held
-            → result ≡ is_some (found keys (shown_key key.now) self.old.held) }
-        ensures moved { let keys = R.keys resolver.now in let k = shown_key key.now in let old = self.old.held in
-            AreKept keys old → keys place ≡ Some k
-            → IsSet keys old k (if is_some (found keys k old) then Some place else None) self.new.held }
-        ensures room { self.new.room ≡ self.old.room }
-    {
-        self.move_hashed(hash_key(key), resolver, key, place)
-    }
-
-    /// The same of a key of this hash.
-    pub(crate) fn move_hashed<R: Resolve>(
-        &mut self,
-        hash: u64,
-        resolver: &R,
-        key: &KeyRef<'_>,
-        place: Place,
-    ) -> bool
-        requires { hash ≡ hash_of (shown_key key.now) }
-        ensures moves { Moves (R.keys resolver.now) (shown_key key.now) place self.old.held result self.new.held }
-        ensures room { self.new.room ≡ self.old.room }
-    {
-        match slot_of(&self.held, hash, resolver, key) {
-            Some(slot) => {
-                self.held[slot] = Held { hash, place };
-                true
-            }
-            None => false,
-        }
-    }
-
     /// Whether it holds this place under this hash. No key is read.
     #[inline]
     pub fn holds(&self, held: Held) -> bool
@@ -226,6 +138,21 @@ impl PlainIndex {
         match slot_at(&self.held, held) {
             Some(slot) => {
                 self.held[slot].place = to;
+                true
+            }
+            None => false,
+        }
+    }
+
+    /// A place that it holds under this hash is taken out. Whether it was there. No key is read.
+    pub fn take_out(&mut self, held: Held) -> bool
+        ensures had { result ≡ holds self.old.held held }
+        ensures taken { self.new.held ≡ without held self.old.held }
+        ensures room { self.old.room ≤ self.new.room }
+    {
+        match slot_at(&self.held, held) {
+            Some(slot) => {
+                self.cut(slot);
                 true
             }
             None => false,

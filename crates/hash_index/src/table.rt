@@ -1,12 +1,13 @@
 //! The table: chains of places, by their hash.
 
-ghost use Rattle.std.specs.Prelude.{◌≡◌, ◌+◌, ◌<◌, ◌≤◌, ◌∷◌, ◌++◌, [], Option, Some, None, true, length, IfOk, OnOk, OnErr};
+ghost use Rattle.std.specs.Prelude.{◌≡◌, ◌+◌, ◌<◌, ◌≤◌, ◌∷◌, ◌++◌, [], Option, Some, None, true, length, IfOk, OnOk};
+ghost use Rattle.std.specs.Prelude.{OnErr};
 ghost use Rattle.entry.specs.declared.key.Key.{Key};
 ghost use Rattle.entry.specs.View.{shown_key};
 ghost use Rattle.hash_index.specs.Map.{found, hash_of, AreKept, IsCandidate};
-ghost use Rattle.hash_index.specs.Relocation.{holds, relocated};
+ghost use Rattle.hash_index.specs.Relocation.{holds, relocated, without};
 ghost use Rattle.hash_index.specs.declared.place.Place.{Place as PlaceValue};
-ghost use Rattle.hash_index.specs.Steps.{Moves, Removes, IsShuffled, chain_of};
+ghost use Rattle.hash_index.specs.Steps.{IsShuffled, chain_of};
 
 use crate::chain::Chain;
 use crate::place::{Held, Place};
@@ -83,7 +84,7 @@ impl Table {
         }
         let at = chain_at(self.chains.len(), hash);
         let chain = &self.chains[at];
-        chain.get_hashed(hash, resolver, key)
+        chain.get(hash, resolver, key)
     }
 
     /// The first place that is held with a hash.
@@ -98,43 +99,6 @@ impl Table {
         let at = chain_at(self.chains.len(), hash);
         let chain = &self.chains[at];
         chain.candidate(hash)
-    }
-
-    /// The place of a key of this hash that has one becomes this one. Whether it has one.
-    pub(crate) fn move_to<R: Resolve>(
-        &mut self,
-        hash: u64,
-        resolver: &R,
-        key: &KeyRef<'_>,
-        place: Place,
-    ) -> bool
-        requires { hash ≡ hash_of (shown_key key.now) }
-        ensures { Moves (R.keys resolver.now) (shown_key key.now) place self.old result self.new }
-    {
-        if self.chains.is_empty() {
-            return false;
-        }
-        let at = chain_at(self.chains.len(), hash);
-        let chain = &mut self.chains[at];
-        chain.move_hashed(hash, resolver, key, place)
-    }
-
-    /// The key of this hash has no place any more. The place that it had.
-    pub(crate) fn remove<R: Resolve>(
-        &mut self,
-        hash: u64,
-        resolver: &R,
-        key: &KeyRef<'_>,
-    ) -> Option<Place>
-        requires { hash ≡ hash_of (shown_key key.now) }
-        ensures { Removes (R.keys resolver.now) (shown_key key.now) self.old result self.new }
-    {
-        if self.chains.is_empty() {
-            return None;
-        }
-        let at = chain_at(self.chains.len(), hash);
-        let chain = &mut self.chains[at];
-        chain.remove_hashed(hash, resolver, key)
     }
 
     /// Whether it holds this place under this hash.
@@ -163,8 +127,8 @@ impl Table {
         chain.holds_first(held)
     }
 
-    /// Prefetches the first place of the hash's chain. The result is meaningless; it only keeps the compiler from removing the
-    /// load.
+    /// Prefetches the first place of the hash's chain. The result is meaningless; it only keeps the compiler from
+    /// removing the load.
     #[inline(always)]
     pub(crate) fn touch(&self, hash: u64) -> u64 {
         if self.chains.is_empty() {
@@ -185,6 +149,19 @@ impl Table {
         let at = chain_at(self.chains.len(), held.hash);
         let chain = &mut self.chains[at];
         chain.relocate(held, to)
+    }
+
+    /// A place that it holds under this hash is taken out. Whether it was there.
+    pub(crate) fn take_out(&mut self, held: Held) -> bool
+        ensures had { result ≡ holds self.old held }
+        ensures taken { self.new ≡ without held self.old }
+    {
+        if self.chains.is_empty() {
+            return false;
+        }
+        let at = chain_at(self.chains.len(), held.hash);
+        let chain = &mut self.chains[at];
+        chain.take_out(held)
     }
 
     /// One more place, at the end of its chain. A table of no chains has no memory for any.

@@ -12,7 +12,8 @@ returns c =
     let none : image_of c.args.images.now.images c.args.id ≡ None = search rules in
     record {
       whole = elim c.match-add.branch [
-        | in-Ok w ↦ λ is. subst (λ (xs : List Image). IsWhole xs c.args.id) (sym (ap (λ (v : ImagesValue). v.images) w.in-Ok.ensures.ok))
+        | in-Ok w ↦ λ is. subst (λ (xs : List Image). IsWhole xs c.args.id)
+            (sym (ap (λ (v : ImagesValue). v.images) w.in-Ok.ensures.ok))
             (whole_added c.args.images.now.images image none refl)
         | in-Err w ↦ λ is. absurd (cc)
       ];

@@ -2,7 +2,8 @@ use Rattle.std.proofs.Common.{[], ◌∷◌, ◌++◌, refl, subst}
 use Rattle.std.specs.Prelude.{OnOk}
 use Rattle.hash_index.specs.Map.{IndexValue}
 use Rattle.hash_index.specs.Steps.{BringsNoHash, IsShuffled}
-use Rattle.hash_index.proofs.Parts.{filled_shuffled, filled_brings, filled_itself, filled_same, pushed_shuffled, pushed_brings}
+use Rattle.hash_index.proofs.Parts.{filled_shuffled, filled_brings, filled_itself, filled_same, pushed_shuffled}
+use Rattle.hash_index.proofs.Parts.{pushed_brings}
 use Rattle.hash_index.proofs.chain.Chain.push.Goals as goal
 
 pub returns-then-fill-clause-ok : goal.returns-then-fill-clause-ok

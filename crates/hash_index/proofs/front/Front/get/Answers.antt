@@ -11,7 +11,8 @@ returns-in_err-slot g c = λ all.
     let k = shown_key c.args.key.now in
     let hash = c.args.hash in
     let hs = c.args.self.now in
-    let none = along keys k hash c.deref.result.now hs None c.in_err-slot.ensures (c.deref.ensures.0 ∙ c.self.view_is) in
+    let none = along keys k hash c.deref.result.now hs None c.in_err-slot.ensures
+    (c.deref.ensures.0 ∙ c.self.view_is) in
     c.from_residual.ensures ∙ sym (slot_none keys k hash hs c.requires all.told none)
 
 pub returns : goal.returns
@@ -22,6 +23,7 @@ returns g c = λ all.
     let hs = c.args.self.now in
     let slot = c.in_ok-slot.slot in
     let d : Held = record { hash = 0; place = record { segment = 0; at = 0 } } in
-    let some = along keys k hash c.deref.result.now hs (Some slot) c.in_ok-slot.ensures (c.deref.ensures.0 ∙ c.self.view_is) in
+    let some = along keys k hash c.deref.result.now hs (Some slot) c.in_ok-slot.ensures
+    (c.deref.ensures.0 ∙ c.self.view_is) in
     ap (λ (xs : List Held). Some (get_or xs slot d).place) (c.deref-2.ensures.0 ∙ c.self.view_is)
     ∙ sym (found_slot keys k hash hs slot d some all)

@@ -20,7 +20,8 @@ returns-in-Some-clause-moved c =
     let slot = c.in-Some.slot in
     let d : Held = record { hash = 0; place = record { segment = 0; at = 0 } } in
     let some = sym (c.in-Some.ensures ∙ ap (λ (xs : List Held). position (is_same h) xs) c.deref.ensures.0) in
-    ap (λ (xs : List Held). refill (length items) items (slice_set xs slot (record { hash = (get_or xs slot d).hash; place = to })))
+    ap (λ (xs : List Held). refill (length items) items (slice_set xs slot
+    (record { hash = (get_or xs slot d).hash; place = to })))
     c.deref_mut.ensures.value
     ∙ set_back items items slot (record { hash = (get_or items slot d).hash; place = to }) refl
     ∙ slot_relocated h to items slot d some

@@ -17,7 +17,8 @@ returns-in-Ok-clause-same c =
     subst (λ (xs : List Held). IsShuffled (table ++ xs) grown) c.as_slice-places.ensures c.in-Ok.ensures in
     let none = ap (λ (xs : List Held). grown ++ xs) c.clear.ensures.held ∙ append-nil grown in
     let whole = subst (λ (xs : List Held). IsShuffled (table ++ c.self.inside.waiting.held) xs) (sym none) here in
-    subst (λ (v : IndexValue). (keys : Place → Option Key) → AreKept keys v.held → IsSameMap keys v.held (grown ++ c.clear.new.self.held)) c.self.view_is
+    subst (λ (v : IndexValue). (keys : Place → Option Key) → AreKept keys v.held
+    → IsSameMap keys v.held (grown ++ c.clear.new.self.held)) c.self.view_is
     (λ keys all. whole.same keys all)
 
 -- the chains took in what waited, as far as there was memory

@@ -12,7 +12,8 @@ returns-in_err-slot c = λ keys k of all.
     let hs = c.args.self.now.held in
     let list = c.deref.ensures.value ∙ ap (λ (v : IndexValue). v.held) c.self.view_is in
     let none = first_along hash c.deref.result.now hs None c.in_err-slot.ensures list in
-    subst (λ (o : Option Place). IsCandidate keys k hs o) (sym c.from_residual.ensures) (first_none keys k hash hs of all.told none)
+    subst (λ (o : Option Place). IsCandidate keys k hs o) (sym c.from_residual.ensures)
+    (first_none keys k hash hs of all.told none)
 
 pub returns : goal.returns
 returns c = λ keys k of all there.

@@ -24,6 +24,7 @@ returns g c = λ all.
     let hs = c.args.self.now.held in
     let slot = c.in_ok-slot.slot in
     let here = ap (λ (v : IndexValue). v.held) c.self.view_is in
-    let some = along keys k hash c.deref.result.now hs (Some slot) c.in_ok-slot.ensures (c.deref.ensures.value ∙ here) in
+    let some = along keys k hash c.deref.result.now hs (Some slot) c.in_ok-slot.ensures
+    (c.deref.ensures.value ∙ here) in
     ap (λ (h : Held). Some h.place) (c.index.ensures ∙ ap (λ (xs : List Held). get_or xs slot c.index.result.now) here)
     ∙ sym (found_slot keys k hash hs slot c.index.result.now some all)

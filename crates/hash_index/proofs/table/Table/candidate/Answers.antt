@@ -13,7 +13,8 @@ returns c = λ keys k of all.
     let d = c.index-chain.result.now in
     let count : c.len.result ≡ length cs = omega (arith, c.len.ensures, c.self.inside.chains.ok.0) in
     let at : t ≡ chain_of (length cs) (hash_of k) =
-    c.chain_at-at.ensures.chain ∙ ap (λ (n : ℕ). chain_of n c.args.hash) count ∙ ap (λ (h : ℕ). chain_of (length cs) h) of in
+    c.chain_at-at.ensures.chain ∙ ap (λ (n : ℕ). chain_of n c.args.hash) count
+    ∙ ap (λ (h : ℕ). chain_of (length cs) h) of in
     let below : t < length cs = omega (arith, c.chain_at-at.ensures.within, count) in
     let whole = subst (λ (xs : List Held). AreKept keys xs) (sym c.self.view_is) all in
     let kept = kept_chain keys k (length cs) t at cs c.self.invariant below d whole in

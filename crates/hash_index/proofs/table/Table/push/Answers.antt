@@ -13,10 +13,12 @@ invariant_of-self c =
     let d = c.index_mut-chain.result.now in
     let new = c.push.new.self in
     let count : c.len.result ≡ length cs = omega (arith, c.len.ensures, c.self.inside.chains.ok.0) in
-    let at : t ≡ chain_of (length cs) c.args.held.hash = c.chain_at-at.ensures.chain ∙ ap (λ (n : ℕ). chain_of n c.args.held.hash) count in
+    let at : t ≡ chain_of (length cs) c.args.held.hash = c.chain_at-at.ensures.chain
+    ∙ ap (λ (n : ℕ). chain_of n c.args.held.hash) count in
     let below : t < length cs = omega (arith, c.chain_at-at.ensures.within, count) in
     own_result cs t d new c.args.held c.push.result c.self.invariant below at
-    (subst (λ (x : IndexValue). OnOk c.push.result (BringsNoHash (x.held ++ c.args.held ∷ []) new.held)) c.index_mut-chain.ensures.value c.push.ensures.hashes)
+    (subst (λ (x : IndexValue). OnOk c.push.result (BringsNoHash (x.held ++ c.args.held ∷ []) new.held))
+    c.index_mut-chain.ensures.value c.push.ensures.hashes)
     (subst (λ (x : IndexValue). OnErr c.push.result (new ≡ x)) c.index_mut-chain.ensures.value c.push.ensures.err)
 
 pub returns-clause-ok : goal.returns-clause-ok
@@ -27,6 +29,8 @@ returns-clause-ok c =
     let new = c.push.new.self in
     let count : c.len.result ≡ length cs = omega (arith, c.len.ensures, c.self.inside.chains.ok.0) in
     let below : t < length cs = omega (arith, c.chain_at-at.ensures.within, count) in
-    subst (λ (xs : List Held). OnOk c.push.result (IsShuffled (xs ++ c.args.held ∷ []) (places_in (set cs t new)))) c.self.view_is
+    subst (λ (xs : List Held). OnOk c.push.result (IsShuffled (xs ++ c.args.held ∷ [])
+    (places_in (set cs t new)))) c.self.view_is
     (pushed_result cs t d new c.args.held c.push.result below
-    (subst (λ (x : IndexValue). OnOk c.push.result (IsShuffled (x.held ++ c.args.held ∷ []) new.held)) c.index_mut-chain.ensures.value c.push.ensures.ok))
+    (subst (λ (x : IndexValue). OnOk c.push.result (IsShuffled (x.held ++ c.args.held ∷ []) new.held))
+    c.index_mut-chain.ensures.value c.push.ensures.ok))

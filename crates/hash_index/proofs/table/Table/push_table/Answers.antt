@@ -10,5 +10,6 @@ loop-chain-preserved c =
     let d = c.chain-item.result in
     let one = subst (λ (xs : List Held). IsShuffled (c.loop-chain.self ++ xs) c.push_chain.new.self)
     (ap (λ (x : IndexValue). x.held) c.chain-item.is) c.in_ok-push_chain.ensures in
-    shuffled_chain c.args.self.now c.loop-chain.self c.push_chain.new.self c.deref-chain-items.result.now c.loop-chain.chain-index d
+    shuffled_chain c.args.self.now c.loop-chain.self c.push_chain.new.self c.deref-chain-items.result.now
+    c.loop-chain.chain-index d
     c.loop-chain-test.true c.loop-chain.invariant one

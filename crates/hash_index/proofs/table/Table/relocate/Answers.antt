@@ -16,9 +16,11 @@ invariant_of-self c =
     let new = c.relocate.new.self in
     let count : c.len.result ≡ length cs = omega (arith, c.len.ensures, c.self.inside.chains.ok.0) in
     let below : t < length cs = omega (arith, c.chain_at-at.ensures.within, count) in
-    let moved = c.relocate.ensures.moved ∙ ap (λ (x : IndexValue). relocated h c.args.to x.held) c.index_mut-chain.ensures.value in
+    let moved = c.relocate.ensures.moved ∙ ap (λ (x : IndexValue). relocated h c.args.to x.held)
+    c.index_mut-chain.ensures.value in
     own_brings cs t d new c.self.invariant below
-    (subst (λ (xs : List Held). BringsNoHash (get_or cs t d).held xs) (sym moved) (relocated_brings h c.args.to (get_or cs t d).held))
+    (subst (λ (xs : List Held). BringsNoHash (get_or cs t d).held xs) (sym moved)
+    (relocated_brings h c.args.to (get_or cs t d).held))
 
 pub returns-clause-had : goal.returns-clause-had
 returns-clause-had c =
@@ -44,6 +46,7 @@ returns-clause-moved c =
     let count : c.len.result ≡ length cs = omega (arith, c.len.ensures, c.self.inside.chains.ok.0) in
     let at : t ≡ chain_of (length cs) h.hash = c.chain_at-at.ensures.chain ∙ ap (λ (n : ℕ). chain_of n h.hash) count in
     let below : t < length cs = omega (arith, c.chain_at-at.ensures.within, count) in
-    let moved = c.relocate.ensures.moved ∙ ap (λ (x : IndexValue). relocated h c.args.to x.held) c.index_mut-chain.ensures.value in
+    let moved = c.relocate.ensures.moved ∙ ap (λ (x : IndexValue). relocated h c.args.to x.held)
+    c.index_mut-chain.ensures.value in
     relocated_chain h (length cs) t at cs c.self.invariant below d c.args.to new moved
     ∙ ap (λ (xs : List Held). relocated h c.args.to xs) c.self.view_is

@@ -15,11 +15,14 @@ loop-left-preserved-then-is_ok c =
     let below : i < length waiting = omega (arith, c.loop-left.invariant.within, c.loop-left-test.true) in
     let ok = on_ok c.push.result c.push.ensures.ok (sym c.if-is_ok.ensures.value) in
     let one = subst (λ (xs : List Held). IsShuffled (table ++ get_or xs i _ ∷ []) new) c.as_slice.ensures ok in
-    let over = subst (λ (xs : List Held). IsShuffled (table ++ waiting) (new ++ xs)) (sym c.cut.ensures.held) (shuffled_over table new waiting i _ below one) in
+    let over = subst (λ (xs : List Held). IsShuffled (table ++ waiting) (new ++ xs)) (sym c.cut.ensures.held)
+    (shuffled_over table new waiting i _ below one) in
     let shorter : length c.cut.new.self.held + 1 ≡ length waiting =
-    subst (λ (xs : List Held). length xs + 1 ≡ length waiting) (sym c.cut.ensures.held) (length-remove waiting i below) in
+    subst (λ (xs : List Held). length xs + 1 ≡ length waiting) (sym c.cut.ensures.held)
+    (length-remove waiting i below) in
     record {
-      places = shuffled_then (c.args.self.now ++ c.args.waiting.now.held) (table ++ waiting) (new ++ c.cut.new.self.held) c.loop-left.invariant.places over;
+      places = shuffled_then (c.args.self.now ++ c.args.waiting.now.held) (table ++ waiting)
+          (new ++ c.cut.new.self.held) c.loop-left.invariant.places over;
       room = omega (arith, c.loop-left.invariant.room, c.cut.ensures.room);
       within = omega (arith, shorter, below);
     }

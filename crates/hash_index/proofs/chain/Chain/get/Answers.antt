@@ -4,7 +4,7 @@ use Rattle.entry.specs.View.{shown_key}
 use Rattle.hash_index.specs.Map.{IndexValue, AreKept, found}
 use Rattle.hash_index.proofs.Joining.{kept_left, kept_right}
 use Rattle.hash_index.proofs.Whole.{found_table, found_waiting}
-use Rattle.hash_index.proofs.chain.Chain.get_hashed.Goals as goal
+use Rattle.hash_index.proofs.chain.Chain.get.Goals as goal
 
 pub returns-in-Some : goal.returns-in-Some
 returns-in-Some g c =
@@ -13,7 +13,8 @@ returns-in-Some g c =
     let front = c.self.inside.front in
     let more = c.self.inside.more.held in
     subst (λ (v : IndexValue). AreKept keys v.held → Some c.in-Some.place ≡ found keys k v.held) c.self.view_is
-    (λ all. sym (found_table keys k front more c.in-Some.place (sym (c.in-Some.ensures (kept_left keys front more all)))))
+    (λ all. sym (found_table keys k front more c.in-Some.place
+    (sym (c.in-Some.ensures (kept_left keys front more all)))))
 
 pub returns-in-None : goal.returns-in-None
 returns-in-None g c =

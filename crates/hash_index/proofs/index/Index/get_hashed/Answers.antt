@@ -5,7 +5,7 @@ use Rattle.hash_index.specs.Map.{found}
 use Rattle.std.specs.Prelude.{Some}
 use Rattle.hash_index.proofs.Joining.{kept_left, kept_right}
 use Rattle.hash_index.proofs.Whole.{found_table, found_waiting}
-use Rattle.hash_index.proofs.index.Index.get.Goals as goal
+use Rattle.hash_index.proofs.index.Index.get_hashed.Goals as goal
 
 pub returns-in-Some : goal.returns-in-Some
 returns-in-Some g c =
@@ -14,7 +14,8 @@ returns-in-Some g c =
     let table = c.self.inside.table in
     let waiting = c.self.inside.waiting.held in
     subst (λ (v : IndexValue). AreKept keys v.held → Some c.in-Some.place ≡ found keys k v.held) c.self.view_is
-    (λ all. sym (found_table keys k table waiting c.in-Some.place (sym (c.in-Some.ensures (kept_left keys table waiting all)))))
+    (λ all. sym (found_table keys k table waiting c.in-Some.place
+    (sym (c.in-Some.ensures (kept_left keys table waiting all)))))
 
 pub returns-in-None : goal.returns-in-None
 returns-in-None g c =
