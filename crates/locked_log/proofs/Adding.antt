@@ -4,10 +4,10 @@ use Rattle.versioned_map.specs.declared.command.Command.{Command}
 use Rattle.versioned_map.specs.declared.command.Reply.{Reply}
 use Rattle.versioned_map.specs.declared.command.Reply.TheVariants as reply
 use Rattle.log_model.specs.Data.{LogData}
-use Rattle.master_core.specs.declared.step.Step.TheVariants.{Apply}
-use Rattle.master_core.specs.declared.step.StepAnswer.{StepAnswer}
-use Rattle.master_core.specs.declared.step.StepAnswer.TheVariants.{Applied}
-use Rattle.master_core.specs.Steps.{reply_now}
+use Rattle.master_state.specs.declared.step.Step.TheVariants.{Apply}
+use Rattle.master_state.specs.declared.step.StepAnswer.{StepAnswer}
+use Rattle.master_state.specs.declared.step.StepAnswer.TheVariants.{Applied}
+use Rattle.master_state.specs.Steps.{reply_now}
 use Rattle.master.specs.Steps.{Accepts}
 use Rattle.master.specs.World.{World}
 use Rattle.store_seat.specs.Seats.{record_by}
@@ -20,7 +20,8 @@ abbrev reply_in : StepAnswer → Reply
 reply_in (Applied place answer) = answer
 reply_in _ = reply.None
 
-module _ (s t : World) (seat : ℕ) (command : Command) (place : ℕ) (answer : Reply) (a : Accepts s (Apply seat command) (Applied place answer) t) where
+module _ (s t : World) (seat : ℕ) (command : Command) (place : ℕ) (answer : Reply)
+    (a : Accepts s (Apply seat command) (Applied place answer) t) where
   pub place_is : place ≡ length s.knows.history
   place_is = ap place_in a.0.told
 
@@ -28,4 +29,5 @@ module _ (s t : World) (seat : ℕ) (command : Command) (place : ℕ) (answer : 
   reply_is = ap reply_in a.0.told
 
   pub history_is : t.knows.history ≡ s.knows.history ++ record_by seat command answer ∷ []
-  history_is = ap (λ (l : LogData). l.history) a.0.log ∙ ap (λ (r : Reply). s.knows.history ++ record_by seat command r ∷ []) (sym reply_is)
+  history_is = ap (λ (l : LogData). l.history) a.0.log ∙ ap
+      (λ (r : Reply). s.knows.history ++ record_by seat command r ∷ []) (sym reply_is)

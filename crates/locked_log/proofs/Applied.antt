@@ -1,14 +1,15 @@
 -- What a command under the lock did, from its step and from how its record was filed.
-use Rattle.std.proofs.Common.{◌≡◌, ℕ, ◌+◌, List, [], ◌∷◌, ◌++◌, Option, Some, true, false, length, get_or, refl, sym, ap, ◌∙◌, subst, arith, inr}
+use Rattle.std.proofs.Common.{◌≡◌, ℕ, ◌+◌, List, [], ◌∷◌, ◌++◌, Option, Some, true, false, length, get_or, refl, sym}
+use Rattle.std.proofs.Common.{ap, ◌∙◌, subst, arith, inr}
 use Rattle.std.specs.Prelude.{slice_get, slice_set, Result, Ok, Err}
 use Rattle.replica.specs.Picture.{FleetState}
 use Rattle.versioned_map.specs.declared.command.Command.{Command}
 use Rattle.versioned_map.specs.declared.command.Record.{Record}
 use Rattle.versioned_map.specs.declared.command.Reply.{Reply}
 use Rattle.history_row.specs.Rows.{IsRowOf}
-use Rattle.master_core.specs.declared.step.Refusal.{Refusal}
-use Rattle.master_core.specs.declared.step.Step.TheVariants.{Apply}
-use Rattle.master_core.specs.declared.step.StepAnswer.TheVariants.{Applied}
+use Rattle.master_state.specs.declared.step.Refusal.{Refusal}
+use Rattle.master_state.specs.declared.step.Step.TheVariants.{Apply}
+use Rattle.master_state.specs.declared.step.StepAnswer.TheVariants.{Applied}
 use Rattle.master.specs.Keeps.{Keeps}
 use Rattle.master.specs.Steps.{Accepts, Declines}
 use Rattle.master.specs.Valid.{IsValid}
@@ -71,8 +72,10 @@ module _ (s t : Held) (m : SeatValue) (command : Command) (place : ℕ) (reply :
     record {
       counts = counted;
       row = row;
-      short = λ whole. row_short s.row (history s) (record_by m.number command reply) (row_whole s.row (history s) s.is_refused st.written off)
-          (subst (λ (l : List Record). IsRowOf s.row l) (history_is s.world t.world m.number command place reply accepted) (subst (λ (r : List (Option Record)). IsRowOf r (history t)) row whole));
+      short = λ whole. row_short s.row (history s) (record_by m.number command reply)
+          (row_whole s.row (history s) s.is_refused st.written off)
+          (subst (λ (l : List Record). IsRowOf s.row l) (history_is s.world t.world m.number command place reply
+          accepted) (subst (λ (r : List (Option Record)). IsRowOf r (history t)) row whole));
       refused = refused;
       seat = seat;
     },
@@ -81,13 +84,15 @@ module _ (s t : Held) (m : SeatValue) (command : Command) (place : ℕ) (reply :
 -- ---- from what the calls of the body ensure
 
 -- what a command under the lock ensures
-pub record Done (s : Held) (m : SeatValue) (command : Command) (r : Result (ℕ × Reply) CallFault) (t : Held) (n : SeatValue) (made : Made) : Type 0 where
+pub record Done (s : Held) (m : SeatValue) (command : Command) (r : Result (ℕ × Reply) CallFault) (t : Held)
+    (n : SeatValue) (made : Made) : Type 0 where
   pub applies : AppliesHeld s m command r t n
   pub lasts : Lasts 1 s t
   pub valid : IsState t made
 
 -- a value under the lock and a seat, as the body finds them
-module _ {F : Type 0} (state : F → FleetState) (v x : StateValue F) (same : v ≡ x) (m : SeatValue) (k : ℕ) (seat : k ≡ m.number) (command : Command) where
+module _ {F : Type 0} (state : F → FleetState) (v x : StateValue F) (same : v ≡ x) (m : SeatValue) (k : ℕ)
+    (seat : k ≡ m.number) (command : Command) where
   pub declines_at : (r : Refusal) (w : World) → Declines (world state v.master) (Apply k command) r w
       → Declines (world state x.master) (Apply m.number command) r w
   declines_at r w d =
@@ -112,7 +117,8 @@ module _ {F : Type 0} (state : F → FleetState) (v x : StateValue F) (same : v 
     gives_at : Accepts s.world (Apply m.number command) (Applied place reply) t.world
     gives_at =
         subst (λ (z : ℕ). Accepts s.world (Apply z command) (Applied place reply) t.world) seat
-        (subst (λ (y : StateValue F). Accepts (world state y.master) (Apply k command) (Applied place reply) t.world) same gives)
+        (subst (λ (y : StateValue F). Accepts (world state y.master) (Apply k command)
+        (Applied place reply) t.world) same gives)
 
     keeps_at : Keeps 1 s.world t.world
     keeps_at = subst (λ (y : StateValue F). Keeps 1 (world state y.master) t.world) same keeps
@@ -128,8 +134,10 @@ module _ {F : Type 0} (state : F → FleetState) (v x : StateValue F) (same : v 
     pub took : (n : SeatValue) → t.row ≡ slice_set v.row place (Some what) → t.is_refused ≡ v.is_refused
         → n ≡ noted m (told place what) → Done s m command (Ok (place, reply)) t n made
     took n row flag noted_is =
-        let row_at : t.row ≡ slice_set s.row place (Some what) = row ∙ ap (λ (y : StateValue F). slice_set y.row place (Some what)) same in record {
-          applies = writes s t m command place reply made st_at known off_at gives_at what n counted is row_at (flag ∙ off) noted_is;
+        let row_at : t.row ≡ slice_set s.row place (Some what) = row
+        ∙ ap (λ (y : StateValue F). slice_set y.row place (Some what)) same in record {
+          applies = writes s t m command place reply made st_at known off_at gives_at what n counted is row_at
+              (flag ∙ off) noted_is;
           lasts = filed_lasts s t m command place reply counted keeps_at (λ on. absurd (both on));
           valid = filed s t m command place reply counted made st_at keeps_at valid true off_at
               (row_at ∙ ap (λ (w : Record). slice_set s.row place (Some w)) own) (λ c. refl);
@@ -138,12 +146,14 @@ module _ {F : Type 0} (state : F → FleetState) (v x : StateValue F) (same : v 
         both : s.is_refused ≡ true → ⊥
         both on = let no = sym off_at ∙ on in cc
 
-    pub missed : (n : SeatValue) → t.row ≡ v.row → t.is_refused ≡ true → n ≡ unnoted m → Done s m command (Err CellRefused) t n made
+    pub missed : (n : SeatValue) → t.row ≡ v.row → t.is_refused ≡ true → n ≡ unnoted m
+        → Done s m command (Err CellRefused) t n made
     missed n row flag unnoted_is =
         let row_at : t.row ≡ s.row = row ∙ ap (λ (y : StateValue F). y.row) same in record {
           applies = loses s t m command place reply made st_at known off_at gives_at n counted row_at flag unnoted_is;
           lasts = filed_lasts s t m command place reply counted keeps_at (λ on. flag);
-          valid = filed s t m command place reply counted made st_at keeps_at valid false off_at row_at (λ c. absurd (both c));
+          valid = filed s t m command place reply counted made st_at keeps_at valid false off_at row_at
+              (λ c. absurd (both c));
         }
       where
         both : t.is_refused ≡ false → ⊥

@@ -1,5 +1,6 @@
 -- Accounts, and the counts of records.
-use Rattle.std.proofs.Common.{◌≡◌, ◌≢◌, ◌<◌, ◌⊎◌, inl, inr, ⊎_elim, ℕ, zero, suc, ◌+◌, ◌==◌, cond, List, [], ◌∷◌, ◌++◌, Some, length, set, refl, ap, ◌∙◌, arith, zero-add}
+use Rattle.std.proofs.Common.{◌≡◌, ◌≢◌, ◌<◌, ◌⊎◌, inl, inr, ⊎_elim, ℕ, zero, suc, ◌+◌, ◌==◌, cond, List, [], ◌∷◌, ◌++◌}
+use Rattle.std.proofs.Common.{Some, length, set, refl, ap, ◌∙◌, arith, zero-add}
 use Rattle.std.specs.Prelude.{slice_get, All}
 use Rattle.std.proofs.lemmas.Bool.Decides.{nat_tests}
 use Rattle.std.proofs.lemmas.List.Elements.{All-append}
@@ -28,8 +29,10 @@ in_book (x ∷ xs) (suc i) a e = omega (arith, in_book xs i a e)
 
 -- ---- counts
 
-pub count_push : (k : ℕ) (h : List Record) (r : Record) → count_of k (h ++ r ∷ []) ≡ count_of k h + cond (r.seat == k) 1 0
-count_push k h r = sum_by-append (λ (x : Record). cond (x.seat == k) 1 0) h (r ∷ []) ∙ ap (λ n. count_of k h + n) (zero-add (cond (r.seat == k) 1 0))
+pub count_push : (k : ℕ) (h : List Record) (r : Record)
+    → count_of k (h ++ r ∷ []) ≡ count_of k h + cond (r.seat == k) 1 0
+count_push k h r = sum_by-append (λ (x : Record). cond (x.seat == k) 1 0) h (r ∷ [])
+    ∙ ap (λ n. count_of k h + n) (zero-add (cond (r.seat == k) 1 0))
 
 pub count_mine : (k : ℕ) (h : List Record) (r : Record) → r.seat ≡ k → count_of k (h ++ r ∷ []) ≡ count_of k h + 1
 count_mine k h r e = let p = count_push k h r in grind (arith, nat_tests)

@@ -4,9 +4,10 @@ use Rattle.std.specs.Prelude.{None, ◌^◌, not}
 use Rattle.std.proofs.lemmas.Bool.{and_parts, not-false, leb-true}
 use Rattle.std.proofs.lemmas.List.Sums.{count_by-le-length}
 use Rattle.versioned_map.specs.declared.command.Record.{Record}
-use Rattle.master_core.specs.declared.config.Config.{Config}
-use Rattle.master_core.specs.Config.{config_fault, has_backups, has_step, has_seglet, has_segment, has_budget, has_tablets, has_history}
-use Rattle.master_core.proofs.Refusals.{passes}
+use Rattle.master_state.specs.declared.config.Config.{Config}
+use Rattle.master_state.specs.Config.{config_fault, has_backups, has_step, has_seglet, has_segment, has_budget}
+use Rattle.master_state.specs.Config.{has_tablets, has_history}
+use Rattle.master_state.proofs.Refusals.{passes}
 use Rattle.locked_log.specs.Held.{Held, history}
 use Rattle.store_seat.specs.Made.{Made}
 use Rattle.store_seat.specs.Seats.{SeatValue}
@@ -29,5 +30,6 @@ few_records c ok =
 pub small : (h : Held) (made : Made) (m : SeatValue) → IsState h made → Knows h.book m → m.count + 1 < 2 ^ 64
 small h made m st known =
     let mine : m.count ≡ count_of m.number (history h) = st.counts m.number (account m.first m.count) known in
-    let all : count_of m.number (history h) ≤ length (history h) = count_by-le-length (λ (r : Record). r.seat == m.number) (history h) in
+    let all : count_of m.number (history h) ≤ length (history h) =
+    count_by-le-length (λ (r : Record). r.seat == m.number) (history h) in
     omega (arith, mine, all, st.valid.history, few_records h.world.knows.config st.valid.config)

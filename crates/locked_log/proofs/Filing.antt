@@ -1,10 +1,11 @@
 -- One record more: in the history, in the row and in the book.
-use Rattle.std.proofs.Common.{◌≡◌, ◌≢◌, ◌<◌, ◌⊎◌, ⊎_elim, ℕ, ◌+◌, List, [], ◌∷◌, ◌++◌, Option, Some, Bool, true, false, MatchBool, length, refl, sym, ap, ◌∙◌, subst, arith, length-append, length-set}
+use Rattle.std.proofs.Common.{◌≡◌, ◌≢◌, ◌<◌, ◌⊎◌, ⊎_elim, ℕ, ◌+◌, List, [], ◌∷◌, ◌++◌, Option, Some, Bool, true, false}
+use Rattle.std.proofs.Common.{MatchBool, length, refl, sym, ap, ◌∙◌, subst, arith, length-append, length-set}
 use Rattle.std.specs.Prelude.{slice_get, slice_set}
 use Rattle.versioned_map.specs.declared.command.Command.{Command}
 use Rattle.versioned_map.specs.declared.command.Record.{Record}
 use Rattle.versioned_map.specs.declared.command.Reply.{Reply}
-use Rattle.master_core.specs.declared.config.Config.{Config}
+use Rattle.master_state.specs.declared.config.Config.{Config}
 use Rattle.master.specs.Keeps.{Keeps}
 use Rattle.master.specs.Valid.{IsValid}
 use Rattle.store_seat.specs.declared.account.Account.{Account}
@@ -24,7 +25,8 @@ same_length : (took : Bool) (row next : List (Option Record)) (i : ℕ) (v : Opt
 same_length true row next i v e = ap length e ∙ length-set row i v
 same_length false row next i v e = ap length e
 
-module _ (s t : Held) (m : SeatValue) (command : Command) (place : ℕ) (reply : Reply) (c : Counts s m command place reply t) where
+module _ (s t : Held) (m : SeatValue) (command : Command) (place : ℕ) (reply : Reply)
+    (c : Counts s m command place reply t) where
   abbrev pub what : Record
   what = record_by m.number command reply
 
@@ -47,11 +49,13 @@ module _ (s t : Held) (m : SeatValue) (command : Command) (place : ℕ) (reply :
   filed_lasts keeps on = record {
     keeps = keeps;
     accounts = ap length c.book ∙ length-set s.book m.number next;
-    firsts = λ k a b e f. firsts_set s.book m.number mine next c.known (omega arith) k a b e (ap (λ l. slice_get l k) (sym c.book) ∙ f);
+    firsts = λ k a b e f. firsts_set s.book m.number mine next c.known (omega arith) k a b e
+        (ap (λ l. slice_get l k) (sym c.book) ∙ f);
     refused = on;
   }
 
-  module _ (made : Made) (st : IsState s made) (keeps : Keeps 1 s.world t.world) (valid : IsValid t.world.knows t.world.fleet) where
+  module _ (made : Made) (st : IsState s made) (keeps : Keeps 1 s.world t.world)
+      (valid : IsValid t.world.knows t.world.fleet) where
     config : t.world.knows.config ≡ made.config
     config = keeps.config ∙ st.master.config
 
@@ -71,16 +75,26 @@ module _ (s t : Held) (m : SeatValue) (command : Command) (place : ℕ) (reply :
           (subst (λ (n : ℕ). MatchBool took (t.row ≡ slice_set s.row n (Some what)) (t.row ≡ s.row)) at_end e) when;
       accounts = ap length c.book ∙ length-set s.book m.number next ∙ st.accounts;
       firsts = λ k a got. ⊎_elim
-          (λ (x : (k ≡ m.number) × (next ≡ a)). omega (arith, ap (λ (y : Account). y.first) x.1, st.firsts m.number mine c.known, keeps.durable))
+          (λ (x : (k ≡ m.number) × (next ≡ a)). omega (
+            arith,
+            ap (λ (y : Account). y.first) x.1,
+            st.firsts m.number mine c.known,
+            keeps.durable,
+          ))
           (λ (x : (k ≢ m.number) × (slice_get s.book k ≡ Some a)). omega (arith, st.firsts k a x.1, keeps.durable))
           (there k a got);
       counts = λ k a got. ⊎_elim
-          (λ (x : (k ≡ m.number) × (next ≡ a)). sym (ap (λ (y : Account). y.count) x.1) ∙ ap (λ n. n + 1) (st.counts m.number mine c.known) ∙ sym (count_mine m.number (history s) what refl) ∙ ap (λ l. count_of m.number l) (sym grown) ∙ ap (λ n. count_of n (history t)) (sym x.0))
-          (λ (x : (k ≢ m.number) × (slice_get s.book k ≡ Some a)). st.counts k a x.1 ∙ sym (count_other k (history s) what (λ q. x.0 (sym q))) ∙ ap (λ l. count_of k l) (sym grown))
+          (λ (x : (k ≡ m.number) × (next ≡ a)). sym (ap (λ (y : Account). y.count) x.1)
+          ∙ ap (λ n. n + 1) (st.counts m.number mine c.known) ∙ sym (count_mine m.number (history s) what refl)
+          ∙ ap (λ l. count_of m.number l) (sym grown) ∙ ap (λ n. count_of n (history t)) (sym x.0))
+          (λ (x : (k ≢ m.number) × (slice_get s.book k ≡ Some a)). st.counts k a x.1
+          ∙ sym (count_other k (history s) what (λ q. x.0 (sym q))) ∙ ap (λ l. count_of k l) (sym grown))
           (there k a got);
-      no_others = rw grown (all_push made.seats (history s) what st.no_others (omega (arith, in_book s.book m.number mine c.known, st.accounts)));
+      no_others = rw grown (all_push made.seats (history s) what st.no_others
+          (omega (arith, in_book s.book m.number mine c.known, st.accounts)));
       total = c.total ∙ ap (λ n. n + 1) st.total ∙ sym longer;
     }
       where
-        there : (k : ℕ) (a : Account) → slice_get t.book k ≡ Some a → ((k ≡ m.number) × (next ≡ a)) ⊎ ((k ≢ m.number) × (slice_get s.book k ≡ Some a))
+        there : (k : ℕ) (a : Account) → slice_get t.book k ≡ Some a → ((k ≡ m.number) × (next ≡ a))
+            ⊎ ((k ≢ m.number) × (slice_get s.book k ≡ Some a))
         there k a got = get_set s.book m.number k next a (ap (λ l. slice_get l k) (sym c.book) ∙ got)

@@ -1,5 +1,6 @@
 -- A step that the master says is next is never refused because nothing waits.
-use Rattle.std.proofs.Common.{◌≡◌, ℕ, inl, inr, ⊎_elim, Bool, true, false, cond, Option, Some, None, List, refl, sym, ap, ◌∙◌, subst}
+use Rattle.std.proofs.Common.{◌≡◌, ℕ, inl, inr, ⊎_elim, Bool, true, false, cond, Option, Some, None, List, refl, sym}
+use Rattle.std.proofs.Common.{ap, ◌∙◌, subst}
 use Rattle.std.specs.Prelude.{◌^◌, ◌==◌, ◌&&◌, not, nat_lt, length}
 use Rattle.std.specs.Option.{option_map_or}
 use Rattle.std.proofs.lemmas.Bool.{and_from, and_left, not-true}
@@ -8,40 +9,45 @@ use Rattle.cleaner.specs.declared.pass.Pass.{Pass as OpenPass}
 use Rattle.cleaner.specs.Passes.{is_at_end}
 use Rattle.log_head.specs.Head.{is_open}
 use Rattle.log_model.specs.Data.{fewest}
-use Rattle.master_core.specs.declared.step.Refusal.TheVariants.{Halted, Rolling, Nothing, Full, SegmentsSpent, Pass, NoMemory}
-use Rattle.master_core.specs.declared.step.Step.{Step}
-use Rattle.master_core.specs.declared.step.Step.TheVariants.{Push, BeginRoll, BeginClean, Copy, Seal, Free}
-use Rattle.master_core.specs.Budget.{may_roll, may_clean}
-use Rattle.master_core.specs.Causes.{clean_refusal, victims_fault, space_refusal, are_few_bytes}
-use Rattle.master_core.specs.Choosing.{chosen, pass_step, step_without, next_step}
-use Rattle.master_core.specs.Data.{MasterData}
+use Rattle.master_state.specs.declared.step.Refusal.TheVariants.{Halted, Rolling, Nothing, Full, SegmentsSpent, Pass}
+use Rattle.master_state.specs.declared.step.Refusal.TheVariants.{NoMemory}
+use Rattle.master_state.specs.declared.step.Step.{Step}
+use Rattle.master_state.specs.declared.step.Step.TheVariants.{Push, BeginRoll, BeginClean, Copy, Seal, Free}
+use Rattle.master_state.specs.Budget.{may_roll, may_clean}
+use Rattle.master_state.specs.Causes.{clean_refusal, victims_fault, space_refusal, are_few_bytes}
+use Rattle.master_space.specs.Choosing.{chosen, pass_step, step_without, next_step}
+use Rattle.master_state.specs.Data.{MasterData}
 use Rattle.master.specs.Steps.{Declines}
 use Rattle.master.specs.World.{World}
 
 -- ---- rows of tests
 
 -- with work at hand
-busy : (halted has : Bool) → has ≡ true → cond halted (Some Halted) (cond has None (Some Nothing)) ≡ Some Nothing → ⊥
-busy true has h e = absurd (cc)
-busy false true h e = absurd (cc)
-busy false false h e = absurd (cc)
+not_idle_at_work : (halted has : Bool) → has ≡ true → cond halted (Some Halted) (cond has None (Some Nothing))
+    ≡ Some Nothing → ⊥
+not_idle_at_work true has h e = absurd (cc)
+not_idle_at_work false true h e = absurd (cc)
+not_idle_at_work false false h e = absurd (cc)
 
 -- with nothing idle
-awake : (halted idle : Bool) → idle ≡ false → cond halted (Some Halted) (cond idle (Some Nothing) None) ≡ Some Nothing → ⊥
+awake : (halted idle : Bool) → idle ≡ false → cond halted (Some Halted) (cond idle (Some Nothing) None)
+    ≡ Some Nothing → ⊥
 awake true idle h e = absurd (cc)
 awake false true h e = absurd (cc)
 awake false false h e = absurd (cc)
 
-four : (a b c f : Bool) → cond a (Some Halted) (cond b (Some Rolling) (cond c (Some SegmentsSpent) (cond f (Some Full) None))) ≡ Some Nothing → ⊥
-four true b c f e = absurd (cc)
-four false true c f e = absurd (cc)
-four false false true f e = absurd (cc)
-four false false false true e = absurd (cc)
-four false false false false e = absurd (cc)
+not_idle_before_roll : (a b c f : Bool) → cond a (Some Halted)
+    (cond b (Some Rolling) (cond c (Some SegmentsSpent) (cond f (Some Full) None))) ≡ Some Nothing → ⊥
+not_idle_before_roll true b c f e = absurd (cc)
+not_idle_before_roll false true c f e = absurd (cc)
+not_idle_before_roll false false true f e = absurd (cc)
+not_idle_before_roll false false false true e = absurd (cc)
+not_idle_before_roll false false false false e = absurd (cc)
 
 space : (d : MasterData) (ids : List ℕ) → space_refusal d ids ≡ Some Nothing → ⊥
 space d ids = go (not (may_clean d (length ids))) (not (are_few_bytes d ids)) (nat_lt (2 ^ 62) d.next) where
-  go : (a b c : Bool) → cond a (Some Full) (cond b (Some (Pass PassFault.TooMuch)) (cond c (Some SegmentsSpent) None)) ≡ Some Nothing → ⊥
+  go : (a b c : Bool) → cond a (Some Full) (cond b (Some (Pass PassFault.TooMuch)) (cond c (Some SegmentsSpent) None))
+      ≡ Some Nothing → ⊥
   go true b c e = absurd (cc)
   go false true c e = absurd (cc)
   go false false true e = absurd (cc)
@@ -50,7 +56,8 @@ space d ids = go (not (may_clean d (length ids))) (not (are_few_bytes d ids)) (n
 cleans : (d : MasterData) (ids : List ℕ) → clean_refusal d ids ≡ Some Nothing → ⊥
 cleans d ids = go d.is_halted (victims_fault d ids) where
   go : (halted : Bool) (o : Option PassFault)
-      → cond halted (Some Halted) (option_map_or (λ (fault : PassFault). Some (Pass fault)) o (space_refusal d ids)) ≡ Some Nothing → ⊥
+      → cond halted (Some Halted) (option_map_or (λ (fault : PassFault). Some (Pass fault)) o (space_refusal d ids))
+      ≡ Some Nothing → ⊥
   go true o e = absurd (cc)
   go false None e = space d ids e
   go false (Some fault) e = absurd (cc)
@@ -65,12 +72,14 @@ module _ (s t : World) where
   Never step = Declines s step Nothing t → ⊥
 
   pushes : is_open s.knows.head ≡ false → Never Push
-  pushes closed (inl x) = awake s.knows.is_halted _ (and_left (is_open s.knows.head) (fewest (length s.knows.head.units) s.knows.head.taken == length s.knows.head.units) closed) x.0
+  pushes closed (inl x) = awake s.knows.is_halted _ (and_left (is_open s.knows.head)
+      (fewest (length s.knows.head.units) s.knows.head.taken == length s.knows.head.units) closed) x.0
   pushes closed (inr x) = x.1
 
   rolls : Never BeginRoll
   rolls x = ⊎_elim
-      (λ e. four s.knows.is_halted (not (is_open s.knows.head)) (nat_lt (2 ^ 62) s.knows.next) (not (may_roll s.knows 2)) e)
+      (λ e. not_idle_before_roll s.knows.is_halted (not (is_open s.knows.head)) (nat_lt (2 ^ 62) s.knows.next)
+      (not (may_roll s.knows 2)) e)
       (λ e. not_memory (sym e.1)) x.1
 
   module _ (p : OpenPass) (opened : s.knows.pass ≡ Some p) where
@@ -78,10 +87,13 @@ module _ (s t : World) where
     in_pass test e = ap (λ (o : Option OpenPass). option_map_or test o false) opened ∙ e
 
     copies : not (is_at_end p) ≡ true → Never Copy
-    copies more x = ⊎_elim (λ e. busy s.knows.is_halted _ (in_pass (λ (q : OpenPass). not (is_at_end q)) more) e) (λ e. not_memory (sym e.1)) x.1
+    copies more x = ⊎_elim (λ e. not_idle_at_work s.knows.is_halted _
+        (in_pass (λ (q : OpenPass). not (is_at_end q)) more) e) (λ e. not_memory (sym e.1)) x.1
 
     seals : not (is_at_end p) ≡ false → nat_lt p.sealed s.knows.config.replicas ≡ true → Never Seal
-    seals done more (inl x) = busy s.knows.is_halted _ (in_pass (λ (q : OpenPass). is_at_end q && nat_lt q.sealed s.knows.config.replicas) (and_from _ _ (at_end (is_at_end p) done) more)) x.0
+    seals done more (inl x) = not_idle_at_work s.knows.is_halted _
+        (in_pass (λ (q : OpenPass). is_at_end q && nat_lt q.sealed s.knows.config.replicas)
+        (and_from _ _ (at_end (is_at_end p) done) more)) x.0
       where
         at_end : (b : Bool) → not b ≡ false → b ≡ true
         at_end true e = refl
@@ -89,15 +101,17 @@ module _ (s t : World) where
     seals done more (inr x) = x.1
 
     pass_never : Never (pass_step s.knows p)
-    pass_never = go (not (is_at_end p)) (nat_lt p.sealed s.knows.config.replicas) (is_open s.knows.head) refl refl refl where
-      picks : Bool → Bool → Bool → Step
-      picks a b c = cond a Copy (cond b Seal (cond c BeginRoll Push))
+    pass_never = go (not (is_at_end p)) (nat_lt p.sealed s.knows.config.replicas)
+        (is_open s.knows.head) refl refl refl where
+          picks : Bool → Bool → Bool → Step
+          picks a b c = cond a Copy (cond b Seal (cond c BeginRoll Push))
 
-      go : (a b c : Bool) → not (is_at_end p) ≡ a → nat_lt p.sealed s.knows.config.replicas ≡ b → is_open s.knows.head ≡ c → Never (picks a b c)
-      go true b c ea eb ec = copies ea
-      go false true c ea eb ec = seals ea eb
-      go false false true ea eb ec = rolls
-      go false false false ea eb ec = pushes ec
+          go : (a b c : Bool) → not (is_at_end p) ≡ a → nat_lt p.sealed s.knows.config.replicas ≡ b
+              → is_open s.knows.head ≡ c → Never (picks a b c)
+          go true b c ea eb ec = copies ea
+          go false true c ea eb ec = seals ea eb
+          go false false true ea eb ec = rolls
+          go false false false ea eb ec = pushes ec
 
   frees : not (length s.knows.waiting == 0) ≡ true → Never Free
   frees waits (inl x) = awake s.knows.is_halted _ (not-true (length s.knows.waiting == 0) waits) x.0
@@ -111,15 +125,17 @@ module _ (s t : World) where
   NeverIn (Some step) = Never step
 
   without_never : NeverIn (step_without s.knows)
-  without_never = go (not (is_open s.knows.head)) (not (length s.knows.waiting == 0)) (may_clean s.knows (length (chosen s.knows)) && not (length (chosen s.knows) == 0)) refl refl where
-    picks : Bool → Bool → Bool → Option Step
-    picks a b c = cond a (Some Push) (cond b (Some Free) (cond c (Some (BeginClean (chosen s.knows))) None))
+  without_never = go (not (is_open s.knows.head)) (not (length s.knows.waiting == 0))
+      (may_clean s.knows (length (chosen s.knows)) && not (length (chosen s.knows) == 0)) refl refl where
+        picks : Bool → Bool → Bool → Option Step
+        picks a b c = cond a (Some Push) (cond b (Some Free) (cond c (Some (BeginClean (chosen s.knows))) None))
 
-    go : (a b c : Bool) → not (is_open s.knows.head) ≡ a → not (length s.knows.waiting == 0) ≡ b → NeverIn (picks a b c)
-    go true b c ea eb = pushes (not-true (is_open s.knows.head) ea)
-    go false true c ea eb = frees eb
-    go false false true ea eb = begins (chosen s.knows)
-    go false false false ea eb = tt
+        go : (a b c : Bool) → not (is_open s.knows.head) ≡ a → not (length s.knows.waiting == 0) ≡ b
+            → NeverIn (picks a b c)
+        go true b c ea eb = pushes (not-true (is_open s.knows.head) ea)
+        go false true c ea eb = frees eb
+        go false false true ea eb = begins (chosen s.knows)
+        go false false false ea eb = tt
 
   next_never : NeverIn (next_step s.knows)
   next_never = go s.knows.pass refl where

@@ -4,7 +4,7 @@ use Rattle.std.specs.Prelude.{slice_get, slice_set}
 use Rattle.std.proofs.lemmas.List.{append-nil}
 use Rattle.master.specs.Keeps.{Keeps}
 use Rattle.master.specs.World.{World}
-use Rattle.master_core.specs.Data.{MasterData}
+use Rattle.master_state.specs.Data.{MasterData}
 use Rattle.store_seat.specs.declared.account.Account.{Account}
 use Rattle.locked_log.specs.Held.{Held}
 use Rattle.store_seat.specs.Made.{Made}
@@ -31,7 +31,8 @@ pub firsts_set : (book : List Account) (i : ℕ) (c d : Account) → slice_get b
     → RaisesFirsts book (slice_set book i d)
 firsts_set book i c d at up k a b e f =
     ⊎_elim
-    (λ (x : (k ≡ i) × (d ≡ b)). let same : a ≡ c = some_is (sym e ∙ ap (λ n. slice_get book n) x.0 ∙ at) in omega (arith, ap (λ (y : Account). y.first) same, ap (λ (y : Account). y.first) x.1, up))
+    (λ (x : (k ≡ i) × (d ≡ b)). let same : a ≡ c = some_is (sym e ∙ ap (λ n. slice_get book n) x.0 ∙ at) in
+    omega (arith, ap (λ (y : Account). y.first) same, ap (λ (y : Account). y.first) x.1, up))
     (λ x. firsts_same book k a b e x.1)
     (get_set book i k d b f)
 
@@ -44,7 +45,11 @@ pub made_lasts : (most : ℕ) (s t : World) (made : Made) → Keeps most s t →
 made_lasts most s t made keeps is = record {
   config = keeps.config ∙ is.config;
   origin = keeps.origin ∙ is.origin;
-  begun = (is.begun.0 ++ keeps.history.0, keeps.history.1 ∙ ap (λ l. l ++ keeps.history.0) is.begun.1 ∙ append_assoc made.begun is.begun.0 keeps.history.0);
+  begun = (
+    is.begun.0 ++ keeps.history.0,
+    keeps.history.1 ∙ ap (λ l. l ++ keeps.history.0) is.begun.1
+        ∙ append_assoc made.begun is.begun.0 keeps.history.0,
+  );
   durable = omega (arith, is.durable, keeps.durable);
 }
 

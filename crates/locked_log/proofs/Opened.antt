@@ -2,7 +2,7 @@
 use Rattle.std.proofs.Common.{◌≡◌, ℕ, zero, suc, Some, None, false, length, sym, ap, ◌∙◌, arith}
 use Rattle.std.proofs.lemmas.List.{length-replicate}
 use Rattle.std.specs.Prelude.{slice_get}
-use Rattle.master_core.specs.declared.config.Config.{Config}
+use Rattle.master_state.specs.declared.config.Config.{Config}
 use Rattle.master.specs.Valid.{IsValid}
 use Rattle.store_seat.specs.declared.account.Account.{Account}
 use Rattle.locked_log.specs.Ends.{fresh_book, IsFresh, IsServed}
@@ -19,15 +19,22 @@ fresh_account zero k a e = absurd (cc)
 fresh_account (suc n) zero a e = let first : account 0 0 ≡ a = cc in sym first
 fresh_account (suc n) (suc k) a e = fresh_account n k a e
 
-pub opens : (h : Held) (made : Made) → IsMade made h.world.knows → IsFresh h.row h.world.knows → IsValid h.world.knows h.world.fleet → h.book ≡ fresh_book made.seats
+pub opens : (h : Held) (made : Made) → IsMade made h.world.knows → IsFresh h.row h.world.knows
+    → IsValid h.world.knows h.world.fleet → h.book ≡ fresh_book made.seats
     → h.total ≡ 0 → h.is_refused ≡ false → IsState h made
 opens h made is fresh valid book total off =
     let none : length (history h) ≡ 0 = ap length fresh.empty in
     record {
       valid = valid;
       master = is;
-      cells = ap length fresh.cells ∙ length-replicate h.world.knows.config.history None ∙ ap (λ (c : Config). c.history) is.config;
-      written = record { count = 0; within = omega arith; whole = λ c. sym none; is = rw fresh.cells (empty_row h.world.knows.config.history) };
+      cells = ap length fresh.cells ∙ length-replicate h.world.knows.config.history None
+          ∙ ap (λ (c : Config). c.history) is.config;
+      written = record {
+        count = 0;
+        within = omega arith;
+        whole = λ c. sym none;
+        is = rw fresh.cells (empty_row h.world.knows.config.history);
+      };
       accounts = ap length book ∙ length-replicate made.seats (account 0 0);
       firsts = λ k a e. let b = ap (λ (x : Account). x.first) (at k a e) in omega (arith, b);
       counts = λ k a e. ap (λ (x : Account). x.count) (at k a e) ∙ ap (count_of k) (sym fresh.empty);
@@ -41,4 +48,7 @@ opens h made is fresh valid book total off =
 -- what the book has of a seat is in the history
 pub served : (h : Held) (made : Made) (m : SeatValue) → IsState h made → Knows h.book m → IsServed h.world.knows m
 served h made m st e =
-    record { durable = st.firsts m.number (account m.first m.count) e; count = st.counts m.number (account m.first m.count) e }
+    record {
+      durable = st.firsts m.number (account m.first m.count) e;
+      count = st.counts m.number (account m.first m.count) e;
+    }

@@ -1,5 +1,7 @@
 -- A history that is filed anew.
-use Rattle.std.proofs.Common.{◌≡◌, ◌≢◌, ◌≤◌, ◌<◌, ◌⊎◌, inl, inr, ⊎_elim, ℕ, zero, suc, ◌+◌, ◌==◌, List, [], ◌∷◌, ◌++◌, Option, Some, None, Bool, true, false, MatchBool, length, take, set, get_or, replicate, refl, sym, ap, ◌∙◌, subst, arith, length-append, length-set}
+use Rattle.std.proofs.Common.{◌≡◌, ◌≢◌, ◌≤◌, ◌<◌, ◌⊎◌, inl, inr, ⊎_elim, ℕ, zero, suc, ◌+◌, ◌==◌, List, [], ◌∷◌, ◌++◌}
+use Rattle.std.proofs.Common.{Option, Some, None, Bool, true, false, MatchBool, length, take, set, get_or, replicate}
+use Rattle.std.proofs.Common.{refl, sym, ap, ◌∙◌, subst, arith, length-append, length-set}
 use Rattle.std.specs.Prelude.{◌^◌, slice_get, slice_set}
 use Rattle.std.proofs.lemmas.List.{length-replicate}
 use Rattle.std.proofs.lemmas.List.Sums.{count_by-le-length}
@@ -19,7 +21,6 @@ use Rattle.locked_log.specs.States.{count_of, IsState}
 use Rattle.store_seat.proofs.Places.{some_is}
 use Rattle.locked_log.proofs.Counting.{in_book, count_mine, count_other, all_push}
 use Rattle.store_seat.proofs.Places.{get_there, set_there}
-use Rattle.locked_log.proofs.Few.{few_records}
 use Rattle.locked_log.proofs.Writing.{row_push, empty_row}
 
 -- ---- places of a list
@@ -42,7 +43,8 @@ same_or zero (suc i) = inr (λ h. omega arith)
 same_or (suc k) zero = inr (λ h. omega arith)
 same_or (suc k) (suc i) = ⊎_elim (λ e. inl (ap suc e)) (λ n. inr (λ h. n (omega arith))) (same_or k i)
 
-pub take_next : {X : Type 0} (xs : List X) (i : ℕ) (x : X) → slice_get xs i ≡ Some x → take (i + 1) xs ≡ take i xs ++ x ∷ []
+pub take_next : {X : Type 0} (xs : List X) (i : ℕ) (x : X) → slice_get xs i ≡ Some x
+    → take (i + 1) xs ≡ take i xs ++ x ∷ []
 take_next [] i x e = absurd (cc)
 take_next (y ∷ ys) zero x e = ap (λ z. z ∷ []) (some_is e)
 take_next (y ∷ ys) (suc i) x e =
@@ -68,7 +70,8 @@ fresh_at : (n k : ℕ) → k < n → slice_get (fresh_seats n) k ≡ Some (fresh
 fresh_at zero k l = absurd (omega arith)
 fresh_at (suc n) k l =
     ⊎_elim
-    (λ e. ap (slice_get (fresh_seats n ++ fresh_seat n ∷ [])) (e ∙ sym (fresh_length n)) ∙ get_last (fresh_seats n) (fresh_seat n) ∙ ap (λ i. Some (fresh_seat i)) (sym e))
+    (λ e. ap (slice_get (fresh_seats n ++ fresh_seat n ∷ [])) (e ∙ sym (fresh_length n))
+    ∙ get_last (fresh_seats n) (fresh_seat n) ∙ ap (λ i. Some (fresh_seat i)) (sym e))
     (λ ne. get_left (fresh_seats n) (fresh_seat n ∷ []) k (fresh_seat k) (fresh_at n k (below k n l ne)))
     (same_or k n)
   where
@@ -85,7 +88,8 @@ fresh_account_at (suc n) (suc k) l = fresh_account_at n k (omega arith)
 
 -- nothing is filed at first
 pub filed_none : (made : Made) (row : List (Option Record)) (book : List Account) (total : ℕ) (seats : List SeatValue)
-    → row ≡ replicate made.config.history None → book ≡ fresh_book made.seats → total ≡ 0 → seats ≡ fresh_seats made.seats
+    → row ≡ replicate made.config.history None → book ≡ fresh_book made.seats → total ≡ 0
+    → seats ≡ fresh_seats made.seats
     → AreFiled made [] row book total seats
 filed_none made row book total seats er eb et es = record {
   cells = ap length er ∙ length-replicate made.config.history None;
@@ -134,7 +138,16 @@ module _ (made : Made) (h : List Record) (r : Record) (row : List (Option Record
     book_is = eb ∙ ap (λ (x : SeatValue). slice_set book x.number (account x.first (x.count + 1))) m_is
 
     seat_is : n ≡ seat_after (h ++ r ∷ []) r.seat (Some (told (length h) r))
-    seat_is = en ∙ ap (λ (x : SeatValue). noted x (told (length h) r)) m_is ∙ sym (ap (λ c. record { number = r.seat; first = 0; count = c; parts = 1; amount = c; last = Some (told (length h) r); mark = (seat_after h r.seat last).mark }) (count_mine r.seat h r refl))
+    seat_is = en ∙ ap (λ (x : SeatValue). noted x (told (length h) r)) m_is
+        ∙ sym (ap (λ c. record {
+          number = r.seat;
+          first = 0;
+          count = c;
+          parts = 1;
+          amount = c;
+          last = Some (told (length h) r);
+          mark = (seat_after h r.seat last).mark;
+        }) (count_mine r.seat h r refl))
 
     other_is : (k : ℕ) → k ≢ r.seat → count_of k (h ++ r ∷ []) ≡ count_of k h
     other_is k ne = count_other k h r (λ q. ne (sym q))
@@ -145,14 +158,36 @@ module _ (made : Made) (h : List Record) (r : Record) (row : List (Option Record
       written = rw er (row_push row h r f.written (omega (arith, room, f.cells)));
       accounts = ap length book_is ∙ length-set book r.seat next ∙ f.accounts;
       counts = λ k l. ⊎_elim
-          (λ e. ap (λ b. slice_get b k) book_is ∙ ap (λ i. slice_get (set book r.seat next) i) e ∙ set_there book r.seat next (omega (arith, mem, f.accounts)) ∙ ap (λ c. Some (account 0 c)) (sym (count_mine r.seat h r refl) ∙ ap (λ i. count_of i (h ++ r ∷ [])) (sym e)))
-          (λ ne. ap (λ b. slice_get b k) book_is ∙ set_other book r.seat k next ne ∙ f.counts k l ∙ ap (λ c. Some (account 0 c)) (sym (other_is k ne)))
+          (λ e. ap (λ b. slice_get b k) book_is ∙ ap (λ i. slice_get (set book r.seat next) i) e
+          ∙ set_there book r.seat next (omega (arith, mem, f.accounts))
+          ∙ ap (λ c. Some (account 0 c)) (sym (count_mine r.seat h r refl)
+          ∙ ap (λ i. count_of i (h ++ r ∷ [])) (sym e)))
+          (λ ne. ap (λ b. slice_get b k) book_is ∙ set_other book r.seat k next ne ∙ f.counts k l
+          ∙ ap (λ c. Some (account 0 c)) (sym (other_is k ne)))
           (same_or k r.seat);
       seated = record {
         count = ap length es ∙ length-set seats r.seat n ∙ f.seated.count;
         each = λ k l. ⊎_elim
-            (λ e. (Some (told (length h) r), ap (λ b. slice_get b k) es ∙ ap (λ i. slice_get (set seats r.seat n) i) e ∙ set_there seats r.seat n (omega (arith, mem, f.seated.count)) ∙ ap (λ x. Some x) seat_is ∙ ap (λ i. Some (seat_after (h ++ r ∷ []) i (Some (told (length h) r)))) (sym e)))
-            (λ ne. ((f.seated.each k l).0, ap (λ b. slice_get b k) es ∙ set_other seats r.seat k n ne ∙ (f.seated.each k l).1 ∙ ap (λ c. Some (record { number = k; first = 0; count = c; parts = 1; amount = c; last = (f.seated.each k l).0; mark = (seat_after h k (f.seated.each k l).0).mark })) (sym (other_is k ne))))
+            (λ e. (
+              Some (told (length h) r),
+              ap (λ b. slice_get b k) es ∙ ap (λ i. slice_get (set seats r.seat n) i) e
+                  ∙ set_there seats r.seat n (omega (arith, mem, f.seated.count)) ∙ ap (λ x. Some x) seat_is
+                  ∙ ap (λ i. Some (seat_after (h ++ r ∷ []) i (Some (told (length h) r)))) (sym e),
+            ))
+            (λ ne. (
+              (f.seated.each k l).0,
+              ap (λ b. slice_get b k) es ∙ set_other seats r.seat k n ne
+                  ∙ (f.seated.each k l).1 ∙ ap (λ c. Some (record {
+                    number = k;
+                    first = 0;
+                    count = c;
+                    parts = 1;
+                    amount = c;
+                    last = (f.seated.each k l).0;
+                    mark = (seat_after h k (f.seated.each k l).0).mark;
+                  }))
+                  (sym (other_is k ne)),
+            ))
             (same_or k r.seat);
       };
       sum = et ∙ ap (λ c. c + 1) f.sum ∙ sym (length-append h (r ∷ []));
@@ -162,7 +197,8 @@ module _ (made : Made) (h : List Record) (r : Record) (row : List (Option Record
 -- ---- the value under the lock
 
 -- with all records filed it is one
-pub shares : (s : Held) (made : Made) (seats : List SeatValue) → IsMade made s.world.knows → IsValid s.world.knows s.world.fleet
+pub shares : (s : Held) (made : Made) (seats : List SeatValue) → IsMade made s.world.knows
+    → IsValid s.world.knows s.world.fleet
     → AreFiled made (history s) s.row s.book s.total seats → s.is_refused ≡ false → IsState s made
 shares s made seats is valid f off = record {
   valid = valid;
@@ -183,9 +219,6 @@ shares s made seats is valid f off = record {
   where
     at : (k : ℕ) (a : Account) → slice_get s.book k ≡ Some a → a ≡ account 0 (count_of k (history s))
     at k a e = some_is (sym e ∙ f.counts k (omega (arith, in_book s.book k a e, f.accounts)))
-
-pub few : (s : Held) → IsValid s.world.knows s.world.fleet → length (history s) < 2 ^ 62
-few s valid = omega (arith, valid.history, few_records s.world.knows.config valid.config)
 
 pub when_true : {X : Type 0} (x y z : X) (b : Bool) → b ≡ true → MatchBool b (x ≡ y) (x ≡ z) → x ≡ y
 when_true x y z b e m = subst (λ (c : Bool). MatchBool c (x ≡ y) (x ≡ z)) e m

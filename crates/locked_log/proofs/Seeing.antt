@@ -10,7 +10,8 @@ use Rattle.store_seat.specs.Seats.{SeatValue, answered}
 use Rattle.locked_log.specs.Applies.{AppliesHeld, Settles, DoesNotSettle}
 use Rattle.locked_log.specs.Held.{Held}
 
-pub seat_of : (s t : Held) (m n : SeatValue) (command : Command) (r : Result (ℕ × Reply) CallFault) → AppliesHeld s m command r t n
+pub seat_of : (s t : Held) (m n : SeatValue) (command : Command) (r : Result (ℕ × Reply) CallFault)
+    → AppliesHeld s m command r t n
     → AppliesSeat m command r n
 seat_of s t m n command (Ok r) h = (h.counts.first, h.seat)
 seat_of s t m n command (Err (Refused e)) h = h.3
@@ -18,7 +19,8 @@ seat_of s t m n command (Err (Unsure place e)) h = h
 seat_of s t m n command (Err SeatUnknown) h = h.2
 seat_of s t m n command (Err CellRefused) h = ⊎_elim (λ x. inl x.2) (λ x. inr x.2.seat) h
 
-pub settle_of : (s t : Held) (m n : SeatValue) (place : ℕ) (r : Bool) → MatchBool r (Settles s m place t n) (DoesNotSettle s m place t n)
+pub settle_of : (s t : Held) (m n : SeatValue) (place : ℕ) (r : Bool)
+    → MatchBool r (Settles s m place t n) (DoesNotSettle s m place t n)
     → MatchBool r (n ≡ answered m place) (n ≡ m)
 settle_of s t m n place true h = h.3
 settle_of s t m n place false h = h.2

@@ -1,5 +1,6 @@
 -- A seat is answered up to a place; and a store that refuses all later calls.
-use Rattle.std.proofs.Common.{◌≡◌, ◌≢◌, ◌≤◌, ◌<◌, ⊎_elim, ℕ, ◌+◌, List, Some, Bool, true, false, MatchBool, sym, ap, ◌∙◌, subst, arith, length-set}
+use Rattle.std.proofs.Common.{◌≡◌, ◌≢◌, ◌≤◌, ◌<◌, ⊎_elim, ℕ, ◌+◌, List, Some, Bool, true, false, MatchBool, sym, ap}
+use Rattle.std.proofs.Common.{◌∙◌, subst, arith, length-set}
 use Rattle.std.specs.Prelude.{slice_get, slice_set}
 use Rattle.replica.specs.Picture.{FleetState}
 use Rattle.master.specs.World.{world}
@@ -45,7 +46,8 @@ module _ (s : Held) (m : SeatValue) (place : ℕ) (known : Knows s.book m) where
         (λ (x : (k ≢ m.number) × (slice_get s.book k ≡ Some a)). st.firsts k a x.1)
         (get_set s.book m.number k next a got);
     counts = λ k a got. ⊎_elim
-        (λ (x : (k ≡ m.number) × (next ≡ a)). sym (ap (λ (y : Account). y.count) x.1) ∙ st.counts m.number mine known ∙ ap (λ n. count_of n (history s)) (sym x.0))
+        (λ (x : (k ≡ m.number) × (next ≡ a)). sym (ap (λ (y : Account). y.count) x.1) ∙ st.counts m.number mine known
+        ∙ ap (λ n. count_of n (history s)) (sym x.0))
         (λ (x : (k ≢ m.number) × (slice_get s.book k ≡ Some a)). st.counts k a x.1)
         (get_set s.book m.number k next a got);
     no_others = st.no_others;
@@ -67,8 +69,10 @@ refused_state s made st = record {
 
 -- ---- from what the calls of the body ensure
 
-module _ {F : Type 0} (state : F → FleetState) (v x : StateValue F) (same : v ≡ x) (m : SeatValue) (place : ℕ) (made : Made)
-    (st : IsState (held state v) made) (known : Knows x.book m) (here : place < durable (held state v)) (first : m.first ≤ place)
+module _ {F : Type 0} (state : F → FleetState) (v x : StateValue F) (same : v ≡ x) (m : SeatValue)
+    (place : ℕ) (made : Made)
+    (st : IsState (held state v) made) (known : Knows x.book m) (here : place < durable (held state v))
+    (first : m.first ≤ place)
     (book : List Account) (book_is : book ≡ slice_set v.book m.number (account (place + 1) m.count)) where
   abbrev t : Held
   t = record { world = world state v.master; book = book; total = v.total; row = v.row; is_refused = v.is_refused }
@@ -77,30 +81,64 @@ module _ {F : Type 0} (state : F → FleetState) (v x : StateValue F) (same : v 
   known_at = subst (λ (y : StateValue F). Knows y.book m) (sym same) known
 
   t_is : t ≡ settled (held state v) m place known_at
-  t_is = λ i. record { world = world state v.master; book = book_is i; total = v.total; row = v.row; is_refused = v.is_refused }
+  t_is = λ i. record {
+    world = world state v.master;
+    book = book_is i;
+    total = v.total;
+    row = v.row;
+    is_refused = v.is_refused;
+  }
 
   pub settles_then : (n : SeatValue) → n ≡ answered m place
-      → Settles (held state x) m place (record { world = world state v.master; book = book; total = v.total; row = v.row; is_refused = v.is_refused }) n
+      → Settles (held state x) m place (record {
+        world = world state v.master;
+        book = book;
+        total = v.total;
+        row = v.row;
+        is_refused = v.is_refused;
+      }) n
   settles_then n is = subst (λ (y : StateValue F). Settles (held state y) m place t n) same (here, known_at, t_is, is)
 
-  pub settled_then : IsState (record { world = world state v.master; book = book; total = v.total; row = v.row; is_refused = v.is_refused }) made
-  settled_then = subst (λ (h : Held). IsState h made) (sym t_is) (settled_state (held state v) m place known_at made st here)
+  pub settled_then : IsState (record {
+    world = world state v.master;
+    book = book;
+    total = v.total;
+    row = v.row;
+    is_refused = v.is_refused;
+  }) made
+  settled_then = subst (λ (h : Held). IsState h made) (sym t_is)
+      (settled_state (held state v) m place known_at made st here)
 
-  pub lasts_then : Lasts 0 (held state x) (record { world = world state v.master; book = book; total = v.total; row = v.row; is_refused = v.is_refused })
+  pub lasts_then : Lasts 0 (held state x) (record {
+    world = world state v.master;
+    book = book;
+    total = v.total;
+    row = v.row;
+    is_refused = v.is_refused;
+  })
   lasts_then =
       subst (λ (y : StateValue F). Lasts 0 (held state y) t) same
       (subst (λ (h : Held). Lasts 0 (held state v) h) (sym t_is) (settled_lasts (held state v) m place known_at first))
 
 -- what an answer under the lock ensures
-pub record Settled (s : Held) (m : SeatValue) (place : ℕ) (r : Bool) (t : Held) (n : SeatValue) (made : Made) : Type 0 where
+pub record Settled (s : Held) (m : SeatValue) (place : ℕ) (r : Bool) (t : Held) (n : SeatValue)
+    (made : Made) : Type 0 where
   pub settles : MatchBool r (Settles s m place t n) (DoesNotSettle s m place t n)
   pub lasts : Lasts 0 s t
   pub valid : IsState t made
 
-pub settled_by : {F : Type 0} (state : F → FleetState) (v x : StateValue F) → v ≡ x → (m : SeatValue) (place : ℕ) (made : Made)
-    → IsState (held state v) made → m.first ≤ place → (d : ℕ) → d ≡ durable (held state v) → (book : List Account) (n : SeatValue)
+pub settled_by : {F : Type 0} (state : F → FleetState) (v x : StateValue F) → v ≡ x
+    → (m : SeatValue) (place : ℕ) (made : Made)
+    → IsState (held state v) made → m.first ≤ place → (d : ℕ) → d ≡ durable (held state v)
+    → (book : List Account) (n : SeatValue)
     → (r : Bool) → MatchBool r (SettlesIn v.book m place d book n) (SettlesNothingIn v.book m place d book n)
-    → Settled (held state x) m place r (record { world = world state v.master; book = book; total = v.total; row = v.row; is_refused = v.is_refused }) n made
+    → Settled (held state x) m place r (record {
+      world = world state v.master;
+      book = book;
+      total = v.total;
+      row = v.row;
+      is_refused = v.is_refused;
+    }) n made
 settled_by state v x same m place made st first d is book n true h =
     let known : Knows x.book m = subst (λ (y : StateValue _). Knows y.book m) same h.1 in
     let here : place < durable (held state v) = omega (arith, h.0, is) in record {
@@ -109,9 +147,23 @@ settled_by state v x same m place made st first d is book n true h =
       valid = settled_then state v x same m place made st known here first book h.2;
     }
 settled_by state v x same m place made st first d is book n false h =
-    let t : Held = record { world = world state v.master; book = book; total = v.total; row = v.row; is_refused = v.is_refused } in
-    let stays : t ≡ held state v = λ i. record { world = world state v.master; book = h.1 i; total = v.total; row = v.row; is_refused = v.is_refused } in record {
-      settles = subst (λ (y : StateValue _). DoesNotSettle (held state y) m place t n) same ((λ here known. h.0 (omega (arith, here, is)) known), stays, h.2);
-      lasts = subst (λ (y : StateValue _). Lasts 0 (held state y) t) same (subst (λ (k : Held). Lasts 0 (held state v) k) (sym stays) (lasts_same 0 (held state v)));
+    let t : Held = record {
+      world = world state v.master;
+      book = book;
+      total = v.total;
+      row = v.row;
+      is_refused = v.is_refused;
+    } in
+    let stays : t ≡ held state v = λ i. record {
+      world = world state v.master;
+      book = h.1 i;
+      total = v.total;
+      row = v.row;
+      is_refused = v.is_refused;
+    } in record {
+      settles = subst (λ (y : StateValue _). DoesNotSettle (held state y) m place t n) same
+          ((λ here known. h.0 (omega (arith, here, is)) known), stays, h.2);
+      lasts = subst (λ (y : StateValue _). Lasts 0 (held state y) t) same
+          (subst (λ (k : Held). Lasts 0 (held state v) k) (sym stays) (lasts_same 0 (held state v)));
       valid = subst (λ (k : Held). IsState k made) (sym stays) st;
     }

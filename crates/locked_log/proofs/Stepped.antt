@@ -1,5 +1,6 @@
 -- A step that is no command adds no record.
-use Rattle.std.proofs.Common.{◌≡◌, ℕ, suc, inl, inr, Bool, true, false, [], Option, Some, None, refl, sym, ap, ◌∙◌, subst, arith}
+use Rattle.std.proofs.Common.{◌≡◌, ℕ, suc, inl, inr, Bool, true, false, [], Option, Some, None, refl, sym, ap, ◌∙◌}
+use Rattle.std.proofs.Common.{subst, arith}
 use Rattle.std.specs.Prelude.{Result, Ok, Err, ◌==◌, ◌&&◌, not, nat_lt, drop, length, if◌then◌else◌}
 use Rattle.std.proofs.lemmas.List.{append-nil}
 use Rattle.std.specs.Option.{option_map_or}
@@ -8,15 +9,16 @@ use Rattle.cleaner.specs.declared.pass.Pass.{Pass}
 use Rattle.cleaner.specs.Passes.{is_at_end}
 use Rattle.log_head.specs.Head.{is_open}
 use Rattle.log_model.specs.Ops.{LogOp}
-use Rattle.master_core.specs.declared.step.Refusal.{Refusal}
-use Rattle.master_core.specs.declared.step.Refusal.TheVariants as refusal
-use Rattle.master_core.specs.declared.step.Step.{Step}
-use Rattle.master_core.specs.declared.step.Step.TheVariants.{Apply, Push, BeginRoll, Compact, BeginClean, Copy, Seal, Free}
-use Rattle.master_core.specs.declared.step.StepAnswer.{StepAnswer}
-use Rattle.master_core.specs.Budget.{may_clean}
-use Rattle.master_core.specs.Choosing.{chosen, pass_step, step_without, next_step}
-use Rattle.master_core.specs.Data.{MasterData}
-use Rattle.master_core.specs.Steps.{freed_data}
+use Rattle.master_state.specs.declared.step.Refusal.{Refusal}
+use Rattle.master_state.specs.declared.step.Refusal.TheVariants as refusal
+use Rattle.master_state.specs.declared.step.Step.{Step}
+use Rattle.master_state.specs.declared.step.Step.TheVariants.{Apply, Push, BeginRoll, Compact, BeginClean, Copy, Seal}
+use Rattle.master_state.specs.declared.step.Step.TheVariants.{Free}
+use Rattle.master_state.specs.declared.step.StepAnswer.{StepAnswer}
+use Rattle.master_state.specs.Budget.{may_clean}
+use Rattle.master_space.specs.Choosing.{chosen, pass_step, step_without, next_step}
+use Rattle.master_state.specs.Data.{MasterData}
+use Rattle.master_state.specs.Steps.{freed_data}
 use Rattle.master.specs.Keeps.{Keeps}
 use Rattle.master.specs.Passes.{IsSealOp, IsFreeOp}
 use Rattle.master.specs.Steps.{FailsTake, IsPushOp, Steps}
@@ -56,15 +58,16 @@ pass_other d p = go (not (is_at_end p)) (nat_lt p.sealed d.config.replicas) (is_
   go false false false = tt
 
 without_other : (d : MasterData) → IsOtherIn (step_without d)
-without_other d = go (not (is_open d.head)) (not (length d.waiting == 0)) (may_clean d (length (chosen d)) && not (length (chosen d) == 0)) where
-  picks : Bool → Bool → Bool → Option Step
-  picks a b c = if a then Some Push else if b then Some Free else if c then Some (BeginClean (chosen d)) else None
+without_other d = go (not (is_open d.head)) (not (length d.waiting == 0))
+    (may_clean d (length (chosen d)) && not (length (chosen d) == 0)) where
+      picks : Bool → Bool → Bool → Option Step
+      picks a b c = if a then Some Push else if b then Some Free else if c then Some (BeginClean (chosen d)) else None
 
-  go : (a b c : Bool) → IsOtherIn (picks a b c)
-  go true b c = tt
-  go false true c = tt
-  go false false true = tt
-  go false false false = tt
+      go : (a b c : Bool) → IsOtherIn (picks a b c)
+      go true b c = tt
+      go false true c = tt
+      go false false true = tt
+      go false false false = tt
 
 next_other : (d : MasterData) → IsOtherIn (next_step d)
 next_other d = go d.pass where
@@ -104,7 +107,8 @@ module _ (old new : World) where
   unchanged e = ap (λ (w : World). w.knows.history) e
 
   failed : (IsOp : LogOp → Type 0) (r : Refusal) → FailsTake IsOp old r new → new.knows.history ≡ old.knows.history
-  failed IsOp r t = take_failed IsOp old new r t unchanged (λ (h : FailsTake IsOp old refusal.Halted new). ap (λ (d : MasterData). d.history) h.0)
+  failed IsOp r t = take_failed IsOp old new r t unchanged
+      (λ (h : FailsTake IsOp old refusal.Halted new). ap (λ (d : MasterData). d.history) h.0)
 
   pub steps_history : (step : Step) (result : Result StepAnswer Refusal) → IsOther step → Steps old step result new
       → new.knows.history ≡ old.knows.history
@@ -170,12 +174,15 @@ module _ (s : Held) (n : ℕ) (w : World) (is : w ≡ limited_world s.world n) (
 -- ---- from what the turn ensures
 
 -- a turn leaves the history
-made_history : (old new : World) (asked : CleanTurn) (answer : Result StepAnswer Refusal) (step : Option Step) → step_of old.knows asked ≡ step
+made_history : (old new : World) (asked : CleanTurn) (answer : Result StepAnswer Refusal) (step : Option Step)
+    → step_of old.knows asked ≡ step
     → MakesStep step old answer new → new.knows.history ≡ old.knows.history
 made_history old new asked answer None is h = ap (λ (w : World). w.knows.history) h.1
-made_history old new asked answer (Some step) is h = steps_history old new step answer (asked_other old.knows asked step is) h
+made_history old new asked answer (Some step) is h = steps_history old new step answer
+    (asked_other old.knows asked step is) h
 
-turn_history : (old new : World) (asked : CleanTurn) (answer : Result StepAnswer Refusal) → MakesTurn old asked answer new
+turn_history : (old new : World) (asked : CleanTurn) (answer : Result StepAnswer Refusal)
+    → MakesTurn old asked answer new
     → new.knows.history ≡ old.knows.history
 turn_history old new asked answer (inl h) = made_history old new asked answer (step_of old.knows asked) refl h
 turn_history old new asked answer (inr h) = ap (λ (w : World). w.knows.history) h.4
@@ -187,27 +194,39 @@ made_nothing old new answer None is h nothing = refl
 made_nothing old new answer (Some step) is h nothing =
     absurd (next_works old new step is (subst (λ (r : Result StepAnswer Refusal). Steps old step r new) nothing h))
 
-turn_nothing : (old new : World) (answer : Result StepAnswer Refusal) → MakesTurn old turn.Next answer new → answer ≡ Err refusal.Nothing
+turn_nothing : (old new : World) (answer : Result StepAnswer Refusal) → MakesTurn old turn.Next answer new
+    → answer ≡ Err refusal.Nothing
     → next_step old.knows ≡ None
 turn_nothing old new answer (inl h) nothing = made_nothing old new answer (next_step old.knows) refl h nothing
 turn_nothing old new answer (inr h) nothing = let no = sym h.3 ∙ nothing in absurd (cc)
 
 -- what a turn under the lock ensures
-pub record Turned (s : Held) (asked : CleanTurn) (answer : Result StepAnswer Refusal) (t : Held) (made : Made) : Type 0 where
+pub record Turned (s : Held) (asked : CleanTurn) (answer : Result StepAnswer Refusal) (t : Held)
+    (made : Made) : Type 0 where
   pub turns : Turns s asked answer t
   pub lasts : Lasts 1 s t
   pub valid : IsState t made
   pub nothing : asked ≡ turn.Next → answer ≡ Err refusal.Nothing → next_step (knows s) ≡ None
 
-pub turned : {F : Type 0} (state : F → FleetState) (v x : StateValue F) → v ≡ x → (asked : CleanTurn) (answer : Result StepAnswer Refusal)
+pub turned : {F : Type 0} (state : F → FleetState) (v x : StateValue F) → v ≡ x
+    → (asked : CleanTurn) (answer : Result StepAnswer Refusal)
     (w : World) (made : Made) → IsState (held state v) made → MakesTurn (world state v.master) asked answer w
     → Keeps 1 (world state v.master) w → IsValid w.knows w.fleet
-    → Turned (held state x) asked answer (record { world = w; book = v.book; total = v.total; row = v.row; is_refused = v.is_refused }) made
+    → Turned (held state x) asked answer (record {
+      world = w;
+      book = v.book;
+      total = v.total;
+      row = v.row;
+      is_refused = v.is_refused;
+    }) made
 turned state v x same asked answer w made st gives kept valid =
     let stays = turn_history (world state v.master) w asked answer gives in
-    subst (λ (y : StateValue _). Turned (held state y) asked answer (record { world = w; book = v.book; total = v.total; row = v.row; is_refused = v.is_refused }) made) same (record {
+    subst (λ (y : StateValue _). Turned (held state y) asked answer
+    (record { world = w; book = v.book; total = v.total; row = v.row; is_refused = v.is_refused })
+    made) same (record {
       turns = record { steps = gives; history = stays; book = refl; row = refl; total = refl; refused = refl };
       lasts = moved_lasts (held state v) w 1 kept;
       valid = moved_state (held state v) w 1 made st kept valid stays;
-      nothing = λ next nothing. turn_nothing (world state v.master) w answer (subst (λ (a : CleanTurn). MakesTurn (world state v.master) a answer w) next gives) nothing;
+      nothing = λ next nothing. turn_nothing (world state v.master) w answer
+          (subst (λ (a : CleanTurn). MakesTurn (world state v.master) a answer w) next gives) nothing;
     })

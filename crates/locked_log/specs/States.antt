@@ -1,5 +1,6 @@
 -- What is true whenever the lock is free.
-use Rattle.std.specs.Prelude.{◌≡◌, ◌<◌, ◌≤◌, ◌==◌, ℕ, Bool, true, false, Option, Some, List, length, take, count_by, All, slice_get}
+use Rattle.std.specs.Prelude.{◌≡◌, ◌<◌, ◌≤◌, ◌==◌, ℕ, Bool, true, false, Option, Some, List, length, take, count_by}
+use Rattle.std.specs.Prelude.{All, slice_get}
 use Rattle.versioned_map.specs.declared.command.Record.{Record}
 use Rattle.history_row.specs.Rows.{IsRowOf}
 use Rattle.master.specs.Keeps.{Keeps}

@@ -1,8 +1,8 @@
 //! A command under the lock.
 
 ghost use Rattle.std.specs.Prelude.{◌≡◌, true, Some};
-ghost use Rattle.master_core.specs.Causes.{command_refusal};
-ghost use Rattle.master_core.specs.declared.step.Refusal.TheVariants as refusal;
+ghost use Rattle.master_state.specs.Causes.{command_refusal};
+ghost use Rattle.master_state.specs.declared.step.Refusal.TheVariants as refusal;
 ghost use Rattle.locked_log.specs.Applies.{AppliesHeld};
 ghost use Rattle.locked_log.specs.Held.{held};
 ghost use Rattle.locked_log.specs.States.{IsState, Lasts};

@@ -1,6 +1,7 @@
 //! How a store is made over a master that has a history, and how the master is taken back.
 
-ghost use Rattle.std.specs.Prelude.{◌≡◌, ◌≤◌, ◌<◌, ◌+◌, None, Some, IfSome, OnOk, MatchResult, length, replicate, slice_get, take, true, ◌^◌};
+ghost use Rattle.std.specs.Prelude.{◌≡◌, ◌≤◌, ◌<◌, ◌+◌, None, Some, IfSome, OnOk, MatchResult, length, replicate};
+ghost use Rattle.std.specs.Prelude.{slice_get, take, true, ◌^◌};
 ghost use Rattle.locked_log.specs.Made.{IsMade};
 ghost use Rattle.locked_log.specs.declared.sharing.ShareFault.TheVariants as share_fault;
 ghost use Rattle.locked_log.specs.Sharing.{AreSeatsAfter, AreFiled};
@@ -35,8 +36,8 @@ impl From<NoMemory> for ShareFault {
 }
 
 impl<F: Fleet, B: Naming> Store<F, B> {
-    /// A store over a master that has a history, and its seats, each with the count of its records. If it can't be made,
-    /// the master comes back as it was.
+    /// A store over a master that has a history, and its seats, each with the count of its records. If it can't be
+    /// made, the master comes back as it was.
     pub fn share(
         alloc: Global,
         blank: Blank,
@@ -134,7 +135,8 @@ fn file_next<B: Naming>(
     requires seat { IfSome (slice_get history.now i) (λ r. r.seat < B.made.seats) }
     requires room { (length history.now ≤ B.made.config.history) × (length history.now < 2 ^ 62) }
     requires filed { AreFiled B.made (take i history.now) row.old book.old.items total.old.total seats.old.items }
-    ensures { result ≡ true → AreFiled B.made (take (i + 1) history.now) row.new book.new.items total.new.total seats.new.items }
+    ensures { result ≡ true →
+        AreFiled B.made (take (i + 1) history.now) row.new book.new.items total.new.total seats.new.items }
 {
     let what = &history[i];
     let seat = &mut seats[what.seat as usize];

@@ -52,7 +52,8 @@ module _ (d : LogData) (m n : Memory) (p : Picture) (i : IsIntact d m p) (agree 
     go (Some x) has =
         let was = i.tracked.found k x has in
         let same : was.place ≡ q = same_Some was.place q (sym was.indexed ∙ before) in
-        agree.rest q (object_at k x) victim (subst (λ (y : Place). StandsAt m.images y (object_at k x)) same was.stands) refl
+        agree.rest q (object_at k x) victim (subst (λ (y : Place). StandsAt m.images y (object_at k x))
+        same was.stands) refl
         (i.passing.live k q before victim)
 
   pub agreeing_is_intact : IsIntact d n p

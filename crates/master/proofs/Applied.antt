@@ -1,5 +1,6 @@
 -- A command that is applied keeps what holds of a master.
-use Rattle.std.proofs.Common.{◌≡◌, ◌⊎◌, ℕ, inl, inr, Bool, true, false, List, [], ◌∷◌, ◌++◌, length, Some, refl, sym, ap, subst, ◌∙◌, append_assoc, arith}
+use Rattle.std.proofs.Common.{◌≡◌, ◌⊎◌, ℕ, inl, inr, Bool, true, false, List, [], ◌∷◌, ◌++◌, length, Some, refl, sym}
+use Rattle.std.proofs.Common.{ap, subst, ◌∙◌, append_assoc, arith}
 use Rattle.std.specs.Prelude.{Option, None, ◌==◌, if◌then◌else◌}
 use Rattle.std.specs.Option.{option_map, option_map_or}
 use Rattle.std.proofs.lemmas.List.{append-nil}
@@ -23,18 +24,17 @@ use Rattle.clean_model.specs.Memory.{Place as EntryPlace, Index, Images, Memory,
 use Rattle.clean_model.specs.Steps.{next_place, index_after, images_with, index_with, recorded, IsNamed}
 use Rattle.clean_model.proofs.Applying.{apply_keeps}
 use Rattle.hash_index.specs.declared.place.Place.{Place}
-use Rattle.master_core.specs.declared.step.StepAnswer.{StepAnswer}
-use Rattle.master_core.specs.Budget.{victims_of, survivors_of, is_committing}
-use Rattle.master_core.specs.Causes.{dead_segment}
-use Rattle.master_core.specs.Change.{appended}
-use Rattle.master_core.specs.Data.{MasterData}
-use Rattle.master_core.specs.Images.{images_among}
-use Rattle.master_core.specs.Invariant.{IsCore}
-use Rattle.master_core.specs.Log.{log_of, images_of, find, entry_place, rest_now, memory_of}
-use Rattle.master_core.specs.Steps.{record_now, Applies}
-use Rattle.master_core.proofs.Adding.{same_appended, image_appended}
-use Rattle.master_core.proofs.Imaging.{same_id, other_id, appended_own, appended_other}
-use Rattle.master_core.proofs.Refusals.{is_admitted, passed_early}
+use Rattle.master_state.specs.declared.step.StepAnswer.{StepAnswer}
+use Rattle.master_state.specs.Budget.{victims_of, survivors_of, is_committing}
+use Rattle.master_state.specs.Causes.{dead_segment}
+use Rattle.master_state.specs.Steps.{appended, record_now, Applies}
+use Rattle.master_state.specs.Data.{MasterData}
+use Rattle.master_state.specs.Images.{images_among}
+use Rattle.master_state.specs.Invariant.{IsCore}
+use Rattle.master_state.specs.Log.{log_of, images_of, find, entry_place, rest_now, memory_of}
+use Rattle.master_commands.proofs.Adding.{same_appended, image_appended}
+use Rattle.master_state.proofs.Imaging.{same_id, other_id, appended_own, appended_other}
+use Rattle.master_state.proofs.Refusals.{is_admitted, passed_early}
 use Rattle.master.specs.Invariant.{IsWellKept}
 use Rattle.master.proofs.Handed.{unhanded_kept}
 use Rattle.master.proofs.Models.{IsModel, LeavesPass, is_model, own_intact}
@@ -42,7 +42,8 @@ use Rattle.master.proofs.Victims.{victim_below, survivor_no_head, never_both}
 
 -- ---- images and the index
 
-pub images_beside : (images : Images) (s z : ℕ) (es : List Entry) → (z == s) ≡ false → images_with images s es z ≡ images z
+pub images_beside : (images : Images) (s z : ℕ) (es : List Entry) → (z == s) ≡ false
+    → images_with images s es z ≡ images z
 images_beside images s z [] away = refl
 images_beside images s z (e ∷ es) away =
     let here : grown images s e z ≡ images z = rw away refl in
@@ -56,7 +57,8 @@ images_at images s (e ∷ es) =
     images_at (grown images s e) s es ∙ ap (λ (l : List Entry). l ++ es) here ∙ append_assoc (images s) (e ∷ []) es
 
 -- what an index finds once a segment has more it found before, or it is there
-index_one : (images : Images) (index : Index) (s : ℕ) (e : Entry) (k : Key) (r : EntryPlace) → index_after images index s e k ≡ Some r
+index_one : (images : Images) (index : Index) (s : ℕ) (e : Entry) (k : Key) (r : EntryPlace)
+    → index_after images index s e k ≡ Some r
     → (r.segment ≡ s) ⊎ (index k ≡ Some r)
 index_one images index s (entry.Header h) k r is = inr is
 index_one images index s (entry.Digest l) k r is = inr is
@@ -70,7 +72,8 @@ index_one images index s (entry.Tombstone t) k r is = go (key_eq k t.key) is whe
   go true is = absurd (cc)
   go false is = inr is
 
-index_more : (images : Images) (index : Index) (s : ℕ) (es : List Entry) (k : Key) (r : EntryPlace) → index_with images index s es k ≡ Some r
+index_more : (images : Images) (index : Index) (s : ℕ) (es : List Entry) (k : Key) (r : EntryPlace)
+    → index_with images index s es k ≡ Some r
     → (r.segment ≡ s) ⊎ (index k ≡ Some r)
 index_more images index s [] k r is = inr is
 index_more images index s (e ∷ es) k r is =
@@ -81,7 +84,8 @@ index_more images index s (e ∷ es) k r is =
 
 -- ---- a command
 
-module _ (d e : MasterData) (f : FleetState) (seat : ℕ) (command : Command) (answer : StepAnswer) (kept : IsWellKept d f) (is : Applies d seat command answer e)
+module _ (d e : MasterData) (f : FleetState) (seat : ℕ) (command : Command) (answer : StepAnswer)
+    (kept : IsWellKept d f) (is : Applies d seat command answer e)
     (may : MayApply (log_of d) (dead_segment d command) (record_now d seat command)) (core : IsCore e) where
   abbrev m : Memory
   m = memory_of d
@@ -101,7 +105,8 @@ module _ (d e : MasterData) (f : FleetState) (seat : ℕ) (command : Command) (a
   -- the tombstone of a present key names the segment in which memory has its object
   named : IsNamed m (dead_segment d command) r
   named p indexed = go (find d (command_key command)) indexed where
-    go : (o : Option Place) → option_map (entry_place d) o ≡ Some p → option_map_or (λ (q : Place). q.segment) o 0 ≡ p.segment
+    go : (o : Option Place) → option_map (entry_place d) o ≡ Some p
+        → option_map_or (λ (q : Place). q.segment) o 0 ≡ p.segment
     go None indexed = absurd (cc)
     go (Some q) indexed = ap (λ (x : EntryPlace). x.segment) (same_Some (entry_place d q) p indexed)
 
@@ -127,8 +132,10 @@ module _ (d e : MasterData) (f : FleetState) (seat : ℕ) (command : Command) (a
     at_segment true here =
         let same : head ≡ s = kept.core.image.id ∙ eqb-true d.head.id s here in
         let grows = same_appended d.head (length d.history) unit in
-        images_then s ∙ appended_own d.head grown_head d.closed unit s grows.0 (image_appended d.head (length d.history) unit) here
-        ∙ sym (ap (λ (z : ℕ). then_memory.images z) (sym same) ∙ images_at m.images head unit ∙ ap (λ (z : ℕ). m.images z ++ unit) same)
+        images_then s ∙ appended_own d.head grown_head d.closed unit s grows.0
+        (image_appended d.head (length d.history) unit) here
+        ∙ sym (ap (λ (z : ℕ). then_memory.images z) (sym same) ∙ images_at m.images head unit
+        ∙ ap (λ (z : ℕ). m.images z ++ unit) same)
     at_segment false away =
         let beside : (s == head) ≡ false = other_id s head (λ x. (
         let same : d.head.id ≡ s = sym kept.core.image.id ∙ sym x in
@@ -155,9 +162,11 @@ module _ (d e : MasterData) (f : FleetState) (seat : ℕ) (command : Command) (a
     | inl before ↦ elim (index_more m.images m.index head unit k p indexed) as (λ _. ⊥) [
       | inl own ↦ survivor_no_head d kept.core p.segment survivor (own ∙ kept.core.image.id)
       | inr old ↦ (
-          let both : entry_place d q ≡ p = same_Some (entry_place d q) p (sym (ap (option_map (entry_place d)) before) ∙ old) in
+          let both : entry_place d q ≡ p = same_Some (entry_place d q) p
+          (sym (ap (option_map (entry_place d)) before) ∙ old) in
           let segment : q.segment ≡ p.segment = ap (λ (x : EntryPlace). x.segment) both in
-          never_both d kept.core q.segment victim (subst (λ (z : ℕ). IsAmong z (survivors_of d.pass)) (sym segment) survivor))
+          never_both d kept.core q.segment victim (subst (λ (z : ℕ). IsAmong z (survivors_of d.pass))
+          (sym segment) survivor))
     ]
     | inr own ↦ (let lt = victim_below d kept.core q.segment victim in omega arith)
   ]
@@ -169,5 +178,6 @@ module _ (d e : MasterData) (f : FleetState) (seat : ℕ) (command : Command) (a
   pub applied_kept : IsWellKept e f
   applied_kept =
       unhanded_kept d e f kept running core is.config leaves.waiting
-      (own_intact e core then_memory kept.before (subst (λ (l : LogData). IsIntact l then_memory kept.before) (sym is.log)
+      (own_intact e core then_memory kept.before (subst (λ (l : LogData). IsIntact l then_memory
+      kept.before) (sym is.log)
       (apply_keeps (log_of d) m kept.before (dead_segment d command) r kept.holds may named)) model)

@@ -1,5 +1,6 @@
 -- A pass that begins keeps what holds of a master.
-use Rattle.std.proofs.Common.{◌≡◌, ℕ, ◌+◌, ◌<◌, Bool, true, false, List, [], ◌∷◌, ◌++◌, map, length, drop, refl, sym, ap, subst, ◌∙◌, arith}
+use Rattle.std.proofs.Common.{◌≡◌, ℕ, ◌+◌, ◌<◌, Bool, true, false, List, [], ◌∷◌, ◌++◌, map, length, drop, refl, sym}
+use Rattle.std.proofs.Common.{ap, subst, ◌∙◌, arith}
 use Rattle.std.specs.Prelude.{Option, Some, None, IfSome, is_some, unwrap_or, ◌==◌, if◌then◌else◌}
 use Rattle.std.specs.List.{AllByRecursion}
 use Rattle.std.specs.Option.{option_map, option_map_or}
@@ -30,20 +31,20 @@ use Rattle.clean_model.specs.Intact.{IsIntact, survivor_entries}
 use Rattle.clean_model.specs.Memory.{Place as EntryPlace, Pass, Memory, StandsAt, IsAt, with_image}
 use Rattle.clean_model.specs.Steps.{pass_begun, MayBeginClean}
 use Rattle.clean_model.proofs.Beginning.{begin_keeps}
-use Rattle.master_core.specs.declared.step.Refusal.{Refusal}
-use Rattle.master_core.specs.declared.step.Refusal.TheVariants.{Halted, Pass as PassRefused}
-use Rattle.master_core.specs.declared.step.StepAnswer.{StepAnswer}
-use Rattle.master_core.specs.Budget.{victims_of, survivors_of}
-use Rattle.master_core.specs.Causes.{victims_fault, space_refusal}
-use Rattle.master_core.specs.Data.{MasterData}
-use Rattle.master_core.specs.Images.{survivor_image as new_image}
-use Rattle.master_core.specs.Invariant.{IsRollOf, IsCore}
-use Rattle.master_core.specs.Log.{log_of, memory_of, images_of, entry_place, position_of}
-use Rattle.master_core.specs.Steps.{fresh_pass, BeginsPass}
-use Rattle.master_core.proofs.Finding.{each_of}
-use Rattle.master_core.proofs.Imaging.{ids_in, same_id, other_id}
-use Rattle.master_core.proofs.Indexing.{Grow}
-use Rattle.master_core.proofs.Refusals.{passes}
+use Rattle.master_state.specs.declared.step.Refusal.{Refusal}
+use Rattle.master_state.specs.declared.step.Refusal.TheVariants.{Halted, Pass as PassRefused}
+use Rattle.master_state.specs.declared.step.StepAnswer.{StepAnswer}
+use Rattle.master_state.specs.Budget.{victims_of, survivors_of}
+use Rattle.master_state.specs.Causes.{victims_fault, space_refusal}
+use Rattle.master_state.specs.Data.{MasterData}
+use Rattle.master_state.specs.Images.{survivor_image as new_image}
+use Rattle.master_state.specs.Invariant.{IsRollOf, IsCore}
+use Rattle.master_state.specs.Log.{log_of, memory_of, images_of, entry_place, position_of}
+use Rattle.master_state.specs.Steps.{fresh_pass, BeginsPass}
+use Rattle.master_state.proofs.Finding.{each_of}
+use Rattle.master_state.proofs.Imaging.{ids_in, same_id, other_id}
+use Rattle.master_state.proofs.Indexing.{Grow}
+use Rattle.master_state.proofs.Refusals.{passes}
 use Rattle.master.specs.Invariant.{IsWellKept}
 use Rattle.master.proofs.Agreeing.{Agree, agreeing_is_intact}
 use Rattle.master.proofs.GrownImages.{index_then}
@@ -55,7 +56,8 @@ use Rattle.master.proofs.PassPlaces.{is_behind, place_there, place_of, no_places
 
 -- ---- no test refuses it
 
-no_fault : (o : Option PassFault) (rest : Option Refusal) → option_map_or (λ (fault : PassFault). Some (PassRefused fault)) o rest ≡ None
+no_fault : (o : Option PassFault) (rest : Option Refusal)
+    → option_map_or (λ (fault : PassFault). Some (PassRefused fault)) o rest ≡ None
     → o ≡ None
 no_fault None rest is = refl
 no_fault (Some fault) rest is = absurd (cc)
@@ -77,7 +79,8 @@ begun_data d victims cursor = record d {
 
 module _ (d : MasterData) (core : IsCore d) (victims : List ℕ) (cursor : Cursor) (none : d.pass ≡ None)
     (then_core : IsCore (begun_data d victims cursor))
-    (begins : rest_of (images_in d.closed) (fresh_pass victims d.next cursor) ≡ places_of (images_in d.closed) victims) where
+    (begins : rest_of (images_in d.closed) (fresh_pass victims d.next cursor)
+    ≡ places_of (images_in d.closed) victims) where
   abbrev x : MasterData
   x = begun_data d victims cursor
 
@@ -89,10 +92,12 @@ module _ (d : MasterData) (core : IsCore d) (victims : List ℕ) (cursor : Curso
   closed_below : AllByRecursion (λ (id : ℕ). id < d.next) (ids_in d.closed)
   closed_below =
       subst (λ (ids : List ℕ). AllByRecursion (λ (id : ℕ). id < d.next) ids)
-      (sym (core.closed ∙ ap (λ (o : Option OpenPass). all_inserted (survivors_of o) (head_of d.head).start.others) none))
+      (sym (core.closed ∙ ap (λ (o : Option OpenPass). all_inserted (survivors_of o)
+      (head_of d.head).start.others) none))
       (lower (head_of d.head).start.others core.below)
     where
-      lower : (ids : List ℕ) → AllByRecursion (λ (id : ℕ). id < (head_of d.head).start.id) ids → AllByRecursion (λ (id : ℕ). id < d.next) ids
+      lower : (ids : List ℕ) → AllByRecursion (λ (id : ℕ). id < (head_of d.head).start.id) ids
+          → AllByRecursion (λ (id : ℕ). id < d.next) ids
       lower [] all = tt
       lower (s ∷ ids) all =
           (let lt = all.0 in let same = core.image.id in let used = core.used in omega arith, lower ids all.1)
@@ -103,10 +108,12 @@ module _ (d : MasterData) (core : IsCore d) (victims : List ℕ) (cursor : Curso
     go [] all = tt
     go (c ∷ cs) all = (all.0, go cs all.1)
 
-  segment_then : (s : ℕ) → segment_of x.closed s ≡ (if d.next == s then Some (survivor_entries d.config.master d.next) else segment_of d.closed s)
+  segment_then : (s : ℕ) → segment_of x.closed s ≡ (if d.next == s then Some (survivor_entries d.config.master d.next)
+      else segment_of d.closed s)
   segment_then s =
       let last = newest_last (new_image d.config.master d.next) d.closed are_below in
-      ap (λ (cs : List Image). segment_of cs s) (sym last.1) ∙ segment_found (new_image d.config.master d.next) d.closed s last.0
+      ap (λ (cs : List Image). segment_of cs s) (sym last.1)
+      ∙ segment_found (new_image d.config.master d.next) d.closed s last.0
 
   not_head : d.head.id ≡ d.next → ⊥
   not_head same = let lt = core.used in omega arith
@@ -134,14 +141,16 @@ module _ (d : MasterData) (core : IsCore d) (victims : List ℕ) (cursor : Curso
   images_none : images_of d d.next ≡ []
   images_none =
       closed_among d.head d.closed d.next not_head not_new
-      ∙ ap (λ (o : Option (List Entry)). unwrap_or o []) (go (newest_last (new_image d.config.master d.next) d.closed are_below).0)
+      ∙ ap (λ (o : Option (List Entry)). unwrap_or o []) (go
+      (newest_last (new_image d.config.master d.next) d.closed are_below).0)
     where
       go : image_of d.closed d.next ≡ None → segment_of d.closed d.next ≡ None
       go is = ap (option_map (λ (c : Image). c.segment)) is
 
   images_then : (s : ℕ) → images_of x s ≡ with_image (images_of d) d.next (survivor_entries d.config.master d.next) s
   images_then s = go (s == d.next) refl where
-    go : (t : Bool) → (s == d.next) ≡ t → images_of x s ≡ with_image (images_of d) d.next (survivor_entries d.config.master d.next) s
+    go : (t : Bool) → (s == d.next) ≡ t → images_of x s ≡ with_image (images_of d) d.next
+        (survivor_entries d.config.master d.next) s
     go true here = let same = eqb-true s d.next here in rw here (ap (images_of x) same ∙ images_own)
     go false away = rw away (images_other s (λ same. eqb-false s d.next away (sym same)))
 
@@ -152,7 +161,8 @@ module _ (d : MasterData) (core : IsCore d) (victims : List ℕ) (cursor : Curso
         let same = eqb-true s d.next here in (
           survivor_entries d.config.master d.next,
           ap (images_of x) same ∙ images_own
-              ∙ ap (λ (es : List Entry). es ++ survivor_entries d.config.master d.next) (sym (ap (images_of d) same ∙ images_none)),
+              ∙ ap (λ (es : List Entry). es ++ survivor_entries d.config.master d.next)
+              (sym (ap (images_of d) same ∙ images_none)),
         )
     go false away = ([], images_other s (λ same. eqb-false s d.next away (sym same)) ∙ sym (append-nil (images_of d s)))
 
@@ -163,7 +173,8 @@ module _ (d : MasterData) (core : IsCore d) (victims : List ℕ) (cursor : Curso
 
   not_next : (s : ℕ) → IsAmong s victims → d.next ≡ s → ⊥
   not_next s victim same =
-      let lt = all_among (λ (id : ℕ). id < (head_of d.head).start.id) (head_of d.head).start.others s core.below (older s victim) in
+      let lt = all_among (λ (id : ℕ). id < (head_of d.head).start.id) (head_of d.head).start.others s core.below
+      (older s victim) in
       let own = core.image.id in
       let used = core.used in
       omega arith
@@ -202,14 +213,16 @@ module _ (d : MasterData) (core : IsCore d) (victims : List ℕ) (cursor : Curso
       let image = images_other q.segment (not_next q.segment victim) in
       let there = place_there q.segment (images_in d.closed q.segment) b.before b.after e
       (sym (victim_image q.segment victim) ∙ b.split) of_data in
-      let among = place_of (images_in d.closed) victims q.segment (place_at q.segment (length (text_of b.before))) victim there in
+      let among = place_of (images_in d.closed) victims q.segment
+      (place_at q.segment (length (text_of b.before))) victim there in
       let position : position_of (images_of x q.segment) (length (text_of b.before)) ≡ q.position =
       position_is (images_of x q.segment) (length (text_of b.before)) e (each_of x then_core q.segment)
       (record { before = b.before; after = b.after; split = image ∙ b.split; offset = refl }) ∙ b.count in
       let same : entry_place x (place_at q.segment (length (text_of b.before))) ≡ q =
       (λ i. record { segment = q.segment; position = position i }) in
       subst (λ (r : EntryPlace). IsAmong r (map (entry_place x) (places_of (images_in d.closed) victims))) same
-      (among_image (entry_place x) (places_of (images_in d.closed) victims) (place_at q.segment (length (text_of b.before))) among)
+      (among_image (entry_place x) (places_of (images_in d.closed) victims)
+      (place_at q.segment (length (text_of b.before))) among)
 
   agree : Agree (id_taken (log_of d)) then_memory (memory_of x)
   agree = record {
@@ -220,7 +233,8 @@ module _ (d : MasterData) (core : IsCore d) (victims : List ℕ) (cursor : Curso
         subst (λ (ps : List Place). IsAmong q (map (entry_place x) ps)) (sym rest_then)
         (rest_has q e victim (subst (λ (es : List Entry). IsAt es q.position e)
         (sym (images_then q.segment) ∙ images_other q.segment (not_next q.segment victim)) stands) of_data);
-    done = λ empty. ap (map (entry_place x)) (rest_then ∙ no_places (images_of d) (images_in d.closed) victims victim_image empty);
+    done = λ empty. ap (map (entry_place x)) (rest_then ∙ no_places (images_of d)
+        (images_in d.closed) victims victim_image empty);
     sealed = λ s survivor. refl;
     commits = sym may.no_commit;
     waiting = λ s waits. waits;
@@ -229,7 +243,8 @@ module _ (d : MasterData) (core : IsCore d) (victims : List ℕ) (cursor : Curso
 
 -- ---- a pass begins
 
-module _ (d e : MasterData) (f : FleetState) (victims : List ℕ) (answer : StepAnswer) (kept : IsWellKept d f) (is : BeginsPass d victims answer e)
+module _ (d e : MasterData) (f : FleetState) (victims : List ℕ) (answer : StepAnswer) (kept : IsWellKept d f)
+    (is : BeginsPass d victims answer e)
     (core : IsCore e) where
   admitted : (d.is_halted ≡ false) × (d.pass ≡ None)
   admitted =
@@ -244,11 +259,13 @@ module _ (d e : MasterData) (f : FleetState) (victims : List ℕ) (answer : Step
   intact =
       subst (λ (l : LogData). IsIntact l (memory_of e) kept.before) (sym is.log)
       (subst (λ (y : MasterData). IsIntact (id_taken (log_of d)) (memory_of y) kept.before) (sym is.rest)
-      (agreeing_is_intact (id_taken (log_of d)) (pass_begun (log_of d) (memory_of d) victims) (memory_of (begun_data d victims is.cursor)) kept.before
+      (agreeing_is_intact (id_taken (log_of d)) (pass_begun (log_of d) (memory_of d) victims)
+      (memory_of (begun_data d victims is.cursor)) kept.before
       (begin_keeps (log_of d) (memory_of d) kept.before victims kept.holds
       (may d kept.core victims is.cursor admitted.1 then_core is.begins))
       (agree d kept.core victims is.cursor admitted.1 then_core is.begins)))
 
   pub begun_kept : IsWellKept e f
   begun_kept =
-      unhanded_kept d e f kept admitted.0 core (ap (λ (y : MasterData). y.config) is.rest) (ap (λ (y : MasterData). y.waiting) is.rest) intact
+      unhanded_kept d e f kept admitted.0 core (ap (λ (y : MasterData). y.config) is.rest)
+      (ap (λ (y : MasterData). y.waiting) is.rest) intact

@@ -20,15 +20,15 @@ use Rattle.hash_index.specs.declared.place.Place.{Place}
 use Rattle.compactor.specs.Kept.{kept_of}
 use Rattle.compactor.specs.Laws.{compacted_images, CompactionFollows}
 use Rattle.compactor.proofs.FollowLaw.{follows}
-use Rattle.master_core.specs.declared.step.StepAnswer.{StepAnswer}
-use Rattle.master_core.specs.Budget.{victims_of, survivors_of, is_committing}
-use Rattle.master_core.specs.Data.{MasterData}
-use Rattle.master_core.specs.Invariant.{IsCore}
-use Rattle.master_core.specs.Log.{log_of, images_of, find, entry_place, memory_of, log_set_ids}
-use Rattle.master_core.specs.Steps.{compacted_data, Compacts}
-use Rattle.master_core.proofs.CompactedCore.{IsAdmitted, admitted, in_digest, images_then}
-use Rattle.master_core.proofs.CompactedIndex.{found_elsewhere}
-use Rattle.master_core.proofs.Imaging.{other_id}
+use Rattle.master_state.specs.declared.step.StepAnswer.{StepAnswer}
+use Rattle.master_state.specs.Budget.{victims_of, survivors_of, is_committing}
+use Rattle.master_state.specs.Data.{MasterData}
+use Rattle.master_state.specs.Invariant.{IsCore}
+use Rattle.master_state.specs.Log.{log_of, images_of, find, entry_place, memory_of, log_set_ids}
+use Rattle.master_state.specs.Steps.{compacted_data, Compacts}
+use Rattle.master_space.proofs.CompactedCore.{IsAdmitted, admitted, in_digest, images_then}
+use Rattle.master_space.proofs.CompactedIndex.{found_elsewhere}
+use Rattle.master_state.proofs.Imaging.{other_id}
 use Rattle.master.specs.Invariant.{IsWellKept}
 use Rattle.master.proofs.Handed.{unhanded_kept}
 use Rattle.master.proofs.KeptByEntries.{kept_by_entries}
@@ -46,10 +46,14 @@ same_segment ids index s es r p is = go (r.segment == s) refl where
   go : (t : Bool) → (r.segment == s) ≡ t → r.segment ≡ p.segment
   go true here =
       eqb-true r.segment s here
-      ∙ ap (λ (x : EntryPlace). x.segment) (same_Some (record { segment = s; position = kept_before ids index s 0 es r.position }) p (rw here at is))
+      ∙ ap (λ (x : EntryPlace). x.segment) (same_Some (record {
+        segment = s;
+        position = kept_before ids index s 0 es r.position;
+      }) p (rw here at is))
   go false away = ap (λ (x : EntryPlace). x.segment) (same_Some r p (rw away at is))
 
-module _ (d e : MasterData) (f : FleetState) (id : ℕ) (answer : StepAnswer) (kept : IsWellKept d f) (is : Compacts d id answer e)
+module _ (d e : MasterData) (f : FleetState) (id : ℕ) (answer : StepAnswer) (kept : IsWellKept d f)
+    (is : Compacts d id answer e)
     (core : IsCore e) where
   abbrev m : Memory
   m = memory_of d
@@ -90,7 +94,8 @@ module _ (d e : MasterData) (f : FleetState) (id : ℕ) (answer : StepAnswer) (k
   same_images s = at_segment (s == id) refl where
     at_segment : (t : Bool) → (s == id) ≡ t → images_of e s ≡ then_memory.images s
     at_segment true here =
-        let own : compacted_images (log_set_ids d) d.index (images_of d) id s ≡ kept_of (log_set_ids d) d.index id (images_of d id) = rw here refl in
+        let own : compacted_images (log_set_ids d) d.index (images_of d) id s
+        ≡ kept_of (log_set_ids d) d.index id (images_of d id) = rw here refl in
         let now = images_are s ∙ own in
         rw here (now ∙ sym (kept_by_entries d kept.core ids (log_set_ids d) (same_set d kept.core) id))
     at_segment false away = let now = others_same s away in rw away now
@@ -123,9 +128,11 @@ module _ (d e : MasterData) (f : FleetState) (id : ℕ) (answer : StepAnswer) (k
       let before = found_elsewhere law d kept.core id fit k q now
       (λ same. no_victim (subst (λ (z : ℕ). IsAmong z (victims_of d.pass)) same victim)) in
       let moved : moved_place ids m.index id (m.images id) (Some (entry_place d q)) ≡ Some p =
-      sym (ap (λ (o : Option Place). moved_place ids m.index id (m.images id) (option_map (entry_place d) o)) before) ∙ indexed in
+      sym (ap (λ (o : Option Place). moved_place ids m.index id (m.images id) (option_map (entry_place d) o))
+      before) ∙ indexed in
       let segment = same_segment ids m.index id (m.images id) (entry_place d q) p moved in
-      never_both d kept.core q.segment victim (subst (λ (z : ℕ). IsAmong z (survivors_of d.pass)) (sym segment) survivor)
+      never_both d kept.core q.segment victim (subst (λ (z : ℕ). IsAmong z (survivors_of d.pass))
+      (sym segment) survivor)
 
   model : IsModel e then_memory
   model = is_model d e leaves then_memory.images then_memory.index (is_committing d)
@@ -135,5 +142,6 @@ module _ (d e : MasterData) (f : FleetState) (id : ℕ) (answer : StepAnswer) (k
   compacted_kept =
       unhanded_kept d e f kept fit.running core (ap (λ (x : MasterData). x.config) is.rest)
       leaves.waiting
-      (own_intact e core then_memory kept.before (subst (λ (l : LogData). IsIntact l then_memory kept.before) (sym is.log)
+      (own_intact e core then_memory kept.before (subst (λ (l : LogData). IsIntact l then_memory
+      kept.before) (sym is.log)
       (compact_keeps (log_of d) m kept.before id kept.holds may)) model)

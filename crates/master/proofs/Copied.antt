@@ -1,5 +1,6 @@
 -- An entry that is treated keeps what holds of a master.
-use Rattle.std.proofs.Common.{◌≡◌, ℕ, Bool, true, false, inl, inr, List, [], ◌∷◌, ◌++◌, map, length, drop, refl, sym, ap, subst, ◌∙◌, arith}
+use Rattle.std.proofs.Common.{◌≡◌, ℕ, Bool, true, false, inl, inr, List, [], ◌∷◌, ◌++◌, map, length, drop, refl, sym}
+use Rattle.std.proofs.Common.{ap, subst, ◌∙◌, arith}
 use Rattle.std.specs.Prelude.{Option, Some, ◌==◌, if◌then◌else◌}
 use Rattle.std.specs.Option.{option_map, option_map_or}
 use Rattle.std.proofs.lemmas.Bool.{eqb-true, eqb-false}
@@ -32,16 +33,16 @@ use Rattle.clean_model.specs.Intact.{IsIntact}
 use Rattle.clean_model.specs.Memory.{Place as EntryPlace, Pass as PassIds, grown, log_ids}
 use Rattle.clean_model.specs.Steps.{next_place, index_moved, is_copied, with_copy, MayCopy}
 use Rattle.clean_model.proofs.Copying.{copy_keeps}
-use Rattle.master_core.specs.declared.step.Refusal.TheVariants.{Halted}
-use Rattle.master_core.specs.declared.step.StepAnswer.{StepAnswer}
-use Rattle.master_core.specs.Budget.{victims_of, survivors_of}
-use Rattle.master_core.specs.Data.{MasterData}
-use Rattle.master_core.specs.Invariant.{IsCore}
-use Rattle.master_core.specs.Log.{log_of, memory_of, images_of, log_set_ids, entry_place, position_of}
-use Rattle.master_core.specs.Steps.{Copies}
-use Rattle.master_core.proofs.Finding.{each_of}
-use Rattle.master_core.proofs.Indexing.{Grow, key_seen}
-use Rattle.master_core.proofs.Refusals.{passes}
+use Rattle.master_state.specs.declared.step.Refusal.TheVariants.{Halted}
+use Rattle.master_state.specs.declared.step.StepAnswer.{StepAnswer}
+use Rattle.master_state.specs.Budget.{victims_of, survivors_of}
+use Rattle.master_state.specs.Data.{MasterData}
+use Rattle.master_state.specs.Invariant.{IsCore}
+use Rattle.master_state.specs.Log.{log_of, memory_of, images_of, log_set_ids, entry_place, position_of}
+use Rattle.master_state.specs.Steps.{Copies}
+use Rattle.master_state.proofs.Finding.{each_of}
+use Rattle.master_state.proofs.Indexing.{Grow, key_seen}
+use Rattle.master_state.proofs.Refusals.{passes}
 use Rattle.master.specs.Invariant.{IsWellKept}
 use Rattle.master.proofs.Agreeing.{Agree, agreeing_is_intact}
 use Rattle.master.proofs.GrownImages.{index_then}
@@ -50,22 +51,26 @@ use Rattle.master.proofs.HeldPlaces.{holds_found}
 use Rattle.master.proofs.KeptByEntries.{position_is, stands_by_entries, kept_same}
 use Rattle.master.proofs.LogSets.{same_set}
 use Rattle.master.proofs.MovedPlaces.{held_moved, held_still}
-use Rattle.master.proofs.OpenPasses.{closed_among, same_among, open_now, rest_is, victim_image, below_survivor, not_head, survivor_image}
+use Rattle.master.proofs.OpenPasses.{closed_among, same_among, open_now, rest_is, victim_image, below_survivor}
+use Rattle.master.proofs.OpenPasses.{not_head, survivor_image}
 
 -- ---- what is kept, by entries and by offsets
 
 module _ (d : MasterData) (core : IsCore d) (u : Place) where
   kept_there : (e : Entry) → IsAtPlace (images_of d) u e
-      → entry_kept (log_ids (log_of d) (memory_of d)) (memory_of d).index u.segment (position_of (images_of d u.segment) u.at) e
+      → entry_kept (log_ids (log_of d) (memory_of d)) (memory_of d).index u.segment
+      (position_of (images_of d u.segment) u.at) e
       ≡ is_kept (log_set_ids d) d.index u e
   kept_there e l =
       ap (λ (n : ℕ). entry_kept (log_ids (log_of d) (memory_of d)) (memory_of d).index u.segment n e)
       (position_is (images_of d u.segment) u.at e (each_of d core u.segment) l)
-      ∙ kept_same d core (log_ids (log_of d) (memory_of d)) (log_set_ids d) (same_set d core) u.segment l.before e l.after l.split
+      ∙ kept_same d core (log_ids (log_of d) (memory_of d)) (log_set_ids d)
+      (same_set d core) u.segment l.before e l.after l.split
       ∙ ap (λ (n : ℕ). is_kept (log_set_ids d) d.index (record { segment = u.segment; at = n }) e) (sym l.offset)
 
   pub copied_is_kept : (e : Entry) → IsAtPlace (images_of d) u e → is_data e ≡ true
-      → is_copied (log_ids (log_of d) (memory_of d)) (memory_of d).index (entry_place d u) e ≡ is_kept (log_set_ids d) d.index u e
+      → is_copied (log_ids (log_of d) (memory_of d)) (memory_of d).index (entry_place d u) e
+      ≡ is_kept (log_set_ids d) d.index u e
   copied_is_kept (entry.Header h) l data_is = absurd (cc)
   copied_is_kept (entry.Digest ids) l data_is = absurd (cc)
   copied_is_kept (entry.Safe version) l data_is = absurd (cc)
@@ -86,7 +91,8 @@ abbrev ids_of : Option Pass → PassIds
 ids_of o = record { victims = victims_of o; survivors = survivors_of o }
 
 -- its places by entries are the same if they are so one by one
-maps_same : (f g : Place → EntryPlace) (us : List Place) → ((u : Place) → IsAmong u us → f u ≡ g u) → map f us ≡ map g us
+maps_same : (f g : Place → EntryPlace) (us : List Place) → ((u : Place) → IsAmong u us → f u ≡ g u)
+    → map f us ≡ map g us
 maps_same f g [] same = refl
 maps_same f g (u ∷ us) same = λ i. same u (inl refl) i ∷ maps_same f g us (λ v m. same v (inr m)) i
 
@@ -129,7 +135,8 @@ module _ (d : MasterData) (core : IsCore d) (p : Pass) (opened : d.pass ≡ Some
     before = images_of d p.survivor;
     after = [];
     split = images_own;
-    offset = len_is d.closed p.survivor ∙ ap (λ (es : List Entry). length (text_of es)) (sym (survivor_image d core p opened));
+    offset = len_is d.closed p.survivor ∙ ap (λ (es : List Entry). length (text_of es))
+        (sym (survivor_image d core p opened));
   }
 
   to_place : entry_place x to ≡ next_place (images_of d) p.survivor
@@ -139,7 +146,8 @@ module _ (d : MasterData) (core : IsCore d) (p : Pass) (opened : d.pass ≡ Some
       λ i. record { segment = p.survivor; position = at i }
 
   -- what is held where it was is found there, and the object of the copy where that lies
-  index_as : (k : Key) → ((w : Place) → keys_in (images_of d) w ≡ Some k → holds d.index (record { hash = hash_of k; place = w }) ≡ true
+  index_as : (k : Key) → ((w : Place) → keys_in (images_of d) w ≡ Some k
+      → holds d.index (record { hash = hash_of k; place = w }) ≡ true
       → holds x.index (record { hash = hash_of k; place = w }) ≡ true) → (memory_of x).index k ≡ (memory_of d).index k
   index_as k held = index_then d x core then_core (λ j. refl) grow k held
 
@@ -147,21 +155,29 @@ module _ (d : MasterData) (core : IsCore d) (p : Pass) (opened : d.pass ≡ Some
       → (memory_of x).index o.key ≡ Some (next_place (images_of d) p.survivor)
   index_to o is held =
       let stands = subst (λ (y : Entry). IsAtPlace (images_of x) to y) is lies_to in
-      let key = key_seen (images_of x) (each_of x then_core) to o.key (record { version = o.version; value = o.value }) stands in
+      let key = key_seen (images_of x) (each_of x then_core) to o.key
+      (record { version = o.version; value = o.value }) stands in
       let found = holds_found (keys_in (images_of x)) x.index then_core.index.kept o.key to key held in
       ap (option_map (entry_place x)) found ∙ ap (λ (w : EntryPlace). Some w) to_place
 
 index_kept : (d : MasterData) (core : IsCore d) (p : Pass) (opened : d.pass ≡ Some p) (u : Place) (e : Entry) (q : Pass)
-    (then_core : IsCore (copied_data d p u e q)) → IsAtPlace (images_of d) u e → is_kept (log_set_ids d) d.index u e ≡ true
+    (then_core : IsCore (copied_data d p u e q)) → IsAtPlace (images_of d) u e
+    → is_kept (log_set_ids d) d.index u e ≡ true
     → (k : Key) → (memory_of (copied_data d p u e q)).index k ≡ index_moved (memory_of d) p.survivor e k
-index_kept d core p opened u (entry.Header h) q then_core l is k = index_as d core p opened u (entry.Header h) q then_core k (λ w key held. held)
-index_kept d core p opened u (entry.Digest ids) q then_core l is k = index_as d core p opened u (entry.Digest ids) q then_core k (λ w key held. held)
-index_kept d core p opened u (entry.Safe version) q then_core l is k = index_as d core p opened u (entry.Safe version) q then_core k (λ w key held. held)
-index_kept d core p opened u (entry.Tombstone t) q then_core l is k = index_as d core p opened u (entry.Tombstone t) q then_core k (λ w key held. held)
+index_kept d core p opened u (entry.Header h) q then_core l is k =
+    index_as d core p opened u (entry.Header h) q then_core k (λ w key held. held)
+index_kept d core p opened u (entry.Digest ids) q then_core l is k =
+    index_as d core p opened u (entry.Digest ids) q then_core k (λ w key held. held)
+index_kept d core p opened u (entry.Safe version) q then_core l is k =
+    index_as d core p opened u (entry.Safe version) q then_core k (λ w key held. held)
+index_kept d core p opened u (entry.Tombstone t) q then_core l is k =
+    index_as d core p opened u (entry.Tombstone t) q then_core k (λ w key held. held)
 index_kept d core p opened u (entry.Object o) q then_core l is k =
-    elim (key_eq-tells k o.key) as (λ _. (memory_of x).index k ≡ index_moved (memory_of d) p.survivor (entry.Object o) k) [
+    elim (key_eq-tells k o.key) as (λ _. (memory_of x).index k
+    ≡ index_moved (memory_of d) p.survivor (entry.Object o) k) [
       | inl t ↦ (let yes = t.0 in rw yes (ap (memory_of x).index t.1 ∙ there))
-      | inr n ↦ (let no = n.0 in rw no (index_as d core p opened u (entry.Object o) q then_core k (λ w key held. still n.1 w key held)))
+      | inr n ↦ (let no = n.0 in rw no (index_as d core p opened u (entry.Object o) q then_core k
+          (λ w key held. still n.1 w key held)))
     ]
   where
     x : MasterData
@@ -175,21 +191,25 @@ index_kept d core p opened u (entry.Object o) q then_core l is k =
         index_to d core p opened u (entry.Object o) q then_core o refl
         (held_moved (record { hash = hash_of o.key; place = u }) (copy_place p.survivor d.closed) d.index is)
 
-    still : (k ≡ o.key → ⊥) → (w : Place) → keys_in (images_of d) w ≡ Some k → holds d.index (record { hash = hash_of k; place = w }) ≡ true
+    still : (k ≡ o.key → ⊥) → (w : Place) → keys_in (images_of d) w ≡ Some k
+        → holds d.index (record { hash = hash_of k; place = w }) ≡ true
         → holds (copied_data d p u (entry.Object o) q).index (record { hash = hash_of k; place = w }) ≡ true
     still differ w key held =
-        held_still (record { hash = hash_of o.key; place = u }) (copy_place p.survivor d.closed) (record { hash = hash_of k; place = w })
+        held_still (record { hash = hash_of o.key; place = u }) (copy_place p.survivor d.closed)
+        (record { hash = hash_of k; place = w })
         other d.index held
       where
         other : w ≡ u → ⊥
         other same =
-            let own = key_seen (images_of d) (each_of d core) u o.key (record { version = o.version; value = o.value }) l in
+            let own = key_seen (images_of d) (each_of d core) u o.key
+            (record { version = o.version; value = o.value }) l in
             differ (same_Some k o.key (sym key ∙ ap (keys_in (images_of d)) same ∙ own))
 
 -- ---- the memory then
 
 module _ (d : MasterData) (core : IsCore d) (p : Pass) (opened : d.pass ≡ Some p) (u : Place) (later : List Place)
-    (first : rest_of (images_in d.closed) p ≡ u ∷ later) (e : Entry) (q : Pass) (pass_is : q ≡ record p { cursor = q.cursor }) where
+    (first : rest_of (images_in d.closed) p ≡ u ∷ later) (e : Entry) (q : Pass)
+    (pass_is : q ≡ record p { cursor = q.cursor }) where
   victim_rest : (w : Place) → IsAmong w later → IsAmong w.segment p.victims
   victim_rest w among =
       among_drop p.cursor.victim p.victims w.segment
@@ -200,20 +220,24 @@ module _ (d : MasterData) (core : IsCore d) (p : Pass) (opened : d.pass ≡ Some
   same_ids = ap (λ (r : Pass). ids_of (Some r)) pass_is ∙ ap ids_of (sym opened)
 
   same_sealed : q.sealed ≡ option_map_or (λ (r : Pass). r.sealed) d.pass 0
-  same_sealed = ap (λ (r : Pass). r.sealed) pass_is ∙ ap (λ (o : Option Pass). option_map_or (λ (r : Pass). r.sealed) o 0) (sym opened)
+  same_sealed = ap (λ (r : Pass). r.sealed) pass_is ∙ ap
+      (λ (o : Option Pass). option_map_or (λ (r : Pass). r.sealed) o 0) (sym opened)
 
   same_commits : q.is_committing ≡ option_map_or (λ (r : Pass). r.is_committing) d.pass false
   same_commits =
-      ap (λ (r : Pass). r.is_committing) pass_is ∙ ap (λ (o : Option Pass). option_map_or (λ (r : Pass). r.is_committing) o false) (sym opened)
+      ap (λ (r : Pass). r.is_committing) pass_is ∙ ap (λ (o : Option Pass). option_map_or
+      (λ (r : Pass). r.is_committing) o false) (sym opened)
 
   -- the entry was passed over
   agree_dropped : rest_of (images_in d.closed) q ≡ later
-      → Agree (log_of d) (record (memory_of d) { rest = map (entry_place d) later }) (memory_of (record d { pass = Some q }))
+      → Agree (log_of d) (record (memory_of d) { rest = map (entry_place d) later })
+      (memory_of (record d { pass = Some q }))
   agree_dropped left = record {
     pass = same_ids;
     images = λ s counts. refl;
     index = λ k. refl;
-    rest = λ w y victim stands data_is coming. subst (λ (ps : List Place). IsAmong w (map (entry_place d) ps)) (sym left) coming;
+    rest = λ w y victim stands data_is coming. subst (λ (ps : List Place). IsAmong w (map (entry_place d) ps))
+        (sym left) coming;
     done = λ none. ap (map (entry_place d)) left ∙ none;
     sealed = λ s survivor. same_sealed;
     commits = same_commits;
@@ -222,7 +246,8 @@ module _ (d : MasterData) (core : IsCore d) (p : Pass) (opened : d.pass ≡ Some
   }
 
   -- it was copied
-  module _ (l : IsAtPlace (images_of d) u e) (is : is_kept (log_set_ids d) d.index u e ≡ true) (then_core : IsCore (copied_data d p u e q))
+  module _ (l : IsAtPlace (images_of d) u e) (is : is_kept (log_set_ids d) d.index u e ≡ true)
+      (then_core : IsCore (copied_data d p u e q))
       (left : rest_of (images_in (changed d.closed p.survivor (with_unit (e ∷ [])))) q ≡ later) where
     same_place : (w : Place) → IsAmong w later → entry_place (copied_data d p u e q) w ≡ entry_place d w
     same_place w among =
@@ -235,7 +260,8 @@ module _ (d : MasterData) (core : IsCore d) (p : Pass) (opened : d.pass ≡ Some
         ap (map (entry_place (copied_data d p u e q))) left
         ∙ maps_same (entry_place (copied_data d p u e q)) (entry_place d) later same_place
 
-    agree_kept : Agree (log_of d) (with_copy (memory_of d) (map (entry_place d) later) p.survivor e) (memory_of (copied_data d p u e q))
+    agree_kept : Agree (log_of d) (with_copy (memory_of d) (map (entry_place d) later) p.survivor e)
+        (memory_of (copied_data d p u e q))
     agree_kept = record {
       pass = same_ids;
       images = λ s counts. images_then d core p opened u e q then_core s;
@@ -250,7 +276,8 @@ module _ (d : MasterData) (core : IsCore d) (p : Pass) (opened : d.pass ≡ Some
 
 -- ---- a copy
 
-module _ (d e : MasterData) (f : FleetState) (answer : StepAnswer) (kept : IsWellKept d f) (is : Copies d answer e) (core : IsCore e) where
+module _ (d e : MasterData) (f : FleetState) (answer : StepAnswer) (kept : IsWellKept d f) (is : Copies d answer e)
+    (core : IsCore e) where
   abbrev p : Pass
   p = is.pass
 
@@ -268,7 +295,8 @@ module _ (d e : MasterData) (f : FleetState) (answer : StepAnswer) (kept : IsWel
   may : MayCopy (log_of d) (memory_of d) (entry_place d is.treats.place) rest is.pass.survivor is.treats.entry
   may = record {
     cursor = ap (map (entry_place d)) (rest_is d kept.core is.pass is.opened ∙ is.treats.first);
-    victim = subst (λ (o : Option Pass). IsAmong is.treats.place.segment (victims_of o)) (sym is.opened) is.treats.victim;
+    victim = subst (λ (o : Option Pass). IsAmong is.treats.place.segment (victims_of o))
+        (sym is.opened) is.treats.victim;
     survivor = subst (λ (o : Option Pass). IsAmong is.pass.survivor (survivors_of o)) (sym is.opened) (inl refl);
     at = stands_by_entries (images_of d is.treats.place.segment) is.treats.place.at is.treats.entry
         (each_of d kept.core is.treats.place.segment) lies;
@@ -276,12 +304,15 @@ module _ (d e : MasterData) (f : FleetState) (answer : StepAnswer) (kept : IsWel
 
   intact_if : (t : Bool) → is_kept (log_set_ids d) d.index is.treats.place is.treats.entry ≡ t
       → IsIntact (log_of d)
-      (if t then with_copy (memory_of d) rest is.pass.survivor is.treats.entry else record (memory_of d) { rest = rest }) kept.before
+      (if t then with_copy (memory_of d) rest is.pass.survivor is.treats.entry
+      else record (memory_of d) { rest = rest }) kept.before
   intact_if t test =
       subst (λ (b : Bool). IsIntact (log_of d)
-      (if b then with_copy (memory_of d) rest is.pass.survivor is.treats.entry else record (memory_of d) { rest = rest }) kept.before)
+      (if b then with_copy (memory_of d) rest is.pass.survivor is.treats.entry
+      else record (memory_of d) { rest = rest }) kept.before)
       (copied_is_kept d kept.core is.treats.place is.treats.entry lies is.treats.of_data ∙ test)
-      (copy_keeps (log_of d) (memory_of d) kept.before (entry_place d is.treats.place) rest is.pass.survivor is.treats.entry kept.holds may)
+      (copy_keeps (log_of d) (memory_of d) kept.before (entry_place d is.treats.place) rest is.pass.survivor
+      is.treats.entry kept.holds may)
 
   intact_then : (t : Bool) → is_kept (log_set_ids d) d.index is.treats.place is.treats.entry ≡ t
       → IsIntact (log_of e) (memory_of e) kept.before
@@ -289,7 +320,8 @@ module _ (d e : MasterData) (f : FleetState) (answer : StepAnswer) (kept : IsWel
       subst (λ (y : MasterData). IsIntact (log_of y) (memory_of y) kept.before) (sym whole)
       (agreeing_is_intact (log_of d) (with_copy (memory_of d) rest is.pass.survivor is.treats.entry)
       (memory_of (copied_data d is.pass is.treats.place is.treats.entry is.after)) kept.before (intact_if true test)
-      (agree_kept d kept.core is.pass is.opened is.treats.place is.treats.later is.treats.first is.treats.entry is.after is.treats.pass
+      (agree_kept d kept.core is.pass is.opened is.treats.place is.treats.later is.treats.first is.treats.entry
+      is.after is.treats.pass
       lies test (subst IsCore whole core) left))
     where
       closed_is : e.closed ≡ changed d.closed is.pass.survivor (with_unit (is.treats.entry ∷ []))
@@ -298,18 +330,22 @@ module _ (d e : MasterData) (f : FleetState) (answer : StepAnswer) (kept : IsWel
       index_is : e.index ≡ moved_one is.treats.place (copy_place is.pass.survivor d.closed) is.treats.entry d.index
       index_is =
           is.treats.index
-          ∙ ap (λ (b : Bool). held_with b is.treats.place (copy_place is.pass.survivor d.closed) is.treats.entry d.index) test
+          ∙ ap (λ (b : Bool). held_with b is.treats.place (copy_place is.pass.survivor d.closed)
+          is.treats.entry d.index) test
 
       whole : e ≡ copied_data d is.pass is.treats.place is.treats.entry is.after
       whole = is.rest ∙ (λ i. record d { closed = closed_is i; index = index_is i; pass = Some is.after })
 
-      left : rest_of (images_in (changed d.closed is.pass.survivor (with_unit (is.treats.entry ∷ [])))) is.after ≡ is.treats.later
+      left : rest_of (images_in (changed d.closed is.pass.survivor (with_unit (is.treats.entry ∷ []))))
+          is.after ≡ is.treats.later
       left = ap (λ (cs : List Image). rest_of (images_in cs) is.after) (sym closed_is) ∙ is.treats.rest
   intact_then false test =
       subst (λ (y : MasterData). IsIntact (log_of y) (memory_of y) kept.before) (sym whole)
-      (agreeing_is_intact (log_of d) (record (memory_of d) { rest = rest }) (memory_of (record d { pass = Some is.after })) kept.before
+      (agreeing_is_intact (log_of d) (record (memory_of d) { rest = rest })
+      (memory_of (record d { pass = Some is.after })) kept.before
       (intact_if false test)
-      (agree_dropped d kept.core is.pass is.opened is.treats.place is.treats.later is.treats.first is.treats.entry is.after is.treats.pass left))
+      (agree_dropped d kept.core is.pass is.opened is.treats.place is.treats.later is.treats.first is.treats.entry
+      is.after is.treats.pass left))
     where
       closed_is : e.closed ≡ d.closed
       closed_is = is.treats.survivor ∙ ap (λ (b : Bool). images_with b is.pass.survivor is.treats.entry d.closed) test
@@ -317,7 +353,8 @@ module _ (d e : MasterData) (f : FleetState) (answer : StepAnswer) (kept : IsWel
       index_is : e.index ≡ d.index
       index_is =
           is.treats.index
-          ∙ ap (λ (b : Bool). held_with b is.treats.place (copy_place is.pass.survivor d.closed) is.treats.entry d.index) test
+          ∙ ap (λ (b : Bool). held_with b is.treats.place (copy_place is.pass.survivor d.closed)
+          is.treats.entry d.index) test
 
       whole : e ≡ record d { pass = Some is.after }
       whole = is.rest ∙ (λ i. record d { closed = closed_is i; index = index_is i; pass = Some is.after })
@@ -327,5 +364,7 @@ module _ (d e : MasterData) (f : FleetState) (answer : StepAnswer) (kept : IsWel
 
   pub copied_kept : IsWellKept e f
   copied_kept =
-      unhanded_kept d e f kept (passes d.is_halted Halted _ is.passed).0 core (ap (λ (y : MasterData). y.config) is.rest)
-      (ap (λ (y : MasterData). y.waiting) is.rest) (intact_then (is_kept (log_set_ids d) d.index is.treats.place is.treats.entry) refl)
+      unhanded_kept d e f kept (passes d.is_halted Halted _ is.passed).0 core
+      (ap (λ (y : MasterData). y.config) is.rest)
+      (ap (λ (y : MasterData). y.waiting) is.rest) (intact_then
+      (is_kept (log_set_ids d) d.index is.treats.place is.treats.entry) refl)

@@ -1,5 +1,6 @@
 -- A roll ends with the last Close. With a commit the victims of its pass leave memory, and wait to be freed.
-use Rattle.std.proofs.Common.{◌≡◌, ℕ, ◌⊎◌, ◌<◌, ◌≤◌, inl, inr, Bool, true, false, List, [], ◌∷◌, ◌++◌, refl, sym, ap, subst, ◌∙◌, arith}
+use Rattle.std.proofs.Common.{◌≡◌, ℕ, ◌⊎◌, ◌<◌, ◌≤◌, inl, inr, Bool, true, false, List, [], ◌∷◌, ◌++◌, refl, sym, ap}
+use Rattle.std.proofs.Common.{subst, ◌∙◌, arith}
 use Rattle.std.specs.Prelude.{Option, Some, ◌==◌, filter, unwrap_or, slice_get, if◌then◌else◌}
 use Rattle.std.specs.List.{AllByRecursion}
 use Rattle.std.specs.Option.{option_map, option_map_or}
@@ -24,18 +25,18 @@ use Rattle.clean_model.specs.Intact.{IsIntact}
 use Rattle.clean_model.specs.Memory.{Place as EntryPlace, Memory, log_ids}
 use Rattle.clean_model.specs.Steps.{finished}
 use Rattle.clean_model.proofs.KeptEntries.{is_has}
-use Rattle.master_core.specs.Budget.{victims_of, survivors_of, is_committing}
-use Rattle.master_core.specs.Data.{MasterData}
-use Rattle.master_core.specs.Images.{closed_image, with_closed, leaving}
-use Rattle.master_core.specs.Invariant.{AreApart, IsCore}
-use Rattle.master_core.specs.Log.{log_of, image_of, images_of, find, entry_place, freed_of, memory_of}
-use Rattle.master_core.specs.Steps.{pass_ended}
-use Rattle.master_core.proofs.Committed.{image_stays}
-use Rattle.master_core.proofs.Digests.{id_is}
-use Rattle.master_core.proofs.Imaging.{ids_in}
-use Rattle.master_core.proofs.LogIds.{open_of, closed_rise, no_head}
-use Rattle.master_core.proofs.Rising.{Rise, has_not, rise_put}
-use Rattle.master_core.proofs.Rolls.{added_ids, rolls_of, values, closed_images}
+use Rattle.master_state.specs.Budget.{victims_of, survivors_of, is_committing}
+use Rattle.master_state.specs.Data.{MasterData}
+use Rattle.master_state.specs.Images.{closed_image, with_closed, leaving}
+use Rattle.master_state.specs.Invariant.{AreApart, IsCore}
+use Rattle.master_state.specs.Log.{log_of, image_of, images_of, find, entry_place, freed_of, memory_of}
+use Rattle.master_state.specs.Steps.{pass_ended}
+use Rattle.master_space.proofs.Committed.{image_stays}
+use Rattle.master_space.proofs.Digests.{id_is}
+use Rattle.master_state.proofs.Imaging.{ids_in}
+use Rattle.master_state.proofs.LogIds.{open_of, closed_rise, no_head}
+use Rattle.master_state.proofs.Rising.{Rise, has_not, rise_put}
+use Rattle.master_space.proofs.RollEnds.{added_ids, rolls_of, values, closed_images}
 use Rattle.master.specs.Invariant.{IsKeptAs}
 use Rattle.master.proofs.LogSets.{new_now}
 use Rattle.master.proofs.Models.{IsModel, LeavesPass, rest_stays, is_model}
@@ -73,7 +74,8 @@ module _ (d e : MasterData) (core : IsCore d) (later : IsCore e) (images : (s : 
 
   pub same_model : IsModel e (memory_of d)
   same_model = is_model d e leaves (images_of d) (memory_of d).index (is_committing d)
-      (ap (λ (o : Option OpenPass). option_map_or (λ (p : OpenPass). p.is_committing) o false) pass) (λ s counts. same_at s) behind
+      (ap (λ (o : Option OpenPass). option_map_or (λ (p : OpenPass). p.is_committing) o false) pass)
+      (λ s counts. same_at s) behind
 
 -- ---- lists
 
@@ -107,7 +109,8 @@ in_filter T (z ∷ ids) s m = go (T z) refl (in_filter T ids s) m where
 has_append : (xs ys : List ℕ) (s : ℕ) → has xs s ≡ false → has ys s ≡ false → has (xs ++ ys) s ≡ false
 has_append [] ys s first later = later
 has_append (x ∷ xs) ys s first later = go (x == s) refl (has_append xs ys s) where
-  go : (t : Bool) → (x == s) ≡ t → (has xs s ≡ false → has ys s ≡ false → has (xs ++ ys) s ≡ false) → has (x ∷ (xs ++ ys)) s ≡ false
+  go : (t : Bool) → (x == s) ≡ t → (has xs s ≡ false → has ys s ≡ false → has (xs ++ ys) s ≡ false)
+      → has (x ∷ (xs ++ ys)) s ≡ false
   go true is rest = (let never : true ≡ false = rw is at first in absurd (cc))
   go false is rest = (let none : has xs s ≡ false = rw is at first in rw is (rest none later))
 
@@ -117,7 +120,8 @@ hasnt ids s never = go (has ids s) refl where
   go true is = absurd (never (is_has ids s is))
   go false is = is
 
-apart_append : (xs ys : List ℕ) → AreApart xs → AreApart ys → ((s : ℕ) → IsAmong s xs → IsAmong s ys → ⊥) → AreApart (xs ++ ys)
+apart_append : (xs ys : List ℕ) → AreApart xs → AreApart ys → ((s : ℕ) → IsAmong s xs → IsAmong s ys → ⊥)
+    → AreApart (xs ++ ys)
 apart_append [] ys first later never = later
 apart_append (x ∷ xs) ys first later never = (
   has_append xs ys x first.0 (hasnt ys x (λ m. never x (inl refl) m)),
@@ -133,7 +137,8 @@ first_freed (w ∷ ws) more freed s = omega arith
 
 -- ---- the head that was rolled to is in force
 
-module _ {Holds : LogData → Memory → Picture → Type 0} (d : MasterData) (f : FleetState) (kept : IsKeptAs Holds d f) (r : Roll)
+module _ {Holds : LogData → Memory → Picture → Type 0} (d : MasterData) (f : FleetState)
+    (kept : IsKeptAs Holds d f) (r : Roll)
     (rolls : d.head.roll ≡ Some r) where
   abbrev closed : List Image
   closed = with_closed d.closed d.head.id (Some d.head.image)
@@ -147,7 +152,8 @@ module _ {Holds : LogData → Memory → Picture → Type 0} (d : MasterData) (f
   -- an ordinary roll
   pub rolled_model : IsCore rolled → IsModel rolled (memory_of d)
   rolled_model core =
-      same_model d rolled kept.core core (closed_images d kept.core r rolls) refl refl refl refl (let lt = newer in omega arith)
+      same_model d rolled kept.core core (closed_images d kept.core r rolls) refl refl refl refl
+      (let lt = newer in omega arith)
 
   -- ---- a commit
 
@@ -160,7 +166,8 @@ module _ {Holds : LogData → Memory → Picture → Type 0} (d : MasterData) (f
     victims_are = ap victims_of opened
 
     committing : is_committing d ≡ true
-    committing = ap (λ (o : Option OpenPass). option_map_or (λ (q : OpenPass). q.is_committing) o false) opened ∙ commits
+    committing = ap (λ (o : Option OpenPass). option_map_or
+        (λ (q : OpenPass). q.is_committing) o false) opened ∙ commits
 
     -- ---- images
 
@@ -168,16 +175,19 @@ module _ {Holds : LogData → Memory → Picture → Type 0} (d : MasterData) (f
     start_is : (head_of e.head).start ≡ start_of r
     start_is =
         ap (λ (h : Head). h.start)
-        (head_in_force d.config.master d.head r (rolls_of d kept.core r rolls).image (values d kept.core r rolls).segment)
+        (head_in_force d.config.master d.head r (rolls_of d kept.core r rolls).image
+        (values d kept.core r rolls).segment)
 
     not_victim : (s : ℕ) → IsAmong s (ids_of (head_of e.head).start) → IsAmong s (victims_of d.pass) → ⊥
     not_victim s listed victim =
-        elim (among_push s (start_of r).others (start_of r).id (subst (λ (n : Start). IsAmong s (ids_of n)) start_is listed))
+        elim (among_push s (start_of r).others (start_of r).id
+        (subst (λ (n : Start). IsAmong s (ids_of n)) start_is listed))
         as (λ _. ⊥) [
-          | inl other ↦ elim (((intact.rolling (start_of r) (new_now d r rolls)).1 committing).0.from s other) as (λ _. ⊥) [
-            | inl old ↦ old.1 victim
-            | inr survivor ↦ never_both d kept.core s victim survivor
-          ]
+          | inl other ↦ elim (((intact.rolling (start_of r) (new_now d r rolls)).1 committing).0.from s
+              other) as (λ _. ⊥) [
+                | inl old ↦ old.1 victim
+                | inr survivor ↦ never_both d kept.core s victim survivor
+              ]
           | inr own ↦ (
               let lt = victim_below d kept.core s victim in
               let more = newer in
@@ -188,22 +198,26 @@ module _ {Holds : LogData → Memory → Picture → Type 0} (d : MasterData) (f
     log_set_same : (s : ℕ) → IsAmong s (log_ids (log_of e) (finished (memory_of d))) → images_of e s ≡ images_of d s
     log_set_same s counts =
         let listed : IsAmong s (ids_of (head_of e.head).start) =
-        elim (among_either s (ids_of (head_of e.head).start) [] counts) as (λ _. IsAmong s (ids_of (head_of e.head).start)) [
+        elim (among_either s (ids_of (head_of e.head).start) [] counts) as (λ _. IsAmong s
+        (ids_of (head_of e.head).start)) [
           | inl i ↦ i
           | inr none ↦ absurd none
         ] in
         ap (λ (o : Option (List Entry)). unwrap_or o [])
         (image_stays d kept.core r rolls p (open_of d kept.core p opened) opened commits s
-        (hasnt p.victims s (λ victim. not_victim s listed (subst (λ (ids : List ℕ). IsAmong s ids) (sym victims_are) victim))))
+        (hasnt p.victims s (λ victim. not_victim s listed (subst (λ (ids : List ℕ). IsAmong s ids)
+        (sym victims_are) victim))))
 
     -- ---- what waits
 
     waits : (s : ℕ) → IsAmong s e.waiting → IsAmong s (victims_of d.pass ++ d.waiting)
-    waits s m = elim (among_either s d.waiting (leaving p.victims closed) m) as (λ _. IsAmong s (victims_of d.pass ++ d.waiting)) [
-      | inl old ↦ among_right s (victims_of d.pass) d.waiting old
-      | inr new ↦ among_left s (victims_of d.pass) d.waiting
-          (subst (λ (ids : List ℕ). IsAmong s ids) (sym victims_are) (is_has p.victims s (in_filter (has p.victims) (ids_in closed) s new)))
-    ]
+    waits s m = elim (among_either s d.waiting (leaving p.victims closed) m) as (λ _. IsAmong s
+        (victims_of d.pass ++ d.waiting)) [
+          | inl old ↦ among_right s (victims_of d.pass) d.waiting old
+          | inr new ↦ among_left s (victims_of d.pass) d.waiting
+              (subst (λ (ids : List ℕ). IsAmong s ids) (sym victims_are)
+              (is_has p.victims s (in_filter (has p.victims) (ids_in closed) s new)))
+        ]
 
     fewer : (s : ℕ) → (if has (victims_of d.pass) s then 0 else freed_of d s) ≤ freed_of e s
     fewer s = go (has (victims_of d.pass) s) where

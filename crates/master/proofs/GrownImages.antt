@@ -10,17 +10,18 @@ use Rattle.hash_index.specs.declared.place.Place.{Place}
 use Rattle.hash_index.specs.Map.{hash_of}
 use Rattle.hash_index.specs.Relocation.{holds}
 use Rattle.compactor.specs.Places.{LiesAt, IsAtPlace, keys_in}
-use Rattle.master_core.specs.Data.{MasterData}
-use Rattle.master_core.specs.Index.{LiesFound}
-use Rattle.master_core.specs.Invariant.{IsCore}
-use Rattle.master_core.specs.Log.{images_of, find, state_now, entry_place, memory_of}
-use Rattle.master_core.proofs.Finding.{each_of, found_place}
-use Rattle.master_core.proofs.Indexing.{Grow, key_seen}
+use Rattle.master_state.specs.Data.{MasterData}
+use Rattle.master_state.specs.Index.{LiesFound}
+use Rattle.master_state.specs.Invariant.{IsCore}
+use Rattle.master_state.specs.Log.{images_of, find, state_now, entry_place, memory_of}
+use Rattle.master_state.proofs.Finding.{each_of, found_place}
+use Rattle.master_state.proofs.Indexing.{Grow, key_seen}
 use Rattle.master.proofs.HeldPlaces.{holds_found, found_holds}
 use Rattle.master.proofs.KeptByEntries.{position_is}
 
 -- an entry stays where it is if there is more behind
-pub lies_on : (image longer more : List Entry) (at : ℕ) (e : Entry) → longer ≡ image ++ more → LiesAt image at e → LiesAt longer at e
+pub lies_on : (image longer more : List Entry) (at : ℕ) (e : Entry) → longer ≡ image ++ more → LiesAt image at e
+    → LiesAt longer at e
 lies_on image longer more at e is l = record {
   before = l.before;
   after = l.after ++ more;
@@ -31,15 +32,18 @@ lies_on image longer more at e is l = record {
 -- nothing is found of a key that has none
 pub no_place : (d : MasterData) → IsCore d → (k : Key) → (state_now d).contents k ≡ None → find d k ≡ None
 no_place d core k none = go (find d k) ((state_now d).contents k) refl none (core.index.lies k) where
-  go : (f : Option Place) (x : Option Versioned) → find d k ≡ f → x ≡ None → LiesFound (images_of d) k f x → find d k ≡ None
+  go : (f : Option Place) (x : Option Versioned) → find d k ≡ f → x ≡ None
+      → LiesFound (images_of d) k f x → find d k ≡ None
   go None x is none lies = is
   go (Some q) None is none lies = absurd lies
   go (Some q) (Some v) is none lies = absurd (cc)
 
 module _ (d x : MasterData) (core : IsCore d) (core_then : IsCore x)
-    (same : (k : Key) → (state_now x).contents k ≡ (state_now d).contents k) (grow : Grow (images_of d) (images_of x)) where
+    (same : (k : Key) → (state_now x).contents k ≡ (state_now d).contents k)
+    (grow : Grow (images_of d) (images_of x)) where
   lies_then : (u : Place) (e : Entry) → IsAtPlace (images_of d) u e → IsAtPlace (images_of x) u e
-  lies_then u e l = lies_on (images_of d u.segment) (images_of x u.segment) (grow u.segment).0 u.at e (grow u.segment).1 l
+  lies_then u e l = lies_on (images_of d u.segment) (images_of x u.segment) (grow u.segment).0 u.at e
+      (grow u.segment).1 l
 
   pub place_then : (u : Place) (e : Entry) → IsAtPlace (images_of d) u e → entry_place x u ≡ entry_place d u
   unfolding lies_then lies_on
@@ -49,10 +53,12 @@ module _ (d x : MasterData) (core : IsCore d) (core_then : IsCore x)
       λ i. record { segment = u.segment; position = (now ∙ sym was) i }
 
   -- what is found is found again where it is still held
-  pub index_then : (k : Key) → ((u : Place) → keys_in (images_of d) u ≡ Some k → holds d.index (record { hash = hash_of k; place = u }) ≡ true
+  pub index_then : (k : Key) → ((u : Place) → keys_in (images_of d) u ≡ Some k
+      → holds d.index (record { hash = hash_of k; place = u }) ≡ true
       → holds x.index (record { hash = hash_of k; place = u }) ≡ true) → (memory_of x).index k ≡ (memory_of d).index k
   index_then k held = go ((state_now d).contents k) refl where
-    go : (v : Option Versioned) → (state_now d).contents k ≡ v → option_map (entry_place x) (find x k) ≡ option_map (entry_place d) (find d k)
+    go : (v : Option Versioned) → (state_now d).contents k ≡ v
+        → option_map (entry_place x) (find x k) ≡ option_map (entry_place d) (find d k)
     go None none =
         ap (option_map (entry_place x)) (no_place x core_then k (same k ∙ none))
         ∙ ap (option_map (entry_place d)) (sym (no_place d core k none))
@@ -61,6 +67,7 @@ module _ (d x : MasterData) (core : IsCore d) (core_then : IsCore x)
         let key = key_seen (images_of d) (each_of d core) at.0 k v at.2 in
         let was = found_holds (keys_in (images_of d)) d.index core.index.kept.told k at.0 at.1 in
         let now = holds_found (keys_in (images_of x)) x.index core_then.index.kept k at.0
-        (key_seen (images_of x) (each_of x core_then) at.0 k v (lies_then at.0 (object_at k v) at.2)) (held at.0 key was) in
+        (key_seen (images_of x) (each_of x core_then) at.0 k v (lies_then at.0 (object_at k v) at.2))
+        (held at.0 key was) in
         ap (option_map (entry_place x)) now ∙ ap (λ (p : EntryPlace). Some p) (place_then at.0 (object_at k v) at.2)
         ∙ ap (option_map (entry_place d)) (sym at.1)

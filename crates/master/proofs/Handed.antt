@@ -12,18 +12,19 @@ use Rattle.log_model.specs.Ops.{LogOp, op_of, taken}
 use Rattle.log_model.proofs.Fleets.{fleet_takes}
 use Rattle.clean_model.specs.Memory.{Memory}
 use Rattle.clean_model.specs.Steps.{IsOp, IsFault}
-use Rattle.master_core.specs.declared.config.Config.{Config}
-use Rattle.master_core.specs.Data.{MasterData}
-use Rattle.master_core.specs.Invariant.{AreApart, IsCore}
-use Rattle.master_core.specs.Log.{log_of, memory_of}
-use Rattle.master_core.specs.Steps.{halted, refusal_of, failed_data}
-use Rattle.master_core.proofs.Beginning.{halted_core}
+use Rattle.master_state.specs.declared.config.Config.{Config}
+use Rattle.master_state.specs.Data.{MasterData}
+use Rattle.master_state.specs.Invariant.{AreApart, IsCore}
+use Rattle.master_state.specs.Log.{log_of, memory_of}
+use Rattle.master_state.specs.Steps.{halted, refusal_of, failed_data}
+use Rattle.master_state.proofs.Beginning.{halted_core}
 use Rattle.master.specs.Invariant.{IsKeptAs}
 use Rattle.master.specs.Steps.{FailsTake}
 
 -- The backups before it take the op.
 module _ {Holds : LogData → Memory → Picture → Type 0} (d : MasterData) (f : FleetState) (kept : IsKeptAs Holds d f)
-    (running : d.is_halted ≡ false) (o : LogOp) (home : o.backup < d.config.backups) (q : Picture) (took : taken kept.before d.config.master o ≡ Some q) where
+    (running : d.is_halted ≡ false) (o : LogOp) (home : o.backup < d.config.backups) (q : Picture)
+    (took : taken kept.before d.config.master o ≡ Some q) where
   here : f.picture ≡ kept.before
   here = kept.running running
 
@@ -36,25 +37,29 @@ module _ {Holds : LogData → Memory → Picture → Type 0} (d : MasterData) (f
   pub never_wrong : (g : FleetState) → Refuses f o.backup (op_of d.config.master o) take_fault.Wrong g → ⊥
   never_wrong g refused = let both = sym fits ∙ refused.0 in cc
 
-  pub not_wrong : (g : FleetState) (x : TakeFault) → Refuses f o.backup (op_of d.config.master o) x g → x ≡ take_fault.Wrong → ⊥
+  pub not_wrong : (g : FleetState) (x : TakeFault) → Refuses f o.backup (op_of d.config.master o) x g
+      → x ≡ take_fault.Wrong → ⊥
   not_wrong g x refused is =
       never_wrong g (subst (λ (y : TakeFault). Refuses f o.backup (op_of d.config.master o) y g) is refused)
 
   -- the fleet is the one that took the op
-  picture_is : (g : FleetState) → fleet_taken f o.backup (op_of d.config.master o) ≡ Some g → (q ≡ g.picture) × (g.backups ≡ f.backups)
+  picture_is : (g : FleetState) → fleet_taken f o.backup (op_of d.config.master o) ≡ Some g → (q ≡ g.picture)
+      × (g.backups ≡ f.backups)
   picture_is g is =
       let same = same_Some (with_taken f q) g (sym fits ∙ is) in
       (ap (λ (h : FleetState). h.picture) same, sym (ap (λ (h : FleetState). h.backups) same))
 
   pub handed_kept : (e : MasterData) (g : FleetState) → IsCore e → e.config ≡ d.config → AreApart e.waiting
-      → Holds (log_of e) (memory_of e) q → fleet_taken f o.backup (op_of d.config.master o) ≡ Some g → IsKeptAs Holds e g
+      → Holds (log_of e) (memory_of e) q → fleet_taken f o.backup (op_of d.config.master o) ≡ Some g
+      → IsKeptAs Holds e g
   handed_kept e g core config apart then_holds is =
       let same = picture_is g is in
       record {
         core = core;
         before = q;
         holds = then_holds;
-        backups = (let le = kept.backups in let count = same.1 in let own = ap (λ (c : Config). c.backups) config in omega arith);
+        backups = (let le = kept.backups in let count = same.1 in
+            let own = ap (λ (c : Config). c.backups) config in omega arith);
         now = inl (sym same.0);
         running = λ going. sym same.0;
         apart = apart;
@@ -62,7 +67,8 @@ module _ {Holds : LogData → Memory → Picture → Type 0} (d : MasterData) (f
 
   -- after a fault the backups are as before, or have the op
   module _ (op : IsOp (log_of d) (memory_of d) o) where
-    fault_kept : (g : FleetState) → Refuses f o.backup (op_of d.config.master o) take_fault.Fault g → IsKeptAs Holds (halted d) g
+    fault_kept : (g : FleetState) → Refuses f o.backup (op_of d.config.master o) take_fault.Fault g
+        → IsKeptAs Holds (halted d) g
     fault_kept g refused = record {
       core = halted_core d kept.core;
       before = kept.before;
@@ -73,13 +79,15 @@ module _ {Holds : LogData → Memory → Picture → Type 0} (d : MasterData) (f
       apart = kept.apart;
     } where
       count : Refuses f o.backup (op_of d.config.master o) take_fault.Fault g → d.config.backups ≤ g.backups
-      count (inl same) = let le = kept.backups in let is : g.backups ≡ f.backups = ap (λ (h : FleetState). h.backups) same in omega arith
+      count (inl same) = let le = kept.backups in let is : g.backups ≡ f.backups =
+          ap (λ (h : FleetState). h.backups) same in omega arith
       count (inr t) =
           let le = kept.backups in
           let is : g.backups ≡ t.0.backups = ap (λ (h : FleetState). h.backups) t.2 in
           let was = (picture_is t.0 t.1.1).1 in omega arith
 
-      after : Refuses f o.backup (op_of d.config.master o) take_fault.Fault g → IsFault (log_of d) (memory_of d) kept.before g.picture
+      after : Refuses f o.backup (op_of d.config.master o) take_fault.Fault g
+          → IsFault (log_of d) (memory_of d) kept.before g.picture
       after (inl same) = inl (ap (λ (h : FleetState). h.picture) same ∙ here)
       after (inr t) = inr (
         o,
@@ -97,16 +105,21 @@ module _ {Holds : LogData → Memory → Picture → Type 0} (d : MasterData) (f
   -- what a take that failed answers
   pub failed_tells : (Is : LogOp → Type 0) → Is o → (g : FleetState) (fault : TakeFault)
       → Refuses f o.backup (op_of d.config.master o) fault g
-      → FailsTake Is (record { knows = d; fleet = f }) (refusal_of fault) (record { knows = failed_data d fault; fleet = g })
+      → FailsTake Is (record { knows = d; fleet = f }) (refusal_of fault)
+      (record { knows = failed_data d fault; fleet = g })
   failed_tells Is is g take_fault.NoMemory refused = ap (λ (h : FleetState). record { knows = d; fleet = h }) refused
   failed_tells Is is g take_fault.Wrong refused = absurd (never_wrong g refused)
   failed_tells Is is g take_fault.Fault refused = (refl, (o, is, refused))
-  failed_tells Is is g take_fault.Spent refused = (refused.0, ap (λ (h : FleetState). record { knows = d; fleet = h }) refused.1)
+  failed_tells Is is g take_fault.Spent refused = (
+    refused.0,
+    ap (λ (h : FleetState). record { knows = d; fleet = h }) refused.1,
+  )
 
 -- ---- no op
 
 -- a step that hands no op to a backup
-pub unhanded_kept : {Holds : LogData → Memory → Picture → Type 0} (d e : MasterData) (f : FleetState) (kept : IsKeptAs Holds d f) → d.is_halted ≡ false → IsCore e → e.config ≡ d.config
+pub unhanded_kept : {Holds : LogData → Memory → Picture → Type 0} (d e : MasterData) (f : FleetState)
+    (kept : IsKeptAs Holds d f) → d.is_halted ≡ false → IsCore e → e.config ≡ d.config
     → e.waiting ≡ d.waiting → Holds (log_of e) (memory_of e) kept.before → IsKeptAs Holds e f
 unhanded_kept d e f kept running core config waiting then_holds = record {
   core = core;

@@ -39,7 +39,8 @@ pub none_below : (p : Picture) → AreHeldBelow 0 p []
 none_below p h = (
   λ among. absurd among,
   λ held. below_none h.backup
-      (picked (nat_lt h.backup 0) (p h.backup h.master h.segment) (record { bytes = h.bytes; is_open = h.is_open }) held).0,
+      (picked (nat_lt h.backup 0) (p h.backup h.master h.segment)
+      (record { bytes = h.bytes; is_open = h.is_open }) held).0,
 )
 
 pub more_below : (p : Picture) (n : ℕ) (hs more both : List Holding) → both ≡ hs ++ more → AreHeldBy more p n

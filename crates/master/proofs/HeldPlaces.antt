@@ -12,27 +12,24 @@ use Rattle.hash_index.specs.Map.{hash_of, tells, found, IsTold, AreKept}
 use Rattle.hash_index.specs.Relocation.{is_same_place, is_same, holds}
 use Rattle.hash_index.proofs.Each.{each_found}
 use Rattle.hash_index.proofs.Finding.{tells_is}
+use Rattle.master_state.proofs.Holding.{same_place}
 
 -- ---- the same place
 
-pub same_place : (p q : Place) → is_same_place p q ≡ true → q ≡ p
-same_place p q is =
-    let parts = and_parts (q.segment == p.segment) (q.at == p.at) is in
-    let segment = (Decides-eqb q.segment p.segment).0 parts.0 in
-    let at = (Decides-eqb q.at p.at).0 parts.1 in
-    λ i. record { segment = segment i; at = at i }
-
 place_same : (p q : Place) → q ≡ p → is_same_place p q ≡ true
 place_same p q is =
-    and_from (q.segment == p.segment) (q.at == p.at) ((Decides-eqb q.segment p.segment).1 (ap (λ (x : Place). x.segment) is))
+    and_from (q.segment == p.segment) (q.at == p.at) ((Decides-eqb q.segment p.segment).1
+    (ap (λ (x : Place). x.segment) is))
     ((Decides-eqb q.at p.at).1 (ap (λ (x : Place). x.at) is))
 
 pub held_same : (h g : Held) → g.hash ≡ h.hash → g.place ≡ h.place → is_same h g ≡ true
 held_same h g hash place =
-    and_from (g.hash == h.hash) (is_same_place h.place g.place) ((Decides-eqb g.hash h.hash).1 hash) (place_same h.place g.place place)
+    and_from (g.hash == h.hash) (is_same_place h.place g.place) ((Decides-eqb g.hash h.hash).1 hash)
+    (place_same h.place g.place place)
 
 -- what is true of each place that is held
-held_has : (P : Place → Type 0) (h : Held) (hs : List Held) → AllByRecursion (λ (g : Held). P g.place) hs → holds hs h ≡ true → P h.place
+held_has : (P : Place → Type 0) (h : Held) (hs : List Held) → AllByRecursion (λ (g : Held). P g.place) hs
+    → holds hs h ≡ true → P h.place
 held_has P h [] all is = absurd (cc)
 held_has P h (g ∷ gs) all is = go (is_same h g) refl (held_has P h gs all.1) is where
   go : (t : Bool) → is_same h g ≡ t → (holds gs h ≡ true → P h.place) → (t || holds gs h) ≡ true → P h.place
@@ -47,7 +44,8 @@ module _ (keys : Place → Option Key) where
       held_has (λ (q : Place). (j : Key) → keys q ≡ Some j → found keys j hs ≡ Some q)
       (record { hash = hash_of k; place = p }) hs (each_found keys hs all.apart) is k stands
 
-  pub found_holds : (hs : List Held) → AllByRecursion (IsTold keys) hs → (k : Key) (p : Place) → found keys k hs ≡ Some p
+  pub found_holds : (hs : List Held) → AllByRecursion (IsTold keys) hs → (k : Key) (p : Place)
+      → found keys k hs ≡ Some p
       → holds hs (record { hash = hash_of k; place = p }) ≡ true
   found_holds [] told k p is = absurd (cc)
   found_holds (h ∷ hs) told k p is = go (tells keys k h.place) refl (found_holds hs told.1 k p)
@@ -55,7 +53,8 @@ module _ (keys : Place → Option Key) where
       wanted : Held
       wanted = record { hash = hash_of k; place = p }
 
-      go : (t : Bool) → tells keys k h.place ≡ t → (found keys k hs ≡ Some p → holds hs (record { hash = hash_of k; place = p }) ≡ true)
+      go : (t : Bool) → tells keys k h.place ≡ t → (found keys k hs ≡ Some p
+          → holds hs (record { hash = hash_of k; place = p }) ≡ true)
           → holds (h ∷ hs) (record { hash = hash_of k; place = p }) ≡ true
       go true here later =
           let both : Some h.place ≡ Some p = rw here at is in
@@ -66,4 +65,5 @@ module _ (keys : Place → Option Key) where
           rw yes refl
       go false other later =
           let rest : found keys k hs ≡ Some p = rw other at is in
-          or_right (is_same (record { hash = hash_of k; place = p }) h) (holds hs (record { hash = hash_of k; place = p })) (later rest)
+          or_right (is_same (record { hash = hash_of k; place = p }) h)
+          (holds hs (record { hash = hash_of k; place = p })) (later rest)

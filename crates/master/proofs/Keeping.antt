@@ -1,5 +1,6 @@
 -- What every step keeps.
-use Rattle.std.proofs.Common.{◌≡◌, ℕ, suc, ◌+◌, ◌≤◌, inl, inr, Bool, true, false, List, [], ◌∷◌, ◌++◌, length, refl, sym, ap, subst, ◌∙◌, append_assoc, arith}
+use Rattle.std.proofs.Common.{◌≡◌, ℕ, suc, ◌+◌, ◌≤◌, inl, inr, Bool, true, false, List, [], ◌∷◌, ◌++◌, length, refl}
+use Rattle.std.proofs.Common.{sym, ap, subst, ◌∙◌, append_assoc, arith}
 use Rattle.std.specs.Prelude.{Option, Some, None, Result, Ok, Err, nat_lt, drop, ◌==◌, if◌then◌else◌}
 use Rattle.std.proofs.lemmas.List.{append-nil, length-append}
 use Rattle.std.proofs.lemmas.Option.{same_Some}
@@ -14,17 +15,20 @@ use Rattle.log_model.specs.Ops.{LogOp, op_of}
 use Rattle.log_model.specs.Steps.{IsNext, id_taken}
 use Rattle.log_model.proofs.DurableSteps.{durable_stays_applied, durable_stays_rolling, durable_stays_next}
 use Rattle.log_model.proofs.Pictures.{place_tells}
-use Rattle.master_core.specs.declared.step.Refusal.{Refusal}
-use Rattle.master_core.specs.declared.step.Refusal.TheVariants as refusal
-use Rattle.master_core.specs.declared.step.Step.{Step}
-use Rattle.master_core.specs.declared.step.Step.TheVariants.{Apply, Push, BeginRoll, Compact, BeginClean, Copy, Seal, Free}
-use Rattle.master_core.specs.declared.step.StepAnswer.{StepAnswer}
-use Rattle.master_core.specs.declared.step.StepAnswer.TheVariants.{Applied, Opened, Extended, Closed, Rolling, Compacted}
-use Rattle.master_core.specs.declared.step.StepAnswer.TheVariants.{Begun, Moved, Carried, Dropped, Sealed, Freed}
-use Rattle.master_core.specs.Causes.{dead_segment}
-use Rattle.master_core.specs.Data.{MasterData}
-use Rattle.master_core.specs.Log.{log_of}
-use Rattle.master_core.specs.Steps.{Applies, BeginsRoll, Compacts, BeginsPass, Copies, next_now, record_now, freed_data}
+use Rattle.master_state.specs.declared.step.Refusal.{Refusal}
+use Rattle.master_state.specs.declared.step.Refusal.TheVariants as refusal
+use Rattle.master_state.specs.declared.step.Step.{Step}
+use Rattle.master_state.specs.declared.step.Step.TheVariants.{Apply, Push, BeginRoll, Compact, BeginClean, Copy, Seal}
+use Rattle.master_state.specs.declared.step.Step.TheVariants.{Free}
+use Rattle.master_state.specs.declared.step.StepAnswer.{StepAnswer}
+use Rattle.master_state.specs.declared.step.StepAnswer.TheVariants.{Applied, Opened, Extended, Closed, Rolling}
+use Rattle.master_state.specs.declared.step.StepAnswer.TheVariants.{Compacted}
+use Rattle.master_state.specs.declared.step.StepAnswer.TheVariants.{Begun, Moved, Carried, Dropped, Sealed, Freed}
+use Rattle.master_state.specs.Causes.{dead_segment}
+use Rattle.master_state.specs.Data.{MasterData}
+use Rattle.master_state.specs.Log.{log_of}
+use Rattle.master_state.specs.Steps.{Applies, BeginsRoll, Compacts, BeginsPass, Copies, next_now, record_now}
+use Rattle.master_state.specs.Steps.{freed_data}
 use Rattle.master.specs.Invariant.{IsWellKept}
 use Rattle.master.specs.Keeps.{Keeps}
 use Rattle.master.specs.Passes.{IsSealOp, Seals, IsFreeOp, Frees}
@@ -54,16 +58,19 @@ keeps_on m n a b c first later =
       config = later.config ∙ first.config;
       origin = later.origin ∙ first.origin;
       takes = (omega arith, omega arith);
-      others = λ k o s other. later.others k o s (λ is. other (is ∙ ap (λ c. c.master) first.config)) ∙ first.others k o s other;
+      others = λ k o s other. later.others k o s (λ is. other (is ∙ ap (λ c. c.master) first.config))
+          ∙ first.others k o s other;
       durable = omega arith;
       history = (
         first.history.0 ++ later.history.0,
-        later.history.1 ∙ ap (λ rs. rs ++ later.history.0) first.history.1 ∙ append_assoc a.knows.history first.history.0 later.history.0,
+        later.history.1 ∙ ap (λ rs. rs ++ later.history.0) first.history.1
+            ∙ append_assoc a.knows.history first.history.0 later.history.0,
       );
     }
 
 -- one more step
-pub keeps_pushed : (a b c : World) (steps : List Step) (s : Step) → Keeps (length steps) a b → Keeps 1 b c → Keeps (length (steps ++ s ∷ [])) a c
+pub keeps_pushed : (a b c : World) (steps : List Step) (s : Step) → Keeps (length steps) a b → Keeps 1 b c
+    → Keeps (length (steps ++ s ∷ [])) a c
 keeps_pushed a b c steps s first last =
     subst (λ (n : ℕ). Keeps n a c) (sym (length-append steps (s ∷ []))) (keeps_on (length steps) 1 a b c first last)
 
@@ -84,7 +91,8 @@ elsewhere b m s c n t other = elim (place_tells b m s c n t) as (λ _. is_same_p
 ]
 
 module _ (f : FleetState) (b : ℕ) (op : OpValue) where
-  effect_beside : (g : FleetState) (r : Option (Option Replica)) → with_effect f b op r ≡ Some g → IsBeside op.master f g
+  effect_beside : (g : FleetState) (r : Option (Option Replica)) → with_effect f b op r ≡ Some g
+      → IsBeside op.master f g
   effect_beside g None is = absurd (cc)
   effect_beside g (Some r) is = subst (IsBeside op.master f) (same_Some _ g is) (record {
     takes = (omega arith, omega arith);
@@ -99,13 +107,15 @@ module _ (f : FleetState) (b : ℕ) (op : OpValue) where
       told false past = (let never : None ≡ Some g = rw past at is in absurd (cc))
 
   pub fault_beside : (g : FleetState) → Refuses f b op take_fault.Fault g → IsBeside op.master f g
-  fault_beside g (inl same) = subst (IsBeside op.master f) (sym same) (record { takes = (omega arith, omega arith); others = λ c m s other. refl })
+  fault_beside g (inl same) = subst (IsBeside op.master f) (sym same)
+      (record { takes = (omega arith, omega arith); others = λ c m s other. refl })
   fault_beside g (inr took) =
       let taken = taken_beside took.0 took.1.1 in
       subst (IsBeside op.master f) (sym took.2) (record { takes = taken.takes; others = taken.others })
 
 -- a take that failed changed nothing, or halted the master
-pub take_failed : {P : Type 0} (IsOp : LogOp → Type 0) (old new : World) (r : Refusal) → FailsTake IsOp old r new → (new ≡ old → P)
+pub take_failed : {P : Type 0} (IsOp : LogOp → Type 0) (old new : World) (r : Refusal)
+    → FailsTake IsOp old r new → (new ≡ old → P)
     → (FailsTake IsOp old refusal.Halted new → P) → P
 take_failed IsOp old new refusal.NoMemory t same halts = same t
 take_failed IsOp old new refusal.Spent t same halts = same t.1
@@ -123,7 +133,8 @@ take_failed IsOp old new refusal.SegmentsSpent t same halts = absurd t
 -- ---- a step
 
 is_next : (d e : LogData) (o : LogOp) (answer : StepAnswer) → IsNextOp d o answer e → IsNext d o e
-is_next d e o (Opened backup segment) is = elim is.0 as (λ _. IsNext d o e) [ inl first ↦ inl first | inr new ↦ inr (inr (inl new)) ]
+is_next d e o (Opened backup segment) is = elim is.0 as (λ _. IsNext d o e)
+    [ inl first ↦ inl first | inr new ↦ inr (inr (inl new)) ]
 is_next d e o (Extended backup segment) is = inr (inl is.0.extends)
 is_next d e o (Closed backup segment) is = inr (inr (inr is.0))
 is_next d e o (Applied place reply) is = absurd is
@@ -152,7 +163,8 @@ module _ (old new : World) (kept : IsWellKept old.knows old.fleet) where
   log_kept = kept.holds.log
 
   -- a step that adds no record
-  silent : new.knows.config ≡ old.knows.config → new.knows.origin ≡ old.knows.origin → new.knows.history ≡ old.knows.history → IsBeside old.knows.config.master old.fleet new.fleet
+  silent : new.knows.config ≡ old.knows.config → new.knows.origin ≡ old.knows.origin
+      → new.knows.history ≡ old.knows.history → IsBeside old.knows.config.master old.fleet new.fleet
       → durable_of (log_of old.knows) ≤ durable_of (log_of new.knows) → Keeps 1 old new
   silent config origin history beside durable = record {
     config = config;
@@ -166,7 +178,8 @@ module _ (old new : World) (kept : IsWellKept old.knows old.fleet) where
   unchanged : new ≡ old → Keeps 1 old new
   unchanged same = subst (Keeps 1 old) (sym same) (keeps_same 1 old)
 
-  applied : (seat : ℕ) (command : Command) (answer : StepAnswer) → Applies old.knows seat command answer new.knows → new.fleet ≡ old.fleet → Keeps 1 old new
+  applied : (seat : ℕ) (command : Command) (answer : StepAnswer) → Applies old.knows seat command answer new.knows
+      → new.fleet ≡ old.fleet → Keeps 1 old new
   applied seat command answer a fleet =
       let d = old.knows in
       let beside = subst (IsBeside d.config.master old.fleet) (sym fleet) (beside_same d.config.master old.fleet) in
@@ -176,13 +189,15 @@ module _ (old new : World) (kept : IsWellKept old.knows old.fleet) where
         takes = beside.takes;
         others = beside.others;
         durable = subst (λ (l : LogData). durable_of (log_of old.knows) ≤ durable_of l) (sym a.log)
-            (durable_stays_applied (log_of d) kept.before (dead_segment d command) (record_now d seat command) log_kept);
+            (durable_stays_applied (log_of d) kept.before (dead_segment d command)
+            (record_now d seat command) log_kept);
         history = (record_now d seat command ∷ [], ap (λ (l : LogData). l.history) a.log);
       }
 
   -- the fleet is as it was
   quiet : new.fleet ≡ old.fleet → IsBeside old.knows.config.master old.fleet new.fleet
-  quiet fleet = subst (IsBeside old.knows.config.master old.fleet) (sym fleet) (beside_same old.knows.config.master old.fleet)
+  quiet fleet = subst (IsBeside old.knows.config.master old.fleet) (sym fleet)
+      (beside_same old.knows.config.master old.fleet)
 
   -- the log is as it was
   same_log : log_of new.knows ≡ log_of old.knows → durable_of (log_of old.knows) ≤ durable_of (log_of new.knows)
@@ -191,47 +206,61 @@ module _ (old new : World) (kept : IsWellKept old.knows old.fleet) where
   rolled : (answer : StepAnswer) → BeginsRoll old.knows answer new.knows → new.fleet ≡ old.fleet → Keeps 1 old new
   rolled answer b fleet =
       let d = old.knows in
-      silent (ap (λ (x : MasterData). x.config) b.rest) (ap (λ (x : MasterData). x.origin) b.rest) (ap (λ (x : MasterData). x.history) b.rest) (quiet fleet)
-      (subst (λ (l : LogData). durable_of (log_of old.knows) ≤ durable_of l) (sym b.log) (durable_stays_rolling (log_of d) (next_now d)))
+      silent (ap (λ (x : MasterData). x.config) b.rest) (ap (λ (x : MasterData). x.origin) b.rest)
+      (ap (λ (x : MasterData). x.history) b.rest) (quiet fleet)
+      (subst (λ (l : LogData). durable_of (log_of old.knows) ≤ durable_of l) (sym b.log)
+      (durable_stays_rolling (log_of d) (next_now d)))
 
-  compacted : (id : ℕ) (answer : StepAnswer) → Compacts old.knows id answer new.knows → new.fleet ≡ old.fleet → Keeps 1 old new
+  compacted : (id : ℕ) (answer : StepAnswer) → Compacts old.knows id answer new.knows
+      → new.fleet ≡ old.fleet → Keeps 1 old new
   compacted id answer c fleet =
-      silent (ap (λ (x : MasterData). x.config) c.rest) (ap (λ (x : MasterData). x.origin) c.rest) (ap (λ (x : MasterData). x.history) c.rest) (quiet fleet) (same_log c.log)
+      silent (ap (λ (x : MasterData). x.config) c.rest) (ap (λ (x : MasterData). x.origin) c.rest)
+      (ap (λ (x : MasterData). x.history) c.rest) (quiet fleet) (same_log c.log)
 
-  begun : (ids : List ℕ) (answer : StepAnswer) → BeginsPass old.knows ids answer new.knows → new.fleet ≡ old.fleet → Keeps 1 old new
+  begun : (ids : List ℕ) (answer : StepAnswer) → BeginsPass old.knows ids answer new.knows
+      → new.fleet ≡ old.fleet → Keeps 1 old new
   begun ids answer b fleet =
       let same : durable_of (id_taken (log_of old.knows)) ≡ durable_of (log_of old.knows) = refl in
-      silent (ap (λ (x : MasterData). x.config) b.rest) (ap (λ (x : MasterData). x.origin) b.rest) (ap (λ (x : MasterData). x.history) b.rest) (quiet fleet)
+      silent (ap (λ (x : MasterData). x.config) b.rest) (ap (λ (x : MasterData). x.origin) b.rest)
+      (ap (λ (x : MasterData). x.history) b.rest) (quiet fleet)
       (subst (λ (l : LogData). durable_of (log_of old.knows) ≤ durable_of l) (sym b.log) (omega arith))
 
   copied : (answer : StepAnswer) → Copies old.knows answer new.knows → new.fleet ≡ old.fleet → Keeps 1 old new
   copied answer c fleet =
-      silent (ap (λ (x : MasterData). x.config) c.rest) (ap (λ (x : MasterData). x.origin) c.rest) (ap (λ (x : MasterData). x.history) c.rest) (quiet fleet) (same_log c.log)
+      silent (ap (λ (x : MasterData). x.config) c.rest) (ap (λ (x : MasterData). x.origin) c.rest)
+      (ap (λ (x : MasterData). x.history) c.rest) (quiet fleet) (same_log c.log)
 
   pushed : (answer : StepAnswer) → Pushes old answer new → Keeps 1 old new
   pushed answer p =
       let same = same_rest old.knows p.push in
-      silent (ap (λ (d : MasterData). d.config) p.rest ∙ same.0) (ap (λ (d : MasterData). d.origin) p.rest ∙ same.3) (ap (λ (d : MasterData). d.history) p.rest ∙ same.1)
+      silent (ap (λ (d : MasterData). d.config) p.rest ∙ same.0) (ap (λ (d : MasterData). d.origin) p.rest ∙ same.3)
+      (ap (λ (d : MasterData). d.history) p.rest ∙ same.1)
       (taken_beside old.fleet p.op.backup (op_of old.knows.config.master p.op) new.fleet p.takes.1)
-      (durable_stays_next (log_of old.knows) (log_of new.knows) kept.before p.op log_kept (is_next (log_of old.knows) (log_of new.knows) p.op answer p.next))
+      (durable_stays_next (log_of old.knows) (log_of new.knows) kept.before p.op log_kept
+      (is_next (log_of old.knows) (log_of new.knows) p.op answer p.next))
 
   sealed : (answer : StepAnswer) → Seals old answer new → Keeps 1 old new
   sealed answer s =
-      silent (ap (λ (d : MasterData). d.config) s.rest) (ap (λ (d : MasterData). d.origin) s.rest) (ap (λ (d : MasterData). d.history) s.rest)
-      (taken_beside old.fleet s.op.backup (op_of old.knows.config.master s.op) new.fleet s.takes.1) (same_log (ap log_of s.rest))
+      silent (ap (λ (d : MasterData). d.config) s.rest) (ap (λ (d : MasterData). d.origin) s.rest)
+      (ap (λ (d : MasterData). d.history) s.rest)
+      (taken_beside old.fleet s.op.backup (op_of old.knows.config.master s.op) new.fleet s.takes.1)
+      (same_log (ap log_of s.rest))
 
   freed : (answer : StepAnswer) → Frees old answer new → Keeps 1 old new
   freed answer s =
       let same = log_freed old.knows in
       silent (ap (λ (d : MasterData). d.config) s.rest ∙ same.1) (ap (λ (d : MasterData). d.origin) s.rest ∙ same.2)
       (ap (λ (d : MasterData). d.history) s.rest ∙ ap (λ (l : LogData). l.history) same.0)
-      (taken_beside old.fleet s.op.backup (op_of old.knows.config.master s.op) new.fleet s.takes.1) (same_log (ap log_of s.rest ∙ same.0))
+      (taken_beside old.fleet s.op.backup (op_of old.knows.config.master s.op) new.fleet s.takes.1)
+      (same_log (ap log_of s.rest ∙ same.0))
 
   module _ (IsOp : LogOp → Type 0) where
     halts : FailsTake IsOp old refusal.Halted new → Keeps 1 old new
     halts t =
-        silent (ap (λ (d : MasterData). d.config) t.0) (ap (λ (d : MasterData). d.origin) t.0) (ap (λ (d : MasterData). d.history) t.0)
-        (fault_beside old.fleet t.1.0.backup (op_of old.knows.config.master t.1.0) new.fleet t.1.2) (same_log (ap log_of t.0))
+        silent (ap (λ (d : MasterData). d.config) t.0) (ap (λ (d : MasterData). d.origin) t.0)
+        (ap (λ (d : MasterData). d.history) t.0)
+        (fault_beside old.fleet t.1.0.backup (op_of old.knows.config.master t.1.0) new.fleet t.1.2)
+        (same_log (ap log_of t.0))
 
     failed : (r : Refusal) → FailsTake IsOp old r new → Keeps 1 old new
     failed r t = take_failed IsOp old new r t unchanged halts
@@ -257,6 +286,7 @@ module _ (old new : World) (kept : IsWellKept old.knows old.fleet) where
   step_keeps Free (Err r) (inl t) = unchanged t.1
   step_keeps Free (Err r) (inr t) = failed (IsFreeOp old.knows) r t.1
 
-pub steps_keep : (old new : World) (step : Step) (result : Result StepAnswer Refusal) → IsWellKept old.knows old.fleet → Steps old step result new
+pub steps_keep : (old new : World) (step : Step) (result : Result StepAnswer Refusal) → IsWellKept old.knows old.fleet
+    → Steps old step result new
     → Keeps 1 old new
 steps_keep old new step result kept t = step_keeps old new kept step result t

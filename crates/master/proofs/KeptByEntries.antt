@@ -1,5 +1,6 @@
 -- What is kept by the places that entries are counted by is what is kept by their offsets.
-use Rattle.std.proofs.Common.{◌≡◌, ℕ, suc, ◌+◌, true, List, [], ◌∷◌, ◌++◌, length, take, refl, sym, ap, subst, ◌∙◌, append_assoc, arith}
+use Rattle.std.proofs.Common.{◌≡◌, ℕ, suc, ◌+◌, true, List, [], ◌∷◌, ◌++◌, length, take, refl, sym, ap, subst, ◌∙◌}
+use Rattle.std.proofs.Common.{append_assoc, arith}
 use Rattle.std.specs.Prelude.{Option, Some, None, ◌==◌, if◌then◌else◌}
 use Rattle.std.specs.List.{AllByRecursion}
 use Rattle.std.specs.Option.{option_map}
@@ -24,11 +25,11 @@ use Rattle.hash_index.specs.Map.{hash_of}
 use Rattle.hash_index.specs.Relocation.{holds}
 use Rattle.compactor.specs.Kept.{has_id, kept, kept_from, kept_of, entries_before}
 use Rattle.compactor.specs.Places.{LiesAt, IsAtPlace, keys_in}
-use Rattle.master_core.specs.Data.{MasterData}
-use Rattle.master_core.specs.Invariant.{IsCore}
-use Rattle.master_core.specs.Log.{images_of, find, state_now, position_of, entry_place, memory_of}
-use Rattle.master_core.proofs.Finding.{each_of}
-use Rattle.master_core.proofs.Indexing.{found_lies, key_seen}
+use Rattle.master_state.specs.Data.{MasterData}
+use Rattle.master_state.specs.Invariant.{IsCore}
+use Rattle.master_state.specs.Log.{images_of, find, state_now, position_of, entry_place, memory_of}
+use Rattle.master_state.proofs.Finding.{each_of}
+use Rattle.master_state.proofs.Indexing.{found_lies, key_seen}
 use Rattle.master.proofs.HeldPlaces.{holds_found, found_holds}
 use Rattle.master.proofs.LogSets.{agree}
 
@@ -60,7 +61,8 @@ entries_front before rest at fits is =
 pub position_is : (image : List Entry) (at : ℕ) (e : Entry) → AllByRecursion IsEntry image → (l : LiesAt image at e)
     → position_of image at ≡ length l.before
 position_is image at e each l =
-    let split = all_split IsEntry l.before (e ∷ l.after) (subst (λ (es : List Entry). AllByRecursion IsEntry es) l.split each) in
+    let split = all_split IsEntry l.before (e ∷ l.after) (subst
+    (λ (es : List Entry). AllByRecursion IsEntry es) l.split each) in
     ap (λ (es : List Entry). position_of es at) l.split
     ∙ ap (λ (es : List Entry). length es) (entries_front l.before (e ∷ l.after) at split.0 l.offset)
 
@@ -80,7 +82,8 @@ module _ (d : MasterData) (core : IsCore d) (s : ℕ) where
   image = images_of d s
 
   -- the index finds the object where it stands
-  module _ (front : List Entry) (o : Object) (rest : List Entry) (split : images_of d s ≡ front ++ entry.Object o ∷ rest) where
+  module _ (front : List Entry) (o : Object) (rest : List Entry)
+      (split : images_of d s ≡ front ++ entry.Object o ∷ rest) where
     abbrev here : Place
     here = record { segment = s; at = length (text_of front) }
 
@@ -105,26 +108,31 @@ module _ (d : MasterData) (core : IsCore d) (s : ℕ) where
         sym (position_is (images_of d q.segment) q.at (object_at o.key x) (each_of d core q.segment) there) ∙ count in
         let both : there.before ++ object_at o.key x ∷ there.after ≡ front ++ entry.Object o ∷ rest =
         sym there.split ∙ ap (images_of d) segment ∙ split in
-        let same = same_front there.before front (object_at o.key x ∷ there.after) (entry.Object o ∷ rest) before both in
+        let same = same_front there.before front (object_at o.key x ∷ there.after)
+        (entry.Object o ∷ rest) before both in
         let at : q.at ≡ length (text_of front) = there.offset ∙ ap (λ (es : List Entry). length (text_of es)) same in
         λ i. record { segment = segment i; at = at i }
 
     to_held : is_place (index o.key) s (length front) ≡ true → holds d.index held ≡ true
     to_held is = go (find d o.key) refl is where
-      go : (f : Option Place) → find d o.key ≡ f → is_place (option_map (entry_place d) f) s (length front) ≡ true → holds d.index held ≡ true
+      go : (f : Option Place) → find d o.key ≡ f → is_place (option_map (entry_place d) f) s (length front) ≡ true
+          → holds d.index held ≡ true
       go None none is = absurd (cc)
       go (Some q) some is =
-          let there = found_lies (images_of d) o.key (find d o.key) ((state_now d).contents o.key) (core.index.lies o.key) q some in
+          let there = found_lies (images_of d) o.key (find d o.key) ((state_now d).contents o.key)
+          (core.index.lies o.key) q some in
           let same = named q there.0 there.2 is in
           found_holds (keys_in (images_of d)) d.index core.index.kept.told o.key here (some ∙ ap Some same)
 
     from_held : holds d.index held ≡ true → is_place (index o.key) s (length front) ≡ true
     from_held is =
-        let stands = key_seen (images_of d) (each_of d core) here o.key (record { version = o.version; value = o.value }) lies in
+        let stands = key_seen (images_of d) (each_of d core) here o.key
+        (record { version = o.version; value = o.value }) lies in
         let place = holds_found (keys_in (images_of d)) d.index core.index.kept o.key here stands is in
         ap (λ (f : Option Place). is_place (option_map (entry_place d) f) s (length front)) place
         ∙ and_from (s == s) (position_of (images_of d s) (length (text_of front)) == length front)
-        ((Decides-eqb s s).1 refl) ((Decides-eqb (position_of (images_of d s) (length (text_of front))) (length front)).1 position)
+        ((Decides-eqb s s).1 refl) ((Decides-eqb (position_of (images_of d s) (length (text_of front)))
+        (length front)).1 position)
 
     pub object_same : is_place (index o.key) s (length front) ≡ holds d.index held
     object_same = agree (is_place (index o.key) s (length front)) (holds d.index held) to_held from_held
@@ -132,7 +140,8 @@ module _ (d : MasterData) (core : IsCore d) (s : ℕ) where
 -- by two lists with the same ids
 module _ (d : MasterData) (core : IsCore d) (ids set : List ℕ) (both : (z : ℕ) → has ids z ≡ has_id set z) (s : ℕ) where
   pub kept_same : (front : List Entry) (e : Entry) (rest : List Entry) → images_of d s ≡ front ++ e ∷ rest
-      → entry_kept ids (memory_of d).index s (length front) e ≡ kept set d.index (record { segment = s; at = length (text_of front) }) e
+      → entry_kept ids (memory_of d).index s (length front) e
+      ≡ kept set d.index (record { segment = s; at = length (text_of front) }) e
   kept_same front (entry.Header h) rest split = refl
   kept_same front (entry.Digest l) rest split = refl
   kept_same front (entry.Safe version) rest split = refl
@@ -140,7 +149,8 @@ module _ (d : MasterData) (core : IsCore d) (ids set : List ℕ) (both : (z : �
   kept_same front (entry.Tombstone t) rest split = both t.segment
 
   kept_rest : (front rest : List Entry) → images_of d s ≡ front ++ rest
-      → entries_kept ids (memory_of d).index s (length front) rest ≡ kept_from set d.index s (length (text_of front)) rest
+      → entries_kept ids (memory_of d).index s (length front) rest
+      ≡ kept_from set d.index s (length (text_of front)) rest
   kept_rest front [] split = refl
   kept_rest front (e ∷ rest) split =
       let longer : images_of d s ≡ (front ++ e ∷ []) ++ rest = split ∙ sym (append_assoc front (e ∷ []) rest) in
@@ -150,7 +160,8 @@ module _ (d : MasterData) (core : IsCore d) (ids set : List ℕ) (both : (z : �
       ∙ (omega (arith, length-append (text_of front) (text_of (e ∷ [])), length-append (spelling e) [])) in
       let later : entries_kept ids (memory_of d).index s (suc (length front)) rest
       ≡ kept_from set d.index s (length (text_of front) + length (spelling e)) rest =
-      ap (λ (n : ℕ). entries_kept ids (memory_of d).index s n rest) (sym count) ∙ kept_rest (front ++ e ∷ []) rest longer
+      ap (λ (n : ℕ). entries_kept ids (memory_of d).index s n rest) (sym count)
+      ∙ kept_rest (front ++ e ∷ []) rest longer
       ∙ ap (λ (n : ℕ). kept_from set d.index s n rest) len in
       λ i. if kept_same front e rest split i then e ∷ later i else later i
 

@@ -48,7 +48,8 @@ pub loading_lasts : Lasts IsLoading
 loading_lasts = record {
   tracked = λ d m p i. (
     i.texts,
-    subst (λ (s : State). IsTracked (log_set_of d m i.texts) m.pass m.index s.contents) (opening_is d i.begins) i.tracked,
+    subst (λ (s : State). IsTracked (log_set_of d m i.texts) m.pass m.index s.contents)
+        (opening_is d i.begins) i.tracked,
   );
   same = same_is_loading;
   take = loading_take_keeps;

@@ -1,5 +1,6 @@
 -- One that is loading begins, loads an object, and becomes a master.
-use Rattle.std.proofs.Common.{◌≡◌, ℕ, ◌+◌, ◌<◌, ◌≤◌, inl, inr, Bool, true, false, List, [], ◌∷◌, ◌++◌, length, refl, sym, ap, subst, ◌∙◌, arith}
+use Rattle.std.proofs.Common.{◌≡◌, ℕ, ◌+◌, ◌<◌, ◌≤◌, inl, inr, Bool, true, false, List, [], ◌∷◌, ◌++◌, length, refl}
+use Rattle.std.proofs.Common.{sym, ap, subst, ◌∙◌, arith}
 use Rattle.std.specs.Prelude.{Option, None, ◌==◌}
 use Rattle.std.specs.List.{AllByRecursion}
 use Rattle.std.proofs.lemmas.Bool.{eqb-true}
@@ -19,18 +20,18 @@ use Rattle.clean_model.specs.Loading.{restored_start, restored, restored_memory,
 use Rattle.clean_model.specs.Memory.{Memory, log_ids}
 use Rattle.clean_model.proofs.LoadedObjects.{load_keeps}
 use Rattle.clean_model.proofs.Loading.{restored_is_loading, finish_is_intact}
-use Rattle.master_core.specs.declared.config.Config.{Config}
-use Rattle.master_core.specs.Budget.{victims_of, is_committing}
-use Rattle.master_core.specs.Causes.{is_pushed}
-use Rattle.master_core.specs.Config.{config_fault}
-use Rattle.master_core.specs.Data.{MasterData}
-use Rattle.master_core.specs.Images.{images_among}
-use Rattle.master_core.specs.Invariant.{AreApart, IsCore}
-use Rattle.master_core.specs.Loading.{restored_data, IsBare, loaded_unit, MayLoadNow, Loads, Settles}
-use Rattle.master_core.specs.Log.{log_config, opening_of, log_of, images_of, rest_now, memory_of}
-use Rattle.master_core.proofs.Imaging.{same_id, other_id, appended_own, appended_other}
-use Rattle.master_core.proofs.LoadedCore.{pushed_open, pushed_ready, pushed_whole}
-use Rattle.master_core.proofs.Refusals.{has_homes, open_parts}
+use Rattle.master_state.specs.declared.config.Config.{Config}
+use Rattle.master_state.specs.Budget.{victims_of, is_committing}
+use Rattle.master_state.specs.Causes.{is_pushed}
+use Rattle.master_state.specs.Config.{config_fault}
+use Rattle.master_state.specs.Data.{MasterData}
+use Rattle.master_state.specs.Images.{images_among}
+use Rattle.master_state.specs.Invariant.{AreApart, IsCore}
+use Rattle.master_state.specs.Loading.{restored_data, IsBare, loaded_unit, MayLoadNow, Loads, Settles}
+use Rattle.master_state.specs.Log.{log_config, opening_of, log_of, images_of, rest_now, memory_of}
+use Rattle.master_state.proofs.Imaging.{same_id, other_id, appended_own, appended_other}
+use Rattle.master_commands.proofs.LoadedCore.{pushed_open, pushed_ready, pushed_whole}
+use Rattle.master_state.proofs.Refusals.{has_homes, open_parts}
 use Rattle.master.specs.Invariant.{IsWellKept, IsWellLoaded}
 use Rattle.master.proofs.Applied.{images_beside, images_at}
 use Rattle.master.proofs.Lasting.{loading_lasts}
@@ -66,7 +67,8 @@ module _ (c : Config) (safe : ℕ) (f : FleetState) (ok : config_fault c ≡ Non
     freed = λ s waits. absurd waits;
   }
 
-  pub restored_loaded : c.backups ≤ f.backups → ((b s : ℕ) → f.picture b c.master s ≡ None) → IsWellLoaded (restored_data c safe) f
+  pub restored_loaded : c.backups ≤ f.backups → ((b s : ℕ) → f.picture b c.master s ≡ None)
+      → IsWellLoaded (restored_data c safe) f
   restored_loaded backups nothing = record {
     core = core;
     bare = bare;
@@ -74,7 +76,12 @@ module _ (c : Config) (safe : ℕ) (f : FleetState) (ok : config_fault c ≡ Non
     loading = own_holds loading_lasts (restored_data c safe) core (restored_memory (log_config c) safe) f.picture
         (subst (λ (l : LogData). IsLoading l (restored_memory (log_config c) safe) f.picture) (sym log)
         (restored_is_loading (log_config c) safe f.picture
-        (record { placed = placed c ok; segment = core.head.segment; limit = core.head.limit; nothing = nothing }))) first_model;
+        (record {
+          placed = placed c ok;
+          segment = core.head.segment;
+          limit = core.head.limit;
+          nothing = nothing;
+        }))) first_model;
     backups = backups;
     running = λ going. refl;
     halted = λ never. absurd (cc);
@@ -82,14 +89,17 @@ module _ (c : Config) (safe : ℕ) (f : FleetState) (ok : config_fault c ≡ Non
 
 -- ---- an object
 
-few : (units bound : ℕ) (ns : List ℕ) → 0 < length ns → AllByRecursion (λ m. m ≤ units) ns → fewest bound ns ≤ units
-few units bound [] some all = absurd (omega arith)
-few units bound (n ∷ ns) some all = let le = all.0 in omega arith
+fewest_within : (units bound : ℕ) (ns : List ℕ) → 0 < length ns → AllByRecursion (λ m. m ≤ units) ns
+    → fewest bound ns ≤ units
+fewest_within units bound [] some all = absurd (omega arith)
+fewest_within units bound (n ∷ ns) some all = let le = all.0 in omega arith
 
 -- a head with one unit more has that to push
-lags : (d : MasterData) → IsCore d → (number : ℕ) (unit : List Entry) → is_pushed (with_unit_end d.head number unit) ≡ false
-lags d core number unit = go (is_pushed (with_unit_end d.head number unit)) refl where
-  go : (t : Bool) → is_pushed (with_unit_end d.head number unit) ≡ t → is_pushed (with_unit_end d.head number unit) ≡ false
+unit_lags : (d : MasterData) → IsCore d → (number : ℕ) (unit : List Entry)
+    → is_pushed (with_unit_end d.head number unit) ≡ false
+unit_lags d core number unit = go (is_pushed (with_unit_end d.head number unit)) refl where
+  go : (t : Bool) → is_pushed (with_unit_end d.head number unit) ≡ t
+      → is_pushed (with_unit_end d.head number unit) ≡ false
   go false is = is
   go true is =
       let both = pushed_open (with_unit_end d.head number unit) is in
@@ -97,11 +107,14 @@ lags d core number unit = go (is_pushed (with_unit_end d.head number unit)) refl
       let some = (has_homes d.config core.config).some in
       let same = core.replicas in
       let all = both.1 in
-      let low = few (length d.head.units) (length (with_unit_end d.head number unit).units) d.head.taken (omega arith) core.head.taken in
-      let more : length (with_unit_end d.head number unit).units ≡ length d.head.units + 1 = length-append d.head.units _ in
+      let low = fewest_within (length d.head.units) (length (with_unit_end d.head number unit).units) d.head.taken
+      (omega arith) core.head.taken in
+      let more : length (with_unit_end d.head number unit).units ≡ length d.head.units + 1 =
+      length-append d.head.units _ in
       absurd (omega arith)
 
-module _ (d e : MasterData) (f : FleetState) (o : Object) (loaded : IsWellLoaded d f) (is : Loads d o e) (may : MayLoadNow d o)
+module _ (d e : MasterData) (f : FleetState) (o : Object) (loaded : IsWellLoaded d f) (is : Loads d o e)
+    (may : MayLoadNow d o)
     (core : IsCore e) (bare : IsBare e) where
   abbrev m : Memory
   m = memory_of d
@@ -127,7 +140,8 @@ module _ (d e : MasterData) (f : FleetState) (o : Object) (loaded : IsWellLoaded
     at_segment true here =
         let same : head ≡ s = loaded.core.image.id ∙ eqb-true d.head.id s here in
         images_then s ∙ appended_own d.head grown_head d.closed unit s refl refl here
-        ∙ sym (ap (λ (z : ℕ). then_memory.images z) (sym same) ∙ images_at m.images head unit ∙ ap (λ (z : ℕ). m.images z ++ unit) same)
+        ∙ sym (ap (λ (z : ℕ). then_memory.images z) (sym same) ∙ images_at m.images head unit
+        ∙ ap (λ (z : ℕ). m.images z ++ unit) same)
     at_segment false away =
         let beside : (s == head) ≡ false = other_id s head (λ x. (
         let same : d.head.id ≡ s = sym loaded.core.image.id ∙ sym x in
@@ -150,7 +164,8 @@ module _ (d e : MasterData) (f : FleetState) (o : Object) (loaded : IsWellLoaded
 
   then_model : IsModel e then_memory
   then_model = is_model d e leaves then_memory.images then_memory.index (is_committing d)
-      (ap is_committing is.rest) (λ s counts. same_images s) (λ k q p found indexed victim survivor. no_victims q.segment victim)
+      (ap is_committing is.rest) (λ s counts. same_images s)
+      (λ k q p found indexed victim survivor. no_victims q.segment victim)
 
   then_loading : IsLoading (log_of e) then_memory loaded.before
   then_loading = subst (λ (l : LogData). IsLoading l then_memory loaded.before) (sym is.log)
@@ -164,12 +179,13 @@ module _ (d e : MasterData) (f : FleetState) (o : Object) (loaded : IsWellLoaded
     loading = own_holds loading_lasts e core then_memory loaded.before then_loading then_model;
     backups = subst (λ (x : MasterData). x.config.backups ≤ f.backups) (sym is.rest) loaded.backups;
     running = λ going. loaded.running (sym (ap (λ (x : MasterData). x.is_halted) is.rest) ∙ going);
-    halted = λ stopped. ap (λ (x : MasterData). is_pushed x.head) is.rest ∙ lags d loaded.core 0 unit;
+    halted = λ stopped. ap (λ (x : MasterData). is_pushed x.head) is.rest ∙ unit_lags d loaded.core 0 unit;
   }
 
 -- ---- it has loaded all
 
-module _ (d e : MasterData) (f : FleetState) (loaded : IsWellLoaded d f) (pushed : is_pushed d.head ≡ true) (is : Settles d e)
+module _ (d e : MasterData) (f : FleetState) (loaded : IsWellLoaded d f) (pushed : is_pushed d.head ≡ true)
+    (is : Settles d e)
     (core : IsCore e) where
   running : d.is_halted ≡ false
   running = go d.is_halted refl where
@@ -180,7 +196,8 @@ module _ (d e : MasterData) (f : FleetState) (loaded : IsWellLoaded d f) (pushed
   intact : IsIntact (log_of e) (memory_of e) loaded.before
   intact =
       subst (λ (l : LogData). IsIntact l (memory_of e) loaded.before) (sym is.log)
-      (subst (λ (x : MasterData). IsIntact (adopted (log_of d) (opening_of d)) (memory_of x) loaded.before) (sym is.rest)
+      (subst (λ (x : MasterData). IsIntact (adopted (log_of d) (opening_of d))
+      (memory_of x) loaded.before) (sym is.rest)
       (finish_is_intact (log_of d) (memory_of d) loaded.before loaded.loading (pushed_ready d loaded.core pushed)
       (pushed_whole d loaded.core pushed)))
 

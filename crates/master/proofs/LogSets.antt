@@ -19,13 +19,13 @@ use Rattle.clean_model.proofs.CommitDigest.{all_in, all_out}
 use Rattle.clean_model.proofs.KeptEntries.{has_is, is_has}
 use Rattle.clean_model.proofs.LogSetIds.{ids_out, in_digest, in_survivors, in_others, head_in, new_in}
 use Rattle.hash_index.specs.declared.place.Place.{Place}
-use Rattle.master_core.specs.Budget.{survivors_of}
-use Rattle.master_core.specs.Data.{MasterData}
-use Rattle.master_core.specs.Images.{new_image_or}
-use Rattle.master_core.specs.Invariant.{IsCore}
-use Rattle.master_core.specs.Log.{log_of, image_of, images_of, memory_of, log_set_ids}
-use Rattle.master_core.proofs.Digests.{id_is}
-use Rattle.master_core.proofs.Imaging.{same_id, ids_in}
+use Rattle.master_state.specs.Budget.{survivors_of}
+use Rattle.master_state.specs.Data.{MasterData}
+use Rattle.master_state.specs.Images.{new_image_or}
+use Rattle.master_state.specs.Invariant.{IsCore}
+use Rattle.master_state.specs.Log.{log_of, image_of, images_of, memory_of, log_set_ids}
+use Rattle.master_space.proofs.Digests.{id_is}
+use Rattle.master_state.proofs.Imaging.{same_id, ids_in}
 
 -- ---- lists
 
@@ -42,7 +42,8 @@ closed_has (c ∷ cs) s (inr later) = go (c.id == s) refl (closed_has cs s later
 has_closed : (cs : List Image) (s : ℕ) → IsSome (segment_of cs s) → IsAmong s (ids_in cs)
 has_closed [] s is = absurd (cc)
 has_closed (c ∷ cs) s is = go (c.id == s) refl (has_closed cs s) is where
-  go : (t : Bool) → (c.id == s) ≡ t → (IsSome (segment_of cs s) → IsAmong s (ids_in cs)) → IsSome (segment_of (c ∷ cs) s)
+  go : (t : Bool) → (c.id == s) ≡ t → (IsSome (segment_of cs s) → IsAmong s (ids_in cs))
+      → IsSome (segment_of (c ∷ cs) s)
       → IsAmong s (ids_in (c ∷ cs))
   go true here later is = inl (eqb-true c.id s here)
   go false away later is = inr (later (rw away at is))
@@ -57,17 +58,21 @@ has_same [] s = refl
 has_same (z ∷ ids) s = ap (λ (b : Bool). (z == s) || b) (has_same ids s)
 
 -- lists with the same ids
-pub has_both : (ids set : List ℕ) (s : ℕ) → (IsAmong s ids → IsAmong s set) → (IsAmong s set → IsAmong s ids) → has ids s ≡ has_id set s
+pub has_both : (ids set : List ℕ) (s : ℕ) → (IsAmong s ids → IsAmong s set) → (IsAmong s set → IsAmong s ids)
+    → has ids s ≡ has_id set s
 has_both ids set s to from =
-    agree (has ids s) (has set s) (λ is. has_is set s (to (is_has ids s is))) (λ is. has_is ids s (from (is_has set s is)))
+    agree (has ids s) (has set s) (λ is. has_is set s (to (is_has ids s is)))
+    (λ is. has_is ids s (from (is_has set s is)))
     ∙ has_same set s
 
 -- ---- the log set
 
 -- an entry that is at a place is in the image
-pub among_at_place : (d : MasterData) (p : Place) (e : Entry) → IsAtPlace (images_of d) p e → IsAmong e (images_of d p.segment)
+pub among_at_place : (d : MasterData) (p : Place) (e : Entry) → IsAtPlace (images_of d) p e
+    → IsAmong e (images_of d p.segment)
 among_at_place d p e there =
-    subst (λ (es : List Entry). IsAmong e es) (sym there.split) (among_right e there.before (e ∷ there.after) (inl refl))
+    subst (λ (es : List Entry). IsAmong e es) (sym there.split)
+    (among_right e there.before (e ∷ there.after) (inl refl))
 
 -- the head that a roll is opening
 pub new_is : (replicas : ℕ) (r : Roll) → new_of (phase_in replicas r) ≡ Some (start_of r)
@@ -86,10 +91,12 @@ module _ (d : MasterData) (core : IsCore d) (s : ℕ) where
 
   -- the closed segments are those in force with the survivor
   closed_out : IsAmong s (ids_in d.closed) → IsAmong s (head_of d.head).start.others ⊎ IsAmong s (survivors_of d.pass)
-  closed_out c = all_out (survivors_of d.pass) (head_of d.head).start.others s (subst (λ (ids : List ℕ). IsAmong s ids) core.closed c)
+  closed_out c = all_out (survivors_of d.pass) (head_of d.head).start.others s
+      (subst (λ (ids : List ℕ). IsAmong s ids) core.closed c)
 
   closed_in : IsAmong s (head_of d.head).start.others ⊎ IsAmong s (survivors_of d.pass) → IsAmong s (ids_in d.closed)
-  closed_in c = subst (λ (ids : List ℕ). IsAmong s ids) (sym core.closed) (all_in (survivors_of d.pass) (head_of d.head).start.others s c)
+  closed_in c = subst (λ (ids : List ℕ). IsAmong s ids) (sym core.closed)
+      (all_in (survivors_of d.pass) (head_of d.head).start.others s c)
 
   pub of_closed : IsAmong s (ids_in d.closed) → IsAmong s (log_ids (log_of d) (memory_of d))
   of_closed c = elim (closed_out c) as (λ _. IsAmong s log_set) [
@@ -108,8 +115,10 @@ module _ (d : MasterData) (core : IsCore d) (s : ℕ) where
       (new_in (log_of d) (memory_of d) (start_of r) (new_now d r rolls))
 
   -- which segment of the log set it is
-  out_new : (o : Option Roll) → d.head.roll ≡ o → IsAmong s (new_ids (new_of (phase_of d.head))) → (r : Roll) × (d.head.roll ≡ Some r) × (s ≡ r.id)
-  out_new None none i = absurd (subst (λ (o : Option Roll). IsAmong s (new_ids (new_of (option_map_or (phase_in d.head.replicas) o Ready)))) none i)
+  out_new : (o : Option Roll) → d.head.roll ≡ o → IsAmong s (new_ids (new_of (phase_of d.head))) → (r : Roll)
+      × (d.head.roll ≡ Some r) × (s ≡ r.id)
+  out_new None none i = absurd (subst (λ (o : Option Roll). IsAmong s
+      (new_ids (new_of (option_map_or (phase_in d.head.replicas) o Ready)))) none i)
   out_new (Some r) rolls i =
       elim (subst (λ (o : Option Start). IsAmong s (new_ids o)) (new_now d r rolls) i)
       as (λ _. (r : Roll) × (d.head.roll ≡ Some r) × (s ≡ r.id)) [
@@ -208,7 +217,8 @@ module _ (d : MasterData) (core : IsCore d) (s : ℕ) where
 
   has_image : Which → IsSome (image_of d s)
   has_image (inl closed) = unless_head (new_or d.head.roll (closed_has d.closed s closed))
-  has_image (inr (inl own)) = let test : (d.head.id == s) ≡ true = ap (λ (z : ℕ). d.head.id == z) own ∙ same_id d.head.id in rw test refl
+  has_image (inr (inl own)) = let test : (d.head.id == s) ≡ true = ap (λ (z : ℕ). d.head.id == z) own
+      ∙ same_id d.head.id in rw test refl
   has_image (inr (inr new)) = unless_head (new_own d.head.roll new.0 new.1 new.2)
 
   pub imaged : IsSome (image_of d s) ↔ IsAmong s (log_ids (log_of d) (memory_of d))

@@ -20,17 +20,19 @@ use Rattle.log_model.specs.Data.{LogData, ids_of, new_of}
 use Rattle.log_model.specs.Log.{Texts}
 use Rattle.replica.specs.Picture.{Picture}
 use Rattle.clean_model.specs.Intact.{IsIntact}
-use Rattle.clean_model.specs.Memory.{Place as EntryPlace, Index, Images, Pass, Memory, IsAt, StandsAt, SegmentHas, new_ids, log_ids, log_set_of}
+use Rattle.clean_model.specs.Memory.{Place as EntryPlace, Index, Images, Pass, Memory, IsAt, StandsAt, SegmentHas}
+use Rattle.clean_model.specs.Memory.{new_ids, log_ids, log_set_of}
 use Rattle.clean_model.specs.Covered.{map_of}
 use Rattle.clean_model.specs.Same.{IsFoundInBoth, IsSameMemory}
 use Rattle.clean_model.specs.Tracked.{IsTracked}
-use Rattle.master_core.specs.Budget.{victims_of, survivors_of, is_committing}
-use Rattle.master_core.specs.Data.{MasterData}
-use Rattle.master_core.specs.Index.{LiesFound}
-use Rattle.master_core.specs.Invariant.{IsCore, IsOpenPass}
-use Rattle.master_core.specs.Log.{log_of, state_now, images_of, find, position_of, entry_place, rest_now, freed_of, memory_of}
-use Rattle.master_core.proofs.Finding.{each_of, found_place}
-use Rattle.master_core.proofs.LogIds.{older_image}
+use Rattle.master_state.specs.Budget.{victims_of, survivors_of, is_committing}
+use Rattle.master_state.specs.Data.{MasterData}
+use Rattle.master_state.specs.Index.{LiesFound}
+use Rattle.master_state.specs.Invariant.{IsCore, IsOpenPass}
+use Rattle.master_state.specs.Log.{log_of, state_now, images_of, find, position_of, entry_place, rest_now, freed_of}
+use Rattle.master_state.specs.Log.{memory_of}
+use Rattle.master_state.proofs.Finding.{each_of, found_place}
+use Rattle.master_state.proofs.LogIds.{older_image}
 use Rattle.master.proofs.KeptByEntries.{stands_by_entries}
 use Rattle.master.proofs.Lasting.{Lasts, intact_lasts}
 use Rattle.master.proofs.LogSets.{among_at_place, entry_counts}
@@ -43,7 +45,8 @@ among_map f [] x i = absurd i
 among_map f (y ∷ ys) x (inl same) = inl (ap f same)
 among_map f (y ∷ ys) x (inr later) = inr (among_map f ys x later)
 
-pub map_among : {X Y : Type 0} (f : X → Y) (xs : List X) (y : Y) → IsAmong y (map f xs) → (x : X) × IsAmong x xs × (f x ≡ y)
+pub map_among : {X Y : Type 0} (f : X → Y) (xs : List X) (y : Y) → IsAmong y (map f xs) → (x : X)
+    × IsAmong x xs × (f x ≡ y)
 map_among f [] y i = absurd i
 map_among f (x ∷ xs) y (inl same) = (x, inl refl, same)
 map_among f (x ∷ xs) y (inr later) = let rest = map_among f xs y later in (rest.0, inr rest.1, rest.2)
@@ -77,7 +80,8 @@ module _ (e : MasterData) (core : IsCore e) where
   live_of None is pass k q found victim = absurd victim
   live_of (Some p) is pass k q found victim = pass.live k q found victim
 
-  live : (k : Key) (p : EntryPlace) → (memory_of e).index k ≡ Some p → IsAmong p.segment (victims_of e.pass) → IsAmong p (memory_of e).rest
+  live : (k : Key) (p : EntryPlace) → (memory_of e).index k ≡ Some p → IsAmong p.segment (victims_of e.pass)
+      → IsAmong p (memory_of e).rest
   live k p named victim = go (find e k) refl named where
     go : (f : Option Place) → find e k ≡ f → option_map (entry_place e) f ≡ Some p → IsAmong p (memory_of e).rest
     go None is named = absurd (cc)
@@ -89,12 +93,14 @@ module _ (e : MasterData) (core : IsCore e) where
 
   unindexed : (k : Key) → (state_now e).contents k ≡ None → (memory_of e).index k ≡ None
   unindexed k has = go (find e k) ((state_now e).contents k) refl has (core.index.lies k) where
-    go : (q : Option Place) (x : Option Versioned) → find e k ≡ q → x ≡ None → LiesFound (images_of e) k q x → option_map (entry_place e) (find e k) ≡ None
+    go : (q : Option Place) (x : Option Versioned) → find e k ≡ q → x ≡ None → LiesFound (images_of e) k q x
+        → option_map (entry_place e) (find e k) ≡ None
     go None x is none lies = ap (option_map (entry_place e)) is
     go (Some q) None is none lies = absurd lies
     go (Some q) (Some x) is none lies = absurd (cc)
 
-module _ {Holds : LogData → Memory → Picture → Type 0} (lasts : Lasts Holds) (e : MasterData) (core : IsCore e) (m : Memory) (p : Picture)
+module _ {Holds : LogData → Memory → Picture → Type 0} (lasts : Lasts Holds) (e : MasterData) (core : IsCore e)
+    (m : Memory) (p : Picture)
     (i : Holds (log_of e) m p) (is : IsModel e m) where
   texts : Texts
   texts = (lasts.tracked (log_of e) m p i).0
@@ -104,7 +110,8 @@ module _ {Holds : LogData → Memory → Picture → Type 0} (lasts : Lasts Hold
   tracked = (lasts.tracked (log_of e) m p i).1
 
   ids_are : log_ids (log_of e) (memory_of e) ≡ log_ids (log_of e) m
-  ids_are = ap (λ (x : Pass). ids_of (head_of e.head).start ++ (new_ids (new_of (phase_of e.head)) ++ x.survivors)) is.pass
+  ids_are = ap (λ (x : Pass). ids_of (head_of e.head).start ++
+      (new_ids (new_of (phase_of e.head)) ++ x.survivors)) is.pass
 
   module _ (k : Key) (x : Versioned) (has : (state_now e).contents k ≡ Some x) where
     abbrev object : Object
@@ -117,7 +124,8 @@ module _ {Holds : LogData → Memory → Picture → Type 0} (lasts : Lasts Hold
     among = among_at_place e place.0 (object_at k x) place.2
 
     counts : IsAmong place.0.segment (log_ids (log_of e) m)
-    counts = subst (λ (ids : List ℕ). IsAmong place.0.segment ids) ids_are (entry_counts e core place.0.segment (object_at k x) among)
+    counts = subst (λ (ids : List ℕ). IsAmong place.0.segment ids) ids_are
+        (entry_counts e core place.0.segment (object_at k x) among)
 
     image_is : images_of e place.0.segment ≡ m.images place.0.segment
     image_is = is.images place.0.segment counts
@@ -133,7 +141,8 @@ module _ {Holds : LogData → Memory → Picture → Type 0} (lasts : Lasts Hold
     found =
         let was = tracked.found k x has in
         let segment : was.place.segment ≡ place.0.segment =
-        elim (tracked.lies k x was.place has was.indexed place.0.segment object there refl) as (λ _. was.place.segment ≡ place.0.segment) [
+        elim (tracked.lies k x was.place has was.indexed place.0.segment object there refl) as (λ _. was.place.segment
+        ≡ place.0.segment) [
           | inl same ↦ same
           | inr copied ↦ absurd (is.behind k place.0 was.place place.1 was.indexed copied.victim copied.survivor)
         ] in
@@ -143,8 +152,10 @@ module _ {Holds : LogData → Memory → Picture → Type 0} (lasts : Lasts Hold
           indexed = was.indexed;
           other_indexed = ap (option_map (entry_place e)) place.1;
           segment = sym segment;
-          stands = subst (λ (es : List Entry). IsAt es (position_of (images_of e place.0.segment) place.0.at) (object_at k x)) image_is
-              (stands_by_entries (images_of e place.0.segment) place.0.at (object_at k x) (each_of e core place.0.segment) place.2);
+          stands = subst (λ (es : List Entry). IsAt es (position_of (images_of e place.0.segment) place.0.at)
+              (object_at k x)) image_is
+              (stands_by_entries (images_of e place.0.segment) place.0.at (object_at k x)
+              (each_of e core place.0.segment) place.2);
         }
 
   same : IsSameMemory (log_of e) m (memory_of e)
@@ -197,7 +208,8 @@ rest_stays d e core later pass newer same =
     go (Some p) same = rest_same (images_in d.closed) (images_in e.closed) p same
 
 module _ (d e : MasterData) (leaves : LeavesPass d e) where
-  still_carried : (p : EntryPlace) → IsAmong p.segment (victims_of d.pass) → IsAmong p (memory_of d).rest → IsAmong p (memory_of e).rest
+  still_carried : (p : EntryPlace) → IsAmong p.segment (victims_of d.pass) → IsAmong p (memory_of d).rest
+      → IsAmong p (memory_of e).rest
   still_carried p victim i =
       let q = map_among (entry_place d) (rest_now d) p i in
       let segment : q.0.segment ≡ p.segment = ap (λ (r : EntryPlace). r.segment) q.2 in

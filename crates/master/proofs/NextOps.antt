@@ -1,5 +1,6 @@
 -- The op of a push is the one that comes next in the log.
-use Rattle.std.proofs.Common.{◌≡◌, ℕ, zero, suc, [], ◌∷◌, ◌+◌, ◌<◌, ◌≤◌, Bool, true, false, inl, inr, List, length, Some, refl, sym, ap, subst, ◌∙◌, arith}
+use Rattle.std.proofs.Common.{◌≡◌, ℕ, zero, suc, [], ◌∷◌, ◌+◌, ◌<◌, ◌≤◌, Bool, true, false, inl, inr, List, length}
+use Rattle.std.proofs.Common.{Some, refl, sym, ap, subst, ◌∙◌, arith}
 use Rattle.std.specs.Prelude.{Option, None, slice_get, unwrap_or, ◌==◌, if◌then◌else◌}
 use Rattle.std.specs.List.{AllByRecursion}
 use Rattle.std.specs.Option.{option_map_or}
@@ -18,14 +19,15 @@ use Rattle.log_head.proofs.HeadLog.{end_is, front_is, part_is, count_is}
 use Rattle.log_head.proofs.RollLog.{phase_opened, phase_opening, phase_closing, head_in_force}
 use Rattle.log_model.specs.Data.{Ready, IsHomeAt, entries_of, head_entries}
 use Rattle.log_model.specs.Ops.{LogOp}
-use Rattle.log_model.specs.Steps.{OpensFirst, OpensNew, ClosesOld, IsNext, units_between, one_opened, one_closed, new_head}
-use Rattle.master_core.specs.Data.{MasterData}
-use Rattle.master_core.specs.Images.{with_closed}
-use Rattle.master_core.specs.Invariant.{IsCore}
-use Rattle.master_core.specs.Log.{home, log_of}
-use Rattle.master_core.specs.Steps.{pass_ended, roll_ended, closed_data, taken_data}
-use Rattle.master_core.proofs.Digests.{id_is}
-use Rattle.master_core.proofs.Rolls.{rolls_of, values}
+use Rattle.log_model.specs.Steps.{OpensFirst, OpensNew, ClosesOld, IsNext, units_between, one_opened, one_closed}
+use Rattle.log_model.specs.Steps.{new_head}
+use Rattle.master_state.specs.Data.{MasterData}
+use Rattle.master_state.specs.Images.{with_closed}
+use Rattle.master_state.specs.Invariant.{IsCore}
+use Rattle.master_state.specs.Log.{home, log_of}
+use Rattle.master_state.specs.Steps.{pass_ended, roll_ended, closed_data, taken_data}
+use Rattle.master_space.proofs.Digests.{id_is}
+use Rattle.master_space.proofs.RollEnds.{rolls_of, values}
 use Rattle.master.specs.Pushes.{reach, ExtendsNext, IsNextOp, answer_of}
 use Rattle.master.proofs.Placing.{home_of}
 
@@ -46,11 +48,14 @@ module _ (d : MasterData) (core : IsCore d) where
 
   -- ---- a replica of a first head
 
-  opens : (j : ℕ) → IsNextPush d.head (Some (next.OpenFirst j)) → OpensFirst (log_of d) (log_op d (next.OpenFirst j)) (log_of (taken_data d (next.OpenFirst j)))
+  opens : (j : ℕ) → IsNextPush d.head (Some (next.OpenFirst j))
+      → OpensFirst (log_of d) (log_op d (next.OpenFirst j)) (log_of (taken_data d (next.OpenFirst j)))
   opens j is = record {
     few = (let same = core.replicas in let at = is.0 in let lt = is.1 in omega arith);
-    home = subst (λ (s : ℕ). IsHomeAt (log_of d) s (length d.head.taken) (home d.config d.head.id j)) (sym core.image.id)
-        (subst (λ (n : ℕ). IsHomeAt (log_of d) d.head.id n (home d.config d.head.id j)) is.0 (home_at d.head.id j is.1));
+    home = subst (λ (s : ℕ). IsHomeAt (log_of d) s (length d.head.taken) (home d.config d.head.id j))
+        (sym core.image.id)
+        (subst (λ (n : ℕ). IsHomeAt (log_of d) d.head.id n (home d.config d.head.id j)) is.0
+        (home_at d.head.id j is.1));
     segment = sym core.image.id;
     act = ap Open (front_is d.config.master d.head (head_of d.head) core.image 0);
     gives = refl;
@@ -75,13 +80,15 @@ module _ (d : MasterData) (core : IsCore d) where
         lags = (let to = units_are in omega arith);
         within = (let to = units_are in let lt = is.1.2 in let same = counts in omega arith);
         home = subst (λ (s : ℕ). IsHomeAt (log_of d) s j (home d.config d.head.id j)) (sym core.image.id)
-            (home_at d.head.id j (let lt = slice_get_within d.head.taken j units is.1.1 in let few = core.head.opened in omega arith));
+            (home_at d.head.id j (let lt = slice_get_within d.head.taken j units is.1.1 in
+            let few = core.head.opened in omega arith));
         segment = sym core.image.id;
         act = ap (λ (n : ℕ). Extend (end_of d.head.base d.head.units n) (bytes_between d.head n (n + 1))) units_are
             ∙ (λ i. Extend (end_is d.config.master d.head (head_of d.head) core.image units i)
             (part_is d.config.master d.head (head_of d.head) core.image units (units + 1) (omega arith) i))
             ∙ ap (λ (to : ℕ). Extend (length (text_of (head_entries d.config.master (head_of d.head) units)))
-            (text_of (entries_of (units_between (head_of d.head).units units to)))) (ap (λ (n : ℕ). n + 1) (sym units_are));
+            (text_of (entries_of (units_between (head_of d.head).units units to))))
+            (ap (λ (n : ℕ). n + 1) (sym units_are));
         gives = refl;
       };
       lagging = subst (λ (n : ℕ). IsLagging n d.head.taken (Some j)) counts is.1;
@@ -91,7 +98,8 @@ module _ (d : MasterData) (core : IsCore d) where
   -- ---- a roll
 
   -- each replica has each unit
-  whole_taken : IsWholeHead d.head → (i count : ℕ) → slice_get d.head.taken i ≡ Some count → count ≡ length (head_of d.head).units
+  whole_taken : IsWholeHead d.head → (i count : ℕ) → slice_get d.head.taken i ≡ Some count
+      → count ≡ length (head_of d.head).units
   whole_taken whole i count has =
       let within = slice_get_within d.head.taken i count has in
       let least = every (λ (m : ℕ). length d.head.units ≤ m) d.head.taken i count whole.none_lags has in
@@ -108,12 +116,14 @@ module _ (d : MasterData) (core : IsCore d) where
     phase_is : phase_of d.head ≡ phase_in d.head.replicas r
     phase_is = ap (λ (o : Option Roll). option_map_or (phase_in d.head.replicas) o Ready) rolls
 
-  opens_new : (j : ℕ) → IsNextPush d.head (Some (next.OpenNew j)) → OpensNew (log_of d) (log_op d (next.OpenNew j)) (log_of (taken_data d (next.OpenNew j)))
+  opens_new : (j : ℕ) → IsNextPush d.head (Some (next.OpenNew j))
+      → OpensNew (log_of d) (log_op d (next.OpenNew j)) (log_of (taken_data d (next.OpenNew j)))
   opens_new j is =
       let r = is.1 in
       let roll = is.2 in
       let few : r.opened < d.head.replicas = (let at = is.3 in let lt = is.4 in omega arith) in
-      let segment : segment_of d.head (next.OpenNew j) ≡ r.id = ap (λ (o : Option Roll). option_map_or (λ (q : Roll). q.id) o d.head.id) roll in
+      let segment : segment_of d.head (next.OpenNew j) ≡ r.id =
+      ap (λ (o : Option Roll). option_map_or (λ (q : Roll). q.id) o d.head.id) roll in
       let id = id_is d core r roll in
       record {
         j = r.opened;
@@ -121,13 +131,16 @@ module _ (d : MasterData) (core : IsCore d) where
         now = phase_is r roll ∙ phase_opening d.head r few;
         opened = is.0.opened ∙ core.replicas;
         all = whole_taken is.0;
-        home = subst (λ (s : ℕ). IsHomeAt (log_of d) s r.opened (home d.config (segment_of d.head (next.OpenNew j)) j)) (segment ∙ sym id)
-            (subst (λ (k : ℕ). IsHomeAt (log_of d) (segment_of d.head (next.OpenNew j)) k (home d.config (segment_of d.head (next.OpenNew j)) j)) is.3
+        home = subst (λ (s : ℕ). IsHomeAt (log_of d) s r.opened (home d.config (segment_of d.head (next.OpenNew j)) j))
+            (segment ∙ sym id)
+            (subst (λ (k : ℕ). IsHomeAt (log_of d) (segment_of d.head (next.OpenNew j)) k
+            (home d.config (segment_of d.head (next.OpenNew j)) j)) is.3
             (home_at (segment_of d.head (next.OpenNew j)) j is.4));
         segment = segment ∙ sym id;
         act = ap (λ (o : Option Roll). Open (option_map_or (λ (q : Roll). text_of q.image) o [])) roll
             ∙ ap (λ es. Open (text_of es)) (rolls_of d core r roll).image;
-        gives = ap (λ (o : Option Roll). log_of (option_map_or (λ (q : Roll). record d { head = with_new_replica d.head q }) o d)) roll
+        gives = ap (λ (o : Option Roll). log_of (option_map_or
+            (λ (q : Roll). record d { head = with_new_replica d.head q }) o d)) roll
             ∙ (λ i. record (log_of d) {
               phase = (phase_opened d.head r few (values d core r roll).order
                   ∙ ap (λ (k : ℕ). one_opened k r.opened (start_of r)) core.replicas) i;
@@ -143,22 +156,33 @@ module _ (d : MasterData) (core : IsCore d) where
     go false = refl
 
   -- the last Close, or one before it
-  closed_log : (r : Roll) → d.head.roll ≡ Some r → r.opened ≡ d.head.replicas → (t : Bool) → (suc r.closed == d.head.replicas) ≡ t
+  closed_log : (r : Roll) → d.head.roll ≡ Some r → r.opened ≡ d.head.replicas → (t : Bool)
+      → (suc r.closed == d.head.replicas) ≡ t
       → log_of (closed_data d r) ≡ one_closed (log_of d) r.closed (start_of r)
   closed_log r roll all true test =
-      let ours : (suc r.closed == d.config.replicas) ≡ true = ap (λ (k : ℕ). suc r.closed == k) (sym core.replicas) ∙ test in
-      let e : MasterData = record d { head = in_force d.head r; closed = with_closed d.closed d.head.id (Some d.head.image) } in
-      let ended : log_of e ≡ record (log_of d) { head = new_head d.config.replicas (start_of r); phase = Ready } = (λ i. record (log_of d) {
+      let ours : (suc r.closed == d.config.replicas) ≡ true =
+      ap (λ (k : ℕ). suc r.closed == k) (sym core.replicas) ∙ test in
+      let e : MasterData = record d {
+        head = in_force d.head r;
+        closed = with_closed d.closed d.head.id (Some d.head.image);
+      } in
+      let ended : log_of e ≡ record (log_of d) { head = new_head d.config.replicas (start_of r); phase = Ready } =
+      (λ i. record (log_of d) {
         head = (head_in_force d.config.master d.head r (rolls_of d core r roll).image (values d core r roll).segment
             ∙ ap (λ (k : ℕ). new_head k (start_of r)) core.replicas) i;
         phase = Ready;
       }) in
       rw (test, ours) (log_ended d.pass e ∙ ended)
   closed_log r roll all false test =
-      let ours : (suc r.closed == d.config.replicas) ≡ false = ap (λ (k : ℕ). suc r.closed == k) (sym core.replicas) ∙ test in
-      rw (test, ours) (λ i. record (log_of d) { phase = phase_closing d.head.replicas (record r { closed = suc r.closed }) all i })
+      let ours : (suc r.closed == d.config.replicas) ≡ false =
+      ap (λ (k : ℕ). suc r.closed == k) (sym core.replicas) ∙ test in
+      rw (test, ours) (λ i. record (log_of d) {
+        phase = phase_closing d.head.replicas
+            (record r { closed = suc r.closed }) all i;
+      })
 
-  closes : (j : ℕ) → IsNextPush d.head (Some (next.CloseOld j)) → ClosesOld (log_of d) (log_op d (next.CloseOld j)) (log_of (taken_data d (next.CloseOld j)))
+  closes : (j : ℕ) → IsNextPush d.head (Some (next.CloseOld j))
+      → ClosesOld (log_of d) (log_op d (next.CloseOld j)) (log_of (taken_data d (next.CloseOld j)))
   closes j is =
       let r = is.1 in
       let roll = is.2 in
@@ -168,7 +192,8 @@ module _ (d : MasterData) (core : IsCore d) where
         n = start_of r;
         now = phase_is r roll ∙ phase_closing d.head.replicas r is.4;
         home = subst (λ (s : ℕ). IsHomeAt (log_of d) s r.closed (home d.config d.head.id j)) (sym core.image.id)
-            (subst (λ (k : ℕ). IsHomeAt (log_of d) d.head.id k (home d.config d.head.id j)) is.3 (home_at d.head.id j few));
+            (subst (λ (k : ℕ). IsHomeAt (log_of d) d.head.id k (home d.config d.head.id j)) is.3
+            (home_at d.head.id j few));
         segment = sym core.image.id;
         act = refl;
         gives = ap (λ (o : Option Roll). log_of (option_map_or (closed_data d) o d)) roll
@@ -178,13 +203,15 @@ module _ (d : MasterData) (core : IsCore d) where
   -- ---- each push
 
   pub next_told : (push : Next) → IsNextPush d.head (Some push)
-      → IsNextOp (log_of d) (log_op d push) (answer_of push (log_op d push).backup (log_op d push).segment) (log_of (taken_data d push))
+      → IsNextOp (log_of d) (log_op d push) (answer_of push (log_op d push).backup (log_op d push).segment)
+      (log_of (taken_data d push))
   next_told (next.OpenFirst j) is = (inl (opens j is), refl, refl)
   next_told (next.Extend j) is = (extends j is, refl, refl)
   next_told (next.OpenNew j) is = (inr (opens_new j is), refl, refl)
   next_told (next.CloseOld j) is = (closes j is, refl, refl)
 
-  pub next_is : (push : Next) → IsNextPush d.head (Some push) → IsNext (log_of d) (log_op d push) (log_of (taken_data d push))
+  pub next_is : (push : Next) → IsNextPush d.head (Some push)
+      → IsNext (log_of d) (log_op d push) (log_of (taken_data d push))
   next_is (next.OpenFirst j) is = inl (opens j is)
   next_is (next.Extend j) is = inr (inl (extends j is).extends)
   next_is (next.OpenNew j) is = inr (inr (inl (opens_new j is)))

@@ -1,5 +1,6 @@
 -- What a core with an open pass has of the pass's segments.
-use Rattle.std.proofs.Common.{◌≡◌, ℕ, ◌<◌, Bool, true, false, List, [], ◌∷◌, drop, length, refl, sym, ap, subst, ◌∙◌, arith}
+use Rattle.std.proofs.Common.{◌≡◌, ℕ, ◌<◌, Bool, true, false, List, [], ◌∷◌, drop, length, refl, sym, ap, subst, ◌∙◌}
+use Rattle.std.proofs.Common.{arith}
 use Rattle.std.specs.Prelude.{Option, Some, None, IfSome, unwrap_or, ◌==◌, if◌then◌else◌}
 use Rattle.std.specs.List.{AllByRecursion}
 use Rattle.std.specs.Option.{option_map_or}
@@ -19,18 +20,19 @@ use Rattle.log_head.specs.Log.{head_of}
 use Rattle.log_model.specs.Data.{ids_of}
 use Rattle.clean_model.proofs.KeptEntries.{has_is}
 use Rattle.entry.proofs.BagLemmas.{among_last}
-use Rattle.master_core.specs.Budget.{victims_of}
-use Rattle.master_core.specs.Data.{MasterData}
-use Rattle.master_core.specs.Images.{new_image_or, images_among}
-use Rattle.master_core.specs.Invariant.{IsRollOf, IsOpenPass, IsCore}
-use Rattle.master_core.specs.Log.{images_of, rest_now}
-use Rattle.master_core.proofs.Imaging.{other_id}
+use Rattle.master_state.specs.Budget.{victims_of}
+use Rattle.master_state.specs.Data.{MasterData}
+use Rattle.master_state.specs.Images.{new_image_or, images_among}
+use Rattle.master_state.specs.Invariant.{IsRollOf, IsOpenPass, IsCore}
+use Rattle.master_state.specs.Log.{images_of, rest_now}
+use Rattle.master_state.proofs.Imaging.{other_id}
 use Rattle.master.proofs.Victims.{victim_older}
 
 -- ---- closed segments
 
 -- a segment that is neither the head nor one that a roll is opening has the image that it has as a closed one
-pub closed_among : (h : HeadValue) (cs : List Image) (s : ℕ) → (h.id ≡ s → ⊥) → IfSome h.roll (λ (r : Roll). (r.id == s) ≡ false)
+pub closed_among : (h : HeadValue) (cs : List Image) (s : ℕ) → (h.id ≡ s → ⊥)
+    → IfSome h.roll (λ (r : Roll). (r.id == s) ≡ false)
     → images_among h cs s ≡ images_in cs s
 closed_among h cs s other new =
     let away = other_id h.id s other in
@@ -48,21 +50,25 @@ same_among h cs more s same =
     ap (λ (o : Option (List Entry)). unwrap_or (if h.id == s then Some h.image else new_image_or h.roll s o) []) same
 
 -- a closed segment that is there is a segment
-segment_in : (cs : List Image) (s : ℕ) → AllByRecursion (λ (c : Image). IsSegment c.segment) cs → IsWhole cs s → IsSegment (images_in cs s)
+segment_in : (cs : List Image) (s : ℕ) → AllByRecursion (λ (c : Image). IsSegment c.segment) cs → IsWhole cs s
+    → IsSegment (images_in cs s)
 segment_in [] s all some = absurd some
 segment_in (c ∷ cs) s all some = go (c.id == s) refl some (segment_in cs s all.1) where
-  go : (t : Bool) → (c.id == s) ≡ t → IsWhole (c ∷ cs) s → (IsWhole cs s → IsSegment (images_in cs s)) → IsSegment (images_in (c ∷ cs) s)
+  go : (t : Bool) → (c.id == s) ≡ t → IsWhole (c ∷ cs) s → (IsWhole cs s → IsSegment (images_in cs s))
+      → IsSegment (images_in (c ∷ cs) s)
   go true here some later = rw here all.0
   go false away some later = let rest : IsWhole cs s = rw away at some in rw away (later rest)
 
 module _ (d : MasterData) (core : IsCore d) where
   -- an older segment of the digest in force is below the heads
   pub older_image : (s : ℕ) → IsAmong s (head_of d.head).start.others → images_of d s ≡ images_in d.closed s
-  older_image s older = closed_among d.head d.closed s (λ same. (let lt = below in omega arith)) (new d.head.roll core.roll)
+  older_image s older = closed_among d.head d.closed s (λ same. (let lt = below in omega arith))
+      (new d.head.roll core.roll)
     where
       below : s < d.head.id
       below =
-          let lt = all_among (λ (id : ℕ). id < (head_of d.head).start.id) (head_of d.head).start.others s core.below older in
+          let lt = all_among (λ (id : ℕ). id < (head_of d.head).start.id)
+          (head_of d.head).start.others s core.below older in
           let same = core.image.id in omega arith
 
       new : (o : Option Roll) → IfSome o (IsRollOf d) → IfSome o (λ (r : Roll). (r.id == s) ≡ false)
@@ -80,7 +86,8 @@ module _ (d : MasterData) (core : IsCore d) where
 
     pub victim_image : (s : ℕ) → IsAmong s p.victims → images_of d s ≡ images_in d.closed s
     victim_image s victim =
-        older_image s (victim_older d core s (subst (λ (o : Option Pass). IsAmong s (victims_of o)) (sym opened) victim))
+        older_image s (victim_older d core s (subst (λ (o : Option Pass). IsAmong s (victims_of o))
+        (sym opened) victim))
 
     pub below_survivor : (s : ℕ) → IsAmong s p.victims → s < p.survivor
     below_survivor s victim = (is_victim d.closed p.survivor p.victims s open_now.pass.victims victim).1
@@ -89,7 +96,8 @@ module _ (d : MasterData) (core : IsCore d) where
     not_head same =
         let ids = ids_of (head_of d.head).start in
         let among : IsAmong p.survivor ids =
-        subst (λ (z : ℕ). IsAmong z ids) (core.image.id ∙ same) (among_last (head_of d.head).start.others (head_of d.head).start.id) in
+        subst (λ (z : ℕ). IsAmong z ids) (core.image.id ∙ same)
+        (among_last (head_of d.head).start.others (head_of d.head).start.id) in
         let never : true ≡ false = sym (has_is ids p.survivor among) ∙ open_now.survivor.outside in
         cc
 

@@ -5,11 +5,11 @@ use Rattle.std.proofs.lemmas.Bool.{cases_eq}
 use Rattle.std.proofs.lemmas.Nat.{mod_below}
 use Rattle.std.proofs.lemmas.Option.{same_Some}
 use Rattle.log_model.specs.Log.{IsPlaced}
-use Rattle.master_core.specs.declared.config.Config.{Config}
-use Rattle.master_core.specs.Config.{config_fault}
-use Rattle.master_core.specs.Log.{home, homes_from, log_config}
-use Rattle.master_core.proofs.Homes.{homes_apart}
-use Rattle.master_core.proofs.Refusals.{has_homes}
+use Rattle.master_state.specs.declared.config.Config.{Config}
+use Rattle.master_state.specs.Config.{config_fault}
+use Rattle.master_state.specs.Log.{home, homes_from, log_config}
+use Rattle.master_state.proofs.Homes.{homes_apart}
+use Rattle.master_state.proofs.Refusals.{has_homes}
 
 homes_length : (c : Config) (s j n : ℕ) → length (homes_from c s j n) ≡ n
 homes_length c s j zero = refl
@@ -33,10 +33,12 @@ homes_at c s j (suc n) (suc i) lt =
 
 module _ (c : Config) (ok : config_fault c ≡ None) where
   pub home_of : (s j : ℕ) → j < c.replicas → slice_get (homes_from c s 0 c.replicas) j ≡ Some (home c s j)
-  home_of s j lt = let e : 0 + j ≡ j = omega arith in homes_at c s 0 c.replicas j lt ∙ ap (λ (k : ℕ). Some (home c s k)) e
+  home_of s j lt = let e : 0 + j ≡ j = omega arith in homes_at c s 0 c.replicas j lt
+      ∙ ap (λ (k : ℕ). Some (home c s k)) e
 
   pub home_within : (s j : ℕ) → home c s j < c.backups
-  home_within s j = let homes = has_homes c ok in let some = homes.some in let many = homes.many in mod_below (s * c.step + j) c.backups (omega arith)
+  home_within s j = let homes = has_homes c ok in let some = homes.some in let many = homes.many in
+      mod_below (s * c.step + j) c.backups (omega arith)
 
   pub placed : IsPlaced (log_config c)
   placed = record {
@@ -44,7 +46,8 @@ module _ (c : Config) (ok : config_fault c ≡ None) where
     count = λ s. homes_length c s 0 c.replicas;
     apart = λ s i j b p q. apart s i j b p q;
   } where
-    apart : (s i j b : ℕ) → slice_get (homes_from c s 0 c.replicas) i ≡ Some b → slice_get (homes_from c s 0 c.replicas) j ≡ Some b → i ≡ j
+    apart : (s i j b : ℕ) → slice_get (homes_from c s 0 c.replicas) i ≡ Some b
+        → slice_get (homes_from c s 0 c.replicas) j ≡ Some b → i ≡ j
     apart s i j b p q =
         let here = homes_get c s 0 c.replicas i b p in
         let there = homes_get c s 0 c.replicas j b q in

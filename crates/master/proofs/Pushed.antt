@@ -1,5 +1,6 @@
 -- The op that comes next, taken or not, keeps what holds of a master.
-use Rattle.std.proofs.Common.{◌≡◌, ℕ, ◌<◌, inl, inr, suc, ◌+◌, Bool, true, false, List, [], ◌∷◌, ◌++◌, refl, sym, ap, subst, ◌∙◌, arith}
+use Rattle.std.proofs.Common.{◌≡◌, ℕ, ◌<◌, inl, inr, suc, ◌+◌, Bool, true, false, List, [], ◌∷◌, ◌++◌, refl, sym, ap}
+use Rattle.std.proofs.Common.{subst, ◌∙◌, arith}
 use Rattle.std.specs.Prelude.{Option, Some, None, ◌==◌, slice_get, slice_set, unwrap_or, if◌then◌else◌}
 use Rattle.std.specs.Option.{option_map_or}
 use Rattle.cleaner.specs.declared.pass.Pass.{Pass as OpenPass}
@@ -19,15 +20,15 @@ use Rattle.log_model.specs.Steps.{IsNext}
 use Rattle.clean_model.specs.Intact.{IsIntact}
 use Rattle.clean_model.specs.Memory.{Memory}
 use Rattle.clean_model.specs.Steps.{finished, ended, after_take, IsOp}
-use Rattle.master_core.specs.declared.step.Step.TheVariants.{Push}
-use Rattle.master_core.specs.Budget.{is_committing}
-use Rattle.master_core.specs.Data.{MasterData}
-use Rattle.master_core.specs.Images.{with_closed}
-use Rattle.master_core.specs.Invariant.{AreApart, IsCore}
-use Rattle.master_core.specs.Log.{log_of, memory_of}
-use Rattle.master_core.specs.Steps.{pass_ended, roll_ended, closed_data, taken_data, refusal_of, failed_data}
-use Rattle.master_core.proofs.Imaging.{same_roll}
-use Rattle.master_core.proofs.Refusals.{push_passed}
+use Rattle.master_state.specs.declared.step.Step.TheVariants.{Push}
+use Rattle.master_state.specs.Budget.{is_committing}
+use Rattle.master_state.specs.Data.{MasterData}
+use Rattle.master_state.specs.Images.{with_closed}
+use Rattle.master_state.specs.Invariant.{AreApart, IsCore}
+use Rattle.master_state.specs.Log.{log_of, memory_of}
+use Rattle.master_state.specs.Steps.{pass_ended, roll_ended, closed_data, taken_data, refusal_of, failed_data}
+use Rattle.master_state.proofs.Imaging.{same_roll}
+use Rattle.master_state.proofs.Refusals.{push_passed}
 use Rattle.master.specs.Invariant.{IsKeptAs}
 use Rattle.master.specs.Pushes.{answer_of}
 use Rattle.master.specs.Steps.{IsPushOp, Declines}
@@ -117,7 +118,8 @@ module _ {Holds : LogData → Memory → Picture → Type 0} (d : MasterData) (f
 
   -- ---- the head takes more
 
-  counted : (e : MasterData) → IsModel e m → new_of (phase_of e.head) ≡ new_of (phase_of d.head) → e.waiting ≡ d.waiting → IsTaken d e
+  counted : (e : MasterData) → IsModel e m → new_of (phase_of e.head) ≡ new_of (phase_of d.head)
+      → e.waiting ≡ d.waiting → IsTaken d e
   counted e model new waiting = record {
     model = subst (IsModel e) (sym (goes_on (new_of (phase_of d.head)) (new_of (phase_of e.head)) m new)) model;
     apart = subst AreApart (sym waiting) kept.apart;
@@ -132,12 +134,19 @@ module _ {Holds : LogData → Memory → Picture → Type 0} (d : MasterData) (f
   -- ---- a roll goes on
 
   module _ (r : Roll) (rolls : d.head.roll ≡ Some r) where
-    roll_taken : (opened closed : ℕ) → IsCore (record d { head = record d.head { roll = Some (record r { opened = opened; closed = closed }) } })
+    roll_taken : (opened closed : ℕ) → IsCore (record d {
+      head = record d.head
+          { roll = Some (record r { opened = opened; closed = closed }) };
+    })
         → IsTaken d (record d { head = record d.head { roll = Some (record r { opened = opened; closed = closed }) } })
     roll_taken opened closed core =
         let q : Roll = record r { opened = opened; closed = closed } in
-        let e : MasterData = record d { head = record d.head { roll = Some (record r { opened = opened; closed = closed }) } } in
-        counted e (same_model d e kept.core core (same_roll d.head d.closed r q rolls refl refl) refl refl refl refl (omega arith))
+        let e : MasterData = record d {
+          head = record d.head
+              { roll = Some (record r { opened = opened; closed = closed }) };
+        } in
+        counted e (same_model d e kept.core core (same_roll d.head d.closed r q rolls refl refl) refl refl refl
+        refl (omega arith))
         (new_is d.head.replicas q ∙ sym (new_now d r rolls)) refl
 
     -- ---- and ends
@@ -149,7 +158,8 @@ module _ {Holds : LogData → Memory → Picture → Type 0} (d : MasterData) (f
     after_end : (committing : Bool) → is_committing d ≡ committing
         → ended (new_of (phase_of d.head)) None m ≡ (if committing then finished m else m)
     after_end committing is =
-        ap (λ (x : Option Start). ended x None m) (new_now d r rolls) ∙ ap (λ (b : Bool). if b then finished m else m) is
+        ap (λ (x : Option Start). ended x None m) (new_now d r rolls)
+        ∙ ap (λ (b : Bool). if b then finished m else m) is
 
     ordinary : is_committing d ≡ false → IsCore rolled → IsTaken d rolled
     ordinary plain core = record {
@@ -161,18 +171,22 @@ module _ {Holds : LogData → Memory → Picture → Type 0} (d : MasterData) (f
         → IsCore (if t then pass_ended p rolled else rolled) → IsTaken d (if t then pass_ended p rolled else rolled)
     pass_taken p opened true is core = record {
       model = subst (IsModel (pass_ended p rolled))
-          (sym (after_end true (ap (λ (o : Option OpenPass). option_map_or (λ (q : OpenPass). q.is_committing) o false) opened ∙ is)))
+          (sym (after_end true (ap (λ (o : Option OpenPass). option_map_or
+          (λ (q : OpenPass). q.is_committing) o false) opened ∙ is)))
           (ended_model d f kept r rolls p opened is (intact p opened));
       apart = apart_then d f kept r rolls p opened is (intact p opened);
     }
     pass_taken p opened false is core =
-        ordinary (ap (λ (o : Option OpenPass). option_map_or (λ (q : OpenPass). q.is_committing) o false) opened ∙ is) core
+        ordinary (ap (λ (o : Option OpenPass). option_map_or
+        (λ (q : OpenPass). q.is_committing) o false) opened ∙ is) core
 
     end_taken : (o : Option OpenPass) → d.pass ≡ o → IsCore (roll_ended o rolled) → IsTaken d (roll_ended o rolled)
-    end_taken None none core = ordinary (ap (λ (o : Option OpenPass). option_map_or (λ (q : OpenPass). q.is_committing) o false) none) core
+    end_taken None none core = ordinary (ap (λ (o : Option OpenPass). option_map_or
+        (λ (q : OpenPass). q.is_committing) o false) none) core
     end_taken (Some p) opened core = pass_taken p opened p.is_committing refl core
 
-    close_taken : (t : Bool) → (suc r.closed == d.head.replicas) ≡ t → IsCore (closed_data d r) → IsTaken d (closed_data d r)
+    close_taken : (t : Bool) → (suc r.closed == d.head.replicas) ≡ t → IsCore (closed_data d r)
+        → IsTaken d (closed_data d r)
     close_taken true test core = rw test (end_taken d.pass refl (rw test at core))
     close_taken false test core = rw test (roll_taken r.opened (suc r.closed) (rw test at core))
 
@@ -180,10 +194,12 @@ module _ {Holds : LogData → Memory → Picture → Type 0} (d : MasterData) (f
 
   is_taken : (push : Next) → IsNextPush d.head (Some push) → IsCore (taken_data d push) → IsTaken d (taken_data d push)
   is_taken (next.OpenFirst j) waits core = head_taken (d.head.taken ++ 0 ∷ []) core
-  is_taken (next.Extend j) waits core = head_taken (slice_set d.head.taken j (unwrap_or (slice_get d.head.taken j) 0 + 1)) core
+  is_taken (next.Extend j) waits core = head_taken (slice_set d.head.taken j
+      (unwrap_or (slice_get d.head.taken j) 0 + 1)) core
   is_taken (next.OpenNew j) waits core =
       let r = waits.1 in
-      let is = ap (λ (o : Option Roll). option_map_or (λ (q : Roll). record d { head = with_new_replica d.head q }) o d) waits.2 in
+      let is = ap (λ (o : Option Roll). option_map_or (λ (q : Roll). record d
+      { head = with_new_replica d.head q }) o d) waits.2 in
       subst (IsTaken d) (sym is) (roll_taken r waits.2 (suc r.opened) r.closed (subst IsCore is core))
   is_taken (next.CloseOld j) waits core =
       let r = waits.1 in
@@ -192,7 +208,8 @@ module _ {Holds : LogData → Memory → Picture → Type 0} (d : MasterData) (f
 
 -- ---- the op
 
-module _ {Holds : LogData → Memory → Picture → Type 0} (lasts : Lasts Holds) (d : MasterData) (push : Next) (f : FleetState)
+module _ {Holds : LogData → Memory → Picture → Type 0} (lasts : Lasts Holds) (d : MasterData)
+    (push : Next) (f : FleetState)
     (kept : IsKeptAs Holds d f) (running : d.is_halted ≡ false) (waits : IsNextPush d.head (Some push)) where
   abbrev o : LogOp
   o = log_op d push
@@ -210,10 +227,12 @@ module _ {Holds : LogData → Memory → Picture → Type 0} (lasts : Lasts Hold
       × Holds (log_of (taken_data d push)) (after_take (log_of d) (log_of (taken_data d push)) (memory_of d)) q
   push_then = lasts.take (log_of d) (log_of (taken_data d push)) (memory_of d) kept.before o kept.holds coming
 
-  pub push_not_wrong : (g : FleetState) (x : TakeFault) → Refuses f o.backup (op_of d.config.master o) x g → x ≡ take_fault.Wrong → ⊥
+  pub push_not_wrong : (g : FleetState) (x : TakeFault) → Refuses f o.backup (op_of d.config.master o) x g
+      → x ≡ take_fault.Wrong → ⊥
   push_not_wrong = not_wrong d f kept running o push_within push_then.0 push_then.1
 
-  pub push_failed : (g : FleetState) (x : TakeFault) → Refuses f o.backup (op_of d.config.master o) x g → IsKeptAs Holds (failed_data d x) g
+  pub push_failed : (g : FleetState) (x : TakeFault) → Refuses f o.backup (op_of d.config.master o) x g
+      → IsKeptAs Holds (failed_data d x) g
   push_failed = failed_kept d f kept running o push_within push_then.0 push_then.1 push_is
 
   pub push_declines : (g : FleetState) (x : TakeFault) → Refuses f o.backup (op_of d.config.master o) x g
@@ -233,7 +252,9 @@ module _ {Holds : LogData → Memory → Picture → Type 0} (lasts : Lasts Hold
     then_is : IsTaken d e
     then_is = is_taken d f kept intact push waits core
 
-    pub taken_kept : (g : FleetState) → fleet_taken f o.backup (op_of d.config.master o) ≡ Some g → IsKeptAs Holds (taken_data d push) g
+    pub taken_kept : (g : FleetState) → fleet_taken f o.backup (op_of d.config.master o) ≡ Some g
+        → IsKeptAs Holds (taken_data d push) g
     taken_kept g took =
         handed_kept d f kept running o push_within push_then.0 push_then.1 e g core (same_rest d push).0 then_is.apart
-        (own_holds lasts e core (after_take (log_of d) (log_of e) (memory_of d)) push_then.0 push_then.2 then_is.model) took
+        (own_holds lasts e core (after_take (log_of d) (log_of e) (memory_of d)) push_then.0 push_then.2
+        then_is.model) took

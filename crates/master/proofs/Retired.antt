@@ -7,8 +7,8 @@ use Rattle.replica.specs.Retire.{Retires}
 use Rattle.replica.proofs.Retiring.{retire_spares}
 use Rattle.clean_model.specs.Steps.{with_own}
 use Rattle.clean_model.proofs.OwnReplicas.{own_is_intact, own_is_fault, own_here, own_all}
-use Rattle.master_core.specs.Data.{MasterData}
-use Rattle.master_core.specs.Log.{log_of, memory_of}
+use Rattle.master_state.specs.Data.{MasterData}
+use Rattle.master_state.specs.Log.{log_of, memory_of}
 use Rattle.master.specs.Invariant.{IsWellKept}
 
 pub retired_kept : (d : MasterData) (f g : FleetState) (result : Result Unit TakeFault) → IsWellKept d f

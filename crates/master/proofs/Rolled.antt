@@ -23,17 +23,17 @@ use Rattle.log_model.specs.Steps.{next_start, rolling}
 use Rattle.clean_model.specs.Memory.{Place as EntryPlace, Memory}
 use Rattle.clean_model.specs.Steps.{MayCommit, commit_start, rolled}
 use Rattle.clean_model.proofs.Rolling.{commit_keeps}
-use Rattle.master_core.specs.declared.step.StepAnswer.{StepAnswer}
-use Rattle.master_core.specs.Budget.{victims_of, survivors_of, is_ready, is_committing}
-use Rattle.master_core.specs.Data.{MasterData}
-use Rattle.master_core.specs.Invariant.{IsCore}
-use Rattle.master_core.specs.Log.{log_of, state_now, images_of, find, entry_place, rest_now, memory_of}
-use Rattle.master_core.specs.Steps.{start_now, rolling_data, next_now, BeginsRoll, MayRollNow}
-use Rattle.master_core.proofs.Finding.{each_of, index_of}
-use Rattle.master_core.proofs.Imaging.{same_id, rolled_own, rolled_other, rolled_grow}
-use Rattle.master_core.proofs.Indexing.{Grow, found_grown}
-use Rattle.master_core.proofs.LogIds.{no_segment, no_next}
-use Rattle.master_core.proofs.Refusals.{may_begin, open_parts}
+use Rattle.master_state.specs.declared.step.StepAnswer.{StepAnswer}
+use Rattle.master_state.specs.Budget.{victims_of, survivors_of, is_ready, is_committing}
+use Rattle.master_state.specs.Data.{MasterData}
+use Rattle.master_state.specs.Invariant.{IsCore}
+use Rattle.master_state.specs.Log.{log_of, state_now, images_of, find, entry_place, rest_now, memory_of}
+use Rattle.master_state.specs.Steps.{start_now, rolling_data, next_now, BeginsRoll, MayRollNow}
+use Rattle.master_state.proofs.Finding.{each_of, index_of}
+use Rattle.master_state.proofs.Imaging.{same_id, rolled_own, rolled_other, rolled_grow}
+use Rattle.master_state.proofs.Indexing.{Grow, found_grown}
+use Rattle.master_state.proofs.LogIds.{no_segment, no_next}
+use Rattle.master_state.proofs.Refusals.{may_begin, open_parts}
 use Rattle.master.specs.Invariant.{IsKeptAs, IsWellKept}
 use Rattle.master.proofs.LogSets.{new_now}
 use Rattle.master.proofs.Handed.{unhanded_kept}
@@ -55,15 +55,18 @@ module _ (replicas : ℕ) where
   same_survivors None = refl
   same_survivors (Some p) = refl
 
-  same_sealed : (o : Option OpenPass) → option_map_or (λ (p : OpenPass). p.sealed) (told o) 0 ≡ option_map_or (λ (p : OpenPass). p.sealed) o 0
+  same_sealed : (o : Option OpenPass) → option_map_or (λ (p : OpenPass). p.sealed) (told o) 0
+      ≡ option_map_or (λ (p : OpenPass). p.sealed) o 0
   same_sealed None = refl
   same_sealed (Some p) = refl
 
-  same_rest : (images : ℕ → List Entry) (o : Option OpenPass) → option_map_or (rest_of images) (told o) [] ≡ option_map_or (rest_of images) o []
+  same_rest : (images : ℕ → List Entry) (o : Option OpenPass)
+      → option_map_or (rest_of images) (told o) [] ≡ option_map_or (rest_of images) o []
   same_rest images None = refl
   same_rest images (Some p) = refl
 
-  committing : (o : Option OpenPass) → option_map_or (λ (p : OpenPass). p.is_committing) (told o) false ≡ option_map_or (is_ready_pass replicas) o false
+  committing : (o : Option OpenPass) → option_map_or (λ (p : OpenPass). p.is_committing) (told o) false
+      ≡ option_map_or (is_ready_pass replicas) o false
   committing None = refl
   committing (Some p) = refl
 
@@ -125,7 +128,8 @@ module _ {Holds : LogData → Memory → Picture → Type 0} (lasts : Lasts Hold
   abbrev then_memory : Memory
   then_memory = rolled (log_of d) m n (is_ready d)
 
-  rolled_by : (t : Bool) → is_ready d ≡ t → Holds (rolling (log_of d) (next_of t)) (rolled (log_of d) m (next_of t) t) kept.before
+  rolled_by : (t : Bool) → is_ready d ≡ t → Holds (rolling (log_of d) (next_of t))
+      (rolled (log_of d) m (next_of t) t) kept.before
   rolled_by true ready =
       commit ready
       (subst (λ (t : Bool). MayCommit (log_of d) m (next_of t)) ready (may.0 ready))
@@ -138,7 +142,8 @@ module _ {Holds : LogData → Memory → Picture → Type 0} (lasts : Lasts Hold
 
   others_same : (s : ℕ) → (d.next ≡ s → ⊥) → images_of e s ≡ images_of d s
   others_same s other =
-      ap (λ (x : MasterData). images_of x s) is.rest ∙ rolled_other d.head d.closed roll s none (λ same. other (sym roll_id ∙ same))
+      ap (λ (x : MasterData). images_of x s) is.rest ∙ rolled_other d.head d.closed roll s none
+      (λ same. other (sym roll_id ∙ same))
 
   new_image : images_of e d.next ≡ start_entries d.config.master n
   new_image =
@@ -159,7 +164,10 @@ module _ {Holds : LogData → Memory → Picture → Type 0} (lasts : Lasts Hold
   leaves : LeavesPass d e
   leaves = record {
     pass = ap (λ (x : MasterData). (memory_of x).pass) is.rest
-        ∙ (λ i. record { victims = same_victims d.config.replicas d.pass i; survivors = same_survivors d.config.replicas d.pass i });
+        ∙ (λ i. record {
+          victims = same_victims d.config.replicas d.pass i;
+          survivors = same_survivors d.config.replicas d.pass i;
+        });
     sealed = λ s. ap (λ (x : MasterData). (memory_of x).sealed s) is.rest ∙ same_sealed d.config.replicas d.pass;
     waiting = ap (λ (x : MasterData). x.waiting) is.rest;
     freed = ap (λ (x : MasterData). x.freed) is.rest;
@@ -181,7 +189,8 @@ module _ {Holds : LogData → Memory → Picture → Type 0} (lasts : Lasts Hold
   finds_same : (k : Key) → find e k ≡ find d k
   finds_same k =
       ap (λ (x : MasterData). find x k) is.rest
-      ∙ found_grown (images_of d) (images_of (rolling_data d)) grow each d.index (state_now d).contents (index_of d kept.core) k
+      ∙ found_grown (images_of d) (images_of (rolling_data d)) grow each d.index (state_now d).contents
+      (index_of d kept.core) k
 
   behind : (k : Key) (q : Place) (p : EntryPlace) → find e k ≡ Some q → m.index k ≡ Some p
       → IsAmong q.segment (victims_of d.pass) → IsAmong p.segment (survivors_of d.pass) → ⊥
@@ -189,7 +198,8 @@ module _ {Holds : LogData → Memory → Picture → Type 0} (lasts : Lasts Hold
       let both : entry_place d q ≡ p =
       same_Some (entry_place d q) p (sym (ap (option_map (entry_place d)) (sym (finds_same k) ∙ found)) ∙ indexed) in
       let segment : q.segment ≡ p.segment = ap (λ (x : EntryPlace). x.segment) both in
-      never_both d kept.core q.segment victim (subst (λ (z : ℕ). IsAmong z (survivors_of d.pass)) (sym segment) survivor)
+      never_both d kept.core q.segment victim (subst (λ (z : ℕ). IsAmong z (survivors_of d.pass))
+      (sym segment) survivor)
 
   model : IsModel e then_memory
   model = is_model d e leaves then_memory.images m.index (is_ready d)
@@ -200,8 +210,10 @@ module _ {Holds : LogData → Memory → Picture → Type 0} (lasts : Lasts Hold
       unhanded_kept d e f kept running core (ap (λ (x : MasterData). x.config) is.rest)
       leaves.waiting (own_holds lasts e core then_memory kept.before rolled_holds model)
 
-pub rolled_kept : (d e : MasterData) (f : FleetState) (answer : StepAnswer) → IsWellKept d f → BeginsRoll d answer e → MayRollNow d → IsCore e
+pub rolled_kept : (d e : MasterData) (f : FleetState) (answer : StepAnswer) → IsWellKept d f → BeginsRoll d answer e
+    → MayRollNow d → IsCore e
     → IsWellKept e f
 rolled_kept d e f answer kept is may core =
     rolled_kept_as intact_lasts d e f answer kept
-    (λ ready now. commit_keeps (log_of d) (memory_of d) kept.before (commit_start (log_of d) (memory_of d)) kept.holds now) is may core
+    (λ ready now. commit_keeps (log_of d) (memory_of d) kept.before
+    (commit_start (log_of d) (memory_of d)) kept.holds now) is may core

@@ -1,5 +1,6 @@
 -- A replica that is sealed keeps what holds of a master.
-use Rattle.std.proofs.Common.{◌≡◌, ℕ, suc, ◌+◌, ◌<◌, ◌≤◌, Bool, true, false, inl, inr, List, [], ◌∷◌, map, length, refl, sym, ap, subst, ◌∙◌, add-one, arith}
+use Rattle.std.proofs.Common.{◌≡◌, ℕ, suc, ◌+◌, ◌<◌, ◌≤◌, Bool, true, false, inl, inr, List, [], ◌∷◌, map, length, refl}
+use Rattle.std.proofs.Common.{sym, ap, subst, ◌∙◌, add-one, arith}
 use Rattle.std.specs.Prelude.{Option, Some, None, ◌==◌, ◌&&◌, nat_lt, if◌then◌else◌}
 use Rattle.std.specs.Option.{option_map, option_map_or, option_and_then}
 use Rattle.std.proofs.lemmas.Option.{same_Some}
@@ -20,18 +21,18 @@ use Rattle.clean_model.specs.Intact.{IsIntact}
 use Rattle.clean_model.specs.Memory.{Pass as PassIds}
 use Rattle.clean_model.specs.Steps.{MaySeal, seal_op, sealed_more, IsOp}
 use Rattle.clean_model.proofs.Sealing.{seal_keeps}
-use Rattle.master_core.specs.declared.step.Refusal.TheVariants.{Halted, Nothing}
-use Rattle.master_core.specs.declared.step.Step.TheVariants.{Seal}
-use Rattle.master_core.specs.declared.step.StepAnswer.TheVariants.{Sealed as StepSealed}
-use Rattle.master_core.specs.Budget.{victims_of, survivors_of}
-use Rattle.master_core.specs.Causes.{seal_refusal}
-use Rattle.master_core.specs.Data.{MasterData}
-use Rattle.master_core.specs.Invariant.{IsCore}
-use Rattle.master_core.specs.Log.{log_of, memory_of, images_of, entry_place, home}
-use Rattle.master_core.specs.Steps.{sealed_data, refusal_of, failed_data}
-use Rattle.master_core.specs.Waits.{next_seal}
-use Rattle.master_core.proofs.Imaging.{same_id}
-use Rattle.master_core.proofs.Refusals.{passes, sizes_of}
+use Rattle.master_state.specs.declared.step.Refusal.TheVariants.{Halted, Nothing}
+use Rattle.master_state.specs.declared.step.Step.TheVariants.{Seal}
+use Rattle.master_state.specs.declared.step.StepAnswer.TheVariants.{Sealed as StepSealed}
+use Rattle.master_state.specs.Budget.{victims_of, survivors_of}
+use Rattle.master_state.specs.Causes.{seal_refusal}
+use Rattle.master_state.specs.Data.{MasterData}
+use Rattle.master_state.specs.Invariant.{IsCore}
+use Rattle.master_state.specs.Log.{log_of, memory_of, images_of, entry_place, home}
+use Rattle.master_state.specs.Steps.{sealed_data, refusal_of, failed_data}
+use Rattle.master_state.specs.Waits.{next_seal}
+use Rattle.master_state.proofs.Imaging.{same_id}
+use Rattle.master_state.proofs.Refusals.{passes, sizes_of}
 use Rattle.master.specs.Invariant.{IsWellKept}
 use Rattle.master.specs.Passes.{IsSealOp, Seals}
 use Rattle.master.specs.Steps.{Declines}
@@ -55,21 +56,25 @@ module _ (o : Option Pass) where
     go None = refl
     go (Some p) = refl
 
-  same_rest : (images : ℕ → List Entry) → option_map_or (rest_of images) (one_more o) [] ≡ option_map_or (rest_of images) o []
+  same_rest : (images : ℕ → List Entry) → option_map_or (rest_of images) (one_more o) []
+      ≡ option_map_or (rest_of images) o []
   same_rest images = go o where
     go : (o : Option Pass) → option_map_or (rest_of images) (one_more o) [] ≡ option_map_or (rest_of images) o []
     go None = refl
     go (Some p) = refl
 
-  same_commits : option_map_or (λ (p : Pass). p.is_committing) (one_more o) false ≡ option_map_or (λ (p : Pass). p.is_committing) o false
+  same_commits : option_map_or (λ (p : Pass). p.is_committing) (one_more o) false
+      ≡ option_map_or (λ (p : Pass). p.is_committing) o false
   same_commits = go o where
-    go : (o : Option Pass) → option_map_or (λ (p : Pass). p.is_committing) (one_more o) false ≡ option_map_or (λ (p : Pass). p.is_committing) o false
+    go : (o : Option Pass) → option_map_or (λ (p : Pass). p.is_committing) (one_more o) false
+        ≡ option_map_or (λ (p : Pass). p.is_committing) o false
     go None = refl
     go (Some p) = refl
 
 -- ---- a seal
 
-module _ (d : MasterData) (f : FleetState) (kept : IsWellKept d f) (passed : seal_refusal d ≡ None) (o : LogOp) (is : IsSealOp d o) where
+module _ (d : MasterData) (f : FleetState) (kept : IsWellKept d f) (passed : seal_refusal d ≡ None) (o : LogOp)
+    (is : IsSealOp d o) where
   abbrev p : Pass
   p = is.pass
 
@@ -96,7 +101,8 @@ module _ (d : MasterData) (f : FleetState) (kept : IsWellKept d f) (passed : sea
   end = (and_parts (is_at_end is.pass) (nat_lt is.pass.sealed d.config.replicas) tests).0
 
   few : is.pass.sealed < d.config.replicas
-  few = ltb-true is.pass.sealed d.config.replicas (and_parts (is_at_end is.pass) (nat_lt is.pass.sealed d.config.replicas) tests).1
+  few = ltb-true is.pass.sealed d.config.replicas (and_parts (is_at_end is.pass)
+      (nat_lt is.pass.sealed d.config.replicas) tests).1
 
   sealed_is : (memory_of d).sealed is.pass.survivor ≡ is.pass.sealed
   sealed_is = ap (λ (x : Option Pass). option_map_or (λ (q : Pass). q.sealed) x 0) is.opened
@@ -104,7 +110,8 @@ module _ (d : MasterData) (f : FleetState) (kept : IsWellKept d f) (passed : sea
   may : MaySeal (log_of d) (memory_of d) is.pass.survivor o.backup
   may = record {
     survivor = subst (λ (x : Option Pass). IsAmong is.pass.survivor (survivors_of x)) (sym is.opened) (inl refl);
-    done = ap (map (entry_place d)) (rest_is d kept.core is.pass is.opened ∙ none_left d kept.core is.pass is.opened end);
+    done = ap (map (entry_place d)) (rest_is d kept.core is.pass is.opened
+        ∙ none_left d kept.core is.pass is.opened end);
     home = subst (λ (j : ℕ). IsHomeAt (log_of d) is.pass.survivor j o.backup) (sym sealed_is) is.home;
     few = (let same = sealed_is in let lt = few in omega arith);
     segment = survivor_segment d kept.core is.pass is.opened;
@@ -123,7 +130,8 @@ module _ (d : MasterData) (f : FleetState) (kept : IsWellKept d f) (passed : sea
   pub seal_within : o.backup < d.config.backups
   seal_within = replica_within d.config kept.core.config is.pass.survivor is.pass.sealed o.backup is.home
 
-  pub seal_then : (q : Picture) × (taken kept.before d.config.master o ≡ Some q) × IsIntact (log_of d) (sealed_more (memory_of d) is.pass.survivor) q
+  pub seal_then : (q : Picture) × (taken kept.before d.config.master o ≡ Some q)
+      × IsIntact (log_of d) (sealed_more (memory_of d) is.pass.survivor) q
   seal_then =
       let gone = seal_keeps (log_of d) (memory_of d) kept.before is.pass.survivor o.backup kept.holds may in
       (gone.0, ap (taken kept.before d.config.master) is.is ∙ gone.1, gone.2)
@@ -134,7 +142,8 @@ module _ (d : MasterData) (f : FleetState) (kept : IsWellKept d f) (passed : sea
     images = λ z counts. refl;
     index = λ k. refl;
     rest = λ q e victim stands of_data coming.
-        subst (λ (ps : List Place). IsAmong q (map (entry_place d) ps)) (sym (same_rest d.pass (images_in d.closed))) coming;
+        subst (λ (ps : List Place). IsAmong q (map (entry_place d) ps))
+        (sym (same_rest d.pass (images_in d.closed))) coming;
     done = λ none. ap (map (entry_place d)) (same_rest d.pass (images_in d.closed)) ∙ none;
     sealed = sealed;
     commits = same_commits d.pass;
@@ -146,19 +155,24 @@ module _ (d : MasterData) (f : FleetState) (kept : IsWellKept d f) (passed : sea
         ap (λ (x : Option Pass). option_map_or (λ (q : Pass). q.sealed) (one_more x) 0) is.opened
         ∙ (rw add-one refl)
 
-    sealed : (z : ℕ) → IsAmong z (survivors_of d.pass) → (memory_of (sealed_data d)).sealed z ≡ (sealed_more (memory_of d) is.pass.survivor).sealed z
+    sealed : (z : ℕ) → IsAmong z (survivors_of d.pass) → (memory_of (sealed_data d)).sealed z
+        ≡ (sealed_more (memory_of d) is.pass.survivor).sealed z
     sealed z survivor = go (subst (λ (x : Option Pass). IsAmong z (survivors_of x)) is.opened survivor) where
-      go : IsAmong z (is.pass.survivor ∷ []) → (memory_of (sealed_data d)).sealed z ≡ (sealed_more (memory_of d) is.pass.survivor).sealed z
+      go : IsAmong z (is.pass.survivor ∷ []) → (memory_of (sealed_data d)).sealed z
+          ≡ (sealed_more (memory_of d) is.pass.survivor).sealed z
       go (inl same) =
-          let yes : (z == is.pass.survivor) ≡ true = ap (λ (x : ℕ). x == is.pass.survivor) (sym same) ∙ same_id is.pass.survivor in
+          let yes : (z == is.pass.survivor) ≡ true = ap (λ (x : ℕ). x == is.pass.survivor) (sym same)
+          ∙ same_id is.pass.survivor in
           sealed_now ∙ ap suc (sym sealed_is) ∙ sym (rw yes refl)
       go (inr none) = absurd none
 
-  pub sealed_kept : (g : FleetState) → IsCore (sealed_data d) → fleet_taken f o.backup (op_of d.config.master o) ≡ Some g
+  pub sealed_kept : (g : FleetState) → IsCore (sealed_data d)
+      → fleet_taken f o.backup (op_of d.config.master o) ≡ Some g
       → IsWellKept (sealed_data d) g
   sealed_kept g core took =
       handed_kept d f kept running o seal_within seal_then.0 seal_then.1 (sealed_data d) g core refl kept.apart
-      (agreeing_is_intact (log_of d) (sealed_more (memory_of d) is.pass.survivor) (memory_of (sealed_data d)) seal_then.0 seal_then.2 agree) took
+      (agreeing_is_intact (log_of d) (sealed_more (memory_of d) is.pass.survivor)
+      (memory_of (sealed_data d)) seal_then.0 seal_then.2 agree) took
 
   -- ---- what the fleet answers
 
@@ -166,10 +180,12 @@ module _ (d : MasterData) (f : FleetState) (kept : IsWellKept d f) (passed : sea
       → Seals (record { knows = d; fleet = f }) (StepSealed o.backup) (record { knows = sealed_data d; fleet = g })
   seal_accepted g takes = record { op = o; passed = passed; next = is; told = refl; rest = refl; takes = takes }
 
-  pub seal_not_wrong : (g : FleetState) (x : TakeFault) → Refuses f o.backup (op_of d.config.master o) x g → x ≡ take_fault.Wrong → ⊥
+  pub seal_not_wrong : (g : FleetState) (x : TakeFault) → Refuses f o.backup (op_of d.config.master o) x g
+      → x ≡ take_fault.Wrong → ⊥
   seal_not_wrong = not_wrong d f kept running o seal_within seal_then.0 seal_then.1
 
-  pub seal_failed : (g : FleetState) (x : TakeFault) → Refuses f o.backup (op_of d.config.master o) x g → IsWellKept (failed_data d x) g
+  pub seal_failed : (g : FleetState) (x : TakeFault) → Refuses f o.backup (op_of d.config.master o) x g
+      → IsWellKept (failed_data d x) g
   seal_failed = failed_kept d f kept running o seal_within seal_then.0 seal_then.1 seal_is
 
   pub seal_declined : (g : FleetState) (x : TakeFault) → Refuses f o.backup (op_of d.config.master o) x g

@@ -12,17 +12,17 @@ use Rattle.log_head.specs.declared.next.Next.{Next}
 use Rattle.log_head.specs.Next.{IsNextPush}
 use Rattle.log_model.specs.Ops.{LogOp, op_of}
 use Rattle.clean_model.specs.Loading.{IsLoading}
-use Rattle.master_core.specs.declared.step.Refusal.TheVariants.{Halted, Nothing}
-use Rattle.master_core.specs.declared.step.Step.TheVariants.{Push}
-use Rattle.master_core.specs.declared.step.StepAnswer.{StepAnswer}
-use Rattle.master_core.specs.Budget.{is_ready}
-use Rattle.master_core.specs.Causes.{is_pushed}
-use Rattle.master_core.specs.Data.{MasterData}
-use Rattle.master_core.specs.Invariant.{AreApart, IsCore}
-use Rattle.master_core.specs.Loading.{IsBare}
-use Rattle.master_core.specs.Steps.{BeginsRoll, MayRollNow, taken_data, refusal_of, failed_data}
-use Rattle.master_core.proofs.LoadedCore.{rolling_bare, taken_bare}
-use Rattle.master_core.proofs.Refusals.{passes, push_passed, may_begin}
+use Rattle.master_state.specs.declared.step.Refusal.TheVariants.{Halted, Nothing}
+use Rattle.master_state.specs.declared.step.Step.TheVariants.{Push}
+use Rattle.master_state.specs.declared.step.StepAnswer.{StepAnswer}
+use Rattle.master_state.specs.Budget.{is_ready}
+use Rattle.master_state.specs.Causes.{is_pushed}
+use Rattle.master_state.specs.Data.{MasterData}
+use Rattle.master_state.specs.Invariant.{AreApart, IsCore}
+use Rattle.master_state.specs.Loading.{IsBare}
+use Rattle.master_state.specs.Steps.{BeginsRoll, MayRollNow, taken_data, refusal_of, failed_data}
+use Rattle.master_commands.proofs.LoadedCore.{rolling_bare, taken_bare}
+use Rattle.master_state.proofs.Refusals.{passes, push_passed, may_begin}
 use Rattle.master.specs.Invariant.{IsKeptAs, IsWellLoaded, IsServed, StaysServed}
 use Rattle.master.specs.Steps.{Declines}
 use Rattle.master.specs.World.{world_of}
@@ -45,7 +45,8 @@ as_kept d f loaded running = record {
   apart = subst AreApart (sym loaded.bare.waiting) tt;
 }
 
-pub from_kept : (d : MasterData) (f : FleetState) → IsKeptAs IsLoading d f → IsBare d → d.is_halted ≡ false → IsWellLoaded d f
+pub from_kept : (d : MasterData) (f : FleetState) → IsKeptAs IsLoading d f → IsBare d → d.is_halted ≡ false
+    → IsWellLoaded d f
 from_kept d f kept bare running = record {
   core = kept.core;
   bare = bare;
@@ -62,16 +63,19 @@ no_pass d bare p opened = let both = sym opened ∙ bare.pass in cc
 
 -- ---- a push
 
-module _ (d : MasterData) (push : Next) (f : FleetState) (running : d.is_halted ≡ false) (waits : IsNextPush d.head (Some push)) where
+module _ (d : MasterData) (push : Next) (f : FleetState) (running : d.is_halted ≡ false)
+    (waits : IsNextPush d.head (Some push)) where
   abbrev o : LogOp
   o = log_op d push
 
-  pub served_not_wrong : IsServed d f → (g : FleetState) (x : TakeFault) → Refuses f o.backup (op_of d.config.master o) x g
+  pub served_not_wrong : IsServed d f → (g : FleetState) (x : TakeFault)
+      → Refuses f o.backup (op_of d.config.master o) x g
       → x ≡ take_fault.Wrong → ⊥
   served_not_wrong (inl kept) = push_not_wrong intact_lasts d push f kept running waits
   served_not_wrong (inr loaded) = push_not_wrong loading_lasts d push f (as_kept d f loaded running) running waits
 
-  pub served_declines : IsServed d f → (g : FleetState) (x : TakeFault) → Refuses f o.backup (op_of d.config.master o) x g
+  pub served_declines : IsServed d f → (g : FleetState) (x : TakeFault)
+      → Refuses f o.backup (op_of d.config.master o) x g
       → Declines (world_of d f) Push (refusal_of x) (world_of (failed_data d x) g)
   served_declines (inl kept) = push_declines intact_lasts d push f kept running waits
   served_declines (inr loaded) = push_declines loading_lasts d push f (as_kept d f loaded running) running waits
@@ -82,22 +86,24 @@ module _ (d : MasterData) (push : Next) (f : FleetState) (running : d.is_halted 
 
   failed_loaded : IsWellLoaded d f → (g : FleetState) (x : TakeFault) → Refuses f o.backup (op_of d.config.master o) x g
       → IsWellLoaded (failed_data d x) g
-  failed_loaded loaded g x refused = by_fault x refused (push_failed loading_lasts d push f (as_kept d f loaded running) running waits g x refused) where
-    by_fault : (y : TakeFault) → Refuses f (log_op d push).backup (op_of d.config.master (log_op d push)) y g
-        → IsKeptAs IsLoading (failed_data d y) g → IsWellLoaded (failed_data d y) g
-    by_fault take_fault.NoMemory refused kept = subst (IsWellLoaded d) (sym refused) loaded
-    by_fault take_fault.Spent refused kept = subst (IsWellLoaded d) (sym refused.1) loaded
-    by_fault take_fault.Wrong refused kept =
-        absurd (push_not_wrong loading_lasts d push f (as_kept d f loaded running) running waits g take_fault.Wrong refused refl)
-    by_fault take_fault.Fault refused kept = record {
-      core = kept.core;
-      bare = record { history = loaded.bare.history; pass = loaded.bare.pass; waiting = loaded.bare.waiting };
-      before = kept.before;
-      loading = kept.holds;
-      backups = kept.backups;
-      running = kept.running;
-      halted = λ is. lags;
-    }
+  failed_loaded loaded g x refused = by_fault x refused (push_failed loading_lasts d push f
+      (as_kept d f loaded running) running waits g x refused) where
+        by_fault : (y : TakeFault) → Refuses f (log_op d push).backup (op_of d.config.master (log_op d push)) y g
+            → IsKeptAs IsLoading (failed_data d y) g → IsWellLoaded (failed_data d y) g
+        by_fault take_fault.NoMemory refused kept = subst (IsWellLoaded d) (sym refused) loaded
+        by_fault take_fault.Spent refused kept = subst (IsWellLoaded d) (sym refused.1) loaded
+        by_fault take_fault.Wrong refused kept =
+            absurd (push_not_wrong loading_lasts d push f (as_kept d f loaded running) running waits g
+            take_fault.Wrong refused refl)
+        by_fault take_fault.Fault refused kept = record {
+          core = kept.core;
+          bare = record { history = loaded.bare.history; pass = loaded.bare.pass; waiting = loaded.bare.waiting };
+          before = kept.before;
+          loading = kept.holds;
+          backups = kept.backups;
+          running = kept.running;
+          halted = λ is. lags;
+        }
 
   pub served_failed : (g : FleetState) (x : TakeFault) → Refuses f o.backup (op_of d.config.master o) x g
       → StaysServed d f (failed_data d x) g
@@ -106,7 +112,8 @@ module _ (d : MasterData) (push : Next) (f : FleetState) (running : d.is_halted 
     λ loaded. failed_loaded loaded g x refused,
   )
 
-  module _ (core : IsCore (taken_data d push)) (g : FleetState) (took : fleet_taken f o.backup (op_of d.config.master o) ≡ Some g) where
+  module _ (core : IsCore (taken_data d push)) (g : FleetState)
+      (took : fleet_taken f o.backup (op_of d.config.master o) ≡ Some g) where
     taken_loaded : IsWellLoaded d f → IsWellLoaded (taken_data d push) g
     taken_loaded loaded =
         from_kept (taken_data d push) g
@@ -122,11 +129,13 @@ module _ (d : MasterData) (push : Next) (f : FleetState) (running : d.is_halted 
 
 -- ---- a roll
 
-pub rolled_loaded : (d e : MasterData) (f : FleetState) (answer : StepAnswer) → IsWellLoaded d f → BeginsRoll d answer e → MayRollNow d → IsCore e
+pub rolled_loaded : (d e : MasterData) (f : FleetState) (answer : StepAnswer) → IsWellLoaded d f → BeginsRoll d answer e
+    → MayRollNow d → IsCore e
     → IsWellLoaded e f
 rolled_loaded d e f answer loaded is may core =
     from_kept e f
-    (rolled_kept_as loading_lasts d e f answer (as_kept d f loaded running) (λ ready now. absurd (unready ready)) is may core)
+    (rolled_kept_as loading_lasts d e f answer (as_kept d f loaded running)
+    (λ ready now. absurd (unready ready)) is may core)
     (subst IsBare (sym is.rest) (rolling_bare d loaded.bare)) (ap (λ (x : MasterData). x.is_halted) is.rest ∙ running)
   where
     running : d.is_halted ≡ false
@@ -134,5 +143,6 @@ rolled_loaded d e f answer loaded is may core =
 
     unready : is_ready d ≡ true → ⊥
     unready ready =
-        let never : false ≡ true = sym (ap (λ (o : Option OpenPass). option_map_or (is_ready_pass d.config.replicas) o false) loaded.bare.pass) ∙ ready in
+        let never : false ≡ true = sym (ap (λ (o : Option OpenPass). option_map_or
+        (is_ready_pass d.config.replicas) o false) loaded.bare.pass) ∙ ready in
         cc

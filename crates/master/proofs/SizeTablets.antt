@@ -1,5 +1,6 @@
 -- The sizes of a master's live objects lie in its tablets.
-use Rattle.std.proofs.Common.{◌≡◌, ℕ, true, List, [], ◌∷◌, length, map, refl, sym, ap, subst, ◌∙◌, ◌⊎◌, inl, inr, Bool, arith}
+use Rattle.std.proofs.Common.{◌≡◌, ℕ, true, List, [], ◌∷◌, length, map, refl, sym, ap, subst, ◌∙◌, ◌⊎◌, inl, inr, Bool}
+use Rattle.std.proofs.Common.{arith}
 use Rattle.std.specs.Prelude.{Some, None, Result, Ok, Err, IfOk, filter}
 use Rattle.std.specs.List.{list_all}
 use Rattle.std.proofs.lemmas.Bool.{and_from}
@@ -24,20 +25,22 @@ use Rattle.log_model.proofs.Fronts.{after_all}
 use Rattle.log_model.proofs.Lists.{among_data}
 use Rattle.log_model.proofs.Replicas.{digest_is_whole, head_segment}
 use Rattle.log_model.proofs.Segments.{both_of_tablets, front_data}
-use Rattle.master_core.specs.Data.{MasterData}
-use Rattle.master_core.specs.Log.{log_of, state_now}
-use Rattle.master_core.specs.Sizes.{size_of, AreSizesOf}
-use Rattle.master_core.proofs.LiveObjects.{IsAway, key_among}
+use Rattle.master_state.specs.Data.{MasterData}
+use Rattle.master_state.specs.Log.{log_of, state_now}
+use Rattle.master_state.specs.Sizes.{size_of, AreSizesOf}
+use Rattle.master_space.proofs.LiveObjects.{IsAway, key_among}
 use Rattle.master.specs.Invariant.{IsWellKept}
 
 -- ---- the keys of the map
 
 module _ (d : LogData) (p : Picture) (kept : IsKept d p) where
-  base_keys : (ids : List ℕ) → ((s : ℕ) → IsAmong s ids → IsAmong s (ids_of d.head.start)) → AreOfTablets d.config (base_of kept.texts ids)
+  base_keys : (ids : List ℕ) → ((s : ℕ) → IsAmong s ids → IsAmong s (ids_of d.head.start))
+      → AreOfTablets d.config (base_of kept.texts ids)
   base_keys [] listed = λ e k m at. absurd m
   base_keys (s ∷ ids) listed =
       both_of_tablets d.config (filter is_data (kept.texts s)) (base_of kept.texts ids)
-      (λ e k m at. (digest_is_whole d kept.texts p s kept.held (listed s (inl refl))).keys e k (among_data e (kept.texts s) m) at)
+      (λ e k m at. (digest_is_whole d kept.texts p s kept.held (listed s (inl refl))).keys e k
+      (among_data e (kept.texts s) m) at)
       (base_keys ids (λ t m. listed t (inr m)))
 
   abbrev units : ℕ
@@ -63,13 +66,15 @@ module _ (d : LogData) (p : Picture) (kept : IsKept d p) where
 
 -- ---- sizes
 
-all_listed : (test : Size → Bool) (ss : List Size) → ((s : Size) → IsAmong s ss → test s ≡ true) → list_all test ss ≡ true
+all_listed : (test : Size → Bool) (ss : List Size) → ((s : Size) → IsAmong s ss → test s ≡ true)
+    → list_all test ss ≡ true
 all_listed test [] each = refl
 all_listed test (s ∷ ss) each =
     and_from (test s) (list_all test ss) (each s (inl refl)) (all_listed test ss (λ r m. each r (inr m)))
 
 -- sizes of objects whose keys are of the tablets
-sizes_are : (ts : List Tablet) (contents : Contents) → ((k : Key) (x : Versioned) → contents k ≡ Some x → have_key ts k ≡ true)
+sizes_are : (ts : List Tablet) (contents : Contents) → ((k : Key) (x : Versioned) → contents k ≡ Some x
+    → have_key ts k ≡ true)
     → (ss : List Size) → AreSizesOf contents ss → are_sizes ts ss ≡ true
 sizes_are ts contents keys ss are =
     and_from (are_in_order ss) (list_all (λ (s : Size). is_in_one ts s.table s.place) ss) are.order
@@ -78,7 +83,8 @@ sizes_are ts contents keys ss are =
     key_in : (o : Object) → IsAmong o are.objects → have_key ts o.key ≡ true
     key_in o m = go (key_among are.objects o.key)
       where
-        go : ((q : Object) × IsAmong q are.objects × (q.key ≡ o.key) × (contents_of are.objects o.key ≡ Some (versioned q)))
+        go : ((q : Object) × IsAmong q are.objects × (q.key ≡ o.key)
+            × (contents_of are.objects o.key ≡ Some (versioned q)))
             ⊎ (IsAway o.key are.objects × (contents_of are.objects o.key ≡ None)) → have_key ts o.key ≡ true
         go (inl there) = keys o.key (versioned there.0) (ap (λ (c : Contents). c o.key) (sym are.all) ∙ there.3)
         go (inr none) = absurd (none.0 o m refl)
@@ -87,11 +93,13 @@ sizes_are ts contents keys ss are =
     each s m =
         let there =
         among_images size_of are.objects s
-        (among_permutation s ss (map size_of are.objects) (IsPermutation-sym (map size_of are.objects) ss are.of_objects) m) in
+        (among_permutation s ss (map size_of are.objects) (IsPermutation-sym
+        (map size_of are.objects) ss are.of_objects) m) in
         subst (λ (r : Size). is_in_one ts r.table r.place ≡ true) there.2 (key_in there.0 there.1)
 
 -- what a master answers
-pub in_tablets : {V E : Type 0} (items : V → List Size) (d : MasterData) (f : FleetState) → IsWellKept d f → (r : Result V E)
+pub in_tablets : {V E : Type 0} (items : V → List Size) (d : MasterData) (f : FleetState) → IsWellKept d f
+    → (r : Result V E)
     → IfOk r (λ (v : V). AreSizesOf (state_now d).contents (items v))
     → IfOk r (λ (v : V). are_sizes d.config.tablets (items v) ≡ true)
 in_tablets items d f kept (Ok v) are =

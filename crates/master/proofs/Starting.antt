@@ -11,11 +11,11 @@ use Rattle.clean_model.specs.Intact.{IsIntact}
 use Rattle.clean_model.specs.Memory.{log_ids}
 use Rattle.clean_model.specs.Steps.{first_memory}
 use Rattle.clean_model.proofs.NewMaster.{fresh_is_intact}
-use Rattle.master_core.specs.declared.config.Config.{Config}
-use Rattle.master_core.specs.Config.{config_fault}
-use Rattle.master_core.specs.Data.{fresh_data}
-use Rattle.master_core.specs.Invariant.{IsCore}
-use Rattle.master_core.specs.Log.{log_config, opening_of, log_of, images_of}
+use Rattle.master_state.specs.declared.config.Config.{Config}
+use Rattle.master_state.specs.Config.{config_fault}
+use Rattle.master_state.specs.Data.{fresh_data}
+use Rattle.master_state.specs.Invariant.{IsCore}
+use Rattle.master_state.specs.Log.{log_config, opening_of, log_of, images_of}
 use Rattle.master.specs.Invariant.{IsWellKept}
 use Rattle.master.proofs.Models.{IsModel, own_intact}
 use Rattle.master.proofs.Placing.{placed}
@@ -23,8 +23,16 @@ use Rattle.master.proofs.Placing.{placed}
 module _ (c : Config) (f : FleetState) (ok : config_fault c ≡ None) (core : IsCore (fresh_data c)) where
   log_fresh : log_of (fresh_data c) ≡ fresh (log_config c)
   log_fresh =
-      let same = head_is c.master (fresh_head c.master c.replicas first_start) _ (image_fresh c.master c.replicas first_start) core.head.segment in
-      λ i. record { config = log_config c; opening = opening_of (fresh_data c); history = []; head = same i; phase = Ready; next = 2 }
+      let same = head_is c.master (fresh_head c.master c.replicas first_start) _
+      (image_fresh c.master c.replicas first_start) core.head.segment in
+      λ i. record {
+        config = log_config c;
+        opening = opening_of (fresh_data c);
+        history = [];
+        head = same i;
+        phase = Ready;
+        next = 2;
+      }
 
   image_at : (s : ℕ) → IsAmong s (log_ids (log_of (fresh_data c)) (first_memory (log_config c)))
       → images_of (fresh_data c) s ≡ start_entries c.master first_start
@@ -55,7 +63,12 @@ module _ (c : Config) (f : FleetState) (ok : config_fault c ≡ None) (core : Is
     holds = own_intact (fresh_data c) core (first_memory (log_config c)) f.picture
         (subst (λ (l : LogData). IsIntact l (first_memory (log_config c)) f.picture) (sym log_fresh)
         (fresh_is_intact (log_config c) f.picture
-        (record { placed = placed c ok; segment = core.head.segment; limit = core.head.limit; nothing = nothing }))) model;
+        (record {
+          placed = placed c ok;
+          segment = core.head.segment;
+          limit = core.head.limit;
+          nothing = nothing;
+        }))) model;
     backups = backups;
     now = inl refl;
     running = λ going. refl;

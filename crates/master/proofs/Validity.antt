@@ -2,10 +2,10 @@
 use Rattle.replica.specs.Picture.{FleetState}
 use Rattle.clean_model.proofs.Coverage.{intact_is_durable}
 use Rattle.clean_model.proofs.Faults.{fault_is_sound, fault_is_covered, fault_is_replicated, fault_holds_past}
-use Rattle.master_core.specs.Data.{MasterData}
-use Rattle.master_core.specs.Log.{log_of, memory_of}
-use Rattle.master_core.proofs.AllPushed.{all_durable}
-use Rattle.master_core.proofs.Finding.{indexed}
+use Rattle.master_state.specs.Data.{MasterData}
+use Rattle.master_state.specs.Log.{log_of, memory_of}
+use Rattle.master_commands.proofs.AllPushed.{all_durable}
+use Rattle.master_state.proofs.Finding.{indexed}
 use Rattle.master.specs.Invariant.{IsWellKept}
 use Rattle.master.specs.Valid.{IsValid}
 use Rattle.master.proofs.LogSets.{imaged}

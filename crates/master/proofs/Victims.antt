@@ -10,13 +10,14 @@ use Rattle.log_model.specs.Data.{ids_of}
 use Rattle.log_model.specs.Ids.{has}
 use Rattle.clean_model.proofs.KeptEntries.{has_is, is_has}
 use Rattle.clean_model.proofs.LogSetIds.{head_in}
-use Rattle.master_core.specs.Budget.{victims_of, survivors_of}
-use Rattle.master_core.specs.Data.{MasterData}
-use Rattle.master_core.specs.Invariant.{IsCore, IsOpenPass}
-use Rattle.master_core.specs.Log.{log_of}
+use Rattle.master_state.specs.Budget.{victims_of, survivors_of}
+use Rattle.master_state.specs.Data.{MasterData}
+use Rattle.master_state.specs.Invariant.{IsCore, IsOpenPass}
+use Rattle.master_state.specs.Log.{log_of}
 
 module _ (d : MasterData) (core : IsCore d) (s : ℕ) where
-  in_others : (o : Option OpenPass) → IfSome o (IsOpenPass d) → IsAmong s (victims_of o) → IsAmong s (head_of d.head).start.others
+  in_others : (o : Option OpenPass) → IfSome o (IsOpenPass d) → IsAmong s (victims_of o)
+      → IsAmong s (head_of d.head).start.others
   in_others None pass victim = absurd victim
   in_others (Some p) pass victim =
       is_has (head_of d.head).start.others s
@@ -29,9 +30,11 @@ module _ (d : MasterData) (core : IsCore d) (s : ℕ) where
   pub victim_below : IsAmong s (victims_of d.pass) → s < d.head.id
   victim_below victim =
       subst (λ (top : ℕ). s < top) core.image.id
-      (all_among (λ (z : ℕ). z < (head_of d.head).start.id) (head_of d.head).start.others s core.below (victim_older victim))
+      (all_among (λ (z : ℕ). z < (head_of d.head).start.id) (head_of d.head).start.others s core.below
+      (victim_older victim))
 
-  out_of_force : (o : Option OpenPass) → IfSome o (IsOpenPass d) → IsAmong s (survivors_of o) → IsAmong s (ids_of (head_of d.head).start) → ⊥
+  out_of_force : (o : Option OpenPass) → IfSome o (IsOpenPass d) → IsAmong s (survivors_of o)
+      → IsAmong s (ids_of (head_of d.head).start) → ⊥
   out_of_force None pass survivor listed = survivor
   out_of_force (Some p) pass (inl same) listed =
       let there = has_is (ids_of (head_of d.head).start) s listed in
@@ -49,6 +52,8 @@ module _ (d : MasterData) (core : IsCore d) (s : ℕ) where
       (subst (λ (z : ℕ). IsAmong z (ids_of (head_of d.head).start)) (core.image.id ∙ sym own) (head_in (log_of d)))
 
 -- no victim is a survivor
-pub never_both : (d : MasterData) (core : IsCore d) (s : ℕ) → IsAmong s (victims_of d.pass) → IsAmong s (survivors_of d.pass) → ⊥
+pub never_both : (d : MasterData) (core : IsCore d) (s : ℕ) → IsAmong s (victims_of d.pass)
+    → IsAmong s (survivors_of d.pass) → ⊥
 never_both d core s victim survivor =
-    survivor_outside d core s survivor (among_left s (head_of d.head).start.others ((head_of d.head).start.id ∷ []) (victim_older d core s victim))
+    survivor_outside d core s survivor (among_left s (head_of d.head).start.others ((head_of d.head).start.id ∷ [])
+    (victim_older d core s victim))

@@ -7,11 +7,11 @@ use Rattle.clean_model.specs.Intact.{IsIntact}
 use Rattle.clean_model.specs.Loading.{IsLoading}
 use Rattle.clean_model.specs.Memory.{Memory}
 use Rattle.clean_model.specs.Steps.{IsFault}
-use Rattle.master_core.specs.Causes.{is_pushed}
-use Rattle.master_core.specs.Data.{MasterData}
-use Rattle.master_core.specs.Invariant.{AreApart, IsCore}
-use Rattle.master_core.specs.Loading.{IsBare}
-use Rattle.master_core.specs.Log.{log_of, memory_of}
+use Rattle.master_state.specs.Causes.{is_pushed}
+use Rattle.master_state.specs.Data.{MasterData}
+use Rattle.master_state.specs.Invariant.{AreApart, IsCore}
+use Rattle.master_state.specs.Loading.{IsBare}
+use Rattle.master_state.specs.Log.{log_of, memory_of}
 
 -- All of it, whatever holds of the log, memory and the backups.
 pub record IsKeptAs (Holds : LogData → Memory → Picture → Type 0) (d : MasterData) (f : FleetState) : Type 0 where
@@ -30,8 +30,8 @@ pub record IsKeptAs (Holds : LogData → Memory → Picture → Type 0) (d : Mas
 abbrev pub IsWellKept : MasterData → FleetState → Type 0
 IsWellKept d f = IsKeptAs IsIntact d f
 
--- One that is loading has no history. Nothing is promised of it yet, so what a fault left of the backups doesn't matter:
--- after one it is never finished.
+-- One that is loading has no history. Nothing is promised of it yet, so what a fault left of the backups doesn't
+-- matter: after one it is never finished.
 pub record IsWellLoaded (d : MasterData) (f : FleetState) : Type 0 where
   pub core : IsCore d
   pub bare : IsBare d

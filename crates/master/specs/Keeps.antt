@@ -2,7 +2,7 @@
 use Rattle.std.specs.Prelude.{◌≡◌, ℕ, ◌+◌, ◌≤◌, List, ◌++◌}
 use Rattle.log_model.specs.Data.{durable_of}
 use Rattle.versioned_map.specs.declared.command.Record.{Record}
-use Rattle.master_core.specs.Log.{log_of}
+use Rattle.master_state.specs.Log.{log_of}
 use Rattle.master.specs.World.{World}
 
 pub record Keeps (most : ℕ) (old new : World) : Type 0 where

@@ -5,12 +5,12 @@ use Rattle.clean_model.specs.Steps.{seal_op, free_op}
 use Rattle.log_model.specs.Data.{IsHomeAt}
 use Rattle.log_model.specs.Ops.{LogOp, op_of}
 use Rattle.replica.specs.Take.{Takes}
-use Rattle.master_core.specs.declared.step.StepAnswer.{StepAnswer}
-use Rattle.master_core.specs.declared.step.StepAnswer.TheVariants.{Sealed, Freed}
-use Rattle.master_core.specs.Causes.{seal_refusal, free_refusal}
-use Rattle.master_core.specs.Data.{MasterData}
-use Rattle.master_core.specs.Log.{log_of, memory_of}
-use Rattle.master_core.specs.Steps.{sealed_data, freed_data}
+use Rattle.master_state.specs.declared.step.StepAnswer.{StepAnswer}
+use Rattle.master_state.specs.declared.step.StepAnswer.TheVariants.{Sealed, Freed}
+use Rattle.master_state.specs.Causes.{seal_refusal, free_refusal}
+use Rattle.master_state.specs.Data.{MasterData}
+use Rattle.master_state.specs.Log.{log_of, memory_of}
+use Rattle.master_state.specs.Steps.{sealed_data, freed_data}
 use Rattle.master.specs.World.{World}
 
 -- The op seals the next replica of the open pass's survivor: its image is written whole to the replica's home.

@@ -8,12 +8,12 @@ use Rattle.log_model.specs.Ids.{has}
 use Rattle.log_model.specs.Ops.{LogOp, op_of}
 use Rattle.log_model.specs.Steps.{OpensFirst, Extends, OpensNew, ClosesOld}
 use Rattle.replica.specs.Take.{Takes}
-use Rattle.master_core.specs.declared.step.StepAnswer.{StepAnswer}
-use Rattle.master_core.specs.declared.step.StepAnswer.TheVariants.{Opened, Extended, Closed}
-use Rattle.master_core.specs.Budget.{victims_of}
-use Rattle.master_core.specs.Data.{MasterData}
-use Rattle.master_core.specs.Log.{log_of, image_of}
-use Rattle.master_core.specs.Steps.{taken_data}
+use Rattle.master_state.specs.declared.step.StepAnswer.{StepAnswer}
+use Rattle.master_state.specs.declared.step.StepAnswer.TheVariants.{Opened, Extended, Closed}
+use Rattle.master_state.specs.Budget.{victims_of}
+use Rattle.master_state.specs.Data.{MasterData}
+use Rattle.master_state.specs.Log.{log_of, image_of}
+use Rattle.master_state.specs.Steps.{taken_data}
 use Rattle.master.specs.World.{World}
 
 -- how many units of the head a replica has, and how many it has after its next Extend

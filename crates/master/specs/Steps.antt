@@ -3,16 +3,18 @@ use Rattle.std.specs.Prelude.{◌≡◌, ◌⊎◌, List, [], ◌∷◌, Result,
 use Rattle.log_model.specs.Ops.{LogOp, op_of}
 use Rattle.replica.specs.Take.{Refuses}
 use Rattle.replica.specs.declared.op.TakeFault.TheVariants as take_fault
-use Rattle.master_core.specs.declared.step.Refusal.{Refusal}
-use Rattle.master_core.specs.declared.step.Refusal.TheVariants as refusal
-use Rattle.master_core.specs.declared.step.Step.{Step}
-use Rattle.master_core.specs.declared.step.Step.TheVariants.{Apply, Push, BeginRoll, Compact, BeginClean, Copy, Seal, Free}
-use Rattle.master_core.specs.declared.step.StepAnswer.{StepAnswer}
-use Rattle.master_core.specs.Causes.{command_refusal, roll_refusal, compact_refusal, push_refusal, clean_refusal, copy_refusal}
-use Rattle.master_core.specs.Causes.{seal_refusal, free_refusal}
-use Rattle.master_core.specs.Data.{MasterData}
-use Rattle.master_core.specs.Log.{log_of}
-use Rattle.master_core.specs.Steps.{Applies, BeginsRoll, Compacts, BeginsPass, Copies, halted}
+use Rattle.master_state.specs.declared.step.Refusal.{Refusal}
+use Rattle.master_state.specs.declared.step.Refusal.TheVariants as refusal
+use Rattle.master_state.specs.declared.step.Step.{Step}
+use Rattle.master_state.specs.declared.step.Step.TheVariants.{Apply, Push, BeginRoll, Compact, BeginClean, Copy, Seal}
+use Rattle.master_state.specs.declared.step.Step.TheVariants.{Free}
+use Rattle.master_state.specs.declared.step.StepAnswer.{StepAnswer}
+use Rattle.master_state.specs.Causes.{command_refusal, roll_refusal, compact_refusal, push_refusal, clean_refusal}
+use Rattle.master_state.specs.Causes.{copy_refusal}
+use Rattle.master_state.specs.Causes.{seal_refusal, free_refusal}
+use Rattle.master_state.specs.Data.{MasterData}
+use Rattle.master_state.specs.Log.{log_of}
+use Rattle.master_state.specs.Steps.{Applies, BeginsRoll, Compacts, BeginsPass, Copies, halted}
 use Rattle.master.specs.Keeps.{Keeps}
 use Rattle.master.specs.Passes.{IsSealOp, Seals, IsFreeOp, Frees}
 use Rattle.master.specs.Pushes.{IsNextOp, Pushes}

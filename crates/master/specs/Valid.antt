@@ -8,11 +8,11 @@ use Rattle.log_model.specs.Durable.{IsDurable, IsReplicated, IsPastOf}
 use Rattle.log_model.specs.Sound.{IsSound}
 use Rattle.clean_model.specs.Covered.{IsCovered}
 use Rattle.clean_model.specs.Memory.{log_ids}
-use Rattle.master_core.specs.Budget.{used_seglets}
-use Rattle.master_core.specs.Causes.{is_pushed}
-use Rattle.master_core.specs.Config.{config_fault}
-use Rattle.master_core.specs.Data.{MasterData}
-use Rattle.master_core.specs.Log.{opening_of, log_of, state_now, image_of, memory_of, IsIndexed}
+use Rattle.master_state.specs.Budget.{used_seglets}
+use Rattle.master_state.specs.Causes.{is_pushed}
+use Rattle.master_state.specs.Config.{config_fault}
+use Rattle.master_state.specs.Data.{MasterData}
+use Rattle.master_state.specs.Log.{opening_of, log_of, state_now, image_of, memory_of, IsIndexed}
 
 -- The durable count is the most records, from the first on, that are durable: for each of their units, every replica of
 -- the head that it was appended to took the unit whole and answered Ok. Each backup of such a segment of the log holds
@@ -24,6 +24,12 @@ pub record CountsDurable (d : LogData) (p : Picture) : Type 0 where
   pub replicated : IsReplicated d past p
   pub heads : IsPastOf d past p
 
+-- What is true of a master, by what it knows and what its fleet holds. `Master::show_valid` gives it at any time, and
+-- each step keeps it. Three of its fields are what the store is for. `legal`: the replies are those of the versioned
+-- map. `sound`: whichever backups are left, their replicas stand for the map after a prefix of the history that has
+-- each durable record, or a head or a segment is lost. `covered`: memory and the replicas of the log stand for the map
+-- after the whole history, whatever was compacted or cleaned. The others say how the code's own counts and tables agree
+-- with the history.
 pub record IsValid (d : MasterData) (f : FleetState) : Type 0 where
   pub config : config_fault d.config ≡ None
   pub history : length d.history ≤ d.config.history

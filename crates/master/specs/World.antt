@@ -2,7 +2,7 @@
 use Rattle.replica.specs.Picture.{FleetState}
 use Rattle.replica.specs.Take.{limited}
 use Rattle.std.specs.Prelude.{ℕ}
-use Rattle.master_core.specs.Data.{MasterData}
+use Rattle.master_state.specs.Data.{MasterData}
 
 -- what a clause sees of a master
 pub record MasterValue (F : Type 0) : Type 0 where

@@ -2,15 +2,15 @@
 
 ghost use Rattle.std.specs.Prelude.{◌≡◌, None, true, IfOk, IfErr, OnErr};
 ghost use Rattle.tablet_will.specs.Sizes.{are_sizes};
-ghost use Rattle.master_core.specs.Choosing.{chosen, next_step, NeedsChoice};
-ghost use Rattle.master_core.specs.Log.{state_now};
-ghost use Rattle.master_core.specs.Sizes.{AreSizesOf};
+ghost use Rattle.master_space.specs.Choosing.{chosen, next_step, NeedsChoice};
+ghost use Rattle.master_state.specs.Log.{state_now};
+ghost use Rattle.master_state.specs.Sizes.{AreSizesOf};
 ghost use Rattle.master.specs.Steps.{Accepts, Declines};
 ghost use Rattle.master.specs.World.{world};
 
 use crate::master::Master;
 use entry::{NoMemory, Row, Size};
-use master_core::{Refusal, Step, StepAnswer};
+use master_core::{Chooses, Cleans, Measures, Refusal, Step, StepAnswer};
 use replica::{Act, Fleet, Op};
 
 impl<F: Fleet> Master<F> {
@@ -22,9 +22,9 @@ impl<F: Fleet> Master<F> {
         self.core.choose()
     }
 
-    /// The step that a cleaner makes next: an open pass goes on, then a roll, then what waits is freed, and then the next
-    /// pass begins, if it may and has victims. `None` if nothing is to be done. It is never a command. Nothing changes,
-    /// and only a choice of victims takes memory.
+    /// The step that a cleaner makes next: an open pass goes on, then a roll, then what waits is freed, and then the
+    /// next pass begins, if it may and has victims. `None` if nothing is to be done. It is never a command. Nothing
+    /// changes, and only a choice of victims takes memory.
     pub fn next_step(&self) -> Result<Option<Step>, NoMemory>
         ensures next { IfOk result (λ step. step ≡ next_step self.now.knows) }
         ensures refused { OnErr result ((self.now.knows.pass ≡ None) × NeedsChoice self.now.knows) }

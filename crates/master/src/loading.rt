@@ -1,9 +1,9 @@
 //! A master that is loaded with recovered objects before its history begins.
 
 ghost use Rattle.std.specs.Prelude.{◌≡◌, ◌≤◌, ℕ, None, true, false, IfOk, IfErr, OnOk, OnErr};
-ghost use Rattle.master_core.specs.Causes.{is_pushed};
-ghost use Rattle.master_core.specs.Config.{config_fault};
-ghost use Rattle.master_core.specs.Loading.{restored_data, IsNewObject, Loads, Settles};
+ghost use Rattle.master_state.specs.Causes.{is_pushed};
+ghost use Rattle.master_state.specs.Config.{config_fault};
+ghost use Rattle.master_state.specs.Loading.{restored_data, IsNewObject, Loads, Settles};
 ghost use Rattle.master.specs.Loading.{IsNewEntry, LoadsEntry, DeclinesLoad, KeepsLoading};
 ghost use Rattle.master.specs.Steps.{Accepts, Declines};
 ghost use Rattle.master.specs.Valid.{IsValid};
@@ -12,7 +12,7 @@ ghost use Rattle.master.specs.World.{world};
 use crate::master::Master;
 use crate::pushing;
 use entry::{Entry, NoMemory, Object, SafeVersion};
-use master_core::{Config, Core, Refusal, Step, StepAnswer};
+use master_core::{Config, Core, Loads, Refusal, Rolls, Step, StepAnswer};
 use replica::Fleet;
 use std::alloc::Global;
 use std::marker::Model;
@@ -37,8 +37,8 @@ impl<F: Fleet> Model for Loading<F> {
 }
 
 impl<F: Fleet> Master<F> {
-    /// A master that is to be loaded with objects of versions below `safe`. Its head is not open yet. It asks nothing of
-    /// the fleet. If memory runs out, it hands the fleet back.
+    /// A master that is to be loaded with objects of versions below `safe`. Its head is not open yet. It asks nothing
+    /// of the fleet. If memory runs out, it hands the fleet back.
     pub fn restore(
         alloc: Global,
         config: Config,
@@ -62,8 +62,8 @@ impl<F: Fleet> Master<F> {
 }
 
 impl<F: Fleet> Loading<F> {
-    /// Loads an object with its own version: it is appended to the head, and the history begins with it. The fleet stays
-    /// as it is. The entry is an object, its key was not loaded before, and its version is below the safe one.
+    /// Loads an object with its own version: it is appended to the head, and the history begins with it. The fleet
+    /// stays as it is. The entry is an object, its key was not loaded before, and its version is below the safe one.
     pub fn load(&mut self, entry: &Entry) -> Result<(), Refusal>
         requires entry { IsNewEntry self.old.knows entry.now }
         ensures loaded { OnOk result (LoadsEntry self.old.knows entry.now self.new.knows) }
@@ -137,7 +137,7 @@ impl<F: Fleet> Loading<F> {
             mut core,
             fleet,
         } = self;
-        core.settle();
+        core.begin_history();
         let master = Master { alloc, core, fleet };
         master.show_valid();
         Ok(master)

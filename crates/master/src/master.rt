@@ -3,12 +3,11 @@
 ghost use Rattle.std.specs.Prelude.{List, ◌⊎◌, ◌≡◌, ◌≤◌, ◌<◌, ℕ, None, length, IfOk, IfErr, IfSome, OnOk, OnErr};
 ghost use Rattle.std.specs.Result.{result_err};
 ghost use Rattle.log_model.specs.Data.{durable_of};
-ghost use Rattle.master_core.specs.Causes.{command_refusal};
-ghost use Rattle.master_core.specs.Change.{IsFound};
-ghost use Rattle.master_core.specs.Config.{config_fault};
-ghost use Rattle.master_core.specs.Data.{fresh_data};
-ghost use Rattle.master_core.specs.Log.{log_of};
-ghost use Rattle.master_core.specs.Steps.{reply_now};
+ghost use Rattle.master_state.specs.Causes.{command_refusal};
+ghost use Rattle.master_state.specs.Steps.{IsFound, reply_now};
+ghost use Rattle.master_state.specs.Config.{config_fault};
+ghost use Rattle.master_state.specs.Data.{fresh_data};
+ghost use Rattle.master_state.specs.Log.{log_of};
 ghost use Rattle.master.specs.Invariant.{IsWellKept};
 ghost use Rattle.master.specs.Keeps.{Keeps};
 ghost use Rattle.master.specs.Steps.{Accepts, Declines, Steps, IsRun};
@@ -17,13 +16,35 @@ ghost use Rattle.master.specs.World.{world};
 
 use crate::pushing;
 use entry::{NoMemory, Tablet};
-use master_core::{Config, Core, Refusal, Step, StepAnswer};
+use master_core::{Commands, Compacts, Config, Core, Refusal, Rolls, Step, StepAnswer};
 use replica::{Bench, Fleet, TakeFault};
 use std::alloc::Global;
 use std::marker::Model;
 use versioned_map::{Command, Record, Reply};
 
-/// A log-structured store over a fleet of backups.
+/// One master of a log-structured store, and the fleet of backups that holds its replicas.
+///
+/// The master has its log in memory, an index of the live objects, the history of its commands, and at most one open
+/// pass of cleaning. `step` does one thing: a command, the begin of a roll or of a pass, the compaction of a segment,
+/// the copy of an entry, or one op that one backup takes. An accepted command is answered at once, and is durable when
+/// `durable` is above its place: until then its unit waits for pushes. Whoever answers a client pushes first.
+///
+/// - What holds: `show_valid`, after each step. Stop after any step, drop the master, lose backups: a recovery finds
+///   each durable command, or names the head or the segment that is lost.
+/// - Refusals: each step names its own (`Refusal`), and then nothing has changed. After `Fault` the backup may have
+///   taken the op, and the master is halted: it takes no further step, and a recovery goes on.
+/// - Cost: a command hashes its key, looks it up, and copies its unit to the end of the head; it scans nothing. An
+///   object takes its entry in a segment and a place in the index, and each command a record in the history until the
+///   master ends.
+///
+/// ```text
+/// let mut master = Master::new(alloc, config, fleet)?;
+/// while master.step(Step::Push).is_ok() {}                          // each backup of the head opens its replica
+/// let answer = master.step(Step::Apply(0, Command::Put(key, value, If::Any)))?;   // Applied(0, reply)
+/// while master.step(Step::Push).is_ok() {}                          // each backup of the head takes the unit
+/// assert!(master.durable() == 1);                                   // so the put outlives this master:
+/// let fleet = master.crash();                                       // `recover` over the fleet finds it
+/// ```
 #[derive(Drop)]
 pub struct Master<F: Fleet> {
     pub(crate) alloc: Global,

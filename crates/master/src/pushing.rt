@@ -8,7 +8,7 @@ ghost use Rattle.master.specs.Steps.{Accepts, Declines};
 ghost use Rattle.master.specs.World.{world_of};
 
 use log_head::Next;
-use master_core::{Core, Refusal, Step, StepAnswer};
+use master_core::{Core, Refusal, Rolls, Step, StepAnswer};
 use replica::Fleet;
 
 /// Hands one op to one backup.
@@ -23,7 +23,7 @@ pub(crate) fn push<F: Fleet>(core: &mut Core, fleet: &mut F) -> Result<StepAnswe
     if core.is_halted() {
         return Err(Refusal::Halted);
     }
-    match core.next() {
+    match core.next_push() {
         None => Err(Refusal::Nothing),
         Some(next) => hand(core, fleet, next),
     }

@@ -7,6 +7,7 @@ ghost use Rattle.master.specs.World.{world};
 
 use crate::master::Master;
 use entry::{NoMemory, Row, Size};
+use master_core::Measures;
 use replica::{Bytes, Fleet, Inventory};
 use std::alloc::Global;
 

@@ -1,11 +1,12 @@
 -- What clients make of the counts of seats.
 use Rattle.std.proofs.Common.{◌≡◌, ◌<◌, ◌≤◌, ℕ, zero, suc, ◌+◌, ◌-◌, ◌*◌, List, [], ◌∷◌, ◌++◌}
-use Rattle.std.proofs.Common.{Option, Some, Result, Ok, Err, take, drop, refl, sym, ap, ◌∙◌, subst, arith, mul-le-mul_left}
+use Rattle.std.proofs.Common.{Option, Some, Result, Ok, Err, take, drop, refl, sym, ap, ◌∙◌, subst, arith}
+use Rattle.std.proofs.Common.{mul-le-mul_left}
 use Rattle.std.specs.Prelude.{◌^◌, slice_get, IfOk, IfSome, IsOk}
 use Rattle.std.proofs.lemmas.Option.{same_Some}
 use Rattle.entry.proofs.ListLemmas.{slice_get_left}
 use Rattle.versioned_map.specs.declared.command.Record.{Record}
-use Rattle.master_core.specs.Data.{MasterData}
+use Rattle.master_state.specs.Data.{MasterData}
 use Rattle.store_seat.specs.declared.fault.CallFault.{CallFault}
 use Rattle.locked_log.specs.Ends.{AreServed}
 use Rattle.store_seat.specs.Seats.{SeatValue}
@@ -97,7 +98,8 @@ module _ (clients rounds : ℕ) (old new : List Record) (d : MasterData) (is : d
       let a = after.each k high in
       let there : Has others (seat_after old k a.0) =
       record { place = j; is = get_drop (1 + clients) seats j ∙ ap (slice_get seats) e ∙ a.1 } in
-      count_by_seat (seat_after old k a.0) (rw back (has_right own (served ++ others) _ (has_right served others _ there)))
+      count_by_seat (seat_after old k a.0) (rw back (has_right own (served ++ others) _
+      (has_right served others _ there)))
 
   each_at : (k : ℕ) → 1 ≤ k → k ≤ clients → count_of k new ≡ count_of k old + 2 * rounds
   each_at k low high =

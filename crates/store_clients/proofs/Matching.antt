@@ -20,7 +20,8 @@ matches_push {A} {B} R xs ys a b m r = record {
   each = λ k x e. ⊎_elim
       (λ h. let y = m.each k x h in (y.0, slice_get_left ys (b ∷ []) k y.0 y.1, y.2))
       (λ h.
-      let at : slice_get (ys ++ b ∷ []) k ≡ Some b = ap (slice_get (ys ++ b ∷ [])) (h.0 ∙ sym m.count) ∙ slice_get_last ys b in
+      let at : slice_get (ys ++ b ∷ []) k ≡ Some b = ap (slice_get (ys ++ b ∷ [])) (h.0 ∙ sym m.count)
+      ∙ slice_get_last ys b in
       (b, at, subst (λ (z : A). R z b) h.1 r))
       (slice_get_push xs a k x e);
 }

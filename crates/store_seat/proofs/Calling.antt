@@ -21,7 +21,8 @@ left_same m n e = record {
 }
 
 -- with one record more, with a note or without
-left_more : (m k n : SeatValue) → n ≡ k → k.number ≡ m.number → k.first ≡ m.first → k.count ≡ m.count + 1 → k.parts ≡ m.parts
+left_more : (m k n : SeatValue) → n ≡ k → k.number ≡ m.number → k.first ≡ m.first → k.count ≡ m.count + 1
+    → k.parts ≡ m.parts
     → k.amount ≡ m.amount + 1 → k.mark ≡ m.mark → LeavesRefused m n
 left_more m k n e number first count parts amount mark = record {
   number = ap (λ (v : SeatValue). v.number) e ∙ number;
@@ -34,15 +35,19 @@ left_more m k n e number first count parts amount mark = record {
 }
 
 -- a command that was not applied
-pub refused_call : (m n : SeatValue) (command : Command) (fault : CallFault) → AppliesSeat m command (Err fault) n → Calls m command (Err fault) n
+pub refused_call : (m n : SeatValue) (command : Command) (fault : CallFault) → AppliesSeat m command (Err fault) n
+    → Calls m command (Err fault) n
 refused_call m n command (Refused e) h = h
 refused_call m n command (Unsure place e) h = absurd h
 refused_call m n command SeatUnknown h = h
-refused_call m n command CellRefused h = ⊎_elim (left_same m n) (λ x. left_more m (unnoted m) n x refl refl refl refl refl refl) h
+refused_call m n command CellRefused h = ⊎_elim (left_same m n)
+    (λ x. left_more m (unnoted m) n x refl refl refl refl refl refl) h
 
 -- a record that was left without an answer
-pub left_call : (m n k : SeatValue) (command : Command) (reply : Reply) (place : ℕ) (fault : CallFault) → m.first ≤ place
-    → n ≡ noted m (told place (record_by m.number command reply)) → k ≡ n → IsLeft place fault → Calls m command (Err fault) k
+pub left_call : (m n k : SeatValue) (command : Command) (reply : Reply) (place : ℕ)
+    (fault : CallFault) → m.first ≤ place
+    → n ≡ noted m (told place (record_by m.number command reply)) → k ≡ n → IsLeft place fault
+    → Calls m command (Err fault) k
 left_call m n k command reply place (Refused e) first is same left = absurd left
 left_call m n k command reply place (Unsure at e) first is same left = record {
   reply = reply;
@@ -54,8 +59,10 @@ left_call m n k command reply place CellRefused first is same left =
     left_more m (noted m (told place (record_by m.number command reply))) k (same ∙ is) refl refl refl refl refl refl
 
 -- a record that was answered, whose receipt the seat gives
-pub answered_call : (m n k v : SeatValue) (command : Command) (reply : Reply) (place : ℕ) (t q r : Told) → m.first ≤ place
-    → n ≡ noted m (told place (record_by m.number command reply)) → k ≡ answered n place → v ≡ k → v.last ≡ Some t → q ≡ t → r ≡ t
+pub answered_call : (m n k v : SeatValue) (command : Command) (reply : Reply) (place : ℕ)
+    (t q r : Told) → m.first ≤ place
+    → n ≡ noted m (told place (record_by m.number command reply)) → k ≡ answered n place → v ≡ k
+    → v.last ≡ Some t → q ≡ t → r ≡ t
     → Answers m command reply r (record v { last = Some q })
 answered_call m n k v command reply place t q r first is done same last kept given =
     let w = told place (record_by m.number command reply) in
@@ -64,7 +71,9 @@ answered_call m n k v command reply place t q r first is done same last kept giv
     let q_is : q ≡ w = kept ∙ note in
     let r_is : r ≡ w = given ∙ note in
     record {
-      receipt_is = r_is ∙ ap (λ (p : ℕ). told p (record_by m.number command reply)) (sym (ap (λ (x : Told). x.place) r_is));
+      receipt_is = r_is ∙ ap (λ (p : ℕ). told p (record_by m.number command reply))
+          (sym (ap (λ (x : Told). x.place) r_is));
       above = omega (arith, first, ap (λ (x : Told). x.place) r_is);
-      seat = (λ i. record (whole i) { last = Some (q_is i) }) ∙ ap (λ (x : Told). answered (noted m x) x.place) (sym r_is);
+      seat = (λ i. record (whole i) { last = Some (q_is i) })
+          ∙ ap (λ (x : Told). answered (noted m x) x.place) (sym r_is);
     }

@@ -1,11 +1,11 @@
 -- What a store was made of.
 use Rattle.std.specs.Prelude.{ℕ, List, []}
 use Rattle.versioned_map.specs.declared.command.Record.{Record}
-use Rattle.master_core.specs.declared.config.Config.{Config}
-use Rattle.master_core.specs.Data.{Origin, no_origin}
+use Rattle.master_state.specs.declared.config.Config.{Config}
+use Rattle.master_state.specs.Data.{Origin, no_origin}
 
--- How many seats it has, the configuration of its master, what the history began with, and which records it had when the
--- store was made, of which so many were durable.
+-- How many seats it has, the configuration of its master, what the history began with, and which records it had when
+-- the store was made, of which so many were durable.
 pub record Made : Type 0 where
   pub seats : ℕ
   pub config : Config

@@ -35,8 +35,8 @@ pub trait Log<B: Naming> {
     fn attempt(&mut self, seat: &mut Seat<B>, command: Command) -> Attempt
         ensures seat { AttemptsSeat seat.old command result seat.new };
 
-    /// Answers the seat up to the place of its record, if that is durable. If the book has other numbers of the seat, all
-    /// later calls are refused.
+    /// Answers the seat up to the place of its record, if that is durable. If the book has other numbers of the seat,
+    /// all later calls are refused.
     fn proceed(&mut self, seat: &mut Seat<B>, place: u64) -> Progress
         requires { seat.old.first ≤ place }
         ensures seat { ProceedsSeat seat.old place result seat.new };

@@ -66,7 +66,8 @@ impl<L: Log<B>, B: Naming> Shared<L, B> {
         raise(&self.mark, &mut seat.pen, receipt.place())
     }
 
-    /// One command, until its record is durable. It rolls and pushes a step at a time, and lets the lock go between them.
+    /// One command, until its record is durable. It rolls and pushes a step at a time, and lets the lock go between
+    /// them.
     pub fn call<R: Wait>(
         &self,
         rt: &R,

@@ -1,5 +1,5 @@
-//! Days of clients over a master: what it has done in the morning, its clients and its cleaner, and what there is at the
-//! end.
+//! Days of clients over a master: what it has done in the morning, its clients and its cleaner, and what there is at
+//! the end.
 
 use crate::masters::{Morning, RECORDS, has_no_pass, prepare, small_master};
 use crate::slow::Watch;

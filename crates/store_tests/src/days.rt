@@ -1,5 +1,5 @@
-//! Days of a store with one seat or two: what a seat is answered, a record that is left without an answer, receipts that
-//! another seat is shown, the mark, also while a push waits, and a cleaner that makes room.
+//! Days of a store with one seat or two: what a seat is answered, a record that is left without an answer, receipts
+//! that another seat is shown, the mark, also while a push waits, and a cleaner that makes room.
 
 use crate::asks::{Act, Do};
 use crate::slow::Watch;
@@ -33,8 +33,8 @@ const CONDITIONS: &[(usize, Act)] = &[
 /// A value that no segment of 512 bytes may have.
 const LONG: &[u8] = &[b'x'; 77];
 
-/// A refused command leaves no record. One that the fleet has no take for leaves its record; the seat's next call pushes
-/// it, and is answered behind it.
+/// A refused command leaves no record. One that the fleet has no take for leaves its record; the seat's next call
+/// pushes it, and is answered behind it.
 const UNSURE: &[(usize, Act)] = &[
     (0, Act::Calls(Do::Put(b"a", b"x", If::Any), 0, ("ok", 1))),
     (

@@ -1,6 +1,6 @@
-//! The tests of a store and of its clients: days of its seats, each a table of what they ask and of what they are answered;
-//! days of a small master whose clients and cleaner make their rounds and passes; that the mark waits for nobody; and that
-//! stores, seats and receipts cross threads.
+//! The tests of a store and of its clients: days of its seats, each a table of what they ask and of what they are
+//! answered; days of a small master whose clients and cleaner make their rounds and passes; that the mark waits for
+//! nobody; and that stores, seats and receipts cross threads.
 #![tactic(auto)]
 
 mod crossing;

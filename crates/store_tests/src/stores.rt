@@ -15,7 +15,8 @@ use std::marker::Brand;
 use std::sync::Wait;
 use std::thread::Threads;
 
-/// How many were answered as wanted up to the first that was not, and the place behind the last receipt that the row told.
+/// How many were answered as wanted up to the first that was not, and the place behind the last receipt that the row
+/// told.
 pub type Evening = (usize, usize);
 
 /// How many are answered as wanted, up to the first that is not.

@@ -5,12 +5,12 @@ use Rattle.replica.specs.Take.{Takes, Refuses}
 use Rattle.replica.specs.declared.op.TakeFault.{TakeFault}
 use Rattle.log_head.specs.declared.next.Next.{Next}
 use Rattle.log_head.specs.Next.{op_of}
-use Rattle.master_core.specs.declared.step.StepAnswer.{StepAnswer}
-use Rattle.master_core.specs.Data.{MasterData}
-use Rattle.master_core.specs.Invariant.{IsCore}
-use Rattle.master_core.specs.Log.{home}
-use Rattle.master_core.specs.Steps.{taken_data}
-use Rattle.master_core.proofs.Taken.{taken_images}
+use Rattle.master_state.specs.declared.step.StepAnswer.{StepAnswer}
+use Rattle.master_state.specs.Data.{MasterData}
+use Rattle.master_state.specs.Invariant.{IsCore}
+use Rattle.master_state.specs.Log.{home}
+use Rattle.master_state.specs.Steps.{taken_data}
+use Rattle.master_space.proofs.Taken.{taken_images}
 use Rattle.master.specs.Invariant.{StaysServed}
 use Rattle.master.specs.Pushes.{Pushes, answer_of}
 use Rattle.master.specs.World.{world_of}
@@ -46,7 +46,8 @@ module _ (g : given.Over) (c : goal.After-take g) where
   backup : c.home-backup.result ≡ (log_op d push).backup
   backup = c.home-backup.ensures ∙ (λ i. home d.config (segment i) (c.replica.ensures i))
 
-  takes : Takes f c.home-backup.result (shown_op c.op-op.result) after → Takes f (log_op d push).backup (op_of d.config.master d.head push) after
+  takes : Takes f c.home-backup.result (shown_op c.op-op.result) after
+      → Takes f (log_op d push).backup (op_of d.config.master d.head push) after
   takes = subst (λ (x : ℕ × OpValue). Takes f x.0 x.1 after) (λ i. (backup i, op i))
 
   refuses : (x : TakeFault) → Refuses f c.home-backup.result (shown_op c.op-op.result) x after
@@ -54,7 +55,8 @@ module _ (g : given.Over) (c : goal.After-take g) where
   refuses x = subst (λ (y : ℕ × OpValue). Refuses f y.0 y.1 x after) (λ i. (backup i, op i))
 
   accepted : Takes f c.home-backup.result (shown_op c.op-op.result) after
-      → Pushes (world_of d f) (answer_of push c.home-backup.result c.op-op.result.segment) (world_of (taken_data d push) after)
+      → Pushes (world_of d f) (answer_of push c.home-backup.result c.op-op.result.segment)
+      (world_of (taken_data d push) after)
   accepted took =
       subst (λ (x : StepAnswer). Pushes (world_of d f) x (world_of (taken_data d push) after))
       (λ i. answer_of push (sym backup i) (sym segment i))
@@ -83,7 +85,8 @@ pub returns-in-Ok-clause-served : goal.returns-in-Ok-clause-served
 returns-in-Ok-clause-served g c =
     let t = (goal.at.returns-in-Ok-clause-served g c).After-take in
     subst (λ (m : MasterData). StaysServed (d g t) (f g t) m (after g t)) (sym c.took.ensures.taken)
-    (served_taken (d g t) (push g t) (f g t) c.requires.running c.requires.next (subst IsCore c.took.ensures.taken c.took.ensures.valid)
+    (served_taken (d g t) (push g t) (f g t) c.requires.running c.requires.next
+    (subst IsCore c.took.ensures.taken c.took.ensures.valid)
     (after g t) (takes g t c.in-Ok.ensures).1)
 
 pub returns-in-Err-clause-refused : goal.returns-in-Err-clause-refused

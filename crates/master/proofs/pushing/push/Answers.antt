@@ -1,5 +1,5 @@
 use Rattle.std.proofs.Common.{inl, refl, sym, ◌∙◌}
-use Rattle.master_core.proofs.Refusals.{push_done}
+use Rattle.master_state.proofs.Refusals.{push_done}
 use Rattle.master.proofs.pushing.push.Goals as goal
 
 pub returns-in-None-clause-refused : goal.returns-in-None-clause-refused

@@ -6,5 +6,6 @@ loop-backup-init g c = rw c.new-list.ensures.items (none_below (g.F.Fleet.state 
 
 pub loop-backup-preserved : goal.loop-backup-preserved
 loop-backup-preserved g c =
-    more_below (g.F.Fleet.state c.args.fleet.now).picture c.loop-backup.backup c.loop-backup.list.items c.in_ok-more.more.items
+    more_below (g.F.Fleet.state c.args.fleet.now).picture c.loop-backup.backup c.loop-backup.list.items
+    c.in_ok-more.more.items
     c.append.new.self.items c.in_ok-append.ensures.items c.in_ok-more.ensures.shown c.loop-backup.invariant

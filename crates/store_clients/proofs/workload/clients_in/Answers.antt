@@ -22,7 +22,8 @@ returns-in-Ok-outcome-clause-accepted g c =
     let given = c.in-Ok.pair.1.items in
     let seats = ap (λ (m : Made). m.seats) c.requires.made in
     let back = c.in-Ok-outcome.ensures in
-    accepted c.args.work.clients c.args.work.rounds old d.history d refl given back.0 c.run_seats-outcome.new.seats.items
+    accepted c.args.work.clients c.args.work.rounds old d.history d refl given back.0
+    c.run_seats-outcome.new.seats.items
     (omega (arith, c.requires.clients))
     (subst (λ (n : ℕ). AreSeatsAfter old n given) c.requires.seats c.in-Ok.ensures)
     back.1 back.2 (c.take_back-master.ensures.known c.if-is_known.true)

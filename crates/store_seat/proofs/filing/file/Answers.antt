@@ -20,24 +20,46 @@ booked book v m a same known is =
 told_is : (row new : List (Option Record)) (place : ℕ) (what : Record) (t : Told) → place < length row
     → new ≡ slice_set row place (Some what) → t.place ≡ place → slice_get new place ≡ Some t.what → t ≡ told place what
 told_is row new place what t within is at there =
-    let cell : slice_get new place ≡ Some (Some what) = ap (λ (r : List (Option Record)). slice_get r place) is ∙ set_there row place (Some what) within in
+    let cell : slice_get new place ≡ Some (Some what) = ap (λ (r : List (Option Record)). slice_get r place) is
+    ∙ set_there row place (Some what) within in
     let kept : t.what ≡ Some what = some_is (sym there ∙ cell) in
     λ i. record { place = at i; what = kept i }
 
 pub returns-then-took-clause-seat : goal.returns-then-took-clause-seat
 returns-then-took-clause-seat g c =
-    let is = told_is c.args.row.now c.set-took.new.self c.args.place c.args.what.now c.receipt.result c.requires.cell c.if-took.ensures c.receipt.ensures.receipt.0 c.receipt.ensures.receipt.1 in
-    let here : c.match-seat.seat ≡ record { number = c.seat.inside.number; first = c.seat.inside.first; count = c.seat.inside.count + 1; parts = c.add.new.share.parts; amount = c.add.new.share.amount; last = Some c.receipt.result; mark = c.seat.inside.pen.me.0 } = search rules in
+    let is = told_is c.args.row.now c.set-took.new.self c.args.place c.args.what.now c.receipt.result c.requires.cell
+    c.if-took.ensures c.receipt.ensures.receipt.0 c.receipt.ensures.receipt.1 in
+    let here : c.match-seat.seat ≡ record {
+      number = c.seat.inside.number;
+      first = c.seat.inside.first;
+      count = c.seat.inside.count + 1;
+      parts = c.add.new.share.parts;
+      amount = c.add.new.share.amount;
+      last =
+          Some c.receipt.result;
+      mark = c.seat.inside.pen.me.0;
+    } = search rules in
     rw c.if-took.true
     (here
-    ∙ (λ i. record { number = c.seat.inside.number; first = c.seat.inside.first; count = c.seat.inside.count + 1; parts = c.add.ensures.parts i; amount = c.add.ensures.amount i; last = Some (is i); mark = c.seat.inside.pen.me.0 })
+    ∙ (λ i. record {
+      number = c.seat.inside.number;
+      first = c.seat.inside.first;
+      count = c.seat.inside.count + 1;
+      parts = c.add.ensures.parts i;
+      amount = c.add.ensures.amount i;
+      last = Some (is i);
+      mark =
+          c.seat.inside.pen.me.0;
+    })
     ∙ ap (λ (m : SeatValue). noted m (told c.args.place c.args.what.now)) c.seat.view_is)
 
 pub returns-then-took-clause-book : goal.returns-then-took-clause-book
-returns-then-took-clause-book g c = booked c.args.book.now.items _ c.args.seat.now c.index_mut.result.now c.seat.view_is c.requires.known c.index_mut.ensures.value
+returns-then-took-clause-book g c = booked c.args.book.now.items _ c.args.seat.now c.index_mut.result.now c.seat.view_is
+    c.requires.known c.index_mut.ensures.value
 
 pub returns-else-took-clause-book : goal.returns-else-took-clause-book
-returns-else-took-clause-book g c = booked c.args.book.now.items _ c.args.seat.now c.index_mut.result.now c.seat.view_is c.requires.known c.index_mut.ensures.value
+returns-else-took-clause-book g c = booked c.args.book.now.items _ c.args.seat.now c.index_mut.result.now c.seat.view_is
+    c.requires.known c.index_mut.ensures.value
 
 pub returns-then-took-clause-refused : goal.returns-then-took-clause-refused
 returns-then-took-clause-refused g c = rw c.if-took.true refl

@@ -9,7 +9,8 @@ returns-then-not-waits_for_roll-clause-seat g c =
     seat_of _ _ c.args.seat.now c.apply_held.new.seat c.args.command c.apply_held.result c.apply_held.ensures.applies
 
 pub returns-clause-seat : goal.returns-clause-seat
-returns-clause-seat g c = elim c.match-step_held.branch [ in-Ok w ↦ rw w.result-is (refl, refl) | in-Err w ↦ rw w.result-is (refl, refl) ]
+returns-clause-seat g c = elim c.match-step_held.branch
+    [ in-Ok w ↦ rw w.result-is (refl, refl) | in-Err w ↦ rw w.result-is (refl, refl) ]
 
 pub returns-clause-held : goal.returns-clause-held
 returns-clause-held g c =

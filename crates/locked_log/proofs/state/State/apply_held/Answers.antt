@@ -1,11 +1,12 @@
-use Rattle.std.proofs.Common.{◌≡◌, rules, refl, ap, sym, ◌∙◌, Ok, Err, ◌≤◌, List, [], ◌∷◌, length, length-append, get_or, subst, inl, arith}
+use Rattle.std.proofs.Common.{◌≡◌, rules, refl, ap, sym, ◌∙◌, Ok, Err, ◌≤◌, List, [], ◌∷◌, length, length-append}
+use Rattle.std.proofs.Common.{get_or, subst, inl, arith}
 use Rattle.versioned_map.specs.declared.command.Record.{Record}
 use Rattle.master.specs.World.{World, world}
 use Rattle.store_seat.specs.declared.fault.CallFault.TheVariants.{CellRefused}
 use Rattle.locked_log.specs.Held.{StateValue, Held, held}
 use Rattle.store_seat.specs.Accounts.{Knows}
 use Rattle.locked_log.specs.States.{IsState, Lasts}
-use Rattle.master_core.specs.declared.config.Config.{Config}
+use Rattle.master_state.specs.declared.config.Config.{Config}
 use Rattle.store_seat.specs.Seats.{record_by}
 use Rattle.locked_log.proofs.Adding.{place_is, history_is}
 use Rattle.locked_log.proofs.Applied.{Done, declines_at, took, missed}
@@ -17,41 +18,91 @@ use Rattle.locked_log.proofs.state.State.apply_held.Goals as goal
 pub returns-in-Err-clause-applies : goal.returns-in-Err-clause-applies
 returns-in-Err-clause-applies g c =
     let known : Knows c.args.self.now.book c.args.seat.now = c.knows.ensures.0 (search rules) in
-    let d = declines_at g.F.Fleet.state _ c.args.self.now c.self.view_is c.args.seat.now c.number.result c.number.ensures c.args.command c.in-Err.refusal _ c.in-Err.ensures.gives in
-    let same : world g.F.Fleet.state c.apply_command.new.master ≡ world g.F.Fleet.state c.self.inside.master = c.in-Err.ensures.gives.0 in
-    (d, known, (λ i. record { world = same i; book = c.self.inside.book.items; total = c.self.inside.total.total; row = c.self.inside.row; is_refused = c.self.inside.is_refused }) ∙ ap (λ (y : StateValue _). held g.F.Fleet.state y) c.self.view_is, refl)
+    let d = declines_at g.F.Fleet.state _ c.args.self.now c.self.view_is c.args.seat.now c.number.result
+    c.number.ensures c.args.command c.in-Err.refusal _ c.in-Err.ensures.gives in
+    let same : world g.F.Fleet.state c.apply_command.new.master ≡ world g.F.Fleet.state c.self.inside.master =
+    c.in-Err.ensures.gives.0 in (
+      d,
+      known,
+      (λ i. record {
+        world = same i;
+        book = c.self.inside.book.items;
+        total = c.self.inside.total.total;
+        row = c.self.inside.row;
+        is_refused = c.self.inside.is_refused;
+      })
+          ∙ ap (λ (y : StateValue _). held g.F.Fleet.state y) c.self.view_is,
+      refl,
+    )
 
 pub returns-in-Err-clause-lasts : goal.returns-in-Err-clause-lasts
 returns-in-Err-clause-lasts g c =
-    let same : world g.F.Fleet.state c.apply_command.new.master ≡ world g.F.Fleet.state c.self.inside.master = c.in-Err.ensures.gives.0 in
-    let back = (λ i. record { world = same i; book = c.self.inside.book.items; total = c.self.inside.total.total; row = c.self.inside.row; is_refused = c.self.inside.is_refused }) ∙ ap (λ (y : StateValue _). held g.F.Fleet.state y) c.self.view_is in
-    subst (λ (h : Held). Lasts 1 (held g.F.Fleet.state c.args.self.now) h) (sym back) (lasts_same 1 (held g.F.Fleet.state c.args.self.now))
+    let same : world g.F.Fleet.state c.apply_command.new.master ≡ world g.F.Fleet.state c.self.inside.master =
+    c.in-Err.ensures.gives.0 in
+    let back = (λ i. record {
+      world = same i;
+      book = c.self.inside.book.items;
+      total = c.self.inside.total.total;
+      row = c.self.inside.row;
+      is_refused = c.self.inside.is_refused;
+    })
+    ∙ ap (λ (y : StateValue _). held g.F.Fleet.state y) c.self.view_is in
+    subst (λ (h : Held). Lasts 1 (held g.F.Fleet.state c.args.self.now) h) (sym back)
+    (lasts_same 1 (held g.F.Fleet.state c.args.self.now))
 
 pub returns-in-Err-clause-valid : goal.returns-in-Err-clause-valid
 returns-in-Err-clause-valid g c =
-    let same : world g.F.Fleet.state c.apply_command.new.master ≡ world g.F.Fleet.state c.self.inside.master = c.in-Err.ensures.gives.0 in
-    subst (λ (w : World). IsState (record { world = w; book = c.self.inside.book.items; total = c.self.inside.total.total; row = c.self.inside.row; is_refused = c.self.inside.is_refused }) g.B.Naming.made) (sym same) c.self.invariant
+    let same : world g.F.Fleet.state c.apply_command.new.master ≡ world g.F.Fleet.state c.self.inside.master =
+    c.in-Err.ensures.gives.0 in
+    subst (λ (w : World). IsState (record {
+      world = w;
+      book = c.self.inside.book.items;
+      total = c.self.inside.total.total;
+      row = c.self.inside.row;
+      is_refused = c.self.inside.is_refused;
+    })
+    g.B.Naming.made) (sym same) c.self.invariant
 
 pub invariant_of-self : goal.invariant_of-self
 invariant_of-self g c =
-    let same : world g.F.Fleet.state c.apply_command.new.master ≡ world g.F.Fleet.state c.self.inside.master = c.in-Err.ensures.gives.0 in
-    subst (λ (w : World). IsState (record { world = w; book = c.self.inside.book.items; total = c.self.inside.total.total; row = c.self.inside.row; is_refused = c.self.inside.is_refused }) g.B.Naming.made) (sym same) c.self.invariant
+    let same : world g.F.Fleet.state c.apply_command.new.master ≡ world g.F.Fleet.state c.self.inside.master =
+    c.in-Err.ensures.gives.0 in
+    subst (λ (w : World). IsState (record {
+      world = w;
+      book = c.self.inside.book.items;
+      total = c.self.inside.total.total;
+      row = c.self.inside.row;
+      is_refused = c.self.inside.is_refused;
+    })
+    g.B.Naming.made) (sym same) c.self.invariant
 
 pub file-requires-clause-room : goal.file-requires-clause-room
 file-requires-clause-room g c =
     let known : Knows c.args.self.now.book c.args.seat.now = c.knows.ensures.0 (search rules) in
     small (held g.F.Fleet.state c.args.self.now) g.B.Naming.made c.args.seat.now
-    (subst (λ (y : StateValue _). IsState (held g.F.Fleet.state y) g.B.Naming.made) c.self.view_is c.self.invariant) known
+    (subst (λ (y : StateValue _). IsState (held g.F.Fleet.state y) g.B.Naming.made) c.self.view_is
+    c.self.invariant) known
 
 done-missed : (g : Over) (c : goal.Joined-reply g)
     → Done (held g.F.Fleet.state c.args.self.now) c.args.seat.now c.args.command (Err CellRefused)
-    (record { world = world g.F.Fleet.state c.apply_command.new.master; book = c.file.new.book.items; total = c.file.new.total.total; row = c.file.new.row; is_refused = c.file.new.is_refused }) c.file.new.seat g.B.Naming.made
+    (record {
+      world = world g.F.Fleet.state c.apply_command.new.master;
+      book = c.file.new.book.items;
+      total = c.file.new.total.total;
+      row = c.file.new.row;
+      is_refused = c.file.new.is_refused;
+    })
+    c.file.new.seat g.B.Naming.made
 done-missed g c =
     let known : Knows c.args.self.now.book c.args.seat.now = c.knows.ensures.0 (search rules) in
-    missed g.F.Fleet.state _ c.args.self.now c.self.view_is c.args.seat.now c.number.result c.number.ensures c.args.command c.in-Ok.applied.0 c.in-Ok.applied.1 _ g.B.Naming.made c.index-history-place.result
-    c.self.invariant known c.if-self.false c.in-Ok.ensures.gives c.apply_command.ensures.keeps c.apply_command.ensures.valid
-    (c.index-history-place.is ∙ ap (λ (h : List Record). get_or h c.in-Ok.applied.0 c.index-history-place.result) c.history.ensures)
-    c.file.ensures.book c.file.ensures.total c.file.new.seat c.if-not-file.ensures.row c.if-not-file.ensures.refused c.if-not-file.ensures.seat
+    missed g.F.Fleet.state _ c.args.self.now c.self.view_is c.args.seat.now c.number.result c.number.ensures
+    c.args.command c.in-Ok.applied.0 c.in-Ok.applied.1 _ g.B.Naming.made c.index-history-place.result
+    c.self.invariant known c.if-self.false c.in-Ok.ensures.gives c.apply_command.ensures.keeps
+    c.apply_command.ensures.valid
+    (c.index-history-place.is ∙ ap (λ (h : List Record). get_or h c.in-Ok.applied.0 c.index-history-place.result)
+    c.history.ensures)
+    c.file.ensures.book c.file.ensures.total c.file.new.seat c.if-not-file.ensures.row c.if-not-file.ensures.refused
+    c.if-not-file.ensures.seat
 
 pub invariant_of-self-then-not-file : goal.invariant_of-self-then-not-file
 invariant_of-self-then-not-file g c = (done-missed g c).valid
@@ -66,14 +117,26 @@ pub returns-then-not-file-clause-valid : goal.returns-then-not-file-clause-valid
 returns-then-not-file-clause-valid g c = (done-missed g c).valid
 
 done-took : (g : Over) (c : goal.Else-not-file g)
-    → Done (held g.F.Fleet.state c.args.self.now) c.args.seat.now c.args.command (Ok (c.in-Ok.applied.0, c.in-Ok.applied.1))
-    (record { world = world g.F.Fleet.state c.apply_command.new.master; book = c.file.new.book.items; total = c.file.new.total.total; row = c.file.new.row; is_refused = c.file.new.is_refused }) c.file.new.seat g.B.Naming.made
+    → Done (held g.F.Fleet.state c.args.self.now) c.args.seat.now c.args.command
+    (Ok (c.in-Ok.applied.0, c.in-Ok.applied.1))
+    (record {
+      world = world g.F.Fleet.state c.apply_command.new.master;
+      book = c.file.new.book.items;
+      total = c.file.new.total.total;
+      row = c.file.new.row;
+      is_refused = c.file.new.is_refused;
+    })
+    c.file.new.seat g.B.Naming.made
 done-took g c =
     let known : Knows c.args.self.now.book c.args.seat.now = c.knows.ensures.0 (search rules) in
-    took g.F.Fleet.state _ c.args.self.now c.self.view_is c.args.seat.now c.number.result c.number.ensures c.args.command c.in-Ok.applied.0 c.in-Ok.applied.1 _ g.B.Naming.made c.index-history-place.result
-    c.self.invariant known c.if-self.false c.in-Ok.ensures.gives c.apply_command.ensures.keeps c.apply_command.ensures.valid
-    (c.index-history-place.is ∙ ap (λ (h : List Record). get_or h c.in-Ok.applied.0 c.index-history-place.result) c.history.ensures)
-    c.file.ensures.book c.file.ensures.total c.file.new.seat c.if-not-file.ensures.row c.if-not-file.ensures.refused c.if-not-file.ensures.seat
+    took g.F.Fleet.state _ c.args.self.now c.self.view_is c.args.seat.now c.number.result c.number.ensures
+    c.args.command c.in-Ok.applied.0 c.in-Ok.applied.1 _ g.B.Naming.made c.index-history-place.result
+    c.self.invariant known c.if-self.false c.in-Ok.ensures.gives c.apply_command.ensures.keeps
+    c.apply_command.ensures.valid
+    (c.index-history-place.is ∙ ap (λ (h : List Record). get_or h c.in-Ok.applied.0 c.index-history-place.result)
+    c.history.ensures)
+    c.file.ensures.book c.file.ensures.total c.file.new.seat c.if-not-file.ensures.row c.if-not-file.ensures.refused
+    c.if-not-file.ensures.seat
 
 pub invariant_of-self-2 : goal.invariant_of-self-2
 invariant_of-self-2 g c = (done-took g c).valid
@@ -90,7 +153,12 @@ returns-clause-valid g c = (done-took g c).valid
 -- ---- before the step
 
 pub returns-then-self-clause-applies : goal.returns-then-self-clause-applies
-returns-then-self-clause-applies g c = inl (ap (λ (y : StateValue _). y.is_refused) (sym c.self.view_is) ∙ c.if-self.true, refl, refl)
+returns-then-self-clause-applies g c = inl (
+  ap (λ (y : StateValue _). y.is_refused) (sym c.self.view_is)
+      ∙ c.if-self.true,
+  refl,
+  refl,
+)
 
 pub returns-then-self-clause-lasts : goal.returns-then-self-clause-lasts
 returns-then-self-clause-lasts g c = lasts_same 1 (held g.F.Fleet.state c.args.self.now)
@@ -100,7 +168,12 @@ returns-then-self-clause-valid g c =
     subst (λ (y : StateValue _). IsState (held g.F.Fleet.state y) g.B.Naming.made) c.self.view_is c.self.invariant
 
 pub returns-then-not-knows-clause-applies : goal.returns-then-not-knows-clause-applies
-returns-then-not-knows-clause-applies g c = (λ k. let yes = c.knows.ensures.1 k in let no = c.if-not-knows.true in cc, refl, refl)
+returns-then-not-knows-clause-applies g c = (
+  λ k. let yes = c.knows.ensures.1 k in
+      let no = c.if-not-knows.true in cc,
+  refl,
+  refl,
+)
 
 pub returns-then-not-knows-clause-lasts : goal.returns-then-not-knows-clause-lasts
 returns-then-not-knows-clause-lasts g c = lasts_same 1 (held g.F.Fleet.state c.args.self.now)

@@ -18,4 +18,5 @@ returns-clause-refused g c = rw (← c.self.view_is) c.push.ensures.refused
 pub returns-clause-keeps : goal.returns-clause-keeps
 returns-clause-keeps g c =
     rw (← c.self.view_is) (push_keeps (world_of c.self.inside.core (g.F.Fleet.state c.self.inside.fleet))
-    (world_of c.push.new.core (g.F.Fleet.state c.push.new.fleet)) c.push.result c.push.ensures.accepted c.push.ensures.refused)
+    (world_of c.push.new.core (g.F.Fleet.state c.push.new.fleet)) c.push.result c.push.ensures.accepted
+    c.push.ensures.refused)

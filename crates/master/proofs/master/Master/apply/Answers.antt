@@ -3,15 +3,15 @@ use Rattle.std.specs.Prelude.{Result, Ok, Err, IfOk, IfErr, OnOk, OnErr, Some, N
 use Rattle.replica.specs.Picture.{FleetState}
 use Rattle.versioned_map.specs.declared.command.Command.{Command}
 use Rattle.log_model.specs.Steps.{MayApply}
-use Rattle.master_core.specs.declared.step.Refusal.{Refusal}
-use Rattle.master_core.specs.declared.step.StepAnswer.{StepAnswer}
-use Rattle.master_core.specs.declared.step.Refusal.TheVariants as refusal
-use Rattle.master_core.specs.declared.step.Step.TheVariants.{Apply}
-use Rattle.master_core.specs.Causes.{dead_segment, command_refusal}
-use Rattle.master_core.specs.Data.{MasterData}
-use Rattle.master_core.specs.Invariant.{IsCore}
-use Rattle.master_core.specs.Log.{log_of}
-use Rattle.master_core.specs.Steps.{Applies, record_now}
+use Rattle.master_state.specs.declared.step.Refusal.{Refusal}
+use Rattle.master_state.specs.declared.step.StepAnswer.{StepAnswer}
+use Rattle.master_state.specs.declared.step.Refusal.TheVariants as refusal
+use Rattle.master_state.specs.declared.step.Step.TheVariants.{Apply}
+use Rattle.master_state.specs.Causes.{dead_segment, command_refusal}
+use Rattle.master_state.specs.Data.{MasterData}
+use Rattle.master_state.specs.Invariant.{IsCore}
+use Rattle.master_state.specs.Log.{log_of}
+use Rattle.master_state.specs.Steps.{Applies, record_now}
 use Rattle.master.specs.Invariant.{IsWellKept}
 use Rattle.master.specs.Steps.{Accepts, Declines}
 use Rattle.master.specs.World.{World}
@@ -19,9 +19,11 @@ use Rattle.master.proofs.Applied.{applied_kept}
 use Rattle.master.proofs.master.Master.apply.Goals as goal
 
 -- whether it was applied or refused
-kept_then : (d e : MasterData) (f : FleetState) (seat : ℕ) (command : Command) (result : Result StepAnswer Refusal) → IsWellKept d f
+kept_then : (d e : MasterData) (f : FleetState) (seat : ℕ) (command : Command)
+    (result : Result StepAnswer Refusal) → IsWellKept d f
     → IfOk result (λ answer. Applies d seat command answer e)
-    → OnOk result (MayApply (log_of d) (dead_segment d command) (record_now d seat command)) → OnOk result (IsCore e) → OnErr result (e ≡ d) → IsWellKept e f
+    → OnOk result (MayApply (log_of d) (dead_segment d command) (record_now d seat command)) → OnOk result (IsCore e)
+    → OnErr result (e ≡ d) → IsWellKept e f
 kept_then d e f seat command (Ok answer) kept is may core same = applied_kept d e f seat command answer kept is may core
 kept_then d e f seat command (Err r) kept is may core same = subst (λ (m : MasterData). IsWellKept m f) (sym same) kept
 
@@ -48,15 +50,18 @@ module _ (d e : MasterData) (f : FleetState) (seat : ℕ) (command : Command) wh
 
 pub returns-clause-accepted : goal.returns-clause-accepted
 returns-clause-accepted g c =
-    rw (← c.self.view_is) (accepts c.self.inside.core c.apply.new.self (g.F.Fleet.state c.self.inside.fleet) c.args.seat c.args.command c.apply.result
+    rw (← c.self.view_is) (accepts c.self.inside.core c.apply.new.self
+    (g.F.Fleet.state c.self.inside.fleet) c.args.seat c.args.command c.apply.result
     c.apply.ensures.applied)
 
 pub returns-clause-refused : goal.returns-clause-refused
 returns-clause-refused g c =
-    rw (← c.self.view_is) (declines c.self.inside.core c.apply.new.self (g.F.Fleet.state c.self.inside.fleet) c.args.seat c.args.command c.apply.result
+    rw (← c.self.view_is) (declines c.self.inside.core c.apply.new.self
+    (g.F.Fleet.state c.self.inside.fleet) c.args.seat c.args.command c.apply.result
     c.apply.ensures.refused c.apply.ensures.err)
 
 pub invariant_of-self : goal.invariant_of-self
 invariant_of-self g c =
-    kept_then c.self.inside.core c.apply.new.self (g.F.Fleet.state c.self.inside.fleet) c.args.seat c.args.command c.apply.result c.self.invariant
+    kept_then c.self.inside.core c.apply.new.self (g.F.Fleet.state c.self.inside.fleet) c.args.seat c.args.command
+    c.apply.result c.self.invariant
     c.apply.ensures.applied c.apply.ensures.may c.apply.ensures.valid c.apply.ensures.err

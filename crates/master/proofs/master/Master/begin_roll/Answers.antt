@@ -1,22 +1,24 @@
 use Rattle.std.proofs.Common.{◌≡◌, sym, subst}
 use Rattle.std.specs.Prelude.{Result, Ok, Err, IfOk, OnOk, OnErr}
 use Rattle.replica.specs.Picture.{FleetState}
-use Rattle.master_core.specs.declared.step.Refusal.{Refusal}
-use Rattle.master_core.specs.declared.step.StepAnswer.{StepAnswer}
-use Rattle.master_core.specs.Data.{MasterData}
-use Rattle.master_core.specs.Invariant.{IsCore}
-use Rattle.master_core.specs.Steps.{BeginsRoll, MayRollNow}
+use Rattle.master_state.specs.declared.step.Refusal.{Refusal}
+use Rattle.master_state.specs.declared.step.StepAnswer.{StepAnswer}
+use Rattle.master_state.specs.Data.{MasterData}
+use Rattle.master_state.specs.Invariant.{IsCore}
+use Rattle.master_state.specs.Steps.{BeginsRoll, MayRollNow}
 use Rattle.master.specs.Invariant.{IsWellKept}
 use Rattle.master.proofs.Rolled.{rolled_kept}
 use Rattle.master.proofs.master.Master.begin_roll.Goals as goal
 
 -- whether it began or was refused
 kept_then : (d e : MasterData) (f : FleetState) (result : Result StepAnswer Refusal) → IsWellKept d f
-    → IfOk result (λ answer. BeginsRoll d answer e) → OnOk result (MayRollNow d) → OnOk result (IsCore e) → OnErr result (e ≡ d) → IsWellKept e f
+    → IfOk result (λ answer. BeginsRoll d answer e) → OnOk result (MayRollNow d) → OnOk result (IsCore e)
+    → OnErr result (e ≡ d) → IsWellKept e f
 kept_then d e f (Ok answer) kept is may core same = rolled_kept d e f answer kept is may core
 kept_then d e f (Err r) kept is may core same = subst (λ (m : MasterData). IsWellKept m f) (sym same) kept
 
 pub invariant_of-self : goal.invariant_of-self
 invariant_of-self g c =
-    kept_then c.self.inside.core c.begin_roll.new.self (g.F.Fleet.state c.self.inside.fleet) c.begin_roll.result c.self.invariant
+    kept_then c.self.inside.core c.begin_roll.new.self (g.F.Fleet.state c.self.inside.fleet)
+    c.begin_roll.result c.self.invariant
     c.begin_roll.ensures.begun c.begin_roll.ensures.may c.begin_roll.ensures.valid c.begin_roll.ensures.err

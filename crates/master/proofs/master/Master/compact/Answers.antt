@@ -1,11 +1,11 @@
 use Rattle.std.proofs.Common.{◌≡◌, ℕ, sym, subst}
 use Rattle.std.specs.Prelude.{Result, Ok, Err, IfOk, OnOk, OnErr}
 use Rattle.replica.specs.Picture.{FleetState}
-use Rattle.master_core.specs.declared.step.Refusal.{Refusal}
-use Rattle.master_core.specs.declared.step.StepAnswer.{StepAnswer}
-use Rattle.master_core.specs.Data.{MasterData}
-use Rattle.master_core.specs.Invariant.{IsCore}
-use Rattle.master_core.specs.Steps.{Compacts}
+use Rattle.master_state.specs.declared.step.Refusal.{Refusal}
+use Rattle.master_state.specs.declared.step.StepAnswer.{StepAnswer}
+use Rattle.master_state.specs.Data.{MasterData}
+use Rattle.master_state.specs.Invariant.{IsCore}
+use Rattle.master_state.specs.Steps.{Compacts}
 use Rattle.master.specs.Invariant.{IsWellKept}
 use Rattle.master.proofs.Compacted.{compacted_kept}
 use Rattle.master.proofs.master.Master.compact.Goals as goal
@@ -18,5 +18,6 @@ kept_then d e f id (Err r) kept is core same = subst (λ (m : MasterData). IsWel
 
 pub invariant_of-self : goal.invariant_of-self
 invariant_of-self g c =
-    kept_then c.self.inside.core c.compact.new.self (g.F.Fleet.state c.self.inside.fleet) c.args.id c.compact.result c.self.invariant
+    kept_then c.self.inside.core c.compact.new.self (g.F.Fleet.state c.self.inside.fleet) c.args.id
+    c.compact.result c.self.invariant
     c.compact.ensures.compacted c.compact.ensures.valid c.compact.ensures.err

@@ -7,13 +7,13 @@ use Rattle.replica.specs.Op as op
 use Rattle.replica.specs.Picture.{FleetState}
 use Rattle.replica.specs.Take.{Takes, Refuses}
 use Rattle.replica.specs.declared.op.TakeFault.{TakeFault}
-use Rattle.master_core.specs.declared.step.Refusal.TheVariants.{Nothing}
-use Rattle.master_core.specs.declared.step.StepAnswer.TheVariants.{Freed}
-use Rattle.master_core.specs.Causes.{free_refusal}
-use Rattle.master_core.specs.Data.{MasterData}
-use Rattle.master_core.specs.Invariant.{IsCore}
-use Rattle.master_core.specs.Log.{home}
-use Rattle.master_core.specs.Steps.{freed_data}
+use Rattle.master_state.specs.declared.step.Refusal.TheVariants.{Nothing}
+use Rattle.master_state.specs.declared.step.StepAnswer.TheVariants.{Freed}
+use Rattle.master_state.specs.Causes.{free_refusal}
+use Rattle.master_state.specs.Data.{MasterData}
+use Rattle.master_state.specs.Invariant.{IsCore}
+use Rattle.master_state.specs.Log.{home}
+use Rattle.master_state.specs.Steps.{freed_data}
 use Rattle.master.specs.Invariant.{IsWellKept}
 use Rattle.master.specs.Passes.{IsFreeOp, Frees}
 use Rattle.master.proofs.Freed.{is_free_op, freed_kept, free_accepted, free_not_wrong, free_failed, free_declined}
@@ -61,13 +61,16 @@ module _ (g : given.Over) (c : goal.After-take g) where
   takes : Takes f c.home-backup.result handed after → Takes f o.backup (op_of d.config.master o) after
   takes = subst (λ (x : ℕ × OpValue). Takes f x.0 x.1 after) (λ i. (backup i, op_is i))
 
-  refuses : (x : TakeFault) → Refuses f c.home-backup.result handed x after → Refuses f o.backup (op_of d.config.master o) x after
+  refuses : (x : TakeFault) → Refuses f c.home-backup.result handed x after
+      → Refuses f o.backup (op_of d.config.master o) x after
   refuses x = subst (λ (y : ℕ × OpValue). Refuses f y.0 y.1 x after) (λ i. (backup i, op_is i))
 
   accepted : Takes f c.home-backup.result handed after
-      → Frees (record { knows = d; fleet = f }) (Freed c.in-Some.segment c.home-backup.result) (record { knows = freed_data d; fleet = after })
+      → Frees (record { knows = d; fleet = f }) (Freed c.in-Some.segment c.home-backup.result)
+      (record { knows = freed_data d; fleet = after })
   accepted took =
-      subst (λ (b : ℕ). Frees (record { knows = d; fleet = f }) (Freed c.in-Some.segment b) (record { knows = freed_data d; fleet = after }))
+      subst (λ (b : ℕ). Frees (record { knows = d; fleet = f }) (Freed c.in-Some.segment b)
+      (record { knows = freed_data d; fleet = after }))
       (sym backup) (free_accepted d f kept passed o is after (takes took))
 
 pub invariant_of-self : goal.invariant_of-self

@@ -1,6 +1,6 @@
 use Rattle.std.proofs.Common.{sym, subst}
-use Rattle.master_core.specs.Data.{MasterData}
-use Rattle.master_core.specs.Invariant.{IsCore}
+use Rattle.master_state.specs.Data.{MasterData}
+use Rattle.master_state.specs.Invariant.{IsCore}
 use Rattle.master.specs.Invariant.{IsWellKept}
 use Rattle.master.proofs.Starting.{fresh_kept}
 use Rattle.master.proofs.master.Master.new.Goals as goal
@@ -8,5 +8,6 @@ use Rattle.master.proofs.master.Master.new.Goals as goal
 pub invariant_of-master : goal.invariant_of-master
 invariant_of-master g c =
     subst (λ (m : MasterData). IsWellKept m (g.F.Fleet.state c.args.fleet)) (sym c.in-Ok.ensures.made)
-    (fresh_kept c.args.config (g.F.Fleet.state c.args.fleet) c.requires.config (subst IsCore c.in-Ok.ensures.made c.in-Ok.ensures.valid)
+    (fresh_kept c.args.config (g.F.Fleet.state c.args.fleet) c.requires.config
+    (subst IsCore c.in-Ok.ensures.made c.in-Ok.ensures.valid)
     c.requires.backups c.requires.none)

@@ -8,16 +8,23 @@ use Rattle.master.proofs.master.Master.run.Goals as goal
 pub loop-step-preserved : goal.loop-step-preserved
 loop-step-preserved g c =
     let before = c.loop-step.invariant in
-    let items : c.push_reserved.new.self.items ≡ c.loop-step.answers.items ++ c.step-answer.result ∷ [] = c.push_reserved.ensures.items in
+    let items : c.push_reserved.new.self.items ≡ c.loop-step.answers.items ++ c.step-answer.result ∷ [] =
+    c.push_reserved.ensures.items in
     let len : vec_len c.push_reserved.new.self ≡ vec_len c.loop-step.answers + 1 = c.push_reserved.ensures.len in
     let count = before.count in
     let room = before.room in
     record {
-      ran = run_pushed (world g.F.Fleet.state c.args.self.now) (world g.F.Fleet.state c.loop-step.self) (world g.F.Fleet.state c.step-answer.new.self)
-          c.loop-step.yielded c.loop-step.answers.items c.push_reserved.new.self.items c.in-Some.step c.step-answer.result items before.ran
-          c.step-answer.ensures.gives (record { keeps = c.step-answer.ensures.keeps; valid = c.step-answer.ensures.valid });
+      ran = run_pushed (world g.F.Fleet.state c.args.self.now) (world g.F.Fleet.state c.loop-step.self)
+          (world g.F.Fleet.state c.step-answer.new.self)
+          c.loop-step.yielded c.loop-step.answers.items c.push_reserved.new.self.items c.in-Some.step
+          c.step-answer.result items before.ran
+          c.step-answer.ensures.gives (record {
+            keeps = c.step-answer.ensures.keeps;
+            valid = c.step-answer.ensures.valid;
+          });
       keeps = keeps_pushed (world g.F.Fleet.state c.args.self.now) (world g.F.Fleet.state c.loop-step.self)
-          (world g.F.Fleet.state c.step-answer.new.self) c.loop-step.yielded c.in-Some.step before.keeps c.step-answer.ensures.keeps;
+          (world g.F.Fleet.state c.step-answer.new.self) c.loop-step.yielded c.in-Some.step before.keeps
+          c.step-answer.ensures.keeps;
       count = omega (arith, length-append c.loop-step.yielded (c.in-Some.step ∷ []));
       room = rw c.push_reserved.ensures.capacity room;
     }

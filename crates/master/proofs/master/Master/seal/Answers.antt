@@ -7,16 +7,17 @@ use Rattle.replica.specs.Op.{OpValue, shown_op}
 use Rattle.replica.specs.Picture.{FleetState}
 use Rattle.replica.specs.Take.{Takes, Refuses}
 use Rattle.replica.specs.declared.op.TakeFault.{TakeFault}
-use Rattle.master_core.specs.declared.step.Refusal.TheVariants.{Nothing}
-use Rattle.master_core.specs.declared.step.StepAnswer.TheVariants.{Sealed}
-use Rattle.master_core.specs.Causes.{seal_refusal}
-use Rattle.master_core.specs.Data.{MasterData}
-use Rattle.master_core.specs.Invariant.{IsCore}
-use Rattle.master_core.specs.Log.{memory_of, home}
-use Rattle.master_core.specs.Steps.{sealed_data}
+use Rattle.master_state.specs.declared.step.Refusal.TheVariants.{Nothing}
+use Rattle.master_state.specs.declared.step.StepAnswer.TheVariants.{Sealed}
+use Rattle.master_state.specs.Causes.{seal_refusal}
+use Rattle.master_state.specs.Data.{MasterData}
+use Rattle.master_state.specs.Invariant.{IsCore}
+use Rattle.master_state.specs.Log.{memory_of, home}
+use Rattle.master_state.specs.Steps.{sealed_data}
 use Rattle.master.specs.Invariant.{IsWellKept}
 use Rattle.master.specs.Passes.{IsSealOp, Seals}
-use Rattle.master.proofs.Sealed.{IsToSeal, to_seal, is_seal_op, sealed_kept, seal_accepted, seal_not_wrong, seal_failed, seal_declined}
+use Rattle.master.proofs.Sealed.{IsToSeal, to_seal, is_seal_op, sealed_kept, seal_accepted, seal_not_wrong, seal_failed}
+use Rattle.master.proofs.Sealed.{seal_declined}
 use Rattle.master.proofs.master.Master.seal.Given as given
 use Rattle.master.proofs.master.Master.seal.Goals as goal
 use Rattle.master.proofs.master.Master.seal.Goals.{After-take}
@@ -58,12 +59,14 @@ module _ (g : given.Over) (c : goal.After-take g) where
   op : shown_op c.seal_op-op.result ≡ op_of d.config.master o
   op =
       (subst (λ (x : Option Pass). IfSome x (λ (p : Pass). (b : ℕ)
-      → shown_op c.seal_op-op.result ≡ op_of d.config.master (seal_op (memory_of d) p.survivor b))) next.opened c.seal_op-op.ensures) o.backup
+      → shown_op c.seal_op-op.result ≡ op_of d.config.master (seal_op (memory_of d) p.survivor b))) next.opened
+      c.seal_op-op.ensures) o.backup
 
   backup : c.home-backup.result ≡ o.backup
   backup = c.home-backup.ensures ∙ ap (λ (x : OpValue). home d.config x.segment c.in-Some.replica) op
 
-  takes : Takes f c.home-backup.result (shown_op c.seal_op-op.result) after → Takes f o.backup (op_of d.config.master o) after
+  takes : Takes f c.home-backup.result (shown_op c.seal_op-op.result) after
+      → Takes f o.backup (op_of d.config.master o) after
   takes = subst (λ (x : ℕ × OpValue). Takes f x.0 x.1 after) (λ i. (backup i, op i))
 
   refuses : (x : TakeFault) → Refuses f c.home-backup.result (shown_op c.seal_op-op.result) x after
@@ -71,9 +74,11 @@ module _ (g : given.Over) (c : goal.After-take g) where
   refuses x = subst (λ (y : ℕ × OpValue). Refuses f y.0 y.1 x after) (λ i. (backup i, op i))
 
   accepted : Takes f c.home-backup.result (shown_op c.seal_op-op.result) after
-      → Seals (record { knows = d; fleet = f }) (Sealed c.home-backup.result) (record { knows = sealed_data d; fleet = after })
+      → Seals (record { knows = d; fleet = f }) (Sealed c.home-backup.result)
+      (record { knows = sealed_data d; fleet = after })
   accepted took =
-      subst (λ (b : ℕ). Seals (record { knows = d; fleet = f }) (Sealed b) (record { knows = sealed_data d; fleet = after })) (sym backup)
+      subst (λ (b : ℕ). Seals (record { knows = d; fleet = f }) (Sealed b)
+      (record { knows = sealed_data d; fleet = after })) (sym backup)
       (seal_accepted d f kept passed o is after (takes took))
 
 pub invariant_of-self : goal.invariant_of-self

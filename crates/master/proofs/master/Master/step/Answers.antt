@@ -1,16 +1,19 @@
 use Rattle.std.proofs.Common.{IfOk, IfErr, Ok, Err}
 use Rattle.std.specs.Prelude.{Result}
-use Rattle.master_core.specs.declared.step.Refusal.{Refusal}
-use Rattle.master_core.specs.declared.step.Step.{Step}
-use Rattle.master_core.specs.declared.step.Step.TheVariants.{Apply, Push, BeginRoll, Compact, BeginClean, Copy, Seal, Free}
-use Rattle.master_core.specs.declared.step.StepAnswer.{StepAnswer}
+use Rattle.master_state.specs.declared.step.Refusal.{Refusal}
+use Rattle.master_state.specs.declared.step.Step.{Step}
+use Rattle.master_state.specs.declared.step.Step.TheVariants.{Apply, Push, BeginRoll, Compact, BeginClean, Copy, Seal}
+use Rattle.master_state.specs.declared.step.Step.TheVariants.{Free}
+use Rattle.master_state.specs.declared.step.StepAnswer.{StepAnswer}
 use Rattle.master.specs.Steps.{Accepts, Declines, Steps}
 use Rattle.master.specs.World.{World, world}
 use Rattle.master.proofs.Keeping.{steps_keep}
-use Rattle.master.proofs.master.Master.step.Goals.{in-Apply, in-Push, in-BeginRoll, in-Compact, in-BeginClean, in-Copy, in-Seal, in-Free}
+use Rattle.master.proofs.master.Master.step.Goals.{in-Apply, in-Push, in-BeginRoll, in-Compact, in-BeginClean, in-Copy}
+use Rattle.master.proofs.master.Master.step.Goals.{in-Seal, in-Free}
 use Rattle.master.proofs.master.Master.step.Goals as goal
 
-by_result : (old : World) (step : Step) (r : Result StepAnswer Refusal) (new : World) → IfOk r (λ a. Accepts old step a new)
+by_result : (old : World) (step : Step) (r : Result StepAnswer Refusal) (new : World)
+    → IfOk r (λ a. Accepts old step a new)
     → IfErr r (λ e. Declines old step e new) → Steps old step r new
 by_result old step (Ok a) new accepted refused = accepted
 by_result old step (Err e) new accepted refused = refused
@@ -23,14 +26,18 @@ returns-clause-gives g c = elim c.match-step.branch [
   | in-Push w ↦ rw (w.in-Push.is, w.self-is, w.outcome-is) (by_result (world g.F.Fleet.state c.args.self.now) Push
       w.push-outcome.result (world g.F.Fleet.state w.push-outcome.new.self) w.push-outcome.ensures.accepted
       w.push-outcome.ensures.refused)
-  | in-BeginRoll w ↦ rw (w.in-BeginRoll.is, w.self-is, w.outcome-is) (by_result (world g.F.Fleet.state c.args.self.now) BeginRoll
-      w.begin_roll-outcome.result (world g.F.Fleet.state w.begin_roll-outcome.new.self) w.begin_roll-outcome.ensures.accepted
+  | in-BeginRoll w ↦ rw (w.in-BeginRoll.is, w.self-is, w.outcome-is)
+      (by_result (world g.F.Fleet.state c.args.self.now) BeginRoll
+      w.begin_roll-outcome.result (world g.F.Fleet.state w.begin_roll-outcome.new.self)
+      w.begin_roll-outcome.ensures.accepted
       w.begin_roll-outcome.ensures.refused)
   | in-Compact w ↦ rw (w.in-Compact.is, w.self-is, w.outcome-is) (by_result (world g.F.Fleet.state c.args.self.now)
       (Compact w.in-Compact.id) w.compact-outcome.result (world g.F.Fleet.state w.compact-outcome.new.self)
       w.compact-outcome.ensures.accepted w.compact-outcome.ensures.refused)
-  | in-BeginClean w ↦ rw (w.in-BeginClean.is, w.self-is, w.outcome-is) (by_result (world g.F.Fleet.state c.args.self.now)
-      (BeginClean w.in-BeginClean.victims) w.begin_clean-outcome.result (world g.F.Fleet.state w.begin_clean-outcome.new.self)
+  | in-BeginClean w ↦ rw (w.in-BeginClean.is, w.self-is, w.outcome-is)
+      (by_result (world g.F.Fleet.state c.args.self.now)
+      (BeginClean w.in-BeginClean.victims) w.begin_clean-outcome.result
+      (world g.F.Fleet.state w.begin_clean-outcome.new.self)
       w.begin_clean-outcome.ensures.accepted w.begin_clean-outcome.ensures.refused)
   | in-Copy w ↦ rw (w.in-Copy.is, w.self-is, w.outcome-is) (by_result (world g.F.Fleet.state c.args.self.now) Copy
       w.copy-outcome.result (world g.F.Fleet.state w.copy-outcome.new.self) w.copy-outcome.ensures.accepted
@@ -45,5 +52,6 @@ returns-clause-gives g c = elim c.match-step.branch [
 
 pub returns-clause-keeps : goal.returns-clause-keeps
 returns-clause-keeps g c =
-    steps_keep (world g.F.Fleet.state c.args.self.now) (world g.F.Fleet.state c.match-step.self) c.args.step c.match-step.outcome
+    steps_keep (world g.F.Fleet.state c.args.self.now) (world g.F.Fleet.state c.match-step.self) c.args.step
+    c.match-step.outcome
     c.show_kept.ensures (returns-clause-gives g c)

@@ -1,5 +1,0 @@
-use denote.Param.Send.{IsSend, owning_send}
-use Rattle.loaded.specs.contracts.loaded.Loaded.{the_row, the_type}
-
-pub send : IsSend the_row
-send = owning_send the_type tt (λ d. tt) (λ k x w. tt)

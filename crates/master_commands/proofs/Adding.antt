@@ -1,0 +1,447 @@
+-- A command that no test refuses is added to a core.
+use Rattle.std.proofs.Common.{◌≡◌, ◌⊎◌, ℕ, ◌+◌, ◌≤◌, inl, inr, Bool, true, false, ◌==◌, List, [], ◌∷◌, ◌++◌, length}
+use Rattle.std.proofs.Common.{refl, sym, ap, subst, ◌∙◌, arith}
+use Rattle.std.specs.Prelude.{Option, Some, None, IfSome, IsSome, ◌<◌, sum_by, if◌then◌else◌}
+use Rattle.std.specs.Option.{option_map, option_map_or}
+use Rattle.std.proofs.lemmas.Bool.{eqb-true}
+use Rattle.versioned_map.specs.Represents.{unit_of}
+use Rattle.std.proofs.lemmas.List.{append-nil, length-append, map-append}
+use Rattle.entry.specs.declared.entry.Object.{Object}
+use Rattle.entry.specs.declared.key.Key.{Key}
+use Rattle.entry.specs.declared.entry.Entry.{Entry}
+use Rattle.entry.specs.declared.entry.Entry.TheVariants as entry
+use Rattle.entry.specs.Bag.{IsAmong}
+use Rattle.entry.specs.Text.{text_of, IsSegment}
+use Rattle.entry.proofs.BagLemmas.{among_either}
+use Rattle.hash_index.specs.declared.place.Held.{Held}
+use Rattle.hash_index.specs.declared.place.Place.{Place}
+use Rattle.cleaner.specs.declared.pass.Pass.{Pass as OpenPass}
+use Rattle.cleaner.specs.Laws.{KeepsNoMore}
+use Rattle.cleaner.specs.Passes.{images_in, rest_of, kept_left, ids_in as log_ids}
+use Rattle.segment.proofs.RowLemmas.{text_of-append}
+use Rattle.versioned_map.specs.declared.command.Command.{Command}
+use Rattle.versioned_map.specs.declared.command.Record.{Record}
+use Rattle.versioned_map.specs.declared.command.Reply.{Reply}
+use Rattle.versioned_map.specs.Command.{command_key}
+use Rattle.versioned_map.specs.History.{commands_of, IsLegal}
+use Rattle.versioned_map.specs.Versioned.{State, with_contents, replies, after, after_command}
+use Rattle.versioned_map.proofs.Units.{states_pushed}
+use Rattle.log_head.specs.declared.head.Roll.{Roll}
+use Rattle.log_head.specs.Head.{HeadValue, IsHeadValue, is_open, digest_of}
+use Rattle.log_head.specs.Log.{head_of, phase_in, phase_of, IsImageOf}
+use Rattle.log_head.proofs.HeadLog.{head_is, image_with_unit}
+use Rattle.log_head.proofs.RollLog.{digest_is}
+use Rattle.log_model.specs.Data.{Head, Ready, ids_of}
+use Rattle.log_model.specs.Ids.{all_inserted, without}
+use Rattle.log_model.specs.Log.{AreBelow}
+use Rattle.log_model.specs.Steps.{with_unit, applied, Fits, MayApply}
+use Rattle.master_commands.specs.declared.change.Change.{Change}
+use Rattle.master_state.specs.declared.step.StepAnswer.TheVariants.{Applied}
+use Rattle.images.specs.Images.{count_of}
+use Rattle.master_state.specs.declared.config.Config.{Config}
+use Rattle.master_state.specs.Budget.{whole_seglets, seglets_of, head_seglets, used_seglets, newest_digest}
+use Rattle.master_state.specs.Budget.{victims_of, survivors_of, is_committing}
+use Rattle.master_state.specs.Causes.{command_refusal, dead_segment, unit_now, is_empty}
+use Rattle.master_commands.specs.Change.{unit_of_change, safe_of_change, IsJudged, IsSought}
+use Rattle.master_state.specs.Steps.{appended, reply_now, record_now, Applies}
+use Rattle.master_state.specs.Data.{MasterData}
+use Rattle.master_state.specs.Images.{images_among}
+use Rattle.compactor.specs.Places.{keys_in}
+use Rattle.master_state.specs.Index.{LiesFound}
+use Rattle.master_state.specs.Invariant.{IsIndex, IsRollOf, IsOpenPass, NameBelow, IsCore}
+use Rattle.master_state.specs.Log.{log_config, opening_of, log_of, state_now, held_now, images_of, find, log_set_ids}
+use Rattle.master_state.proofs.Finding.{each_among, index_of}
+use Rattle.master_state.proofs.Imaging.{same_id, head_images, appended_grow, appended_own, appended_other}
+use Rattle.master_state.proofs.Indexing.{Grow, Indexes}
+use Rattle.master_commands.proofs.Changes.{unit_names}
+use Rattle.master_commands.proofs.Indexed.{IsMovedBy, WasFound, was_found, given, command_at, goes_on, KeepsOthers}
+use Rattle.master_commands.proofs.Indexed.{keeps_others}
+use Rattle.master_state.proofs.Holding.{kept_again}
+use Rattle.master_state.proofs.Naming.{dead_below}
+use Rattle.master_state.proofs.Passing.{GoesOn, goes_on as goes_on_pass, victim_below}
+use Rattle.cleaner.proofs.Ends.{rest_segment}
+use Rattle.cleaner.proofs.Keeping.{kept_no_more}
+use Rattle.master_state.proofs.Refusals.{IsAdmitted, is_admitted, passed_early, unit_fits, unit_open, open_parts}
+
+-- ---- the head with a unit, where there is one
+
+pub same_appended : (h : HeadValue) (n : ℕ) (u : List Entry)
+    → ((appended h n u).id ≡ h.id) × ((appended h n u).replicas ≡ h.replicas) × ((appended h n u).roll ≡ h.roll)
+same_appended h n [] = (refl, refl, refl)
+same_appended h n (e ∷ es) = (refl, refl, refl)
+
+pub taken_appended : (h : HeadValue) (n : ℕ) (u : List Entry) → phase_of (appended h n u) ≡ phase_of h
+taken_appended h n [] = refl
+taken_appended h n (e ∷ es) = refl
+
+pub image_appended : (h : HeadValue) (n : ℕ) (u : List Entry) → (appended h n u).image ≡ h.image ++ u
+image_appended h n [] = sym (append-nil h.image)
+image_appended h n (e ∷ es) = refl
+
+-- the head of the log has that unit, too
+pub head_appended : (master : ℕ) (h : HeadValue) (n : ℕ) (u : List Entry) → IsImageOf master h (head_of h)
+    → IsHeadValue (appended h n u)
+    → (head_of (appended h n u) ≡ record (head_of h) { units = with_unit (head_of h).units n u })
+    × IsImageOf master (appended h n u) (head_of (appended h n u))
+head_appended master h n [] is head = (refl, is)
+head_appended master h n (e ∷ es) is head =
+    let more = image_with_unit master h (head_of h) is n (e ∷ es) in
+    let same = head_is master (appended h n (e ∷ es)) (record
+    (head_of h) { units = with_unit (head_of h).units n (e ∷ es) }) more head.segment in
+    (same, subst (λ (l : Head). IsImageOf master (appended h n (e ∷ es)) l) (sym same) more)
+
+pub ready_open : (h : HeadValue) → is_open h ≡ true → phase_of h ≡ Ready
+ready_open h opened = ap (λ (o : Option Roll). option_map_or (phase_in h.replicas) o Ready) (open_parts h opened).1
+
+-- it fits
+pub fits_then : (d : MasterData) (n : ℕ) (u : List Entry) → IsCore d → (is_empty u ≡ false → is_open d.head ≡ true)
+    → IsHeadValue (appended d.head n u) → (u ≡ []) ⊎ Fits (log_of d) u
+fits_then d n [] core opened head = inl refl
+fits_then d n (e ∷ es) core opened head = inr (record {
+  ready = ready_open d.head (opened refl);
+  segment = subst (λ (image : List Entry). IsSegment (image ++ (e ∷ es))) core.image.image head.segment;
+  limit = subst (λ (image : List Entry). length (text_of (image ++ (e ∷ es))) ≤ 8388608) core.image.image head.limit;
+})
+
+-- a head with a unit that fits is within the segment
+pub within_then : (h : HeadValue) (n most : ℕ) (u : List Entry) → length (text_of h.image) ≤ most
+    → (is_empty u ≡ false → length (text_of h.image) + length (text_of u) ≤ most)
+    → length (text_of (appended h n u).image) ≤ most
+within_then h n most [] within fits = within
+within_then h n most (e ∷ es) within fits =
+    let le = fits refl in
+    let text = ap length (text_of-append h.image (e ∷ es)) in
+    let len = length-append (text_of h.image) (text_of (e ∷ es)) in
+    omega arith
+
+-- a unit changes no count: a head that takes one has no roll
+pub counts_then : (c : Config) (h : HeadValue) (n : ℕ) (u : List Entry) → (is_empty u ≡ false → is_open h ≡ true)
+    → head_seglets c (appended h n u) ≡ head_seglets c h
+counts_then c h n [] opened = refl
+counts_then c h n (e ∷ es) opened =
+    let none = (open_parts h (opened refl)).1 in
+    ap (λ (o : Option Roll). option_map_or (λ (r : Roll). seglets_of c (h.image ++ (e ∷ es)) + whole_seglets c) o
+    (whole_seglets c)) none
+    ∙ ap (λ (o : Option Roll). option_map_or (λ (r : Roll). seglets_of c h.image + whole_seglets c) o
+    (whole_seglets c)) (sym none)
+
+-- where a change puts its object, if it makes one
+abbrev pub IsPlaced : MasterData → Command → Change → ℕ → Type 0
+IsPlaced d command change at =
+    (segment : ℕ) (front : List Entry) (o : Object) → unit_of_change segment command change
+    ≡ front ++ entry.Object o ∷ []
+    → at ≡ length (text_of d.head.image) + length (text_of front)
+
+module _ (d : MasterData) (core : IsCore d) (command : Command) (change : Change) (dead : ℕ)
+    (judged : IsJudged d command change dead) where
+  unit_is : unit_of_change dead command change ≡ unit_now d command
+  unit_is = judged.change_of.unit dead ∙ ap (λ (s : ℕ). unit_of (state_now d) s command) judged.lies
+
+  -- a unit that is appended is within the segment
+  pub fits : command_refusal d command ≡ None → is_empty (unit_of_change dead command change) ≡ false
+      → length (text_of d.head.image) + length (text_of (unit_of_change dead command change)) ≤ d.config.segment
+  fits passed some =
+      subst (λ (u : List Entry). length (text_of d.head.image) + length (text_of u) ≤ d.config.segment) (sym unit_is)
+      (unit_fits d command passed (ap is_empty (sym unit_is) ∙ some))
+
+  -- where the key is found once the unit is appended
+  pub found_then : (held : Held) → IsSought d (command_key command) held
+      → IsHeadValue (appended d.head (length d.history) (unit_of_change dead command change))
+      → WasFound (keys_in (images_among (appended d.head (length d.history) (unit_of_change dead command change))
+      d.closed)) d.index
+      change (command_key command) held.place
+  found_then held sought head =
+      let unit = unit_of_change dead command change in
+      let h = appended d.head (length d.history) unit in
+      let same = same_appended d.head (length d.history) unit in
+      was_found (images_of d) (images_among h d.closed)
+      (appended_grow d.head h d.closed unit same.0 same.2 (image_appended d.head (length d.history) unit))
+      (each_among h d.closed head core.segments) d.index (state_now d).contents (index_of d core) (state_now d).safe
+      command change held.place judged.change_of sought.place
+
+  module _ (seat at : ℕ) (new : List Held) (passed : command_refusal d command ≡ None)
+      (is_placed : IsPlaced d command change at)
+      (moved : IsMovedBy (keys_in (images_among (appended d.head (length d.history)
+      (unit_of_change dead command change)) d.closed)) d.index
+      change (command_key command) (record { segment = d.head.id; at = at }) new)
+      (head : IsHeadValue (appended d.head (length d.history) (unit_of_change dead command change))) where
+    abbrev unit : List Entry
+    unit = unit_of_change dead command change
+
+    abbrev pub added : MasterData
+    added = record {
+      config = d.config;
+      head = appended d.head (length d.history) (unit_of_change dead command change);
+      closed = d.closed;
+      next = d.next;
+      index = new;
+      safe = safe_of_change d.safe change;
+      history = d.history ++ record_now d seat command ∷ [];
+      pass = d.pass;
+      waiting = d.waiting;
+      freed = d.freed;
+      is_halted = d.is_halted;
+      origin = d.origin;
+    }
+
+    admitted : IsAdmitted d command
+    admitted = is_admitted d command (passed_early d command passed)
+
+    -- ---- the log
+
+    head_then : head_of added.head ≡ record (head_of d.head)
+        { units = with_unit (head_of d.head).units (length d.history) (unit_now d command) }
+    head_then =
+        (head_appended d.config.master d.head (length d.history) unit core.image head).0
+        ∙ ap (λ (u : List Entry). record (head_of d.head) {
+          units = with_unit (head_of d.head).units
+              (length d.history) u;
+        }) unit_is
+
+    log_then : log_of added ≡ applied (log_of d) (dead_segment d command) (record_now d seat command)
+    log_then = λ i. record {
+      config = log_config d.config;
+      opening = opening_of d;
+      history = d.history ++ record_now d seat command ∷ [];
+      head = head_then i;
+      phase = taken_appended d.head (length d.history) unit i;
+      next = d.next;
+    }
+
+    pub may : MayApply (log_of d) (dead_segment d command) (record_now d seat command)
+    may = record {
+      key = admitted.key;
+      fits = subst (λ (u : List Entry). (u ≡ []) ⊎ Fits (log_of d) u) unit_is
+          (fits_then d (length d.history) unit core (λ some. unit_open d command passed
+          (ap is_empty (sym unit_is) ∙ some)) head);
+    }
+
+    -- ---- the history
+
+    commands_then : commands_of added.history ≡ commands_of d.history ++ command ∷ []
+    commands_then = map-append (λ (r : Record). r.command) d.history (record_now d seat command ∷ [])
+
+    state_then : state_now added ≡ after_command (state_now d) command
+    state_then = ap (after (opening_of d)) commands_then ∙ (states_pushed (opening_of d)
+        (commands_of d.history) command).0
+
+    legal_then : IsLegal (opening_of d) added.history
+    legal_then =
+        map-append (λ (r : Record). r.reply) d.history (record_now d seat command ∷ [])
+        ∙ ap (λ (rs : List Reply). rs ++ reply_now d command ∷ []) core.legal
+        ∙ sym ((states_pushed (opening_of d) (commands_of d.history) command).1)
+        ∙ ap (replies (opening_of d)) (sym commands_then)
+
+    -- ---- the index
+
+    grow : Grow (images_of d) (images_of added)
+    grow =
+        let same = same_appended d.head (length d.history) unit in
+        appended_grow d.head added.head d.closed unit same.0 same.2 (image_appended d.head (length d.history) unit)
+
+    own : images_of added d.head.id ≡ images_of d d.head.id ++ unit
+    own =
+        ap (images_of added) (sym (same_appended d.head (length d.history) unit).0) ∙ head_images added.head d.closed
+        ∙ image_appended d.head (length d.history) unit ∙ ap (λ (es : List Entry). es ++ unit)
+        (sym (head_images d.head d.closed))
+
+    index_on : Indexes (images_of added) new
+        (with_contents (state_now d).contents (command_key command)
+        (given (state_now d).safe (held_now d command) command))
+    index_on =
+        goes_on (images_of d) (images_of added) grow (each_among added.head d.closed head core.segments)
+        (record { segment = d.head.id; at = at }) dead d.index new (state_now d).contents
+        (state_now d).safe (index_of d core)
+        command change judged.change_of
+        (λ front o is. is_placed dead front o is
+        ∙ ap (λ (image : List Entry). length (text_of image) + length (text_of front))
+        (sym (head_images d.head d.closed))
+        ∙ sym (ap length (text_of-append (images_of d d.head.id) front)
+        ∙ length-append (text_of (images_of d d.head.id)) (text_of front)))
+        own moved
+
+    others_on : KeepsOthers (images_of d) (images_of added) grow (each_among added.head d.closed head core.segments)
+        (record { segment = d.head.id; at = at }) dead d.index new (state_now d).contents
+        (state_now d).safe (index_of d core)
+    others_on =
+        keeps_others (images_of d) (images_of added) grow (each_among added.head d.closed head core.segments)
+        (record { segment = d.head.id; at = at }) dead d.index new (state_now d).contents
+        (state_now d).safe (index_of d core)
+        command change judged.change_of
+        (λ front o is. is_placed dead front o is
+        ∙ ap (λ (image : List Entry). length (text_of image) + length (text_of front))
+        (sym (head_images d.head d.closed))
+        ∙ sym (ap length (text_of-append (images_of d d.head.id) front)
+        ∙ length-append (text_of (images_of d d.head.id)) (text_of front)))
+        own moved
+
+    not_there : (q : Place) → (q.segment == d.head.id) ≡ false → (q ≡ record { segment = d.head.id; at = at }) → ⊥
+    not_there q away same =
+        let here : (q.segment == d.head.id) ≡ true = ap (λ (r : Place). r.segment == d.head.id) same
+        ∙ same_id d.head.id in cc
+
+    index_then : IsIndex added
+    index_then =
+        let next = state_then ∙ command_at (state_now d) command in record {
+          kept = index_on.kept;
+          lies = λ k. subst (λ (s : State). LiesFound (images_of added) k (find added k) (s.contents k)) (sym next)
+              (index_on.lies k);
+          safe = ap (λ (s : ℕ). safe_of_change s change) core.index.safe ∙ judged.change_of.safe_after
+              ∙ ap (λ (s : State). s.safe) (sym next);
+        }
+
+    -- what the index finds, it found before or it is in the head
+    still_found : (k : Key) (q : Place) → find added k ≡ Some q → (find d k ≡ Some q) ⊎ (q.segment ≡ d.head.id)
+    still_found k q finds = go (q.segment == d.head.id) refl where
+      go : (t : Bool) → (q.segment == d.head.id) ≡ t → (find d k ≡ Some q) ⊎ (q.segment ≡ d.head.id)
+      go true here = inr (eqb-true q.segment d.head.id here)
+      go false away = inl (others_on.found_on k q (λ same. not_there q away same) finds)
+
+    -- ---- what tombstones name
+
+    named_then : NameBelow (images_of added) added.next
+    named_then s t m = go (d.head.id == s) refl where
+      by_unit : IsAmong (entry.Tombstone t) (images_of d s ++ unit) → t.segment < d.next
+      by_unit m =
+          elim (among_either (entry.Tombstone t) (images_of d s) unit m) [
+            | inl old ↦ core.named s t old
+            | inr own ↦ subst (λ (n : ℕ). n < d.next) (sym (unit_names dead command change t own ∙ judged.lies))
+                (dead_below d core (command_key command))
+          ]
+
+      go : (b : Bool) → (d.head.id == s) ≡ b → t.segment < d.next
+      go true here =
+          let same = same_appended d.head (length d.history) unit in
+          by_unit (subst (λ (es : List Entry). IsAmong (entry.Tombstone t) es)
+          (appended_own d.head added.head d.closed unit s same.0
+          (image_appended d.head (length d.history) unit) here) m)
+      go false away =
+          let same = same_appended d.head (length d.history) unit in
+          core.named s t (subst (λ (es : List Entry). IsAmong (entry.Tombstone t) es)
+          (appended_other d.head added.head d.closed s same.0 same.2 away) m)
+
+    -- ---- an open pass
+
+    ids_then : log_set_ids added ≡ log_set_ids d
+    ids_then =
+        let same = same_appended d.head (length d.history) unit in
+        λ i. log_ids d.closed (same.0 i) (option_map (λ (r : Roll). r.id) (same.2 i))
+
+    digest_then : digest_of added.head.image ≡ digest_of d.head.image
+    digest_then =
+        digest_is d.config.master added.head (head_of added.head)
+        (head_appended d.config.master d.head (length d.history) unit core.image head).1
+        ∙ ap (λ (l : Head). ids_of l.start) head_then
+        ∙ sym (digest_is d.config.master d.head (head_of d.head) core.image)
+
+    newest_then : newest_digest added.head ≡ newest_digest d.head
+    newest_then =
+        let same = same_appended d.head (length d.history) unit in
+        λ i. option_map_or (λ (r : Roll). digest_of r.image) (same.2 i) (digest_then i)
+
+    used_then : used_seglets added ≡ used_seglets d
+    used_then =
+        ap (λ (n : ℕ). n + sum_by (count_of d.config.segment d.config.seglet) d.closed)
+        (counts_then d.config d.head (length d.history) unit
+        (λ some. unit_open d command passed (ap is_empty (sym unit_is) ∙ some)))
+
+    module _ (p : OpenPass) (is : IsOpenPass d p) where
+      abbrev rest : List Place
+      rest = rest_of (images_in d.closed) p
+
+      -- the new object is in no victim
+      not_victim : (q : Place) → IsAmong q.segment p.victims → (q ≡ record { segment = d.head.id; at = at }) → ⊥
+      not_victim q victim same =
+          let below = victim_below d core p is q.segment victim in
+          let own : q.segment ≡ d.head.id = ap (λ (r : Place). r.segment) same in
+          omega arith
+
+      keeps_no_more : KeepsNoMore (log_set_ids d) (log_set_ids d) d.index new (images_in d.closed) rest
+      keeps_no_more q e m stands keeps =
+          kept_again (log_set_ids d) d.index new q e
+          (λ h here is. others_on.held_on h
+          (λ same. not_victim q (rest_segment (images_in d.closed) p q m) (sym here ∙ same)) is) keeps
+
+      passes : GoesOn d added p
+      passes =
+          let same = same_appended d.head (length d.history) unit in record {
+            config = refl;
+            start = ap (λ (l : Head). l.start) head_then;
+            roll = subst (λ (o : Option Roll). IfSome o (λ (r : Roll). (r.id == p.survivor) ≡ false))
+                (sym same.2) is.survivor.not_new;
+            next = omega arith;
+            pass = is.pass;
+            survivor = refl;
+            rest = refl;
+            left = subst (λ (ids : List ℕ). kept_left ids new (images_in d.closed) rest
+                ≤ kept_left (log_set_ids d) d.index (images_in d.closed) rest)
+                (sym ids_then) (kept_no_more (log_set_ids d) (log_set_ids d) d.index new
+                (images_in d.closed) rest keeps_no_more);
+            live = λ k q finds victim. others_on.found_on k q (λ same. not_victim q victim same) finds;
+            free = λ early. (let used = used_then in omega arith);
+            listed = λ early. (let ids = ap (λ (l : List ℕ). length l) newest_then in omega arith);
+            rolls = λ commits some. subst (λ (o : Option Roll). IsSome o) (sym same.2) some;
+          }
+
+    pass_then : IfSome d.pass (IsOpenPass added)
+    pass_then = go d.pass core.pass where
+      go : (o : Option OpenPass) → IfSome o (IsOpenPass d) → IfSome o (IsOpenPass added)
+      go None is = tt
+      go (Some p) is = goes_on_pass d added p (passes p is) is
+
+    -- ---- the core
+
+    -- what a roll lists, by the ids of the log
+    abbrev lists_of : List ℕ → List ℕ
+    lists_of ids = if is_committing d then all_inserted (survivors_of d.pass) (without (victims_of d.pass) ids) else ids
+
+    roll_then : IfSome added.head.roll (IsRollOf added)
+    roll_then =
+        subst (λ (o : Option Roll). IfSome o (IsRollOf added)) (sym (same_appended d.head (length d.history) unit).2)
+        (go d.head.roll core.roll)
+      where
+        go : (o : Option Roll) → IfSome o (IsRollOf d) → IfSome o (IsRollOf added)
+        go None is = tt
+        go (Some r) is = record {
+          image = is.image;
+          lists = is.lists ∙ sym (ap (λ (l : Head). lists_of (ids_of l.start)) head_then);
+          within = is.within;
+          newer = subst (λ (id : ℕ). id < r.id) (sym (same_appended d.head (length d.history) unit).0) is.newer;
+          used = is.used;
+        }
+
+    pub added_core : IsCore added
+    added_core = record {
+      config = core.config;
+      replicas = (same_appended d.head (length d.history) unit).1 ∙ core.replicas;
+      history = (let room = admitted.room in let count = length-append d.history
+          (record_now d seat command ∷ []) in omega arith);
+      head = head;
+      image = (head_appended d.config.master d.head (length d.history) unit core.image head).1;
+      within = within_then d.head (length d.history) d.config.segment unit core.within (fits passed);
+      closed = core.closed ∙ sym (ap (λ (l : Head). all_inserted (survivors_of d.pass) l.start.others) head_then);
+      segments = core.segments;
+      below = subst (λ (l : Head). AreBelow l.start) (sym head_then) core.below;
+      used = subst (λ (id : ℕ). id < d.next) (sym (same_appended d.head (length d.history) unit).0) core.used;
+      next = core.next;
+      roll = roll_then;
+      pass = pass_then;
+      named = named_then;
+      freed = core.freed;
+      budget = subst (λ (n : ℕ). n + sum_by (count_of d.config.segment d.config.seglet) d.closed ≤ d.config.seglets)
+          (sym (counts_then d.config d.head (length d.history) unit
+          (λ some. unit_open d command passed (ap is_empty (sym unit_is) ∙ some)))) core.budget;
+      legal = legal_then;
+      index = index_then;
+    }
+
+    pub added_applies : Applies d seat command (Applied (length d.history) (reply_now d command)) added
+    added_applies = record {
+      passed = passed;
+      told = refl;
+      config = refl;
+      running = admitted.running;
+      log = log_then;
+      found = still_found;
+      rest = ap (λ (u : List Entry). record added { head = appended d.head (length d.history) u }) unit_is;
+    }

@@ -1,0 +1,5 @@
+pub mod Changes
+pub mod Indexed
+pub mod AllPushed
+pub mod Adding
+pub mod LoadedCore

@@ -1,0 +1,351 @@
+-- An object is loaded to a core, and the loading ends.
+use Rattle.std.proofs.Common.{◌≡◌, ◌⊎◌, ℕ, zero, suc, ◌+◌, ◌<◌, ◌≤◌, inl, inr, Bool, true, false, ◌==◌, List, [], ◌∷◌}
+use Rattle.std.proofs.Common.{◌++◌, length}
+use Rattle.std.proofs.Common.{refl, sym, ap, subst, ◌∙◌, arith}
+use Rattle.std.specs.Prelude.{◌&&◌, Option, Some, None, IfSome, not, sum_by, slice_get, if◌then◌else◌}
+use Rattle.std.specs.Option.{option_map, option_map_or}
+use Rattle.std.specs.List.{AllByRecursion}
+use Rattle.std.proofs.lemmas.Bool.{and_parts, not-false, eqb-true, leb-true}
+use Rattle.std.proofs.lemmas.List.{append-nil}
+use Rattle.std.proofs.lemmas.Option.{same_Some}
+use Rattle.cleaner.specs.declared.pass.Pass.{Pass as OpenPass}
+use Rattle.cleaner.specs.Passes.{is_ready as is_ready_pass}
+use Rattle.clean_model.specs.Loading.{with_object, MayLoad}
+use Rattle.compactor.specs.Places.{IsAtPlace, keys_in}
+use Rattle.entry.specs.declared.key.Key.{Key}
+use Rattle.entry.specs.declared.entry.Object.{Object}
+use Rattle.entry.specs.declared.entry.Entry.{Entry}
+use Rattle.entry.specs.declared.entry.Entry.TheVariants as entry
+use Rattle.entry.specs.Bag.{IsAmong}
+use Rattle.entry.specs.Format.{IsEntry}
+use Rattle.entry.specs.Meaning.{versioned}
+use Rattle.entry.specs.Tablet.{have_key}
+use Rattle.entry.specs.Text.{text_of}
+use Rattle.entry.proofs.BagLemmas.{among_either}
+use Rattle.hash_index.specs.declared.place.Held.{Held}
+use Rattle.hash_index.specs.declared.place.Place.{Place}
+use Rattle.hash_index.specs.Map.{found}
+use Rattle.images.specs.Images.{count_of}
+use Rattle.log_head.specs.declared.head.Roll.{Roll}
+use Rattle.log_head.specs.Head.{HeadValue, IsHeadValue, is_open}
+use Rattle.log_head.specs.Log.{head_of, settled_head, phase_of, IsImageOf}
+use Rattle.log_head.specs.declared.next.Next.{Next}
+use Rattle.log_head.specs.declared.next.Next.TheVariants as next
+use Rattle.log_head.specs.Steps.{with_unit_end, settled, with_new_replica, with_closed_replica, old_image}
+use Rattle.log_head.proofs.SettledLog.{settled_is, image_settled}
+use Rattle.log_model.specs.Adopt.{adopted}
+use Rattle.log_model.specs.Data.{Head, Ready, fewest}
+use Rattle.log_model.specs.Ids.{all_inserted}
+use Rattle.log_model.specs.Log.{AreBelow, IsWhole}
+use Rattle.log_model.specs.Steps.{Fits}
+use Rattle.log_model.proofs.Counts.{fewest_below}
+use Rattle.versioned_map.specs.declared.command.Record.{Record}
+use Rattle.versioned_map.specs.History.{commands_of, IsLegal}
+use Rattle.versioned_map.specs.Versioned.{State, after, with_contents}
+use Rattle.master_commands.specs.declared.change.Change.TheVariants as change
+use Rattle.master_state.specs.declared.step.Refusal.TheVariants.{TooBig, NoTablet, Full, Rolling}
+use Rattle.master_state.specs.Budget.{may_roll, survivors_of}
+use Rattle.master_state.specs.Causes.{has_room, is_pushed}
+use Rattle.master_state.specs.Data.{MasterData}
+use Rattle.master_state.specs.Images.{images_among, with_closed}
+use Rattle.master_state.specs.Index.{LiesFound}
+use Rattle.master_state.specs.Invariant.{IsIndex, IsRollOf, IsOpenPass, NameBelow, IsCore}
+use Rattle.master_state.specs.Loading.{IsBare, loaded_unit, is_object_too_big, load_refusal, IsNewObject, origin_with}
+use Rattle.master_state.specs.Loading.{Loads, settled_data}
+use Rattle.master_state.specs.Steps.{rolling_data, closed_data, roll_ended, taken_data}
+use Rattle.master_state.specs.Log.{log_config, opening_of, log_of, state_now, images_of, find}
+use Rattle.master_commands.proofs.Adding.{head_appended, ready_open, fits_then, within_then, counts_then}
+use Rattle.master_commands.proofs.AllPushed.{unit_count}
+use Rattle.master_state.proofs.Finding.{each_among, index_of}
+use Rattle.master_state.proofs.Imaging.{same_id, head_images, appended_grow, appended_own, appended_other}
+use Rattle.master_state.proofs.Indexing.{Grow, Indexes}
+use Rattle.master_commands.proofs.Indexed.{IsMovedBy, absent_grown, KeepsOthers, put_stands, set_index, put_at_place}
+use Rattle.master_state.proofs.Refusals.{passes, open_parts}
+
+-- ---- the tests
+
+-- What holds of an object that no test refuses.
+pub record IsAdmitted (d : MasterData) (o : Object) : Type 0 where
+  pub key : have_key d.config.tablets o.key ≡ true
+  pub opened : is_open d.head ≡ true
+  pub room : length (text_of d.head.image) + length (text_of (loaded_unit o)) ≤ d.config.segment
+
+pub is_admitted : (d : MasterData) (o : Object) → load_refusal d o ≡ None → IsAdmitted d o
+is_admitted d o passed =
+    let big = passes (is_object_too_big o d.config.segment) TooBig _ passed in
+    let key = passes (not (have_key d.config.tablets o.key)) NoTablet _ big.1 in
+    let full = passes (is_open d.head && (not (has_room d (loaded_unit o)) && not (may_roll d 2))) Full _ key.1 in
+    let due = passes (not (is_open d.head && has_room d (loaded_unit o))) Rolling None full.1 in
+    let both = and_parts (is_open d.head) (has_room d (loaded_unit o)) (not-false _ due.0) in
+    record { key = not-false _ key.0; opened = both.0; room = leb-true _ d.config.segment both.1 }
+
+-- ---- an object
+
+-- a core without history has the opening's state
+pub bare_state : (d : MasterData) → d.history ≡ [] → state_now d ≡ opening_of d
+bare_state d bare = ap (λ (h : List Record). after (opening_of d) (commands_of h)) bare
+
+-- the object's key isn't found once the object is appended
+pub absent_then : (d : MasterData) → IsCore d → IsBare d → (o : Object) → IsNewObject d o
+    → IsHeadValue (with_unit_end d.head 0 (loaded_unit o))
+    → found (keys_in (images_among (with_unit_end d.head 0 (loaded_unit o)) d.closed)) o.key d.index ≡ None
+absent_then d core bare o is_new head =
+    let h = with_unit_end d.head 0 (loaded_unit o) in
+    let index : Indexes (images_of d) d.index (opening_of d).contents =
+    subst (λ (s : State). Indexes (images_of d) d.index s.contents) (bare_state d bare.history) (index_of d core) in
+    absent_grown (images_of d) (images_among h d.closed) (appended_grow d.head h d.closed
+    (loaded_unit o) refl refl refl)
+    (each_among h d.closed head core.segments) d.index (opening_of d).contents index o.key is_new.absent
+
+module _ (d : MasterData) (core : IsCore d) (bare : IsBare d) (o : Object) (is_new : IsNewObject d o)
+    (passed : load_refusal d o ≡ None)
+    (new : List Held) (head : IsHeadValue (with_unit_end d.head 0 (loaded_unit o)))
+    (moved : IsMovedBy (keys_in (images_among (with_unit_end d.head 0 (loaded_unit o)) d.closed)) d.index
+    (change.Create o.version) o.key
+    (record { segment = d.head.id; at = length (text_of d.head.image) }) new) where
+  abbrev unit : List Entry
+  unit = loaded_unit o
+
+  abbrev place : Place
+  place = record { segment = d.head.id; at = length (text_of d.head.image) }
+
+  abbrev pub loaded : MasterData
+  loaded = record d { head = with_unit_end d.head 0 unit; index = new; origin = origin_with d.origin o }
+
+  admitted : IsAdmitted d o
+  admitted = is_admitted d o passed
+
+  -- ---- the log
+
+  head_then : (head_of loaded.head ≡ record (head_of d.head)
+      { units = (head_of d.head).units ++ record { number = 0; entries = unit } ∷ [] })
+      × IsImageOf d.config.master loaded.head (head_of loaded.head)
+  head_then = head_appended d.config.master d.head 0 unit core.image head
+
+  log_then : log_of loaded ≡ with_object (log_of d) o
+  log_then = λ i. record {
+    config = log_config d.config;
+    opening = opening_of loaded;
+    history = d.history;
+    head = head_then.0 i;
+    phase = phase_of d.head;
+    next = d.next;
+  }
+
+  pub may_load : MayLoad (log_of d) o
+  may_load = record {
+    fits = fits_only (fits_then d 0 unit core (λ some. admitted.opened) head);
+    key = admitted.key;
+    absent = is_new.absent;
+    low = is_new.low;
+  } where
+    fits_only : (unit ≡ []) ⊎ Fits (log_of d) unit → Fits (log_of d) unit
+    fits_only (inl never) = absurd (cc)
+    fits_only (inr fits) = fits
+
+  -- ---- the index
+
+  grow : Grow (images_of d) (images_of loaded)
+  grow = appended_grow d.head loaded.head d.closed unit refl refl refl
+
+  each : (s : ℕ) → AllByRecursion IsEntry (images_of loaded s)
+  each = each_among loaded.head d.closed head core.segments
+
+  own : images_of loaded d.head.id ≡ images_of d d.head.id ++ unit
+  own = head_images loaded.head d.closed ∙ ap (λ (es : List Entry). es ++ unit) (sym (head_images d.head d.closed))
+
+  index_before : Indexes (images_of d) d.index (opening_of d).contents
+  index_before = subst (λ (s : State). Indexes (images_of d) d.index s.contents)
+      (bare_state d bare.history) (index_of d core)
+
+  at_end : length (text_of d.head.image) ≡ length (text_of (images_of d d.head.id ++ []))
+  at_end = ap (λ (es : List Entry). length (text_of es))
+      (sym (append-nil (images_of d d.head.id) ∙ head_images d.head d.closed))
+
+  stands : IsAtPlace (images_of loaded) place (entry.Object o)
+  stands =
+      put_stands (images_of d) (images_of loaded) grow each place 0 d.index new (opening_of d).contents 0 index_before
+      [] o at_end own
+
+  index_on : Indexes (images_of loaded) new (with_contents (opening_of d).contents o.key (Some (versioned o)))
+  index_on =
+      set_index (images_of d) (images_of loaded) grow each place 0 d.index new (opening_of d).contents 0 index_before
+      o.key (versioned o) stands moved
+
+  others_on : KeepsOthers (images_of d) (images_of loaded) grow each place 0 d.index new
+      (opening_of d).contents 0 index_before
+  others_on =
+      put_at_place (images_of d) (images_of loaded) grow each place 0 d.index new (opening_of d).contents 0 index_before
+      o.key (versioned o) stands moved
+
+  index_then : IsIndex loaded
+  index_then = record {
+    kept = index_on.kept;
+    lies = λ k. subst (λ (s : State). LiesFound (images_of loaded) k (find loaded k) (s.contents k))
+        (sym (bare_state loaded bare.history)) (index_on.lies k);
+    safe = core.index.safe ∙ ap (λ (s : State). s.safe) (bare_state d bare.history)
+        ∙ sym (ap (λ (s : State). s.safe) (bare_state loaded bare.history));
+  }
+
+  not_there : (q : Place) → (q.segment == d.head.id) ≡ false → (q ≡ place) → ⊥
+  not_there q away same = let here : (q.segment == d.head.id) ≡ true = ap (λ (r : Place). r.segment == d.head.id) same
+      ∙ same_id d.head.id in cc
+
+  found_then : (k : Key) (q : Place) → find loaded k ≡ Some q → (find d k ≡ Some q) ⊎ (q.segment ≡ d.head.id)
+  found_then k q finds = go (q.segment == d.head.id) refl where
+    go : (t : Bool) → (q.segment == d.head.id) ≡ t → (find d k ≡ Some q) ⊎ (q.segment ≡ d.head.id)
+    go true here = inr (eqb-true q.segment d.head.id here)
+    go false away = inl (others_on.found_on k q (λ same. not_there q away same) finds)
+
+  -- ---- the rest
+
+  named_then : NameBelow (images_of loaded) loaded.next
+  named_then s t m = go (d.head.id == s) refl where
+    by_unit : IsAmong (entry.Tombstone t) (images_of d s ++ unit) → t.segment < d.next
+    by_unit m =
+        elim (among_either (entry.Tombstone t) (images_of d s) unit m) as (λ _. t.segment < d.next) [
+          | inl old ↦ core.named s t old
+          | inr (inl is) ↦ absurd (cc)
+          | inr (inr never) ↦ absurd never
+        ]
+
+    go : (b : Bool) → (d.head.id == s) ≡ b → t.segment < d.next
+    go true here =
+        by_unit (subst (λ (es : List Entry). IsAmong (entry.Tombstone t) es)
+        (appended_own d.head loaded.head d.closed unit s refl refl here) m)
+    go false away =
+        core.named s t (subst (λ (es : List Entry). IsAmong (entry.Tombstone t) es)
+        (appended_other d.head loaded.head d.closed s refl refl away) m)
+
+  none : d.head.roll ≡ None
+  none = (open_parts d.head admitted.opened).1
+
+  pub loaded_core : IsCore loaded
+  loaded_core = record {
+    config = core.config;
+    replicas = core.replicas;
+    history = core.history;
+    head = head;
+    image = head_then.1;
+    within = within_then d.head 0 d.config.segment unit core.within (λ some. admitted.room);
+    closed = core.closed ∙ sym (ap (λ (l : Head). all_inserted (survivors_of d.pass) l.start.others) head_then.0);
+    segments = core.segments;
+    below = subst (λ (l : Head). AreBelow l.start) (sym head_then.0) core.below;
+    used = core.used;
+    next = core.next;
+    roll = subst (λ (r : Option Roll). IfSome r (IsRollOf loaded)) (sym none) tt;
+    pass = subst (λ (p : Option OpenPass). IfSome p (IsOpenPass loaded)) (sym bare.pass) tt;
+    named = named_then;
+    freed = core.freed;
+    budget = subst (λ (n : ℕ). n + sum_by (count_of d.config.segment d.config.seglet) d.closed ≤ d.config.seglets)
+        (sym (counts_then d.config d.head 0 unit (λ some. admitted.opened))) core.budget;
+    legal = subst (λ (h : List Record). IsLegal (opening_of loaded) h) (sym bare.history) refl;
+    index = index_then;
+  }
+
+  pub loads : Loads d o loaded
+  loads = record { passed = passed; log = log_then; found = found_then; rest = refl }
+
+  pub loaded_bare : IsBare loaded
+  loaded_bare = record { history = bare.history; pass = bare.pass; waiting = bare.waiting }
+
+-- ---- the end
+
+pub pushed_open : (h : HeadValue) → is_pushed h ≡ true → (is_open h ≡ true)
+    × (fewest (length h.units) h.taken ≡ length h.units)
+pushed_open h pushed =
+    let both = and_parts (is_open h) (fewest (length h.units) h.taken == length h.units) pushed in
+    (both.0, eqb-true (fewest (length h.units) h.taken) (length h.units) both.1)
+
+-- each count is at most this one
+all_at : (units j n : ℕ) (ns : List ℕ) → AllByRecursion (λ m. m ≤ units) ns → slice_get ns j ≡ Some n → n ≤ units
+all_at units j n [] all is = absurd (cc)
+all_at units zero n (m ∷ ns) all is = let same = same_Some m n is in let here = all.0 in omega arith
+all_at units (suc j) n (m ∷ ns) all is = all_at units j n ns all.1 is
+
+module _ (d : MasterData) (core : IsCore d) (pushed : is_pushed d.head ≡ true) where
+  open_then : (length d.head.taken ≡ d.head.replicas) × (d.head.roll ≡ None)
+  open_then = open_parts d.head (pushed_open d.head pushed).0
+
+  pub pushed_whole : IsWhole d.config.replicas (head_of d.head)
+  pushed_whole = record {
+    opened = open_then.0 ∙ core.replicas;
+    all = λ j n is.
+        let least = (pushed_open d.head pushed).1 in
+        let low = fewest_below (length d.head.units) n j d.head.taken is in
+        let high = all_at (length d.head.units) j n d.head.taken core.head.taken is in
+        let count = unit_count (text_of d.head.image) d.head.base d.head.units in
+        omega arith;
+  }
+
+  pub pushed_ready : phase_of d.head ≡ Ready
+  pushed_ready = ready_open d.head (pushed_open d.head pushed).0
+
+  module _ (bare : IsBare d) (head : IsHeadValue (settled d.head)) where
+    pub settled_core : IsCore (settled_data d)
+    settled_core = record {
+      config = core.config;
+      replicas = core.replicas;
+      history = core.history;
+      head = head;
+      image = image_settled d.config.master d.head (head_of d.head) core.image core.head.segment open_then.0;
+      within = core.within;
+      closed = core.closed;
+      segments = core.segments;
+      below = core.below;
+      used = core.used;
+      next = core.next;
+      roll = subst (λ (r : Option Roll). IfSome r (IsRollOf (settled_data d))) (sym open_then.1) tt;
+      pass = subst (λ (p : Option OpenPass). IfSome p (IsOpenPass (settled_data d))) (sym bare.pass) tt;
+      named = core.named;
+      freed = core.freed;
+      budget = core.budget;
+      legal = core.legal;
+      index = record { kept = core.index.kept; lies = core.index.lies; safe = core.index.safe };
+    }
+
+    head_settled : head_of (settled d.head) ≡ settled_head d.config.replicas (head_of d.head)
+    head_settled =
+        settled_is d.config.master d.head (head_of d.head) core.image core.head.segment open_then.0
+        ∙ ap (λ (n : ℕ). settled_head n (head_of d.head)) core.replicas
+
+    pub settled_log : log_of (settled_data d) ≡ adopted (log_of d) (opening_of d)
+    settled_log = λ i. record {
+      config = log_config d.config;
+      opening = opening_of d;
+      history = bare.history i;
+      head = head_settled i;
+      phase = phase_of d.head;
+      next = d.next;
+    }
+
+-- ---- what goes on
+
+pub rolling_bare : (d : MasterData) → IsBare d → IsBare (rolling_data d)
+rolling_bare d is = record {
+  history = is.history;
+  pass = ap (λ (o : Option OpenPass). option_map (λ (p : OpenPass). record p
+      { is_committing = is_ready_pass d.config.replicas p }) o) is.pass;
+  waiting = is.waiting;
+}
+
+pub taken_bare : (d : MasterData) → IsBare d → (push : Next) → IsBare (taken_data d push)
+taken_bare d is (next.OpenFirst j) = record { history = is.history; pass = is.pass; waiting = is.waiting }
+taken_bare d is (next.Extend j) = record { history = is.history; pass = is.pass; waiting = is.waiting }
+taken_bare d is (next.OpenNew j) = go d.head.roll where
+  go : (o : Option Roll) → IsBare (option_map_or (λ (r : Roll). record d { head = with_new_replica d.head r }) o d)
+  go None = is
+  go (Some r) = record { history = is.history; pass = is.pass; waiting = is.waiting }
+taken_bare d is (next.CloseOld j) = go d.head.roll where
+  closing : (b : Bool) (p : Option OpenPass) (e : MasterData) → p ≡ None → IsBare e
+      → IsBare (if b then roll_ended p e else e)
+  closing true None e none bare = bare
+  closing true (Some p) e none bare = absurd (cc)
+  closing false p e none bare = bare
+
+  go : (o : Option Roll) → IsBare (option_map_or (closed_data d) o d)
+  go None = is
+  go (Some r) =
+      closing (suc r.closed == d.head.replicas) d.pass
+      (record d { head = with_closed_replica d.head r; closed = with_closed d.closed d.head.id (old_image d.head r) })
+      is.pass (record { history = is.history; pass = is.pass; waiting = is.waiting })

@@ -1,0 +1,208 @@
+use Rattle.std.proofs.Common.{◌≡◌, ℕ, List, ◌++◌, ◌∷◌, [], None, ◌<◌, length, rules, refl, sym, ap, subst, ◌∙◌}
+use Rattle.versioned_map.specs.declared.command.Command.{Command}
+use Rattle.versioned_map.specs.declared.command.Record.{Record}
+use Rattle.versioned_map.specs.declared.command.Reply.{Reply}
+use Rattle.master_commands.specs.declared.change.Change.{Change}
+use Rattle.log_head.specs.Head.{HeadValue, IsHeadValue}
+use Rattle.master_state.specs.declared.step.StepAnswer.TheVariants.{Applied}
+use Rattle.log_model.specs.Steps.{MayApply}
+use Rattle.master_state.specs.Causes.{command_refusal, dead_segment}
+use Rattle.master_state.specs.Log.{log_of}
+use Rattle.master_commands.specs.Change.{unit_of_change, IsJudged, IsSought}
+use Rattle.master_state.specs.Steps.{appended, reply_now, record_now, Applies}
+use Rattle.master_state.specs.contracts.state.Core.{the_view}
+use Rattle.master_state.specs.Data.{MasterData}
+use Rattle.versioned_map.specs.Command.{command_key}
+use Rattle.master_state.specs.Images.{images_among}
+use Rattle.compactor.specs.Places.{keys_in}
+use Rattle.master_commands.proofs.Indexed.{IsMovedBy, moved_by}
+use Rattle.master_state.specs.Invariant.{IsCore}
+use Rattle.std.specs.Prelude.{IsSome}
+use Rattle.std.proofs.lemmas.Result.{err_from_is_err_and}
+use Rattle.master_state.proofs.Refusals.{sizes_of}
+use Rattle.master_commands.proofs.Adding.{same_appended, found_then, added, fits, may, added_core, added_applies}
+use Rattle.master_commands.proofs.applying.add.Goals as goal
+use Rattle.master_commands.proofs.applying.add.Goals.{After-push_reserved, Joined-accepted-2}
+
+pub enact-requires-clause-fits : goal.enact-requires-clause-fits
+enact-requires-clause-fits c =
+    let d : MasterData = the_view c.core.inside in
+    let command = c.args.accepted.command in
+    let passed : command_refusal d command ≡ None = rw (← c.core.view_is) at c.requires.passed in
+    let judged : IsJudged d command c.args.judged.now.change c.args.judged.now.held.place.segment =
+    rw (← c.core.view_is) at c.requires.judged in
+    fits d c.core.invariant.2 command c.args.judged.now.change c.args.judged.now.held.place.segment judged passed
+
+-- ---- the core with the record, where memory was given
+
+module _ (c : goal.After-push_reserved) where
+  abbrev d : MasterData
+  d = the_view c.core.inside
+
+  abbrev command : Command
+  command = c.args.accepted.command
+
+  abbrev change : Change
+  change = c.args.judged.now.change
+
+  abbrev dead : ℕ
+  dead = c.args.judged.now.held.place.segment
+
+  passed : command_refusal d command ≡ None
+  passed = rw (← c.core.view_is) at c.requires.passed
+
+  judged : IsJudged d command change dead
+  judged = rw (← c.core.view_is) at c.requires.judged
+
+  reply : c.args.accepted.reply ≡ reply_now d command
+  reply = rw (← c.core.view_is) at c.requires.reply
+
+  head : IsHeadValue (appended d.head (length d.history) (unit_of_change dead command change))
+  head = subst (λ (h : HeadValue). IsHeadValue h) c.in_ok-enact.ensures.head c.in_ok-enact.ensures.valid
+
+  sought : IsSought d (command_key command) c.args.judged.now.held
+  sought = rw (← c.core.view_is) at c.requires.sought
+
+  moved : IsMovedBy (keys_in (images_among (appended d.head (length d.history) (unit_of_change dead command change))
+      d.closed)) d.index
+      change (command_key command) (record { segment = d.head.id; at = c.in_ok-enact.ensures.index.0 })
+      c.enact.new.index.held
+  moved =
+      moved_by (keys_in (images_among (appended d.head (length d.history) (unit_of_change dead command change))
+      d.closed)) d.index
+      change (command_key command) c.args.judged.now.held.place
+      (record { segment = d.head.id; at = c.in_ok-enact.ensures.index.0 })
+      c.enact.new.index.held c.in_ok-enact.ensures.index.2
+      (found_then d c.core.invariant.2 command change dead judged c.args.judged.now.held sought head)
+
+  roll_then : c.enact.new.head.roll ≡ d.head.roll
+  roll_then =
+      ap (λ (h : HeadValue). h.roll) c.in_ok-enact.ensures.head
+      ∙ (same_appended d.head (length d.history) (unit_of_change dead command change)).2
+
+  items : c.push_reserved.new.self.items ≡ d.history ++ c.args.accepted ∷ []
+  items = rw (c.push_reserved.ensures.items, c.enact.ensures.history) refl
+
+  abbrev e : MasterData
+  e =
+      let there = c.in_ok-enact.ensures.index in
+      added d c.core.invariant.2 command change dead judged c.args.accepted.seat there.0 c.enact.new.index.held passed
+      there.1 moved head
+
+  abbrev left : MasterData
+  left = record {
+    config = d.config;
+    head = c.enact.new.head;
+    closed = d.closed;
+    next = d.next;
+    index = c.enact.new.index.held;
+    safe = c.safe_after-core-inside.result;
+    history = c.push_reserved.new.self.items;
+    pass = d.pass;
+    waiting = d.waiting;
+    freed = d.freed;
+    is_halted = d.is_halted;
+    origin = d.origin;
+  }
+
+  abbrev with_reply : Reply → List Record
+  with_reply r = d.history ++ record { seat = c.args.accepted.seat; command = command; reply = r } ∷ []
+
+  knows : e ≡ left
+  knows = λ i. record {
+    config = d.config;
+    head = sym c.in_ok-enact.ensures.head i;
+    closed = d.closed;
+    next = d.next;
+    index = c.enact.new.index.held;
+    safe = sym c.safe_after-core-inside.ensures i;
+    history = sym (items ∙ ap with_reply reply) i;
+    pass = d.pass;
+    waiting = d.waiting;
+    freed = d.freed;
+    is_halted = d.is_halted;
+    origin = d.origin;
+  }
+
+  core : IsCore left
+  core =
+      let there = c.in_ok-enact.ensures.index in
+      subst IsCore knows
+      (added_core d c.core.invariant.2 command change dead judged c.args.accepted.seat there.0 c.enact.new.index.held
+      passed there.1 moved head)
+
+  applies : Applies d c.args.accepted.seat command (Applied (length d.history) c.args.accepted.reply) left
+  applies =
+      let there = c.in_ok-enact.ensures.index in
+      let seat = c.args.accepted.seat in
+      subst (λ (m : MasterData). Applies d seat command (Applied (length d.history) c.args.accepted.reply) m) knows
+      (subst (λ (r : Reply). Applies d seat command (Applied (length d.history) r) e) (sym reply)
+      (added_applies d c.core.invariant.2 command change dead judged seat there.0 c.enact.new.index.held passed
+      there.1 moved head))
+
+  may_apply : MayApply (log_of d) (dead_segment d command) (record_now d c.args.accepted.seat command)
+  may_apply =
+      let there = c.in_ok-enact.ensures.index in
+      may d c.core.invariant.2 command change dead judged c.args.accepted.seat there.0 c.enact.new.index.held passed
+      there.1 moved head
+
+pub invariant_of-core-2 : goal.invariant_of-core-2
+invariant_of-core-2 c =
+    let t = (goal.at.invariant_of-core-2 c).After-push_reserved in
+    (λ some. c.core.invariant.0 (subst IsSome (roll_then t) some), c.core.invariant.1, core t, c.core.invariant.3)
+
+pub returns-clause-added : goal.returns-clause-added
+returns-clause-added c =
+    let t = (goal.at.returns-clause-added c).After-push_reserved in
+    let number : c.len-place.result ≡ length (d t).history = search rules in
+    let seat = c.args.accepted.seat in
+    rw (← c.core.view_is)
+    (subst (λ (n : ℕ). Applies (d t) seat (command t) (Applied n c.args.accepted.reply) (left t))
+    (sym number) (applies t))
+
+pub returns-clause-may : goal.returns-clause-may
+returns-clause-may c =
+    let t = (goal.at.returns-clause-may c).After-push_reserved in
+    subst (λ (m : MasterData). MayApply (log_of m) (dead_segment m (command t))
+    (record_now m c.args.accepted.seat (command t)))
+    c.core.view_is (may_apply t)
+
+pub returns-clause-valid : goal.returns-clause-valid
+returns-clause-valid c = core (goal.at.returns-clause-valid c).After-push_reserved
+
+-- ---- the core as it was, where memory was refused
+
+module _ (c : goal.Joined-accepted-2) where
+  abbrev was : MasterData
+  was = the_view c.core.inside
+
+  unchanged : was ≡ record was {
+    head = c.enact.new.head;
+    index = c.enact.new.index.held;
+    history = c.enact.new.history.items;
+  }
+  unchanged =
+      let kept = c.in_err-enact.ensures.err in
+      let history = c.in_err-enact.ensures.history in
+      λ i. record was { head = sym kept.0 i; index = sym kept.1 i; history = sym history i }
+
+pub invariant_of-core : goal.invariant_of-core
+invariant_of-core c = (
+  subst (λ (h : HeadValue). IsSome h.roll → length c.core.inside.closed.images < c.core.inside.closed.room)
+      (sym c.in_err-enact.ensures.err.0)
+      c.core.invariant.0,
+  c.core.invariant.1,
+  subst IsCore (unchanged c) c.core.invariant.2,
+  c.core.invariant.3,
+)
+
+pub returns-in_err-enact-clause-refused : goal.returns-in_err-enact-clause-refused
+returns-in_err-enact-clause-refused c =
+    let failed = err_from_is_err_and c.from_residual.result c.from_residual.ensures.1 in
+    rw failed.1 (sym (unchanged c) ∙ c.core.view_is)
+
+pub enact-requires-clause-limit : goal.enact-requires-clause-limit
+enact-requires-clause-limit c = (sizes_of c.core.inside.config c.core.invariant.2.config).most_segment
+
+pub enact-requires-clause-hash : goal.enact-requires-clause-hash
+enact-requires-clause-hash c = c.requires.sought.hash

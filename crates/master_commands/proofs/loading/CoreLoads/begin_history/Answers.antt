@@ -1,0 +1,51 @@
+use Rattle.std.proofs.Common.{◌≡◌, true, sym, ap, subst, refl}
+use Rattle.std.specs.Prelude.{IsSome}
+use Rattle.log_head.specs.Head.{HeadValue, IsHeadValue}
+use Rattle.log_head.specs.Steps.{settled}
+use Rattle.master_state.specs.contracts.state.Core.{the_view}
+use Rattle.master_state.specs.Causes.{is_pushed}
+use Rattle.master_state.specs.Data.{MasterData}
+use Rattle.master_state.specs.Invariant.{IsCore}
+use Rattle.master_state.specs.Loading.{IsBare, Settles, settled_data}
+use Rattle.master_commands.proofs.LoadedCore.{settled_core, settled_log}
+use Rattle.master_commands.proofs.loading.CoreLoads.begin_history.Goals as goal
+
+module _ (c : goal.After-begin_history) where
+  abbrev d : MasterData
+  d = the_view c.self.inside
+
+  bare : IsBare d
+  bare = subst IsBare (sym c.self.view_is) c.requires.bare
+
+  pushed : is_pushed d.head ≡ true
+  pushed = subst (λ (m : MasterData). is_pushed m.head ≡ true) (sym c.self.view_is) c.requires.done
+
+  head : IsHeadValue (settled d.head)
+  head = subst IsHeadValue c.begin_history.ensures.settled c.begin_history.ensures.valid
+
+  abbrev left : MasterData
+  left = record d { head = c.begin_history.new.self }
+
+  left_is : settled_data d ≡ left
+  left_is = ap (λ (h : HeadValue). record d { head = h }) (sym c.begin_history.ensures.settled)
+
+  core : IsCore left
+  core = subst IsCore left_is (settled_core d c.self.invariant.2 pushed bare head)
+
+  settles : Settles d left
+  settles =
+      subst (λ (m : MasterData). Settles d m) left_is
+      (record { log = settled_log d c.self.invariant.2 pushed bare head; rest = refl })
+
+  roll_then : c.begin_history.new.self.roll ≡ d.head.roll
+  roll_then = ap (λ (h : HeadValue). h.roll) c.begin_history.ensures.settled
+
+pub invariant_of-self : goal.invariant_of-self
+invariant_of-self c =
+    (λ some. c.self.invariant.0 (subst IsSome (roll_then c) some), c.self.invariant.1, core c, c.self.invariant.3)
+
+pub returns-clause-settled : goal.returns-clause-settled
+returns-clause-settled c = subst (λ (m : MasterData). Settles m (left c)) c.self.view_is (settles c)
+
+pub returns-clause-valid : goal.returns-clause-valid
+returns-clause-valid c = core c

@@ -1,0 +1,108 @@
+use Rattle.std.proofs.Common.{◌≡◌, None, length, sym, ap, subst, ◌∙◌}
+use Rattle.std.specs.Prelude.{IsSome}
+use Rattle.std.specs.Result.{result_err}
+use Rattle.clean_model.specs.Loading.{MayLoad}
+use Rattle.compactor.specs.Places.{keys_in}
+use Rattle.entry.specs.declared.entry.Object.{Object}
+use Rattle.entry.specs.Text.{text_of}
+use Rattle.log_head.specs.Head.{HeadValue, IsHeadValue}
+use Rattle.log_head.specs.Steps.{with_unit_end}
+use Rattle.master_state.specs.contracts.state.Core.{the_view}
+use Rattle.master_commands.specs.declared.change.Change.TheVariants as change
+use Rattle.master_state.specs.Data.{MasterData}
+use Rattle.master_state.specs.Images.{images_among}
+use Rattle.master_commands.proofs.Indexed.{IsMovedBy}
+use Rattle.master_state.specs.Invariant.{IsCore}
+use Rattle.master_state.specs.Loading.{IsBare, IsNewObject, loaded_unit, load_refusal, Loads}
+use Rattle.master_state.specs.Log.{log_of}
+use Rattle.master_commands.proofs.LoadedCore.{is_admitted, absent_then, loaded, may_load, loaded_core, loads}
+use Rattle.master_commands.proofs.loading.CoreLoads.load.Goals as goal
+use Rattle.master_commands.proofs.loading.CoreLoads.load.Goals.{After-with-self-inside}
+
+pub append_object-requires-clause-fits : goal.append_object-requires-clause-fits
+append_object-requires-clause-fits c =
+    let d = the_view c.self.inside in
+    let o = c.args.object.now in
+    let passed : load_refusal d o ≡ None =
+    subst (λ (m : MasterData). load_refusal m o ≡ None) (sym c.self.view_is)
+    (sym c.admit_object.ensures ∙ ap result_err c.in_ok-admit_object.was) in
+    (is_admitted d o passed).room
+
+module _ (c : goal.After-with-self-inside) where
+  abbrev d : MasterData
+  d = the_view c.self.inside
+
+  abbrev o : Object
+  o = c.args.object.now
+
+  bare : IsBare d
+  bare = subst IsBare (sym c.self.view_is) c.requires.bare
+
+  is_new : IsNewObject d o
+  is_new = subst (λ (m : MasterData). IsNewObject m o) (sym c.self.view_is) c.requires.new
+
+  passed : load_refusal d o ≡ None
+  passed =
+      subst (λ (m : MasterData). load_refusal m o ≡ None) (sym c.self.view_is)
+      (sym c.admit_object.ensures ∙ ap result_err c.in_ok-admit_object.was)
+
+  head_is : c.append_object.new.head ≡ with_unit_end d.head 0 (loaded_unit o)
+  head_is = c.in_ok-append_object.ensures.head
+
+  head : IsHeadValue (with_unit_end d.head 0 (loaded_unit o))
+  head = subst IsHeadValue head_is c.in_ok-append_object.ensures.valid
+
+  moved : IsMovedBy (keys_in (images_among (with_unit_end d.head 0 (loaded_unit o)) d.closed)) d.index
+      (change.Create o.version) o.key
+      (record { segment = d.head.id; at = length (text_of d.head.image) }) c.append_object.new.index.held
+  moved = λ kept tells.
+      c.in_ok-append_object.ensures.index (keys_in (images_among
+      (with_unit_end d.head 0 (loaded_unit o)) d.closed)) kept
+      (absent_then d c.self.invariant.2 bare o is_new head) tells
+
+  abbrev left : MasterData
+  left = record d {
+    head = c.append_object.new.head;
+    index = c.append_object.new.index.held;
+    origin = record { objects = c.with-self-inside.result.objects; safe = d.origin.safe };
+  }
+
+  knows : loaded d c.self.invariant.2 bare o is_new passed c.append_object.new.index.held head moved ≡ left
+  knows = λ i. record d {
+    head = sym head_is i;
+    index = c.append_object.new.index.held;
+    origin = record { objects = sym c.with-self-inside.ensures i; safe = d.origin.safe };
+  }
+
+  core : IsCore left
+  core = subst IsCore knows (loaded_core d c.self.invariant.2 bare o is_new passed
+      c.append_object.new.index.held head moved)
+
+  loads_left : Loads d o left
+  loads_left =
+      subst (λ (m : MasterData). Loads d o m) knows
+      (loads d c.self.invariant.2 bare o is_new passed c.append_object.new.index.held head moved)
+
+  may : MayLoad (log_of d) o
+  may = may_load d c.self.invariant.2 bare o is_new passed c.append_object.new.index.held head moved
+
+  roll_then : c.append_object.new.head.roll ≡ d.head.roll
+  roll_then = ap (λ (h : HeadValue). h.roll) head_is
+
+pub invariant_of-self-2 : goal.invariant_of-self-2
+invariant_of-self-2 c =
+    let t = (goal.at.invariant_of-self-2 c).After-with-self-inside in
+    (λ some. c.self.invariant.0 (subst IsSome (roll_then t) some), c.self.invariant.1, core t, c.self.invariant.3)
+
+pub returns-clause-loaded : goal.returns-clause-loaded
+returns-clause-loaded c =
+    let t = (goal.at.returns-clause-loaded c).After-with-self-inside in
+    subst (λ (m : MasterData). Loads m (o t) (left t)) c.self.view_is (loads_left t)
+
+pub returns-clause-may : goal.returns-clause-may
+returns-clause-may c =
+    let t = (goal.at.returns-clause-may c).After-with-self-inside in
+    subst (λ (m : MasterData). MayLoad (log_of m) (o t)) c.self.view_is (may t)
+
+pub returns-clause-valid : goal.returns-clause-valid
+returns-clause-valid c = core (goal.at.returns-clause-valid c).After-with-self-inside

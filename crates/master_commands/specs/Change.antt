@@ -1,0 +1,130 @@
+-- Changes: what they append to the head, and which one a command makes.
+use Rattle.std.specs.Prelude.{◌≡◌, ℕ, ◌+◌, max, List, [], ◌∷◌, ◌++◌, Bool, true, false, Option, Some, None}
+use Rattle.std.specs.Borrow.{Bor}
+use Rattle.std.specs.Option.{option_map, option_copied}
+use Rattle.entry.specs.declared.key.Key.{Key}
+use Rattle.entry.specs.declared.entry.Object.{Object}
+use Rattle.entry.specs.declared.entry.Entry.{Entry}
+use Rattle.entry.specs.declared.entry.Entry.TheVariants as entry
+use Rattle.entry.specs.Meaning.{Versioned, versioned}
+use Rattle.entry.specs.declared.view.ObjectRef.{ObjectRef}
+use Rattle.entry.specs.View.{shown_object}
+use Rattle.master_commands.specs.declared.change.Change.{Change}
+use Rattle.master_commands.specs.declared.change.Change.TheVariants as change
+use Rattle.versioned_map.specs.declared.command.Command.{Command}
+use Rattle.versioned_map.specs.declared.command.Command.TheVariants.{Put, Delete}
+use Rattle.log_head.specs.Head.{len_with}
+use Rattle.versioned_map.specs.declared.command.If.{If}
+use Rattle.versioned_map.specs.declared.command.Reply.{Reply}
+use Rattle.versioned_map.specs.Versioned.{is_spent, reply_given}
+use Rattle.versioned_map.specs.Units.{object_entry, tombstone_entry, unit_given, safe_given}
+use Rattle.master_state.specs.Causes.{is_empty, dead_segment}
+use Rattle.master_state.specs.Data.{MasterData}
+use Rattle.hash_index.specs.declared.place.Held.{Held}
+use Rattle.hash_index.specs.declared.place.Place.{Place}
+use Rattle.hash_index.specs.Map.{hash_of}
+use Rattle.master_state.specs.Log.{state_now, held_now, find}
+use Rattle.master_state.specs.Steps.{IsFound}
+
+-- what a command appends whose change this is, where the dead object lies in this segment
+abbrev pub unit_of_change : ℕ → Command → Change → List Entry
+unit_of_change segment (Put k value when) (change.Create version) = object_entry k version value ∷ []
+unit_of_change segment (Put k value when) (change.Replace dead version) =
+    tombstone_entry k dead segment ∷ object_entry k version value ∷ []
+unit_of_change segment (Delete k) (change.Delete dead) = tombstone_entry k dead segment ∷ []
+unit_of_change segment _ _ = []
+
+-- the object that the change makes, if it makes one, begins at this offset where its unit goes behind the image
+abbrev pub BeginsAt : List Entry → Command → Change → ℕ → Type 0
+BeginsAt image command change at = (segment : ℕ) (front : List Entry) (o : Object)
+    → unit_of_change segment command change ≡ front ++ entry.Object o ∷ [] → at ≡ len_with image front
+
+-- what the safe version is after a change
+abbrev pub safe_of_change : ℕ → Change → ℕ
+safe_of_change safe change.Nothing = safe
+safe_of_change safe (change.Create version) = version + 1
+safe_of_change safe (change.Replace dead version) = safe
+safe_of_change safe (change.Delete dead) = max safe (dead + 1)
+
+-- ---- the change that a command makes
+
+abbrev pub version_in : Option Versioned → Option ℕ
+version_in x = option_map (λ (v : Versioned). v.version) x
+
+-- what a key has whose object this is
+abbrev pub shown_versioned : Option ObjectRef → Option Versioned
+shown_versioned present = option_map (λ (o : ObjectRef). versioned (shown_object o)) present
+
+abbrev pub versioned_in : Option (Bor ObjectRef) → Option Versioned
+versioned_in present = shown_versioned (option_copied present)
+
+-- the command does nothing to the map
+abbrev pub is_nothing : Change → Bool
+is_nothing change.Nothing = true
+is_nothing _ = false
+
+-- a key that had no place gets one
+abbrev pub creates : Change → Bool
+creates (change.Create version) = true
+creates _ = false
+
+-- from the safe version and what the key has, the change does what the command does
+pub record IsChangeOf (safe : ℕ) (x : Option Versioned) (command : Command) (change : Change) : Type 0 where
+  pub unit : (segment : ℕ) → unit_of_change segment command change ≡ unit_given safe segment x command
+  pub safe_after : safe_of_change safe change ≡ safe_given safe x command
+  -- it is none just where the command appends nothing
+  pub nothing : (segment : ℕ) → is_nothing change ≡ is_empty (unit_given safe segment x command)
+  pub not_spent : is_spent safe x command ≡ false
+
+-- the change is that of a put under this condition, whatever key it is of that is absent
+abbrev pub Creates : ℕ → If → Change → Type 0
+Creates safe when change = (k : Key) (value : List ℕ) → IsChangeOf safe None (Put k value when) change
+
+-- no version is left for such a put
+abbrev pub CreatesSpent : ℕ → If → Type 0
+CreatesSpent safe when = (k : Key) (value : List ℕ) → is_spent safe None (Put k value when) ≡ true
+
+-- the change is that of a put under this condition, whatever key it is of whose object has this version
+abbrev pub Replaces : ℕ → If → Change → Type 0
+Replaces dead when change = (safe : ℕ) (x : Versioned) (k : Key) (value : List ℕ) → x.version ≡ dead
+    → IsChangeOf safe (Some x) (Put k value when) change
+
+-- no version is left for such a put
+abbrev pub ReplacesSpent : ℕ → If → Type 0
+ReplacesSpent dead when = (safe : ℕ) (x : Versioned) (k : Key) (value : List ℕ) → x.version ≡ dead
+    → is_spent safe (Some x) (Put k value when) ≡ true
+
+-- the change is the command's, whatever its key has of this version
+abbrev pub IsChangeFrom : ℕ → Option ℕ → Command → Change → Type 0
+IsChangeFrom safe version command change =
+    (x : Option Versioned) → version_in x ≡ version → IsChangeOf safe x command change
+
+-- no version is left for the command, whatever its key has of this version
+abbrev pub IsSpentFrom : ℕ → Option ℕ → Command → Type 0
+IsSpentFrom safe version command =
+    (x : Option Versioned) → version_in x ≡ version → is_spent safe x command ≡ true
+
+-- the reply is the map's to a command whose change this is, from what its key has
+abbrev pub RepliesTo : Option Versioned → Command → Change → Reply → Type 0
+RepliesTo x command change answer =
+    (safe : ℕ) → IsChangeOf safe x command change → answer ≡ reply_given safe x command
+
+-- the map's reply to such a command shows a value
+abbrev pub RepliesFound : Option Versioned → Command → Change → Type 0
+RepliesFound x command change = (safe : ℕ) → IsChangeOf safe x command change → IsFound (reply_given safe x command)
+
+-- ---- what is found out of a command
+
+-- the change is the command's, in the state after the history
+abbrev pub IsChangeNow : MasterData → Command → Change → Type 0
+IsChangeNow d command change = IsChangeOf (state_now d).safe (held_now d command) command change
+
+-- the change is the command's, and the dead object, if there is one, lies in this segment
+pub record IsJudged (d : MasterData) (command : Command) (change : Change) (dead : ℕ) : Type 0 where
+  pub lies : dead ≡ dead_segment d command
+  pub change_of : IsChangeNow d command change
+
+-- the key's hash, and the place at which the key is found, if it is
+pub record IsSought (d : MasterData) (k : Key) (held : Held) : Type 0 where
+  pub hash : held.hash ≡ hash_of k
+  pub place : (p : Place) → find d k ≡ Some p → held.place ≡ p

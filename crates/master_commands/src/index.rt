@@ -1,0 +1,130 @@
+//! What the images tell the index, and what the index finds in them.
+
+ghost use Rattle.std.specs.Prelude.{◌≡◌, ◌<◌, true};
+ghost use Rattle.std.specs.Option.{option_map};
+ghost use Rattle.entry.specs.View.{shown_key, shown_object};
+ghost use Rattle.entry.specs.declared.key.Key.{Key};
+ghost use Rattle.hash_index.specs.Map.{hash_of, AreKept};
+ghost use Rattle.master_commands.specs.Change.{creates};
+ghost use Rattle.master_state.specs.Images.{images_among};
+ghost use Rattle.compactor.specs.Places.{object_in, object_there, keys_in};
+ghost use Rattle.master_state.specs.Index.{FindsObject};
+ghost use Rattle.master_commands.specs.Index.{IsMoved};
+
+use crate::change::Change;
+use entry::{EntryRef, KeyRef, ObjectRef};
+use hash_index::{Held, Index, Place, Resolve};
+use images::Images;
+use log_head::Head;
+use master_state::image_of;
+use segment::Segment;
+
+/// The images of a log, which tell the index what key stands at a place.
+#[derive(Drop)]
+pub struct LogImages<'a> {
+    pub head: &'a Head,
+    /// Those of the closed segments.
+    pub closed: &'a Images,
+}
+
+impl<'a> Resolve for LogImages<'a> {
+    ghost keys = { λ images. keys_in (images_among images.head.now images.closed.now.images) };
+
+    fn key_at(&self, place: Place) -> Option<KeyRef<'_>> {
+        match object_there(self.head, self.closed, place) {
+            None => None,
+            Some(object) => Some(object.key),
+        }
+    }
+}
+
+/// The object that begins at an offset of the image.
+#[inline(always)]
+fn object_in(image: &Segment, at: usize) -> Option<ObjectRef<'_>>
+    ensures { option_map shown_object result ≡ object_in image.entry.now at }
+{
+    match image.entry_at(at) {
+        Some(EntryRef::Object(object)) => Some(object),
+        _ => None,
+    }
+}
+
+/// The object at a place of the images.
+#[inline(always)]
+fn object_there<'a>(head: &'a Head, closed: &'a Images, place: Place) -> Option<ObjectRef<'a>>
+    ensures { option_map shown_object result ≡
+        object_there (images_among head.entry.now closed.entry.now.images) place }
+{
+    let image = image_of(head, closed, place.segment)?;
+    object_in(image, place.at)
+}
+
+/// The place and the object of a key of this hash. If its candidate is its place, the image is looked up once, and the
+/// entry is read once.
+pub fn find_object<'a>(
+    head: &'a Head,
+    closed: &'a Images,
+    index: &Index,
+    hash: u64,
+    key: &KeyRef<'_>,
+) -> Option<(Place, ObjectRef<'a>)>
+    requires { hash ≡ hash_of (shown_key key.now) }
+    ensures { let images = images_among head.entry.now closed.entry.now.images in
+        AreKept (keys_in images) index.now.held → FindsObject images index.now.held (shown_key key.now) result }
+{
+    let place = index.candidate(hash)?;
+    match object_there(head, closed, place) {
+        Some(object) => {
+            if *key == object.key {
+                Some((place, object))
+            } else {
+                find_by_keys(head, closed, index, hash, key)
+            }
+        }
+        None => find_by_keys(head, closed, index, hash, key),
+    }
+}
+
+/// The same if another key has the hash, so that more keys are read.
+#[inline(never)]
+fn find_by_keys<'a>(
+    head: &'a Head,
+    closed: &'a Images,
+    index: &Index,
+    hash: u64,
+    key: &KeyRef<'_>,
+) -> Option<(Place, ObjectRef<'a>)>
+    requires { hash ≡ hash_of (shown_key key.now) }
+    ensures { let images = images_among head.entry.now closed.entry.now.images in
+        AreKept (keys_in images) index.now.held → FindsObject images index.now.held (shown_key key.now) result }
+{
+    let place = index.get_hashed(hash, &LogImages { head, closed }, key)?;
+    match object_there(head, closed, place) {
+        None => None,
+        Some(object) => Some((place, object)),
+    }
+}
+
+/// Changes the index as the key's object changed. `held` has the key's hash, and its place if it has one. The new
+/// object, if there is one, is at `place`.
+#[inline(always)]
+pub fn move_object(index: &mut Index, change: &Change, held: Held, place: Place)
+    requires { creates change.now ≡ true → 0 < index.old.room }
+    ensures { (k : Key) → held.hash ≡ hash_of k
+        → IsMoved index.old.held change.now k held.place place index.new.held }
+{
+    match change {
+        Change::Nothing => {}
+        Change::Create(_) => {
+            let hash = held.hash;
+            index.insert(Held { hash, place });
+            index.settle();
+        }
+        Change::Replace(_, _) => {
+            index.relocate(held, place);
+        }
+        Change::Delete(_) => {
+            index.take_out(held);
+        }
+    }
+}

@@ -1,0 +1,161 @@
+//! How a core is loaded before its history begins.
+
+ghost use Rattle.std.specs.Prelude.{◌⊎◌, ◌≡◌, ◌≤◌, ◌^◌, length, true, None, Some, IfErr, OnOk, OnErr};
+ghost use Rattle.std.specs.Result.{result_err};
+ghost use Rattle.entry.specs.declared.entry.Object.{Object as ObjectValue};
+ghost use Rattle.entry.specs.Text.{text_of};
+ghost use Rattle.log_head.specs.Head.{IsHeadValue, len_with};
+ghost use Rattle.log_head.specs.Steps.{with_unit_end};
+ghost use Rattle.master_state.specs.Causes.{is_pushed};
+ghost use Rattle.master_commands.specs.Index.{IsAdded};
+ghost use Rattle.master_state.specs.Invariant.{IsCore};
+ghost use Rattle.master_state.specs.Loading.{IsBare, IsNewObject, Loads, MayLoadNow, Settles};
+ghost use Rattle.master_state.specs.Loading.{loaded_unit, is_object_too_big, load_refusal};
+
+use crate::unit::object_of;
+use entry::{NoMemory, OBJECT_LEN, Object, TOMBSTONE_LEN};
+use hash_index::{Held, Index, Place, hash_key};
+use log_head::Head;
+use master_state::{Core, Loaded, Refusal};
+use segment::AppendFault;
+
+/// How a core is loaded before its history begins.
+pub trait Loads {
+    /// The object may be loaded: the core has no history yet, and the object is new to it.
+    ghost may_load: { Self → ObjectValue → Type 0 };
+    /// All that was loaded is pushed, and the core has no history yet.
+    ghost may_begin: { Self → Type 0 };
+
+    /// Loads an object with its own version: it is appended to the head, and the history begins with it. Or it is
+    /// refused, and nothing changes. Its key was not loaded before, and its version is below the safe one.
+    fn load(&mut self, object: &Object) -> Result<(), Refusal>
+        requires { may_load self.old object.now };
+
+    /// Whether the loading may end: no roll is under way, and each replica has all that was loaded.
+    fn can_finish(&self) -> bool;
+
+    /// Ends the loading. The history begins with what was loaded.
+    fn begin_history(&mut self)
+        requires { may_begin self.old };
+}
+
+impl Loads for Core {
+    ghost may_load = { λ core object. IsBare core × IsNewObject core object };
+
+    ghost may_begin = { λ core. IsBare core × (is_pushed core.head ≡ true) };
+
+    fn load(&mut self, object: &Object) -> Result<(), Refusal>
+        requires bare { IsBare self.old }
+        requires new { IsNewObject self.old object.now }
+        ensures loaded { OnOk result (Loads self.old object.now self.new) }
+        ensures may { OnOk result (MayLoadNow self.old object.now) }
+        ensures valid { OnOk result (IsCore self.new) }
+        ensures bare { OnOk result (IsBare self.new) }
+        ensures refused { IfErr result (λ r. (load_refusal self.old object.now ≡ Some r)
+            ⊎ ((load_refusal self.old object.now ≡ None) × (r ≡ Refusal.NoMemory))) }
+        ensures err { OnErr result (self.new ≡ self.old) }
+    {
+        admit_object(self, object)?;
+        append_object(
+            &mut self.head,
+            &mut self.index,
+            object,
+            self.config.segment as usize,
+        )?;
+        self.loaded = Loaded::with(&self.loaded, object);
+        Ok(())
+    }
+
+    fn can_finish(&self) -> bool
+        ensures { result ≡ is_pushed self.now.head }
+    {
+        match self.head.next_push() {
+            None => true,
+            Some(_) => false,
+        }
+    }
+
+    fn begin_history(&mut self)
+        requires bare { IsBare self.old }
+        requires done { is_pushed self.old.head ≡ true }
+        ensures settled { Settles self.old self.new }
+        ensures valid { IsCore self.new }
+    {
+        self.head.begin_history();
+    }
+}
+
+/// The tests of an object that is to be loaded.
+fn admit_object(core: &Core, object: &Object) -> Result<(), Refusal>
+    ensures { result_err result ≡ load_refusal core.now object.now }
+{
+    if is_object_too_big(object, core.config.segment) {
+        return Err(Refusal::TooBig);
+    }
+    if !core.config.tablets.have(&object.key.view()) {
+        return Err(Refusal::NoTablet);
+    }
+    if !core.head.is_open() {
+        return Err(Refusal::Rolling);
+    }
+    let limit = core.config.segment as usize;
+    if core.head.fits(object_len(object), limit) {
+        return Ok(());
+    }
+    if core.may_roll(2) {
+        return Err(Refusal::Rolling);
+    }
+    Err(Refusal::Full)
+}
+
+/// Whether a put of the object would be too big for a quarter of a segment of this many bytes.
+fn is_object_too_big(object: &Object, segment: u64) -> bool
+    ensures { result ≡ is_object_too_big object.now segment }
+{
+    let bytes = OBJECT_LEN
+        + TOMBSTONE_LEN
+        + 2 * object.key.bytes.as_slice().len()
+        + object.value.as_slice().len();
+    bytes as u64 > segment / 4
+}
+
+/// How many bytes the object has in a segment.
+#[tactic(auto, using(crate::proofs::Changes::unit_lengths))]
+fn object_len(object: &Object) -> usize
+    ensures len { result ≡ length (text_of (loaded_unit object.now)) }
+    ensures small { result ≤ 2 ^ 32 }
+{
+    OBJECT_LEN + object.key.bytes.as_slice().len() + object.value.as_slice().len()
+}
+
+/// Appends an object that fits, and sets its place in the index. On `Err` only memory was taken.
+fn append_object(
+    head: &mut Head,
+    index: &mut Index,
+    object: &Object,
+    limit: usize,
+) -> Result<(), NoMemory>
+    requires limit { limit ≤ 8388608 }
+    requires fits { len_with head.old.image (loaded_unit object.now) ≤ limit }
+    ensures valid { OnOk result (IsHeadValue head.new) }
+    ensures head { OnOk result (head.new ≡ with_unit_end head.old 0 (loaded_unit object.now)) }
+    ensures index { OnOk result (IsAdded index.old.held object.now.key
+        (record { segment = head.old.id; at = length (text_of head.old.image) }) index.new.held) }
+    ensures err { OnErr result ((head.new ≡ head.old) × (index.new.held ≡ index.old.held)) }
+{
+    let place = Place {
+        segment: head.id(),
+        at: head.image().bytes().len(),
+    };
+    index.reserve(1)?;
+    let entry = object_of(&object.key, object.version, &object.value);
+    match head.append(&[entry], 0, limit) {
+        Ok(()) => {}
+        Err(AppendFault::Full) => unreachable!(),
+        Err(AppendFault::NoMemory) => return Err(NoMemory),
+    }
+    let hash = hash_key(&object.key.view());
+    index.insert(Held { hash, place });
+    index.settle();
+    Ok(())
+}

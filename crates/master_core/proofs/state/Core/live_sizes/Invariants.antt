@@ -1,8 +1,0 @@
-use Rattle.std.proofs.Common.{◌≡◌, ◌++◌, drop, map}
-use Rattle.master_core.specs.Sizes.{size_of, live_closed}
-use Rattle.master_core.proofs.state.Core.live_sizes.Given as goal
-
-abbrev pub invariant-loop-image : goal.invariant-loop-image
-invariant-loop-image l =
-    l.sizes.items ++ map size_of (live_closed l.self.index (drop l.image-index l.image-items))
-    ≡ map size_of (live_closed l.self.index l.image-items)

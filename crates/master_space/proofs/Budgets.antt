@@ -1,0 +1,33 @@
+-- What a core counts, and what is left.
+use Rattle.std.proofs.Common.{ℕ, ◌+◌, ◌-◌, ◌≤◌, arith}
+use Rattle.std.specs.Prelude.{Option, Some, None, IsSome, sum_by}
+use Rattle.std.specs.Option.{option_map_or}
+use Rattle.images.specs.declared.image.Image.{Image}
+use Rattle.images.specs.Images.{ImagesValue, count_of, free_seglets}
+use Rattle.log_head.specs.declared.head.Roll.{Roll}
+use Rattle.master_state.specs.declared.config.Config.{Config}
+use Rattle.master_state.specs.Budget.{whole_seglets, seglets_of}
+use Rattle.master_state.specs.Data.{MasterData}
+use Rattle.master_state.specs.Invariant.{IsCore, AreImagesOf}
+
+-- what the closed segments count
+abbrev pub closed_seglets : MasterData → ℕ
+closed_seglets d = sum_by (count_of d.config.segment d.config.seglet) d.closed
+
+-- while a roll is under way the old head's seglets are free for it when it is closed
+pub closing_fits : (d : MasterData) → IsCore d → IsSome d.head.roll
+    → seglets_of d.config d.head.image ≤ d.config.seglets - closed_seglets d
+closing_fits d core some = go d.head.roll some core.budget where
+  go : (o : Option Roll) → IsSome o
+      → option_map_or (λ (r : Roll). seglets_of d.config d.head.image + whole_seglets d.config) o
+      (whole_seglets d.config) + closed_seglets d
+      ≤ d.config.seglets
+      → seglets_of d.config d.head.image ≤ d.config.seglets - closed_seglets d
+  go None is le = absurd (cc)
+  go (Some r) is le = omega arith
+
+-- images that are counted by the configuration's sizes
+pub free_again : (c : Config) (v : ImagesValue) (x : Image) → AreImagesOf c v
+    → count_of c.segment c.seglet x ≤ c.seglets - sum_by (count_of c.segment c.seglet) v.images
+    → count_of v.segment v.seglet x ≤ free_seglets v
+free_again c v x are le = rw (are.segment, are.seglet, are.seglets) le

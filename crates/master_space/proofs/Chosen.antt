@@ -1,0 +1,263 @@
+-- Which segments may be chosen, by a walk over the closed ones.
+use Rattle.std.proofs.Common.{◌≡◌, ℕ, ◌+◌, ◌-◌, ◌<◌, ◌≤◌, Bool, true, false, cond, List, [], ◌∷◌, ◌++◌, map, length}
+use Rattle.std.proofs.Common.{take, drop, get_or, refl, sym, ap, subst, ◌∙◌, inl, inr, add-one, drop-cons, arith}
+use Rattle.std.specs.Prelude.{Option, Some, None, IfSome, unwrap_or, filter, not, nat_lt, ◌==◌, ◌||◌, if◌then◌else◌}
+use Rattle.std.specs.List.{AllByRecursion}
+use Rattle.std.specs.Option.{option_map_or}
+use Rattle.entry.specs.declared.entry.Entry.{Entry}
+use Rattle.entry.specs.Bag.{IsAmong}
+use Rattle.entry.specs.Text.{text_of, is_data}
+use Rattle.entry.proofs.BagLemmas.{among_image}
+use Rattle.entry.proofs.ListLemmas.{all_among, all_from_among}
+use Rattle.cleaner.specs.declared.pass.Pass.{Pass}
+use Rattle.compactor.specs.Kept.{has_id, kept_of}
+use Rattle.images.specs.declared.image.Image.{Image}
+use Rattle.images.specs.Sorted.{AreRising, segment_of}
+use Rattle.log_head.specs.declared.head.Roll.{Roll}
+use Rattle.log_head.specs.Log.{head_of}
+use Rattle.log_head.proofs.RollLog.{digest_is}
+use Rattle.log_model.specs.Ids.{has, inserted, all_inserted}
+use Rattle.master_space.specs.declared.candidates.Candidate.{Candidate}
+use Rattle.master_state.specs.Budget.{survivors_of}
+use Rattle.master_state.specs.Causes.{is_head}
+use Rattle.master_space.specs.Choosing.{placed, sorted, older_ids, kept_bytes, candidates}
+use Rattle.master_state.specs.Data.{MasterData}
+use Rattle.master_state.specs.Invariant.{IsCore, IsRollOf, IsOpenPass}
+use Rattle.master_state.specs.Log.{log_set_ids, images_of}
+use Rattle.master_state.proofs.Imaging.{same_id, other_id}
+use Rattle.master_state.proofs.Naming.{among_inserted}
+use Rattle.master_space.proofs.Ordering.{best_placed}
+use Rattle.master_space.proofs.PassIds.{IsNotNew, closed_only, others, others_below}
+
+-- ---- the walk
+
+-- what a closed segment keeps
+abbrev pub candidate_of : MasterData → Image → Candidate
+candidate_of d c =
+    record { id = c.id; kept = length (text_of (filter is_data (kept_of (log_set_ids d) d.index c.id c.segment))) }
+
+-- the candidates among some closed segments: all but the survivor
+abbrev pub of_images : MasterData → List Image → List Candidate
+of_images d [] = []
+of_images d (c ∷ cs) = if has_id (survivors_of d.pass) c.id then of_images d cs else candidate_of d c ∷ of_images d cs
+
+-- the best of those from a place on
+abbrev pub best_from : MasterData → List Image → ℕ → List Candidate
+best_from d cs i = take 8 (sorted (of_images d (drop i cs)))
+
+-- one more of them, a place before
+module _ (d : MasterData) (cs : List Image) (i : ℕ) (z : Image) (lt : i < length cs) where
+  abbrev c : Image
+  c = get_or cs i z
+
+  split : drop i cs ≡ c ∷ drop (i + 1) cs
+  split = rw add-one (drop-cons cs i z lt)
+
+  best_passed : has_id (survivors_of d.pass) c.id ≡ true → best_from d cs (i + 1) ≡ best_from d cs i
+  best_passed is =
+      ap (λ (b : Bool). take 8 (sorted (cond b (of_images d (drop (i + 1) cs))
+      (candidate_of d c ∷ of_images d (drop (i + 1) cs))))) (sym is)
+      ∙ ap (λ (xs : List Image). take 8 (sorted (of_images d xs))) (sym split)
+
+  best_with : has_id (survivors_of d.pass) c.id ≡ false → take 8 (placed (candidate_of d c) (best_from d cs (i + 1)))
+      ≡ best_from d cs i
+  best_with isnt =
+      best_placed 8 (candidate_of d c) (sorted (of_images d (drop (i + 1) cs)))
+      ∙ ap (λ (b : Bool). take 8 (sorted (cond b (of_images d (drop (i + 1) cs))
+      (candidate_of d c ∷ of_images d (drop (i + 1) cs))))) (sym isnt)
+      ∙ ap (λ (xs : List Image). take 8 (sorted (of_images d xs))) (sym split)
+
+-- nothing is taken at the end
+pub best_end : (d : MasterData) (cs : List Image) → best_from d cs (length cs) ≡ []
+best_end d cs = ap (λ (xs : List Image). take 8 (sorted (of_images d xs))) (none_left cs) where
+  none_left : (xs : List Image) → drop (length xs) xs ≡ []
+  none_left [] = refl
+  none_left (x ∷ xs) = none_left xs
+
+-- a walk from the end
+module _ (d : MasterData) (cs : List Image) (n : ℕ) (z : Image) (some : 0 < n) (le : n ≤ length cs)
+    (at : z ≡ get_or cs (n - 1) z) where
+  again : (n - 1) + 1 ≡ n
+  again = omega arith
+
+  pub walk_passed : has_id (survivors_of d.pass) z.id ≡ true → best_from d cs n ≡ best_from d cs (n - 1)
+  walk_passed is =
+      ap (best_from d cs) (sym again)
+      ∙ best_passed d cs (n - 1) z (omega arith) (subst (λ (x : Image). has_id (survivors_of d.pass) x.id ≡ true) at is)
+
+  pub walk_placed : (x : Candidate) → x ≡ candidate_of d z → has_id (survivors_of d.pass) z.id ≡ false
+      → take 8 (placed x (best_from d cs n)) ≡ best_from d cs (n - 1)
+  walk_placed x is isnt =
+      (λ i. take 8 (placed ((is ∙ ap (candidate_of d) at) i) (best_from d cs (sym again i))))
+      ∙ best_with d cs (n - 1) z (omega arith) (subst (λ (y : Image). has_id
+      (survivors_of d.pass) y.id ≡ false) at isnt)
+
+-- ---- which they are
+
+-- each closed segment is found by its id
+each_found : (cs : List Image) → AreRising cs → AllByRecursion (λ (c : Image). segment_of cs c.id ≡ Some c.segment) cs
+each_found [] rising = tt
+each_found (c ∷ cs) rising = (
+  (let own = same_id c.id in rw own refl),
+  all_from_among (λ (x : Image). segment_of (c ∷ cs) x.id ≡ Some x.segment) cs (λ x m. (
+      let lt = all_among (λ (y : Image). c.id < y.id) cs x rising.0 m in
+      let away : (c.id == x.id) ≡ false = other_id c.id x.id (λ same. omega arith) in
+      let found = all_among (λ (y : Image). segment_of cs y.id ≡ Some y.segment) cs x (each_found cs rising.1) m in
+      rw away found)),
+)
+
+-- ids without the survivor's
+module _ (s : ℕ) where
+  abbrev test : ℕ → Bool
+  test id = not (has_id (s ∷ []) id)
+
+  or_false : (t : Bool) → (t || false) ≡ t
+  or_false true = refl
+  or_false false = refl
+
+  none_out : (ids : List ℕ) → has ids s ≡ false → filter (λ (id : ℕ). not (has_id (s ∷ []) id)) ids ≡ ids
+  none_out [] out = refl
+  none_out (z ∷ ids) out = go (z == s) refl out (none_out ids)
+    where
+      go : (t : Bool) → (z == s) ≡ t → (t || has ids s) ≡ false
+          → (has ids s ≡ false → filter (λ (id : ℕ). not (has_id (s ∷ []) id)) ids ≡ ids)
+          → filter (λ (id : ℕ). not (has_id (s ∷ []) id)) (z ∷ ids) ≡ z ∷ ids
+      go true is never rest = absurd (cc)
+      go false is later rest =
+          let away : (s == z) ≡ false = other_id s z (λ same. (
+          let own = same_id z in let here : (z == s) ≡ true = ap (λ (x : ℕ). z == x) same ∙ own in cc)) in
+          rw away (ap (λ (xs : List ℕ). z ∷ xs) (rest later))
+
+  pub survivor_out : (ids : List ℕ) → has ids s ≡ false → filter (λ (id : ℕ). not (has_id (s ∷ []) id))
+      (inserted s ids) ≡ ids
+  survivor_out [] out = let own = same_id s in rw own refl
+  survivor_out (z ∷ ids) out = go (nat_lt s z) (survivor_out ids)
+    where
+      front : filter (λ (id : ℕ). not (has_id (s ∷ []) id)) (s ∷ z ∷ ids) ≡ z ∷ ids
+      front = let own = same_id s in rw own (none_out (z ∷ ids) out)
+
+      later : (z == s) ≡ false → has ids s ≡ false → filter (λ (id : ℕ). not (has_id (s ∷ []) id))
+          (inserted s ids) ≡ ids
+          → filter (λ (id : ℕ). not (has_id (s ∷ []) id)) (z ∷ inserted s ids) ≡ z ∷ ids
+      later isnt out rest =
+          let away : (s == z) ≡ false = other_id s z (λ same. (
+          let own = same_id z in let here : (z == s) ≡ true = ap (λ (x : ℕ). z == x) same ∙ own in cc)) in
+          rw away (ap (λ (xs : List ℕ). z ∷ xs) rest)
+
+      parts : (t : Bool) → (z == s) ≡ t → (t || has ids s) ≡ false → ((z == s) ≡ false) × (has ids s ≡ false)
+      parts true is never = absurd (cc)
+      parts false is out = (is, out)
+
+      go : (b : Bool) → (has ids s ≡ false → filter (λ (id : ℕ). not (has_id (s ∷ []) id)) (inserted s ids) ≡ ids)
+          → filter (λ (id : ℕ). not (has_id (s ∷ []) id)) (cond b (s ∷ z ∷ ids) (z ∷ inserted s ids)) ≡ z ∷ ids
+      go true rest = front
+      go false rest = let both = parts (z == s) refl out in later both.0 both.1 (rest both.1)
+
+all_stay : (ids : List ℕ) → filter (λ (id : ℕ). not (has_id [] id)) ids ≡ ids
+all_stay [] = refl
+all_stay (z ∷ ids) = ap (λ (xs : List ℕ). z ∷ xs) (all_stay ids)
+
+module _ (d : MasterData) (core : IsCore d) (rising : AreRising d.closed) where
+  -- the closed segments but the survivor are the older ones of the digest
+  closed_others : filter (λ (id : ℕ). not (has_id (survivors_of d.pass) id))
+      (map (λ (c : Image). c.id) d.closed) ≡ others d core
+  closed_others = ap (filter (λ (id : ℕ). not (has_id (survivors_of d.pass) id))) core.closed
+      ∙ go d.pass core.pass where
+        go : (o : Option Pass) → IfSome o (IsOpenPass d)
+            → filter (λ (id : ℕ). not (has_id (survivors_of o) id))
+            (all_inserted (survivors_of o) (others d core)) ≡ others d core
+        go None opened = all_stay (others d core)
+        go (Some p) opened = survivor_out p.survivor (others d core)
+            (front (others d core) opened.survivor.outside) where
+              front : (ids : List ℕ) → has (ids ++ (head_of d.head).start.id ∷ []) p.survivor ≡ false
+                  → has ids p.survivor ≡ false
+              front [] out = refl
+              front (z ∷ ids) out = by (z == p.survivor) out (front ids) where
+                by : (t : Bool) → (t || has (ids ++ (head_of d.head).start.id ∷ []) p.survivor) ≡ false
+                    → (has (ids ++ (head_of d.head).start.id ∷ []) p.survivor ≡ false → has ids p.survivor ≡ false)
+                    → (t || has ids p.survivor) ≡ false
+                by true out rest = absurd (cc)
+                by false out rest = rest out
+
+  no_head : (s : ℕ) → s < d.head.id → is_head d.head s ≡ false
+  no_head s lt = let away : (d.head.id == s) ≡ false = other_id d.head.id s (λ same. omega arith) in
+      rw away (go d.head.roll core.roll)
+    where
+      go : (o : Option Roll) → IfSome o (IsRollOf d) → option_map_or (λ (r : Roll). r.id == s) o false ≡ false
+      go None rolls = refl
+      go (Some r) rolls = let newer = rolls.newer in other_id r.id s (λ same. omega arith)
+
+  not_new : (s : ℕ) → s < d.head.id → IsNotNew d.head.roll s
+  not_new s lt = go d.head.roll core.roll where
+    go : (o : Option Roll) → IfSome o (IsRollOf d) → IsNotNew o s
+    go None rolls = tt
+    go (Some r) rolls = let newer = rolls.newer in other_id r.id s (λ same. omega arith)
+
+  older_are : older_ids d ≡ others d core
+  older_are =
+      ap (filter (λ (id : ℕ). not (is_head d.head id))) (digest_is d.config.master d.head (head_of d.head) core.image)
+      ∙ front (others d core) (others_below d core)
+    where
+      front : (ids : List ℕ) → AllByRecursion (λ (id : ℕ). id < d.head.id) ids
+          → filter (λ (id : ℕ). not (is_head d.head id)) (ids ++ (head_of d.head).start.id ∷ []) ≡ ids
+      front [] all =
+          let own : (d.head.id == (head_of d.head).start.id) ≡ true =
+          ap (λ (z : ℕ). d.head.id == z) core.image.id ∙ same_id d.head.id in rw own refl
+      front (z ∷ ids) all =
+          let away = no_head z all.0 in rw away (ap (λ (xs : List ℕ). z ∷ xs) (front ids all.1))
+
+  -- what memory has of a segment that isn't the survivor
+  kept_is : (c : Image) → IsAmong c d.closed → has_id (survivors_of d.pass) c.id ≡ false
+      → kept_bytes d c.id ≡ (candidate_of d c).kept
+  kept_is c m away =
+      ap (λ (es : List Entry). length (text_of (filter is_data (kept_of (log_set_ids d) d.index c.id es)))) image
+    where
+      among_older : (o : Option Pass) → IsAmong c.id (all_inserted (survivors_of o) (others d core))
+          → has_id (survivors_of o) c.id ≡ false
+          → IsAmong c.id (others d core)
+      among_older None among away = among
+      among_older (Some p) among away = elim (among_inserted p.survivor c.id
+          (others d core) among) as (λ _. IsAmong c.id (others d core)) [
+            | inl same ↦ (
+                let own = same_id c.id in
+                let here : (p.survivor == c.id) ≡ true = ap (λ (z : ℕ). z == c.id) same ∙ own in
+                let there : has_id (p.survivor ∷ []) c.id ≡ true = rw here refl in
+                absurd (cc))
+            | inr older ↦ older
+          ]
+
+      below : c.id < d.head.id
+      below =
+          all_among (λ (id : ℕ). id < d.head.id) (others d core) c.id (others_below d core)
+          (among_older d.pass
+          (subst (λ (ids : List ℕ). IsAmong c.id ids) core.closed
+          (among_image (λ (x : Image). x.id) d.closed c m)) away)
+
+      image : images_of d c.id ≡ c.segment
+      image =
+          closed_only d c.id (other_id d.head.id c.id (λ same. omega (arith, below))) (not_new c.id below) d.closed
+          ∙ ap (λ (o : Option (List Entry)). unwrap_or o [])
+          (all_among (λ (x : Image). segment_of d.closed x.id ≡ Some x.segment) d.closed c
+          (each_found d.closed rising) m)
+
+  pub candidates_are : candidates d ≡ of_images d d.closed
+  candidates_are =
+      ap (map (λ (id : ℕ). record { id = id; kept = kept_bytes d id })) (older_are ∙ sym closed_others)
+      ∙ each d.closed (λ c m. m)
+    where
+      one : (t : Bool) (c : Image) (ids : List ℕ) (xs : List Candidate)
+          → (t ≡ false → kept_bytes d c.id ≡ (candidate_of d c).kept)
+          → map (λ (id : ℕ). record { id = id; kept = kept_bytes d id }) ids ≡ xs
+          → map (λ (id : ℕ). record { id = id; kept = kept_bytes d id }) (cond (not t) (c.id ∷ ids) ids)
+          ≡ cond t xs (candidate_of d c ∷ xs)
+      one true c ids xs kept later = later
+      one false c ids xs kept later = λ i. record { id = c.id; kept = kept refl i } ∷ later i
+
+      each : (cs : List Image) → ((c : Image) → IsAmong c cs → IsAmong c d.closed)
+          → map (λ (id : ℕ). record { id = id; kept = kept_bytes d id })
+          (filter (λ (id : ℕ). not (has_id (survivors_of d.pass) id)) (map (λ (c : Image). c.id) cs)) ≡ of_images d cs
+      each [] among = refl
+      each (c ∷ cs) among =
+          one (has_id (survivors_of d.pass) c.id) c
+          (filter (λ (id : ℕ). not (has_id (survivors_of d.pass) id)) (map (λ (x : Image). x.id) cs)) (of_images d cs)
+          (λ away. kept_is c (among c (inl refl)) away) (each cs (λ x m. among x (inr m)))

@@ -1,0 +1,274 @@
+-- The roll of a commit ends, and its pass with it: what a core keeps.
+use Rattle.std.proofs.Common.{◌≡◌, ℕ, ◌<◌, ◌≤◌, Bool, true, false, List, [], ◌∷◌, length, refl, sym, ap, subst, ◌∙◌}
+use Rattle.std.proofs.Common.{arith}
+use Rattle.std.specs.Prelude.{Option, Some, None, IfSome, ◌==◌, ◌%◌, unwrap_or, sum_by, if◌then◌else◌}
+use Rattle.std.specs.List.{AllByRecursion}
+use Rattle.std.specs.Option.{option_map}
+use Rattle.std.proofs.lemmas.Bool.{eqb-true, and_parts}
+use Rattle.std.proofs.lemmas.List.Sums.{sum_by-cons}
+use Rattle.cleaner.specs.declared.pass.Pass.{Pass}
+use Rattle.cleaner.specs.Passes.{images_in, rest_of, AreVictims as AreOlder}
+use Rattle.cleaner.proofs.Ends.{end_none}
+use Rattle.compactor.specs.Places.{LiesAt, object_in, keys_in}
+use Rattle.entry.specs.declared.entry.Entry.{Entry}
+use Rattle.entry.specs.declared.entry.Entry.TheVariants as entry
+use Rattle.entry.specs.declared.entry.Object.{Object}
+use Rattle.entry.specs.declared.key.Key.{Key}
+use Rattle.entry.specs.Bag.{IsAmong}
+use Rattle.entry.specs.Meaning.{Versioned, Contents, object_at}
+use Rattle.entry.specs.Text.{text_of, IsSegment}
+use Rattle.hash_index.specs.declared.place.Held.{Held}
+use Rattle.hash_index.specs.declared.place.Place.{Place}
+use Rattle.hash_index.specs.Map.{found, IsTold}
+use Rattle.hash_index.proofs.Again.{kept_again, found_again}
+use Rattle.hash_index.proofs.Each.{each_found}
+use Rattle.images.specs.declared.image.Image.{Image}
+use Rattle.images.specs.Images.{count_of}
+use Rattle.images.specs.Sorted.{segment_of, changed}
+use Rattle.images.specs.Steps.{trimmed}
+use Rattle.images.proofs.Counts.{within_whole}
+use Rattle.images.proofs.Finding.{ids_changed}
+use Rattle.log_head.specs.declared.head.Roll.{Roll}
+use Rattle.log_head.specs.Head.{IsHeadValue}
+use Rattle.log_head.specs.Log.{head_of, start_of}
+use Rattle.log_head.specs.Steps.{in_force}
+use Rattle.log_model.specs.Data.{ids_of}
+use Rattle.log_model.specs.Ids.{has, inserted, all_inserted, without}
+use Rattle.master_state.specs.Budget.{used_seglets, survivors_of}
+use Rattle.master_state.specs.Data.{MasterData}
+use Rattle.master_state.specs.Images.{new_image_or, staying}
+use Rattle.master_state.specs.Index.{LiesFound}
+use Rattle.master_state.specs.Invariant.{IsOpenPass, IsCore, NameBelow, listed_now, listed_with}
+use Rattle.master_state.specs.Log.{image_of as image_now, images_of, find, state_now}
+use Rattle.master_state.specs.Steps.{pass_ended}
+use Rattle.master_space.proofs.RollEnds.{rolls_of, closed_ids, closed_segments, closed_images, closed_used, same_in}
+use Rattle.master_space.proofs.RollEnds.{old_closed, ended}
+use Rattle.master_state.proofs.Imaging.{ids_in, other_id}
+use Rattle.master_state.proofs.Indexing.{Indexes}
+use Rattle.master_space.proofs.Leaving.{staying_ids, staying_all, staying_sum, stays_found, leaves_gone}
+use Rattle.master_state.proofs.LogIds.{rises, apart}
+use Rattle.master_state.proofs.Passing.{has_among, victim_below}
+use Rattle.master_state.proofs.Refusals.{sizes_of}
+use Rattle.master_state.proofs.Rising.{Rise, has_not, rise_put, rise_left, without_put}
+
+-- ---- the survivor is trimmed
+
+trimmed_segment : (cs : List Image) (id s : ℕ) → segment_of (changed cs id trimmed) s ≡ segment_of cs s
+trimmed_segment [] id s = refl
+trimmed_segment (c ∷ cs) id s = go (c.id == id) refl (c.id == s) refl (trimmed_segment cs id s) where
+  go : (t : Bool) → (c.id == id) ≡ t → (u : Bool) → (c.id == s) ≡ u
+      → segment_of (changed cs id trimmed) s ≡ segment_of cs s
+      → segment_of (changed (c ∷ cs) id trimmed) s ≡ segment_of (c ∷ cs) s
+  go true is true here later = rw (is, here) refl
+  go true is false away later = rw (is, away) later
+  go false is true here later = rw (is, here) refl
+  go false is false away later = rw (is, away) later
+
+trimmed_all : (cs : List Image) (id : ℕ) → AllByRecursion (λ (c : Image). IsSegment c.segment) cs
+    → AllByRecursion (λ (c : Image). IsSegment c.segment) (changed cs id trimmed)
+trimmed_all [] id all = tt
+trimmed_all (c ∷ cs) id all = go (c.id == id) refl (trimmed_all cs id all.1) where
+  go : (t : Bool) → (c.id == id) ≡ t → AllByRecursion (λ (x : Image). IsSegment x.segment) (changed cs id trimmed)
+      → AllByRecursion (λ (x : Image). IsSegment x.segment) (changed (c ∷ cs) id trimmed)
+  go true is later = rw is (all.0, later)
+  go false is later = rw is (all.0, later)
+
+trimmed_none : (cs : List Image) (id : ℕ) → AllByRecursion (λ (z : ℕ). id < z) (ids_in cs) → changed cs id trimmed ≡ cs
+trimmed_none [] id all = refl
+trimmed_none (c ∷ cs) id all =
+    let lt = all.0 in
+    let away = other_id c.id id (λ (same : c.id ≡ id). omega arith) in
+    rw away (ap (λ (xs : List Image). c ∷ xs) (trimmed_none cs id all.1))
+
+-- it counts no more than before
+module _ (segment seglet : ℕ) (some : 0 < seglet) (multiple : segment % seglet ≡ 0) where
+  trimmed_count : (c : Image) → length (text_of c.segment) ≤ segment
+      → count_of segment seglet (trimmed c) ≤ count_of segment seglet c
+  trimmed_count c le = go c.is_whole refl where
+    go : (t : Bool) → c.is_whole ≡ t → count_of segment seglet (trimmed c) ≤ count_of segment seglet c
+    go true is = rw is (within_whole segment seglet (length (text_of c.segment)) some multiple le)
+    go false is = rw is (omega arith)
+
+  trimmed_sum : (cs : List Image) (id : ℕ) → Rise (ids_in cs) → length (text_of (images_in cs id)) ≤ segment
+      → sum_by (count_of segment seglet) (changed cs id trimmed) ≤ sum_by (count_of segment seglet) cs
+  trimmed_sum [] id rise le = omega arith
+  trimmed_sum (c ∷ cs) id rise le = go (c.id == id) refl (trimmed_sum cs id rise.1) where
+    go : (t : Bool) → (c.id == id) ≡ t
+        → (length (text_of (images_in cs id)) ≤ segment → sum_by (count_of segment seglet) (changed cs id trimmed)
+        ≤ sum_by (count_of segment seglet) cs)
+        → sum_by (count_of segment seglet) (changed (c ∷ cs) id trimmed) ≤ sum_by (count_of segment seglet) (c ∷ cs)
+    go true is later =
+        let own : length (text_of c.segment) ≤ segment = rw is at le in
+        let less = trimmed_count c own in
+        let same : c.id ≡ id = eqb-true c.id id is in
+        let above = subst (λ (n : ℕ). AllByRecursion (λ (z : ℕ). n < z) (ids_in cs)) same rise.0 in
+        let rest : changed cs id trimmed ≡ cs = trimmed_none cs id above in
+        let whole = sum_by-cons (count_of segment seglet) c cs in
+        let after = sum_by-cons (count_of segment seglet) (trimmed c) cs in
+        rw (is, rest) (omega arith)
+    go false is later =
+        let rest : length (text_of (images_in cs id)) ≤ segment = rw is at le in
+        let less = later rest in
+        let whole = sum_by-cons (count_of segment seglet) c cs in
+        let after = sum_by-cons (count_of segment seglet) c (changed cs id trimmed) in
+        rw is (omega arith)
+
+-- ---- an index of images that stay where it leads
+
+module _ (images others : ℕ → List Entry) (hs : List Held) (contents : Contents) (index : Indexes images hs contents)
+    (same : (k : Key) (q : Place) → found (keys_in images) k hs ≡ Some q → others q.segment ≡ images q.segment) where
+  key_same : (q : Place) → others q.segment ≡ images q.segment → keys_in others q ≡ keys_in images q
+  key_same q is = ap (λ (image : List Entry). option_map (λ (o : Object). o.key) (object_in image q.at)) is
+
+  again : AllByRecursion (λ (h : Held). keys_in others h.place ≡ keys_in images h.place) hs
+  again = go hs index.kept.told (each_found (keys_in images) hs index.kept.apart) where
+    go : (rest : List Held) → AllByRecursion (IsTold (keys_in images)) rest
+        → AllByRecursion (λ (h : Held). (k : Key) → keys_in images h.place ≡ Some k
+        → found (keys_in images) k hs ≡ Some h.place) rest
+        → AllByRecursion (λ (h : Held). keys_in others h.place ≡ keys_in images h.place) rest
+    go [] told at = tt
+    go (h ∷ rest) told at = (key_same h.place (same told.0.0 h.place (at.0 told.0.0 told.0.1)), go rest told.1 at.1)
+
+  lies_there : (k : Key) (o : Option Place) (x : Option Versioned)
+      → ((q : Place) → o ≡ Some q → others q.segment ≡ images q.segment)
+      → LiesFound images k o x → LiesFound others k o x
+  lies_there k None None at lies = tt
+  lies_there k None (Some x) at lies = absurd lies
+  lies_there k (Some q) None at lies = absurd lies
+  lies_there k (Some q) (Some x) at lies = subst (λ (image : List Entry). LiesAt image q.at (object_at k x))
+      (sym (at q refl)) lies
+
+  pub stays_indexed : Indexes others hs contents
+  stays_indexed = record {
+    kept = kept_again (keys_in images) (keys_in others) hs index.kept again;
+    lies = λ k. subst (λ (o : Option Place). LiesFound others k o (contents k))
+        (sym (found_again (keys_in images) (keys_in others) hs again k))
+        (lies_there k (found (keys_in images) k hs) (contents k) (same k) (index.lies k));
+  }
+
+-- ---- the pass ends
+
+module _ (d : MasterData) (core : IsCore d) (r : Roll) (is : d.head.roll ≡ Some r) (p : Pass) (own : IsOpenPass d p)
+    (there : d.pass ≡ Some p) (commits : p.is_committing ≡ true) where
+  abbrev g : MasterData
+  g = old_closed d core r is
+
+  abbrev f : MasterData
+  f = pass_ended p g
+
+  ready : rest_of (images_in d.closed) p ≡ []
+  ready = end_none (images_in d.closed) p (and_parts _ _ (own.commits commits).1).0
+
+  out : d.head.id ≡ p.survivor → ⊥
+  out = (subst (λ (o : Option Pass). IfSome o (λ (q : Pass). (has (head_of d.head).start.others q.survivor ≡ false)
+      × (d.head.id ≡ q.survivor → ⊥))) there
+      (apart d core)).1
+
+  stays : has p.victims p.survivor ≡ false
+  stays = has_not (λ (s : ℕ). s < p.survivor) p.victims p.survivor (each p.victims own.pass.victims)
+      (λ lt. omega arith) where
+        each : (vs : List ℕ) → AreOlder d.closed p.survivor vs → AllByRecursion (λ (s : ℕ). s < p.survivor) vs
+        each [] all = tt
+        each (v ∷ vs) all = (all.0.1, each vs all.1)
+
+  g_ids : ids_in g.closed ≡ inserted p.survivor (ids_of (head_of d.head).start)
+  g_ids = closed_ids d core r is ∙ ap (λ (o : Option Pass). all_inserted (survivors_of o)
+      (ids_of (head_of d.head).start)) there
+
+  listed_is : (start_of r).others ≡ inserted p.survivor (without p.victims (ids_of (head_of d.head).start))
+  listed_is =
+      (rolls_of d core r is).lists
+      ∙ ap (λ (o : Option Pass). listed_now (record d { pass = o })) there
+      ∙ ap (λ (b : Bool). if b then listed_with d p.victims (p.survivor ∷ [])
+      else ids_of (head_of d.head).start) commits
+
+  ids_then : ids_in f.closed ≡ (start_of r).others
+  ids_then =
+      ids_changed p.survivor trimmed (λ c. refl) (staying p.victims g.closed)
+      ∙ staying_ids p.victims g.closed
+      ∙ ap (without p.victims) g_ids
+      ∙ without_put p.victims p.survivor (ids_of (head_of d.head).start) stays (rises d core)
+      ∙ sym listed_is
+
+  -- ---- images
+
+  closed_then : (s : ℕ) → segment_of f.closed s ≡ segment_of (staying p.victims g.closed) s
+  closed_then s = trimmed_segment (staying p.victims g.closed) p.survivor s
+
+  -- a victim has no image any more
+  pub image_gone : (s : ℕ) → has p.victims s ≡ true → image_now f s ≡ None
+  image_gone s victim =
+      let lt = victim_below d core p own s (has_among p.victims s victim) in
+      let newer = (rolls_of d core r is).newer in
+      let away = other_id r.id s (λ same. omega arith) in
+      let none : segment_of f.closed s ≡ None =
+      closed_then s ∙ ap (option_map (λ (c : Image). c.segment)) (leaves_gone p.victims s g.closed victim) in
+      rw away none
+
+  -- any other segment has the same
+  pub image_stays : (s : ℕ) → has p.victims s ≡ false → image_now f s ≡ image_now d s
+  image_stays s other =
+      ap (λ (o : Option (List Entry)). if r.id == s then Some r.image else new_image_or None s o)
+      (closed_then s ∙ ap (option_map (λ (c : Image). c.segment)) (stays_found p.victims s g.closed other))
+      ∙ closed_images d core r is s
+
+  images_gone : (s : ℕ) → has p.victims s ≡ true → images_of f s ≡ []
+  images_gone s victim = ap (λ (o : Option (List Entry)). unwrap_or o []) (image_gone s victim)
+
+  images_stay : (s : ℕ) → has p.victims s ≡ false → images_of f s ≡ images_of d s
+  images_stay s other = ap (λ (o : Option (List Entry)). unwrap_or o []) (image_stays s other)
+
+  named_then : NameBelow (images_of f) d.next
+  named_then s t m = go (has p.victims s) refl where
+    go : (b : Bool) → has p.victims s ≡ b → t.segment < d.next
+    go true victim = absurd (subst (λ (image : List Entry). IsAmong (entry.Tombstone t) image) (images_gone s victim) m)
+    go false other = core.named s t (subst (λ (image : List Entry). IsAmong (entry.Tombstone t) image)
+        (images_stay s other) m)
+
+  -- nothing that the index finds is in a victim
+  found_stays : (k : Key) (q : Place) → find d k ≡ Some q → images_of f q.segment ≡ images_of d q.segment
+  found_stays k q finds = go (has p.victims q.segment) refl where
+    go : (b : Bool) → has p.victims q.segment ≡ b → images_of f q.segment ≡ images_of d q.segment
+    go true victim =
+        absurd (subst (λ (places : List Place). IsAmong q places) ready
+        (own.live k q finds (has_among p.victims q.segment victim)))
+    go false other = images_stay q.segment other
+
+  index_then : Indexes (images_of f) d.index (state_now d).contents
+  index_then =
+      stays_indexed (images_of d) (images_of f) d.index (state_now d).contents
+      (record { kept = core.index.kept; lies = core.index.lies }) found_stays
+
+  -- ---- seglets
+
+  survivor_text : length (text_of (images_in (staying p.victims g.closed) p.survivor)) ≤ d.config.segment
+  survivor_text =
+      let same : images_in (staying p.victims g.closed) p.survivor ≡ images_in d.closed p.survivor =
+      ap (λ (o : Option Image). unwrap_or (option_map (λ (c : Image). c.segment) o) [])
+      (stays_found p.victims p.survivor g.closed stays)
+      ∙ same_in d core r is p.survivor out in
+      let len = ap (λ (es : List Entry). length (text_of es)) same in
+      let fits = own.fits in
+      omega arith
+
+  budget_then : used_seglets f ≤ d.config.seglets
+  budget_then =
+      let sizes = sizes_of d.config core.config in
+      let least = sizes.least_seglet in
+      let rise : Rise (ids_in (staying p.victims g.closed)) =
+      subst Rise (sym (staying_ids p.victims g.closed))
+      (rise_left p.victims (ids_in g.closed) (subst Rise (sym g_ids)
+      (rise_put p.survivor (ids_of (head_of d.head).start) own.survivor.outside (rises d core)))) in
+      let trim = trimmed_sum d.config.segment d.config.seglet (omega arith) sizes.multiple
+      (staying p.victims g.closed) p.survivor rise survivor_text in
+      let less = staying_sum (count_of d.config.segment d.config.seglet) p.victims g.closed in
+      let used = closed_used d core r is in
+      let budget = core.budget in
+      omega arith
+
+  pub committed_core : IsHeadValue (in_force d.head r) → IsCore f
+  committed_core valid =
+      ended d core r is f.closed None f.waiting valid ids_then
+      (trimmed_all (staying p.victims g.closed) p.survivor
+      (staying_all (λ (c : Image). IsSegment c.segment) p.victims g.closed (closed_segments d core r is)))
+      budget_then tt named_then (let i = index_then in record { kept = i.kept; lies = i.lies; safe = core.index.safe })

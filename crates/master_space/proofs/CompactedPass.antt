@@ -1,0 +1,170 @@
+-- An open pass when a segment is compacted that is no part of it.
+use Rattle.std.proofs.Common.{◌≡◌, inl, inr, ℕ, ◌≤◌, ◌<◌, Bool, true, false, ◌==◌, ◌||◌, List, [], ◌∷◌, ◌++◌, refl, sym}
+use Rattle.std.proofs.Common.{ap, subst, ◌∙◌, if◌then◌else◌, arith}
+use Rattle.std.specs.Prelude.{Option, Some, None, IfSome, IsSome, IsSomeAnd, unwrap_or}
+use Rattle.std.specs.Option.{option_map, option_to_list}
+use Rattle.std.proofs.lemmas.Bool.{eqb-true}
+use Rattle.cleaner.specs.declared.pass.Pass.{Pass as OpenPass}
+use Rattle.cleaner.specs.Laws.{AreSameAt, KeepsNoMore}
+use Rattle.cleaner.specs.Passes.{images_in, rest_of, kept_left, IsPass}
+use Rattle.cleaner.proofs.Ends.{rest_same, cursor_agrees, rest_segment}
+use Rattle.cleaner.proofs.Keeping.{kept_no_more, kept_same}
+use Rattle.entry.specs.declared.entry.Entry.{Entry}
+use Rattle.entry.specs.Bag.{IsAmong}
+use Rattle.entry.proofs.BagLemmas.{among_images}
+use Rattle.entry.proofs.ListLemmas.{all_among, all_from_among}
+use Rattle.hash_index.specs.declared.place.Held.{Held}
+use Rattle.hash_index.specs.declared.place.Place.{Place}
+use Rattle.hash_index.specs.Relocation.{holds}
+use Rattle.images.specs.declared.image.Image.{Image}
+use Rattle.images.specs.Sorted.{segment_of}
+use Rattle.images.specs.Steps.{replaced_by}
+use Rattle.images.proofs.Finding.{other_changed}
+use Rattle.compactor.specs.Kept.{has_id, moved_at, moved_place}
+use Rattle.compactor.specs.Laws.{CompactionFollows}
+use Rattle.log_head.specs.declared.head.Roll.{Roll}
+use Rattle.master_state.specs.Budget.{used_seglets, victims_of, survivors_of}
+use Rattle.master_state.specs.Data.{MasterData}
+use Rattle.master_state.specs.Invariant.{IsCore, IsOpenPass}
+use Rattle.master_state.specs.Log.{images_of, log_set_ids}
+use Rattle.master_state.specs.Steps.{kept_now, compacted_data}
+use Rattle.master_space.proofs.CompactedCore.{IsAdmitted, no_survivor}
+use Rattle.master_space.proofs.CompactedIndex.{found_elsewhere}
+use Rattle.master_state.proofs.Holding.{held_among, among_held, kept_again}
+use Rattle.master_state.proofs.Imaging.{same_id}
+use Rattle.master_state.proofs.Passing.{GoesOn, goes_on}
+use Rattle.master_space.proofs.Replacing.{same_ids, changed_there}
+
+among_has : (ids : List ℕ) (s : ℕ) → IsAmong s ids → has_id ids s ≡ true
+among_has [] s m = absurd m
+among_has (z ∷ ids) s (inl same) =
+    let here : (z == s) ≡ true = ap (λ (y : ℕ). y == s) same ∙ same_id s in ap (λ (b : Bool). b || has_id ids s) here
+among_has (z ∷ ids) s (inr later) = go (z == s) (among_has ids s later) where
+  go : (b : Bool) → has_id ids s ≡ true → (b || has_id ids s) ≡ true
+  go true rest = refl
+  go false rest = rest
+
+module _ (follows : CompactionFollows) (d : MasterData) (core : IsCore d) (id : ℕ) (is : IsAdmitted d id)
+    (less : used_seglets (compacted_data d id) ≤ used_seglets d) where
+  abbrev e : MasterData
+  e = compacted_data d id
+
+  -- other images stay
+  stays : (s : ℕ) → (id ≡ s → ⊥) → images_in e.closed s ≡ images_in d.closed s
+  stays s other = ap (λ (o : Option (List Entry)). unwrap_or o []) (changed_there id (kept_now d id) d.closed s other)
+
+  ids_then : log_set_ids e ≡ log_set_ids d
+  ids_then =
+      ap (λ (ids : List ℕ). ids ++ d.head.id ∷ option_to_list (option_map (λ (r : Roll). r.id) d.head.roll))
+      (same_ids id (kept_now d id) d.closed)
+
+  module _ (p : OpenPass) (pass : IsOpenPass d p) (own : d.pass ≡ Some p) where
+    not_victim : (s : ℕ) → IsAmong s p.victims → id ≡ s → ⊥
+    not_victim s victim same =
+        let has = among_has p.victims id (subst (λ (z : ℕ). IsAmong z p.victims) (sym same) victim) in
+        let spared = ap (λ (o : Option OpenPass). has_id (victims_of o) id) (sym own) ∙ is.spared in
+        let never : true ≡ false = sym has ∙ spared in
+        cc
+
+    not_survivor : id ≡ p.survivor → ⊥
+    not_survivor same =
+        let away = ap (λ (o : Option OpenPass). has_id (survivors_of o) id) (sym own) ∙ no_survivor d core id is in
+        let here : (p.survivor == id) ≡ true = ap (λ (z : ℕ). z == id) (sym same) ∙ same_id id in
+        let never : true ≡ false = sym (ap (λ (b : Bool). b || false) here) ∙ away in
+        cc
+
+    same_at : AreSameAt (images_in d.closed) (images_in e.closed) p.victims
+    same_at s victim = stays s (not_victim s victim)
+
+    abbrev rest : List Place
+    rest = rest_of (images_in d.closed) p
+
+    -- what the index holds of another segment, it held before
+    held_elsewhere : (h : Held) → (id ≡ h.place.segment → ⊥) → holds e.index h ≡ true → holds d.index h ≡ true
+    held_elsewhere h other has =
+        let there = among_images (λ (g : Held). record g {
+          place = moved_place (log_set_ids d) d.index id
+              (images_of d id) g.place;
+        }) d.index h
+        (held_among e.index h has) in
+        go there.0 there.1 there.2 (there.0.place.segment == id) refl
+      where
+        go : (g : Held) → IsAmong g d.index → record g {
+          place = moved_place (log_set_ids d) d.index id
+              (images_of d id) g.place;
+        } ≡ h
+            → (t : Bool) → (g.place.segment == id) ≡ t → holds d.index h ≡ true
+        go g m goes true here =
+            let at : moved_place (log_set_ids d) d.index id (images_of d id) g.place
+            ≡ record g.place { at = moved_at (log_set_ids d) d.index id (images_of d id) g.place.at } =
+            ap (λ (b : Bool). if b then record g.place {
+              at = moved_at (log_set_ids d) d.index id
+                  (images_of d id) g.place.at;
+            } else g.place) here in
+            absurd (other (sym (eqb-true g.place.segment id here) ∙ sym (ap (λ (q : Place). q.segment) at)
+            ∙ ap (λ (x : Held). x.place.segment) goes))
+        go g m goes false away =
+            let at : moved_place (log_set_ids d) d.index id (images_of d id) g.place ≡ g.place =
+            ap (λ (b : Bool). if b then record g.place {
+              at = moved_at (log_set_ids d) d.index id
+                  (images_of d id) g.place.at;
+            } else g.place) away in
+            let same : g ≡ h = (λ i. record g { place = sym at i }) ∙ goes in
+            among_held d.index h (subst (λ (x : Held). IsAmong x d.index) same m)
+
+    keeps_no_more : KeepsNoMore (log_set_ids d) (log_set_ids d) d.index e.index (images_in d.closed) rest
+    keeps_no_more q x m stands keeps =
+        kept_again (log_set_ids d) d.index e.index q x
+        (λ h here has. held_elsewhere h
+        (λ same. not_victim q.segment (rest_segment (images_in d.closed) p q m)
+        (same ∙ ap (λ (r : Place). r.segment) here)) has) keeps
+
+    left_then : kept_left (log_set_ids e) e.index (images_in e.closed) rest
+        ≤ kept_left (log_set_ids d) d.index (images_in d.closed) rest
+    left_then =
+        subst (λ (n : ℕ). n ≤ kept_left (log_set_ids d) d.index (images_in d.closed) rest)
+        (sym (ap (λ (ids : List ℕ). kept_left ids e.index (images_in e.closed) rest) ids_then
+        ∙ kept_same (log_set_ids d) e.index (images_in d.closed) (images_in e.closed) rest
+        (λ q m. same_at q.segment (rest_segment (images_in d.closed) p q m))))
+        (kept_no_more (log_set_ids d) (log_set_ids d) d.index e.index (images_in d.closed) rest keeps_no_more)
+
+    pass_then : IsPass e.closed p
+    pass_then = record {
+      victims = all_from_among (λ (s : ℕ). IsSome (segment_of e.closed s) × (s < p.survivor)) p.victims
+          (λ s victim. (
+          let was = all_among (λ (z : ℕ). IsSome (segment_of d.closed z)
+          × (z < p.survivor)) p.victims s pass.pass.victims victim in (
+            subst (λ (o : Option (List Entry)). IsSome o)
+                (sym (changed_there id (kept_now d id) d.closed s (not_victim s victim))) was.0,
+            was.1,
+          )));
+      whole = subst (λ (o : Option Image). IsSomeAnd o (λ (c : Image). c.is_whole ≡ true))
+          (sym (other_changed id (replaced_by (kept_now d id)) (λ c. refl) p.survivor
+          (λ same. not_survivor (sym same)) d.closed))
+          pass.pass.whole;
+      within = pass.pass.within;
+      cursor = cursor_agrees (images_in d.closed) (images_in e.closed) p same_at pass.pass.cursor;
+    }
+
+    passes : GoesOn d e p
+    passes = record {
+      config = refl;
+      start = refl;
+      roll = pass.survivor.not_new;
+      next = omega arith;
+      pass = pass_then;
+      survivor = stays p.survivor not_survivor;
+      rest = rest_same (images_in d.closed) (images_in e.closed) p same_at;
+      left = left_then;
+      live = λ k q finds victim. found_elsewhere follows d core id is k q finds
+          (λ same. not_victim q.segment victim (sym same));
+      free = λ early. (let count = less in omega arith);
+      listed = λ early. omega arith;
+      rolls = λ commits some. some;
+    }
+
+  pub compacted_pass : IfSome d.pass (IsOpenPass (compacted_data d id))
+  compacted_pass = go d.pass refl core.pass where
+    go : (o : Option OpenPass) → d.pass ≡ o → IfSome o (IsOpenPass d) → IfSome o (IsOpenPass (compacted_data d id))
+    go None own pass = tt
+    go (Some p) own pass = goes_on d (compacted_data d id) p (passes p pass own) pass

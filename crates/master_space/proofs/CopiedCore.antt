@@ -1,0 +1,302 @@
+-- A core of whose pass one entry was treated.
+use Rattle.std.proofs.Common.{◌≡◌, ℕ, ◌<◌, Bool, true, false, List, [], ◌∷◌, ◌++◌, length, refl, sym, ap, subst, ◌∙◌}
+use Rattle.std.proofs.Common.{inl, inr, append_assoc, arith}
+use Rattle.std.specs.Prelude.{Option, Some, None, IfSome, unwrap_or, ◌==◌, ◌||◌, if◌then◌else◌}
+use Rattle.std.specs.List.{AllByRecursion}
+use Rattle.std.specs.Option.{option_map, option_map_or, option_to_list}
+use Rattle.std.proofs.lemmas.Bool.{eqb-true, and_parts}
+use Rattle.std.proofs.lemmas.List.{append-nil}
+use Rattle.entry.specs.declared.key.Key.{Key}
+use Rattle.entry.specs.declared.entry.Entry.{Entry}
+use Rattle.entry.specs.declared.entry.Entry.TheVariants as entry
+use Rattle.entry.specs.Bag.{IsAmong}
+use Rattle.entry.specs.Format.{IsEntry}
+use Rattle.entry.specs.Text.{text_of, is_data, IsSegment}
+use Rattle.entry.proofs.BagLemmas.{among_push}
+use Rattle.clean_model.specs.Intact.{BeginAsSurvivor, survivor_entries}
+use Rattle.cleaner.specs.declared.pass.Copied.{Copied}
+use Rattle.cleaner.specs.declared.pass.Pass.{Pass}
+use Rattle.cleaner.specs.Passes.{images_in, images_with, held_with, copy_place, rest_of, is_at_end, HasRoom, IsPass}
+use Rattle.cleaner.specs.Passes.{CopiesOne}
+use Rattle.cleaner.proofs.Images.{with_other, len_is, is_victim}
+use Rattle.cleaner.proofs.Leaving.{left_room}
+use Rattle.compactor.specs.Kept.{kept}
+use Rattle.compactor.specs.Places.{LiesAt, IsAtPlace}
+use Rattle.hash_index.specs.declared.place.Held.{Held}
+use Rattle.hash_index.specs.declared.place.Place.{Place}
+use Rattle.images.specs.declared.image.Image.{Image}
+use Rattle.images.specs.Sorted.{AreRising}
+use Rattle.log_head.specs.declared.head.Roll.{Roll}
+use Rattle.log_head.specs.Log.{head_of}
+use Rattle.log_model.specs.Data.{ids_of}
+use Rattle.log_model.specs.Ids.{has, all_inserted}
+use Rattle.master_state.specs.Budget.{victims_of, survivors_of, used_seglets}
+use Rattle.master_state.specs.Data.{MasterData}
+use Rattle.master_state.specs.Images.{images_among, new_image_or}
+use Rattle.master_state.specs.Invariant.{IsCore, IsIndex, IsRollOf, IsOpenPass, NameBelow, listed_with}
+use Rattle.master_state.specs.Log.{log_set_ids, images_of, find, state_now}
+use Rattle.master_space.proofs.CopiedImages.{tail_of, ids_same, segments_then, count_same, own_then}
+use Rattle.master_space.proofs.CopiedPlaces.{index_treated, found_treated}
+use Rattle.master_state.proofs.Finding.{each_of, each_among, index_of}
+use Rattle.master_state.proofs.Imaging.{same_id, other_id}
+use Rattle.master_state.proofs.Indexing.{Grow}
+use Rattle.master_space.proofs.PassIds.{IsNotNew, closed_only}
+use Rattle.master_state.proofs.Passing.{victim_below}
+use Rattle.master_space.proofs.PlaceRows.{lies_among}
+
+-- the last of some ids isn't this one, if none is
+last_other : (ids : List ℕ) (z s : ℕ) → has (ids ++ z ∷ []) s ≡ false → (z == s) ≡ false
+last_other [] z s is = go (z == s) is where
+  go : (t : Bool) → (t || false) ≡ false → t ≡ false
+  go true is = absurd (cc)
+  go false is = refl
+last_other (x ∷ ids) z s is = go (x == s) is (last_other ids z s) where
+  go : (t : Bool) → (t || has (ids ++ z ∷ []) s) ≡ false → (has (ids ++ z ∷ []) s ≡ false → (z == s) ≡ false)
+      → (z == s) ≡ false
+  go true is rest = absurd (cc)
+  go false is rest = rest is
+
+module _ (d : MasterData) (core : IsCore d) (p : Pass) (opened : d.pass ≡ Some p) (more : is_at_end p ≡ false)
+    (rising : AreRising d.closed) where
+  pub open_pass : IsOpenPass d p
+  open_pass = subst (λ (o : Option Pass). IfSome o (IsOpenPass d)) opened core.pass
+
+  -- ---- the survivor and the victims are no heads
+
+  not_head : (d.head.id == p.survivor) ≡ false
+  not_head =
+      ap (λ (z : ℕ). z == p.survivor) (sym core.image.id)
+      ∙ last_other (head_of d.head).start.others (head_of d.head).start.id p.survivor open_pass.survivor.outside
+
+  victim_not_head : (s : ℕ) → IsAmong s p.victims → (d.head.id == s) ≡ false
+  victim_not_head s m = let lt = victim_below d core p open_pass s m in other_id d.head.id s (λ same. omega arith)
+
+  victim_not_new : (s : ℕ) → IsAmong s p.victims → IsNotNew d.head.roll s
+  victim_not_new s m = go d.head.roll core.roll where
+    go : (o : Option Roll) → IfSome o (IsRollOf d) → IsNotNew o s
+    go None rolls = tt
+    go (Some r) rolls =
+        let newer = rolls.newer in let lt = victim_below d core p open_pass s m in other_id r.id s (λ same. omega arith)
+
+  victim_image : (s : ℕ) → IsAmong s p.victims → images_of d s ≡ images_in d.closed s
+  victim_image s m = closed_only d s (victim_not_head s m) (victim_not_new s m) d.closed
+
+  -- ---- one entry
+
+  module _ (place : Place) (x : Entry) (victim : IsAmong place.segment p.victims)
+      (stands_in : IsAtPlace (images_in d.closed) place x)
+      (valid : IsEntry x) (of_data : is_data x ≡ true) where
+    abbrev b : Bool
+    b = kept (log_set_ids d) d.index place x
+
+    abbrev pub closed : List Image
+    closed = images_with b p.survivor x d.closed
+
+    abbrev to : Place
+    to = copy_place p.survivor d.closed
+
+    abbrev pub held : List Held
+    held = held_with b place to x d.index
+
+    abbrev later : ℕ → List Entry
+    later = images_among d.head closed
+
+    stands : IsAtPlace (images_of d) place x
+    stands = subst (λ (es : List Entry). LiesAt es place.at x) (sym (victim_image place.segment victim)) stands_in
+
+    own : later p.survivor ≡ images_of d p.survivor ++ tail_of b x
+    own =
+        closed_only d p.survivor not_head open_pass.survivor.not_new closed
+        ∙ own_then d.closed p.survivor x b open_pass.pass.whole
+        ∙ ap (λ (es : List Entry). es ++ tail_of b x) (sym (closed_only d p.survivor not_head
+        open_pass.survivor.not_new d.closed))
+
+    other : (s : ℕ) → (s == p.survivor) ≡ false → later s ≡ images_of d s
+    other s away =
+        ap (λ (o : Option (List Entry)). unwrap_or (if d.head.id == s then Some d.head.image
+        else new_image_or d.head.roll s o) [])
+        (with_other d.closed p.survivor x b s (λ same. (
+        let test : (s == p.survivor) ≡ true = ap (λ (z : ℕ). z == p.survivor) same ∙ same_id p.survivor in cc)))
+
+    grow : Grow (images_of d) later
+    grow s = go (s == p.survivor) refl where
+      go : (t : Bool) → (s == p.survivor) ≡ t → (es : List Entry) × (later s ≡ images_of d s ++ es)
+      go true here =
+          let same = eqb-true s p.survivor here in
+          (tail_of b x, ap later same ∙ own ∙ ap (λ (z : ℕ). images_of d z ++ tail_of b x) (sym same))
+      go false away = ([], other s away ∙ sym (append-nil (images_of d s)))
+
+    segments : AllByRecursion (λ (c : Image). IsSegment c.segment) closed
+    segments = segments_then d.closed p.survivor x b valid of_data core.segments
+
+    each_later : (s : ℕ) → AllByRecursion IsEntry (later s)
+    each_later = each_among d.head closed core.head segments
+
+    copy_stands : b ≡ true → IsAtPlace later to x
+    copy_stands is = record {
+      before = images_of d p.survivor;
+      after = [];
+      split = own ∙ ap (λ (t : Bool). images_of d p.survivor ++ tail_of t x) is;
+      offset = len_is d.closed p.survivor
+          ∙ ap (λ (es : List Entry). length (text_of es)) (sym
+          (closed_only d p.survivor not_head open_pass.survivor.not_new d.closed));
+    }
+
+    -- ---- the core
+
+    module _ (q : Pass) (same : q ≡ record p { cursor = q.cursor }) (rest : List Place)
+        (first : rest_of (images_in d.closed) p ≡ place ∷ rest) (left : rest_of (images_in closed) q ≡ rest)
+        (is_pass : IsPass closed q)
+        (room : HasRoom d.config.segment (log_set_ids d) q closed held) where
+      abbrev p' : Pass
+      p' = record p { cursor = q.cursor }
+
+      abbrev e : MasterData
+      e = record d { closed = closed; index = held; pass = Some (record p { cursor = q.cursor }) }
+
+      ids_then : log_set_ids e ≡ log_set_ids d
+      ids_then =
+          ap (λ (ids : List ℕ). ids ++ d.head.id ∷ option_to_list (option_map (λ (r : Roll). r.id) d.head.roll))
+          (ids_same d.closed p.survivor x b)
+
+      used_same : used_seglets e ≡ used_seglets d
+      used_same =
+          let count = count_same d.closed p.survivor x d.config.segment d.config.seglet b rising open_pass.pass.whole in
+          omega (arith, count)
+
+      index_then : IsIndex e
+      index_then =
+          let i = index_treated (images_of d) later grow (each_of d core) each_later (log_set_ids d) d.index
+          (state_now d).contents
+          (index_of d core) place to b x refl stands copy_stands in
+          record { kept = i.kept; lies = i.lies; safe = core.index.safe }
+
+      live : (k : Key) (r : Place) → find e k ≡ Some r → IsAmong r.segment p.victims
+          → IsAmong r (rest_of (images_in closed) p')
+      live k r is m =
+          let lt = (is_victim d.closed p.survivor p.victims r.segment open_pass.pass.victims m).1 in
+          let there = found_treated (images_of d) later grow (each_of d core) each_later (log_set_ids d) d.index
+          (state_now d).contents
+          (index_of d core) place to b x k r refl stands copy_stands
+          (λ here. (let at = ap (λ (z : Place). z.segment) here in omega arith)) is in
+          subst (λ (ps : List Place). IsAmong r ps) (sym left ∙ ap (rest_of (images_in closed)) same)
+          (go there.1 (subst (λ (ps : List Place). IsAmong r ps) first (open_pass.live k r there.0 m)))
+        where
+          go : (r ≡ place → ⊥) → IsAmong r (place ∷ rest) → IsAmong r rest
+          go away (inl here) = absurd (away (sym here))
+          go away (inr behind) = behind
+
+      begins_then : BeginAsSurvivor d.config.master p.survivor (images_in closed p.survivor)
+      begins_then =
+          let was = open_pass.survivor.begins in (
+            was.0 ++ tail_of b x,
+            own_then d.closed p.survivor x b open_pass.pass.whole ∙ ap (λ (es : List Entry). es ++ tail_of b x) was.1
+                ∙ append_assoc (survivor_entries d.config.master p.survivor) was.0 (tail_of b x),
+          )
+
+      not_ready : is_at_end p ≡ true → ⊥
+      not_ready ended = cc
+
+      pass_then : IsOpenPass e p'
+      pass_then = record {
+        pass = subst (IsPass closed) same is_pass;
+        victims = (let v = open_pass.victims in record {
+          some = v.some;
+          few = v.few;
+          apart = v.apart;
+          older = v.older;
+        });
+        survivor = (let s = open_pass.survivor in record {
+          outside = s.outside;
+          not_new = s.not_new;
+          used = s.used;
+          begins = begins_then;
+        });
+        fits = subst (λ (ids : List ℕ). HasRoom d.config.segment ids p' closed held) (sym ids_then)
+            (subst (λ (z : Pass). HasRoom d.config.segment (log_set_ids d) z closed held) same room);
+        sealed = open_pass.sealed;
+        live = live;
+        text = λ some. absurd (not_ready (open_pass.text some));
+        spare = λ early. (let s = open_pass.spare early in let free = s.free in let listed = s.listed in
+            record { free = omega (arith, used_same); listed = listed });
+        commits = λ commits. absurd (not_ready (and_parts _ _ (open_pass.commits commits).1).0);
+      }
+
+      named_then : NameBelow (images_of e) d.next
+      named_then s t m = go (s == p.survivor) refl where
+        fresh : IsAmong (entry.Tombstone t) (images_of d p.survivor ++ tail_of b x) → t.segment < d.next
+        fresh among = by b among where
+          by : (c : Bool) → IsAmong (entry.Tombstone t) (images_of d p.survivor ++ tail_of c x) → t.segment < d.next
+          by false among =
+              core.named p.survivor t (subst (λ (es : List Entry). IsAmong (entry.Tombstone t) es)
+              (append-nil (images_of d p.survivor)) among)
+          by true among = elim (among_push (entry.Tombstone t)
+              (images_of d p.survivor) x among) as (λ _. t.segment < d.next) [
+                | inl before ↦ core.named p.survivor t before
+                | inr last ↦ core.named place.segment t (lies_among (images_of d place.segment) place.at
+                    (entry.Tombstone t)
+                    (subst (λ (y : Entry). IsAtPlace (images_of d) place y) last stands))
+              ]
+
+        go : (u : Bool) → (s == p.survivor) ≡ u → t.segment < d.next
+        go true here =
+            fresh (subst (λ (es : List Entry). IsAmong (entry.Tombstone t) es)
+            (ap later (eqb-true s p.survivor here) ∙ own) m)
+        go false away = core.named s t (subst (λ (es : List Entry). IsAmong (entry.Tombstone t) es) (other s away) m)
+
+      roll_then : (o : Option Roll) → IfSome o (IsRollOf d) → IfSome o (IsRollOf e)
+      roll_then None rolls = tt
+      roll_then (Some r) rolls = record {
+        image = rolls.image;
+        lists = rolls.lists ∙ ap listed opened;
+        within = rolls.within;
+        newer = rolls.newer;
+        used = rolls.used;
+      } where
+        listed : Option Pass → List ℕ
+        listed o =
+            if option_map_or (λ (z : Pass). z.is_committing) o false then listed_with d (victims_of o) (survivors_of o)
+            else ids_of (head_of d.head).start
+
+      pub core_then : IsCore (record d { closed = closed; index = held; pass = Some q })
+      core_then =
+          subst (λ (z : Pass). IsCore (record d { closed = closed; index = held; pass = Some z })) (sym same) (record {
+            config = core.config;
+            replicas = core.replicas;
+            history = core.history;
+            head = core.head;
+            image = core.image;
+            within = core.within;
+            closed = ids_same d.closed p.survivor x b ∙ core.closed
+                ∙ ap (λ (o : Option Pass). all_inserted (survivors_of o) (head_of d.head).start.others) opened;
+            segments = segments;
+            below = core.below;
+            used = core.used;
+            next = core.next;
+            roll = roll_then d.head.roll core.roll;
+            pass = pass_then;
+            named = named_then;
+            freed = core.freed;
+            budget = (let was = core.budget in omega (arith, used_same));
+            legal = core.legal;
+            index = index_then;
+          })
+
+-- by what one copy does
+pub copied_core : (d : MasterData) → IsCore d → (p q : Pass) (copied : Copied) (closed_after : List Image)
+    (held_after : List Held)
+    → d.pass ≡ Some p → is_at_end p ≡ false → AreRising d.closed
+    → CopiesOne (log_set_ids d) p d.closed d.index copied q closed_after held_after → IsPass closed_after q
+    → IsCore (record d { closed = closed_after; index = held_after; pass = Some q })
+copied_core d core p q copied closed_after held_after opened more rising one valid =
+    let is_open = open_pass d core p opened more rising in
+    let room = left_room d.config.segment (log_set_ids d) p q d.closed closed_after d.index held_after copied
+    is_open.pass one is_open.fits in
+    subst (λ (y : List Image × List Held). IsCore (record d { closed = y.0; index = y.1; pass = Some q }))
+    (λ i. (sym one.survivor i, sym one.index i))
+    (core_then d core p opened more rising one.place one.entry one.victim one.stands one.valid one.of_data q one.pass
+    one.later one.first
+    (subst (λ (cs : List Image). rest_of (images_in cs) q ≡ one.later) one.survivor one.rest)
+    (subst (λ (cs : List Image). IsPass cs q) one.survivor valid)
+    (subst (λ (y : List Image × List Held). HasRoom d.config.segment (log_set_ids d) q y.0 y.1)
+    (λ i. (one.survivor i, one.index i)) room))

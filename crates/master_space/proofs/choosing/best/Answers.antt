@@ -1,0 +1,68 @@
+use Rattle.std.proofs.Common.{◌≡◌, List, length, take, sym, ap, ◌∙◌, arith}
+use Rattle.entry.specs.Text.{text_of, is_data}
+use Rattle.std.specs.Prelude.{filter}
+use Rattle.cleaner.specs.Passes.{ids_in}
+use Rattle.compactor.specs.Kept.{has_id, kept_of}
+use Rattle.images.specs.declared.image.Image.{Image}
+use Rattle.master_state.specs.contracts.state.Core.{the_view}
+use Rattle.master_space.specs.declared.candidates.Candidate.{Candidate}
+use Rattle.master_state.specs.Budget.{survivors_of}
+use Rattle.master_space.specs.Choosing.{placed, sorted, candidates}
+use Rattle.master_state.specs.Data.{MasterData}
+use Rattle.master_space.proofs.Chosen.{best_from, of_images, candidate_of, best_end, walk_passed, walk_placed}
+use Rattle.master_space.proofs.Chosen.{candidates_are}
+use Rattle.master_space.proofs.choosing.best.Goals as goal
+
+pub loop-at-init : goal.loop-at-init
+loop-at-init c = record {
+  best = c.in_ok-best.ensures.items ∙ sym (best_end (the_view c.core.inside) c.as_slice-images.result.now);
+  few = omega (arith, c.in_ok-best.ensures.len);
+  room = omega (arith, c.in_ok-best.ensures.exact);
+}
+
+pub loop-at-preserved : goal.loop-at-preserved
+loop-at-preserved c =
+    let d = the_view c.core.inside in
+    let survivor = ap (λ (m : MasterData). has_id (survivors_of m.pass) c.index-images-at.result.id) c.core.view_is
+    ∙ sym c.is_survivor.ensures ∙ c.if-not-is_survivor.false in
+    record {
+      best = c.loop-at.invariant.best
+          ∙ walk_passed d c.as_slice-images.result.now c.loop-at.at c.index-images-at.result
+          c.loop-at-test.true c.loop-at.auto.at
+          c.index-images-at.is survivor;
+      few = c.loop-at.invariant.few;
+      room = c.loop-at.invariant.room;
+    }
+
+pub loop-at-preserved-then-not-is_survivor : goal.loop-at-preserved-then-not-is_survivor
+loop-at-preserved-then-not-is_survivor c =
+    let d = the_view c.core.inside in
+    let image = c.index-images-at.result in
+    let other = ap (λ (m : MasterData). has_id (survivors_of m.pass) image.id) c.core.view_is
+    ∙ sym c.is_survivor.ensures ∙ c.if-not-is_survivor.true in
+    let kept : c.kept_bytes-kept.result ≡ (candidate_of d image).kept =
+    c.kept_bytes-kept.ensures.kept
+    ∙ (λ i. length (text_of (filter is_data (kept_of (ids_in d.closed (c.id.ensures.id i) (c.opening_id.ensures i))
+    d.index image.id image.segment)))) in
+    record {
+      best = c.rank.ensures.placed
+          ∙ ap (λ (xs : List Candidate). take 8 (placed (record { id = image.id; kept = c.kept_bytes-kept.result }) xs))
+          c.loop-at.invariant.best
+          ∙ walk_placed d c.as_slice-images.result.now c.loop-at.at image c.loop-at-test.true c.loop-at.auto.at
+          c.index-images-at.is
+          (record { id = image.id; kept = c.kept_bytes-kept.result })
+          (λ i. record { id = image.id; kept = kept i }) other;
+      few = c.rank.ensures.few;
+      room = c.rank.ensures.room;
+    }
+
+pub returns : goal.returns
+returns c =
+    let d = the_view c.core.inside in
+    let none : c.loop-at.at ≡ 0 = omega (arith, c.loop-at-test.false) in
+    c.loop-at.invariant.best
+    ∙ ap (best_from d c.as_slice-images.result.now) none
+    ∙ ap (λ (cs : List Image). take 8 (sorted (of_images d cs))) c.as_slice-images.ensures.images
+    ∙ ap (λ (xs : List Candidate). take 8 (sorted xs)) (sym
+    (candidates_are d c.core.invariant.2 c.as_slice-images.ensures.valid.rising))
+    ∙ ap (λ (m : MasterData). take 8 (sorted (candidates m))) c.core.view_is

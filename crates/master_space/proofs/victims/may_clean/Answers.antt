@@ -1,0 +1,29 @@
+use Rattle.std.proofs.Common.{◌≡◌, ℕ, ◌+◌, ◌-◌, ◌*◌, true, length, sym, ap, ◌∙◌, arith}
+use Rattle.std.specs.Prelude.{nat_le, ◌&&◌}
+use Rattle.std.proofs.lemmas.Bool.{le-leb}
+use Rattle.master_state.specs.contracts.state.Core.{the_view}
+use Rattle.master_state.specs.Budget.{whole_seglets, free_seglets, newest_digest, most_segments}
+use Rattle.master_state.specs.Data.{MasterData}
+use Rattle.master_space.proofs.PassIds.{head_count, heads_of, newest_count}
+use Rattle.master_space.proofs.victims.may_clean.Goals as goal
+use Rattle.master_space.proofs.victims.may_clean.Goals.{then-is_some, else-is_some}
+
+pub returns-then-core-free : goal.returns-then-core-free
+returns-then-core-free c =
+    let d = the_view c.core.inside in
+    let none = ap (λ (m : MasterData). m.pass) c.core.view_is ∙ c.requires in
+    let heads : c.if-is_some.heads ≡ head_count d.head.roll = elim c.if-is_some.branch [
+      | then-is_some w ↦ w.heads-is ∙ sym (heads_of d.head.roll c.roll.result true c.roll.ensures
+          (sym c.is_some.ensures ∙ w.if-is_some.true))
+      | else-is_some w ↦ w.heads-is ∙ sym (heads_of d.head.roll c.roll.result _ c.roll.ensures
+          (sym c.is_some.ensures ∙ w.if-is_some.false))
+    ] in
+    let count : length (newest_digest d.head) ≡ c.len.result + c.if-is_some.heads =
+    newest_count d c.core.invariant.2 none ∙ (λ i. sym c.len.ensures i + sym heads i) in
+    let listed : c.saturating_sub.result ≡ length (newest_digest d.head) - c.args.victims =
+    c.saturating_sub.ensures ∙ ap (λ (n : ℕ). n - c.args.victims) (sym count) in
+    let free : free_seglets d ≡ c.free.result = ap free_seglets c.core.view_is ∙ sym c.free.ensures in
+    let room : nat_le (2 * whole_seglets d.config) (free_seglets d) ≡ true =
+    le-leb (2 * whole_seglets d.config) (free_seglets d) (omega (arith, free, c.if-core-free.true)) in
+    rw (← c.core.view_is) (
+    (λ i. sym room i && nat_le (listed i + 2) (most_segments d.config)))

@@ -1,0 +1,115 @@
+//! How a core compacts a segment.
+
+ghost use Rattle.std.specs.Prelude.{◌⊎◌, ◌≡◌, None, Some, IfOk, IfErr, OnOk, OnErr};
+ghost use Rattle.std.specs.Option.{option_map};
+ghost use Rattle.std.specs.Result.{result_err};
+ghost use Rattle.compactor.specs.Kept.{has_id};
+ghost use Rattle.log_head.specs.declared.head.Roll.{Roll};
+ghost use Rattle.master_state.specs.Budget.{victims_of, survivors_of};
+ghost use Rattle.master_state.specs.Causes.{is_head, compact_refusal};
+ghost use Rattle.master_state.specs.Invariant.{IsCore};
+ghost use Rattle.master_state.specs.Steps.{Compacts};
+
+use cleaner::PassFault;
+use compactor::{LogSet, compact};
+use log_head::Head;
+use master_state::{Core, Refusal, StepAnswer};
+
+/// How a core compacts a segment.
+pub trait Compacts {
+    /// Compacts a closed segment: its image becomes its kept entries, and the index follows. The replicas stay as they
+    /// are. Or it is refused, and nothing changes.
+    fn compact(&mut self, id: u64) -> Result<StepAnswer, Refusal>;
+}
+
+impl Compacts for Core {
+    fn compact(&mut self, id: u64) -> Result<StepAnswer, Refusal>
+        ensures compacted { IfOk result (λ answer. Compacts self.old id answer self.new) }
+        ensures valid { OnOk result (IsCore self.new) }
+        ensures refused { IfErr result (λ r. (compact_refusal self.old id ≡ Some r)
+            ⊎ ((compact_refusal self.old id ≡ None) × (r ≡ Refusal.NoMemory))) }
+        ensures err { OnErr result (self.new ≡ self.old) }
+    {
+        admit_compaction(self, id)?;
+        self.closed.show_valid();
+        let log = LogSet {
+            closed: &self.closed,
+            head: self.head.id(),
+            new: opening_id(&self.head),
+        };
+        let Some(image) = self.closed.get(id) else {
+            unreachable!()
+        };
+        let segment = compact(self.alloc, id, image, &mut self.index, &log)?;
+        let len = segment.bytes().len() as u64;
+        let Ok(()) = self.closed.replace(id, segment) else {
+            unreachable!()
+        };
+        Ok(StepAnswer::Compacted(id, len))
+    }
+}
+
+/// The number of the head that a roll is opening.
+pub(crate) fn opening_id(head: &Head) -> Option<u64>
+    ensures { result ≡ option_map (λ (r : Roll). r.id) head.now.roll }
+{
+    match head.roll() {
+        None => None,
+        Some(roll) => Some(roll.id),
+    }
+}
+
+/// Whether this is the number of the head, or of the head that a roll is opening.
+pub(crate) fn is_head(core: &Core, id: u64) -> bool
+    ensures { result ≡ is_head core.now.head id }
+{
+    if core.head.id() == id {
+        return true;
+    }
+    match core.head.roll() {
+        None => false,
+        Some(roll) => roll.id == id,
+    }
+}
+
+/// Whether this is the number of the open pass's survivor.
+pub(crate) fn is_survivor(core: &Core, id: u64) -> bool
+    ensures { result ≡ has_id (survivors_of core.now.pass) id }
+{
+    match &core.pass {
+        None => false,
+        Some(pass) => pass.survivor == id,
+    }
+}
+
+/// Whether this is the number of a victim of the open pass.
+fn is_victim(core: &Core, id: u64) -> bool
+    ensures { result ≡ has_id (victims_of core.now.pass) id }
+{
+    match &core.pass {
+        None => false,
+        Some(pass) => pass.victims.as_slice().contains(&id),
+    }
+}
+
+/// The tests of a compaction.
+fn admit_compaction(core: &Core, id: u64) -> Result<(), Refusal>
+    ensures { result_err result ≡ compact_refusal core.now id }
+{
+    if core.is_halted {
+        return Err(Refusal::Halted);
+    }
+    if is_head(core, id) {
+        return Err(Refusal::Pass(PassFault::IsHead(id)));
+    }
+    if is_survivor(core, id) {
+        return Err(Refusal::Pass(PassFault::NotInLog(id)));
+    }
+    if core.closed.get(id).is_none() {
+        return Err(Refusal::Pass(PassFault::NotInLog(id)));
+    }
+    if is_victim(core, id) {
+        return Err(Refusal::Pass(PassFault::PassOpen));
+    }
+    Ok(())
+}

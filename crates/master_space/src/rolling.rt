@@ -1,0 +1,148 @@
+//! How a core rolls to the next head, and what it pushes next.
+
+ghost use Rattle.std.specs.Prelude.{◌⊎◌, ◌≡◌, [], None, Some, IfOk, IfErr, OnOk, OnErr, if◌then◌else◌};
+ghost use Rattle.std.specs.Option.{option_map, option_to_list};
+ghost use Rattle.std.specs.Result.{result_err};
+ghost use Rattle.log_head.specs.Next.{IsNextPush};
+ghost use Rattle.log_head.specs.declared.next.Next.{Next as NextValue};
+ghost use Rattle.cleaner.specs.declared.pass.Pass.{Pass as OpenPass};
+ghost use Rattle.master_state.specs.Budget.{victims_of, survivors_of};
+ghost use Rattle.master_state.specs.Causes.{roll_refusal};
+ghost use Rattle.master_state.specs.Invariant.{IsCore};
+ghost use Rattle.master_state.specs.Steps.{BeginsRoll, MayRollNow, taken_data};
+
+use crate::ending::end_pass;
+use cleaner::Pass;
+use entry::MAX_SEGMENT_ID;
+use log_head::{Leaving, Next};
+use master_state::{Core, Refusal, StepAnswer};
+
+/// What a core pushes next, and how it rolls to the next head.
+pub trait Rolls {
+    /// This push is the next one.
+    ghost may_take: { Self → NextValue → Type 0 };
+
+    /// Begins a roll. If a pass is ready, the roll is its commit: the next head's digest lists the survivor in place of
+    /// the victims. It takes the memory of the next head's image whole, and all that the end of the roll takes. Nothing
+    /// is appended until the roll has ended. A refusal changes nothing.
+    fn begin_roll(&mut self) -> Result<StepAnswer, Refusal>;
+
+    /// What the next push does. `None` if nothing waits.
+    fn next_push(&self) -> Option<Next>;
+
+    /// Counts the op of a push that was taken. With the last Close of a commit its pass ends. It takes no memory.
+    fn took(&mut self, next: Next)
+        requires { may_take self.old next };
+}
+
+impl Rolls for Core {
+    ghost may_take = { λ core next. IsNextPush core.head (Some next) };
+
+    fn begin_roll(&mut self) -> Result<StepAnswer, Refusal>
+        ensures begun { IfOk result (λ answer. BeginsRoll self.old answer self.new) }
+        ensures may { OnOk result (MayRollNow self.old) }
+        ensures valid { OnOk result (IsCore self.new) }
+        ensures refused { IfErr result (λ r. (roll_refusal self.old ≡ Some r)
+            ⊎ ((roll_refusal self.old ≡ None) × (r ≡ Refusal.NoMemory))) }
+        ensures err { OnErr result (self.new ≡ self.old) }
+    {
+        admit_roll(self)?;
+        let is_commit = self.is_ready();
+        self.closed.reserve(1)?;
+        let victims = leaving_victims(&self.pass, is_commit);
+        self.waiting.reserve(victims.len())?;
+        let id = self.next_id;
+        let seglet = self.config.seglet as usize;
+        let kept = self.head.image().bytes().len().div_ceil(seglet) * seglet;
+        let leaving = Leaving {
+            victims,
+            survivor: entering_survivor(&self.pass, is_commit),
+        };
+        self.head.begin_roll(
+            self.alloc,
+            self.config.master,
+            id,
+            self.safe,
+            leaving,
+            self.config.segment as usize,
+            kept,
+        )?;
+        mark(&mut self.pass, is_commit);
+        self.next_id += 1;
+        Ok(StepAnswer::Rolling(id))
+    }
+
+    fn next_push(&self) -> Option<Next>
+        ensures next { IsNextPush self.now.head result }
+        ensures valid { IsCore self.now }
+    {
+        self.head.next_push()
+    }
+
+    fn took(&mut self, next: Next)
+        requires { IsNextPush self.old.head (Some next) }
+        ensures taken { self.new ≡ taken_data self.old next }
+        ensures valid { IsCore self.new }
+    {
+        match next {
+            Next::OpenFirst(_) => self.head.open(),
+            Next::Extend(replica) => self.head.extend(replica),
+            Next::OpenNew(_) => self.head.open_new(),
+            Next::CloseOld(_) => {
+                let id = self.head.id();
+                if let Some(image) = self.head.close_old() {
+                    self.closed.add_reserved(id, image, false);
+                    end_pass(&mut self.pass, &mut self.closed, &mut self.waiting);
+                }
+            }
+        }
+    }
+}
+
+/// The tests of a roll by itself.
+fn admit_roll(core: &Core) -> Result<(), Refusal>
+    ensures { result_err result ≡ roll_refusal core.now }
+{
+    if core.is_halted {
+        return Err(Refusal::Halted);
+    }
+    if !core.head.is_open() {
+        return Err(Refusal::Rolling);
+    }
+    if core.next_id > MAX_SEGMENT_ID {
+        return Err(Refusal::SegmentsSpent);
+    }
+    if !core.may_roll(2) {
+        return Err(Refusal::Full);
+    }
+    Ok(())
+}
+
+/// The ids that the next head's digest leaves out: the victims, if the roll is a commit.
+fn leaving_victims(pass: &Option<Pass>, is_commit: bool) -> &[u64]
+    ensures { result.now ≡ (if is_commit then victims_of pass.entry.now else []) }
+{
+    match pass {
+        Some(pass) if is_commit => pass.victims.as_slice(),
+        _ => &[],
+    }
+}
+
+/// The id that the next head's digest takes in: the survivor, if the roll is a commit.
+fn entering_survivor(pass: &Option<Pass>, is_commit: bool) -> Option<u64>
+    ensures { option_to_list result ≡ (if is_commit then survivors_of pass.now else []) }
+{
+    match pass {
+        Some(pass) if is_commit => Some(pass.survivor),
+        _ => None,
+    }
+}
+
+/// Marks an open pass as one whose commit is under way, or not.
+fn mark(pass: &mut Option<Pass>, is_commit: bool)
+    ensures { pass.new ≡ option_map (λ (p : OpenPass). record p { is_committing = is_commit }) pass.old }
+{
+    if let Some(pass) = pass {
+        pass.is_committing = is_commit;
+    }
+}

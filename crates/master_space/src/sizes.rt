@@ -1,0 +1,97 @@
+//! The sizes of the live objects, from which a will is made.
+
+ghost use Rattle.std.specs.Prelude.{◌≡◌, ◌++◌, map, true, IfOk, OnOk};
+ghost use Rattle.std.specs.List.Sorted.{IsPermutation};
+ghost use Rattle.std.specs.Option.{option_map};
+ghost use Rattle.entry.specs.View.{shown};
+ghost use Rattle.tablet_will.specs.Sizes.{are_in_order};
+ghost use Rattle.master_state.specs.Log.{state_now};
+ghost use Rattle.master_state.specs.Sizes.{AreSizesOf, size_of, live_at, live_from, live_objects};
+
+use entry::{EntryRef, NoMemory, OBJECT_LEN, Size};
+use hash_index::{Held, Index, Place, hash_key};
+use master_state::Core;
+use segment::Segment;
+
+/// The sizes of the live objects.
+pub trait Measures {
+    /// The sizes of the live objects, by table, then by place. Each is the length of the object's entry. Nothing
+    /// changes.
+    fn sizes(&self) -> Result<Vec<Size>, NoMemory>;
+}
+
+impl Measures for Core {
+    fn sizes(&self) -> Result<Vec<Size>, NoMemory>
+        ensures { IfOk result (λ sizes. AreSizesOf (state_now self.now).contents sizes.items) }
+    {
+        self.show_valid();
+        let mut sizes = live_sizes(self)?;
+        sort(&mut sizes);
+        Ok(sizes)
+    }
+}
+
+/// The sizes of the live objects, as they lie in the images.
+fn live_sizes(core: &Core) -> Result<Vec<Size>, NoMemory>
+    ensures { IfOk result (λ sizes. sizes.items ≡ map size_of (live_objects core.now)) }
+{
+    let mut sizes = Vec::with_capacity(core.alloc, core.index.len())?;
+    for image in core.closed.as_slice() {
+        add_sizes(image.id, &image.segment, &core.index, &mut sizes)?;
+    }
+    add_sizes(core.head.id(), core.head.image(), &core.index, &mut sizes)?;
+    Ok(sizes)
+}
+
+/// The size of the object at this place; `None` if the entry is no object, or if the index doesn't hold its place.
+fn live_size(entry: &EntryRef<'_>, place: Place, index: &Index) -> Option<Size>
+    ensures { result ≡ option_map size_of (live_at index.now.held place (shown entry.now)) }
+{
+    let EntryRef::Object(object) = entry else {
+        return None;
+    };
+    let size = Size {
+        table: object.key.table,
+        place: object.key.place(),
+        bytes: (OBJECT_LEN + object.key.bytes.len() + object.value.len()) as u64,
+    };
+    let hash = hash_key(&object.key);
+    if index.holds(Held { hash, place }) {
+        Some(size)
+    } else {
+        None
+    }
+}
+
+/// Adds the sizes of the live objects of a segment.
+fn add_sizes(
+    id: u64,
+    segment: &Segment,
+    index: &Index,
+    sizes: &mut Vec<Size>,
+) -> Result<(), NoMemory>
+    ensures { OnOk result (sizes.new.items ≡
+        sizes.old.items ++ map size_of (live_from index.now.held id 0 segment.now)) }
+{
+    let text = segment.bytes();
+    let mut at = 0;
+    while at < text.len() {
+        let Ok((entry, taken)) = EntryRef::read(&text[at..]) else {
+            unreachable!()
+        };
+        let place = Place { segment: id, at };
+        if let Some(size) = live_size(&entry, place, index) {
+            sizes.push(size)?;
+        }
+        at += taken;
+    }
+    Ok(())
+}
+
+/// Sorts sizes by table, then by place.
+fn sort(sizes: &mut Vec<Size>)
+    ensures same { IsPermutation sizes.old.items sizes.new.items }
+    ensures order { are_in_order sizes.new.items ≡ true }
+{
+    sizes.sort_unstable_by_key(|size| (size.table, size.place));
+}

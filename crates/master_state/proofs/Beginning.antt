@@ -1,0 +1,177 @@
+-- A new core, and a core of which replicas took something or failed.
+use Rattle.std.proofs.Common.{◌≡◌, inl, inr, ℕ, ◌<◌, Bool, true, false, ◌==◌, List, [], ◌∷◌, refl, sym, ap, subst}
+use Rattle.std.proofs.Common.{arith}
+use Rattle.std.specs.Prelude.{Option, Some, None, IfSome}
+use Rattle.cleaner.specs.declared.pass.Pass.{Pass as OpenPass}
+use Rattle.entry.specs.declared.entry.Entry.TheVariants as entry
+use Rattle.entry.specs.Bag.{IsAmong}
+use Rattle.log_head.specs.declared.head.Roll.{Roll}
+use Rattle.log_head.specs.Head.{HeadValue, IsHeadValue}
+use Rattle.log_head.specs.Log.{head_of, IsImageOf}
+use Rattle.log_head.specs.Steps.{lone_start, fresh_head}
+use Rattle.log_head.proofs.HeadLog.{head_is, image_fresh, image_with_counts}
+use Rattle.log_model.specs.Data.{Head, Ready, start_entries}
+use Rattle.clean_model.specs.Loading.{restored}
+use Rattle.log_model.specs.Log.{AreBelow}
+use Rattle.master_state.specs.declared.config.Config.{Config}
+use Rattle.master_state.specs.Config.{config_fault}
+use Rattle.master_state.specs.Data.{MasterData}
+use Rattle.master_state.specs.Invariant.{IsRollOf, IsOpenPass, NameBelow, IsCore}
+use Rattle.master_state.specs.Loading.{restored_data}
+use Rattle.master_state.specs.Log.{log_config, opening_of, log_of, images_of}
+use Rattle.master_state.specs.Steps.{halted}
+use Rattle.master_state.proofs.Refusals.{has_homes, sizes_of}
+use Rattle.master_state.proofs.Passing.{GoesOn, goes_on}
+use Rattle.segment.proofs.UnitLemmas.{length-head}
+
+-- the opening of the first head has no tombstone
+named_first : (c : Config) (safe : ℕ) → NameBelow (images_of (restored_data c safe)) 2
+named_first c safe s t m = go (1 == s) refl where
+  never : IsAmong (entry.Tombstone t) (start_entries c.master (lone_start safe)) → ⊥
+  never (inl is) = cc
+  never (inr (inl is)) = cc
+  never (inr (inr (inl is))) = cc
+  never (inr (inr (inr m))) = m
+
+  go : (b : Bool) → (1 == s) ≡ b → t.segment < 2
+  go true here = absurd (never (rw here at m))
+  go false away = absurd (rw away at m)
+
+module _ (c : Config) (safe : ℕ) (head : IsHeadValue (fresh_head c.master c.replicas (lone_start safe))) where
+  abbrev first : HeadValue
+  first = fresh_head c.master c.replicas (lone_start safe)
+
+  pub head_first : head_of first ≡ record { start = lone_start safe; loaded = []; units = []; taken = [] }
+  head_first = head_is c.master first _ (image_fresh c.master c.replicas (lone_start safe)) head.segment
+
+  pub restored_core : config_fault c ≡ None → IsCore (restored_data c safe)
+  restored_core ok =
+      let len = length-head c.master 1 (1 ∷ []) safe in
+      let least = (sizes_of c ok).least_segment in
+      let enough = (sizes_of c ok).least_seglets in
+      record {
+        config = ok;
+        replicas = refl;
+        history = omega arith;
+        head = head;
+        image = subst (λ (l : Head). IsImageOf c.master first l) (sym head_first)
+            (image_fresh c.master c.replicas (lone_start safe));
+        within = omega arith;
+        closed = sym (ap (λ (l : Head). l.start.others) head_first);
+        segments = tt;
+        below = subst (λ (l : Head). AreBelow l.start) (sym head_first) tt;
+        used = omega arith;
+        next = omega arith;
+        roll = tt;
+        pass = tt;
+        named = named_first c safe;
+        freed = (has_homes c ok).some;
+        budget = omega arith;
+        legal = refl;
+        index = record { kept = record { told = tt; apart = tt }; lies = λ k. tt; safe = refl };
+      }
+
+  pub restored_log : log_of (restored_data c safe) ≡ restored (log_config c) safe
+  restored_log = λ i. record {
+    config = log_config c;
+    opening = opening_of (restored_data c safe);
+    history = [];
+    head = head_first i;
+    phase = Ready;
+    next = 2;
+  }
+
+counted_goes : (d : MasterData) (ks : List ℕ) (p : OpenPass) → IsOpenPass d p
+    → GoesOn d (record d { head = record d.head { taken = ks } }) p
+counted_goes d ks p is = record {
+  config = refl;
+  start = refl;
+  roll = is.survivor.not_new;
+  next = omega arith;
+  pass = is.pass;
+  survivor = refl;
+  rest = refl;
+  left = omega arith;
+  live = λ k q finds victim. finds;
+  free = λ early. omega arith;
+  listed = λ early. omega arith;
+  rolls = λ commits some. some;
+}
+
+halted_goes : (d : MasterData) (p : OpenPass) → IsOpenPass d p → GoesOn d (halted d) p
+halted_goes d p is = record {
+  config = refl;
+  start = refl;
+  roll = is.survivor.not_new;
+  next = omega arith;
+  pass = is.pass;
+  survivor = refl;
+  rest = refl;
+  left = omega arith;
+  live = λ k q finds victim. finds;
+  free = λ early. omega arith;
+  listed = λ early. omega arith;
+  rolls = λ commits some. some;
+}
+
+-- only what replicas have changed
+pub counted_core : (d : MasterData) (ks : List ℕ) → IsCore d → IsHeadValue (record d.head { taken = ks })
+    → IsCore (record d { head = record d.head { taken = ks } })
+counted_core d ks core head = record {
+  config = core.config;
+  replicas = core.replicas;
+  history = core.history;
+  head = head;
+  image = image_with_counts d.config.master d.head (head_of d.head) core.image ks;
+  within = core.within;
+  closed = core.closed;
+  segments = core.segments;
+  below = core.below;
+  used = core.used;
+  next = core.next;
+  roll = go d.head.roll core.roll;
+  pass = passes d.pass core.pass;
+  named = core.named;
+  freed = core.freed;
+  budget = core.budget;
+  legal = core.legal;
+  index = record { kept = core.index.kept; lies = core.index.lies; safe = core.index.safe };
+} where
+  go : (o : Option Roll) → IfSome o (IsRollOf d) → IfSome o
+      (IsRollOf (record d { head = record d.head { taken = ks } }))
+  go None is = tt
+  go (Some r) is = record { image = is.image; lists = is.lists; within = is.within; newer = is.newer; used = is.used }
+
+  passes : (o : Option OpenPass) → IfSome o (IsOpenPass d)
+      → IfSome o (IsOpenPass (record d { head = record d.head { taken = ks } }))
+  passes None is = tt
+  passes (Some p) is = goes_on d (record d { head = record d.head { taken = ks } }) p (counted_goes d ks p is) is
+
+pub halted_core : (d : MasterData) → IsCore d → IsCore (halted d)
+halted_core d core = record {
+  config = core.config;
+  replicas = core.replicas;
+  history = core.history;
+  head = core.head;
+  image = core.image;
+  within = core.within;
+  closed = core.closed;
+  segments = core.segments;
+  below = core.below;
+  used = core.used;
+  next = core.next;
+  roll = go d.head.roll core.roll;
+  pass = passes d.pass core.pass;
+  named = core.named;
+  freed = core.freed;
+  budget = core.budget;
+  legal = core.legal;
+  index = record { kept = core.index.kept; lies = core.index.lies; safe = core.index.safe };
+} where
+  go : (o : Option Roll) → IfSome o (IsRollOf d) → IfSome o (IsRollOf (halted d))
+  go None is = tt
+  go (Some r) is = record { image = is.image; lists = is.lists; within = is.within; newer = is.newer; used = is.used }
+
+  passes : (o : Option OpenPass) → IfSome o (IsOpenPass d) → IfSome o (IsOpenPass (halted d))
+  passes None is = tt
+  passes (Some p) is = goes_on d (halted d) p (halted_goes d p is) is

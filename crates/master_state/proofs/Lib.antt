@@ -1,0 +1,12 @@
+pub mod Indexing
+pub mod Imaging
+pub mod Refusals
+pub mod Homes
+pub mod Finding
+pub mod Counted
+pub mod Beginning
+pub mod Passing
+pub mod Holding
+pub mod Naming
+pub mod Rising
+pub mod LogIds

@@ -1,0 +1,34 @@
+use Rattle.std.proofs.Common.{◌≡◌, ◌+◌, true, length, sym, ap, subst, ◌∙◌, arith}
+use Rattle.log_head.specs.Head.{is_open}
+use Rattle.master_state.specs.Data.{MasterData}
+use Rattle.master_state.specs.contracts.state.Core.{the_view}
+use Rattle.master_state.specs.Budget.{newest_digest, segments_taken}
+use Rattle.master_state.proofs.LogIds.{listed, few_closed}
+use Rattle.master_state.proofs.Refusals.{open_parts}
+use Rattle.master_state.proofs.state.Core.listed.Goals as goal
+
+module _ (c : goal.After-segments_taken) where
+  abbrev d : MasterData
+  d = the_view c.self.inside
+
+  taken : c.segments_taken.result ≡ segments_taken d
+  taken = c.segments_taken.ensures ∙ ap segments_taken (sym c.self.view_is)
+
+  is : length (newest_digest d.head) + c.segments_taken.result ≡ c.len.result + 1
+  is =
+      let all = listed d c.self.invariant.2 (open_parts d.head
+      (subst (λ (m : MasterData). is_open m.head ≡ true) (sym c.self.view_is) c.requires)).1 in
+      let own = taken in
+      let count = c.len.ensures in
+      omega arith
+
+pub overflow_add-result : goal.overflow_add-result
+overflow_add-result c =
+    let few = few_closed (the_view c.self.inside) c.self.invariant.2 in let count = c.len.ensures in omega arith
+
+pub returns-clause-listed : goal.returns-clause-listed
+returns-clause-listed c = rw (← c.self.view_is) (let all = is c in omega arith)
+
+pub returns-clause-small : goal.returns-clause-small
+returns-clause-small c =
+    let few = few_closed (the_view c.self.inside) c.self.invariant.2 in let count = c.len.ensures in omega arith

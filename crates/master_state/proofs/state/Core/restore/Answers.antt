@@ -1,0 +1,43 @@
+use Rattle.std.proofs.Common.{◌≡◌, [], rules, ap, subst}
+use Rattle.images.specs.Images.{ImagesValue}
+use Rattle.log_head.specs.Head.{HeadValue, IsHeadValue}
+use Rattle.log_head.specs.Steps.{lone_start, fresh_head}
+use Rattle.master_state.specs.Invariant.{AreImagesOf}
+use Rattle.master_state.proofs.Beginning.{restored_core, restored_log}
+use Rattle.master_state.proofs.Refusals.{sizes_of}
+use Rattle.master_state.proofs.state.Core.restore.Goals as goal
+
+pub new-closed-requires : goal.new-closed-requires
+new-closed-requires c = sizes_of c.args.config c.requires
+
+pub invariant_of-core : goal.invariant_of-core
+invariant_of-core c =
+    let nothing : c.nothing.result.objects ≡ [] = search rules in
+    let index : c.new.result.held ≡ [] = search rules in
+    let history : c.new-2.result.items ≡ [] = search rules in
+    let waiting : c.new-3.result.items ≡ [] = search rules in
+    let head : c.in_ok-head.head ≡ fresh_head c.args.config.master c.args.config.replicas
+    (lone_start c.args.safe) = search rules in
+    let made = c.new-closed.ensures in
+    let sizes : AreImagesOf c.args.config c.new-closed.result = record {
+      segment = ap (λ (v : ImagesValue). v.segment) made;
+      seglet = ap (λ (v : ImagesValue). v.seglet) made;
+      seglets = ap (λ (v : ImagesValue). v.seglets) made;
+    } in
+    let closed : c.new-closed.result.images ≡ [] = ap (λ (v : ImagesValue). v.images) made in
+    rw (head, closed, index, history, waiting, nothing) (
+      (λ never. absurd (cc)),
+      record { segment = sizes.segment; seglet = sizes.seglet; seglets = sizes.seglets },
+      restored_core c.args.config c.args.safe (subst (λ (h : HeadValue). IsHeadValue h) head
+          c.in_ok-head.ensures.valid) c.requires,
+      tt,
+    )
+
+pub returns-clause-log : goal.returns-clause-log
+returns-clause-log c =
+    let nothing : c.nothing.result.objects ≡ [] = search rules in
+    let history : c.new-2.result.items ≡ [] = search rules in
+    let head : c.in_ok-head.head ≡ fresh_head c.args.config.master c.args.config.replicas
+    (lone_start c.args.safe) = search rules in
+    rw (head, history, nothing)
+    (restored_log c.args.config c.args.safe (subst (λ (h : HeadValue). IsHeadValue h) head c.in_ok-head.ensures.valid))

@@ -1,0 +1,100 @@
+-- How much memory a master counts, in seglets, and when a roll or a pass may begin.
+use Rattle.std.specs.Prelude.{ℕ, ◌+◌, ◌-◌, ◌*◌, ◌/◌, ◌&&◌, ◌||◌, List, [], ◌∷◌, length, sum_by, Bool, false, nat_le}
+use Rattle.std.specs.Prelude.{Option}
+use Rattle.std.specs.Int.{div_ceil}
+use Rattle.std.specs.Option.{option_map_or}
+use Rattle.cleaner.specs.declared.pass.Pass.{Pass}
+use Rattle.cleaner.specs.Passes.{is_ready as is_ready_pass}
+use Rattle.entry.specs.declared.entry.Entry.{Entry}
+use Rattle.entry.specs.Text.{text_of}
+use Rattle.images.specs.Images.{count_of}
+use Rattle.log_head.specs.declared.head.Roll.{Roll}
+use Rattle.log_head.specs.Head.{HeadValue, digest_of}
+use Rattle.versioned_map.specs.declared.command.Command.{Command}
+use Rattle.versioned_map.specs.declared.command.Command.TheVariants.{Get, Put, Delete}
+use Rattle.master_state.specs.declared.config.Config.{Config}
+use Rattle.master_state.specs.Data.{MasterData}
+
+-- the seglets of a whole segment
+abbrev pub whole_seglets : Config → ℕ
+whole_seglets c = c.segment / c.seglet
+
+-- the seglets that an image fills, the last one perhaps in part
+abbrev pub seglets_of : Config → List Entry → ℕ
+seglets_of c image = div_ceil (length (text_of image)) c.seglet
+
+-- The head counts whole. While a roll is under way the new head does, and the old one counts its length.
+abbrev pub head_seglets : Config → HeadValue → ℕ
+head_seglets c h = option_map_or (λ (r : Roll). seglets_of c h.image + whole_seglets c) h.roll (whole_seglets c)
+
+-- how many seglets are counted: the head's, those of the closed segments, each by its length, and a survivor's, whole
+abbrev pub used_seglets : MasterData → ℕ
+used_seglets d = head_seglets d.config d.head + sum_by (count_of d.config.segment d.config.seglet) d.closed
+
+-- how many are left
+abbrev pub free_seglets : MasterData → ℕ
+free_seglets d = d.config.seglets - used_seglets d
+
+-- ---- passes
+
+-- the victims of an open pass
+abbrev pub victims_of : Option Pass → List ℕ
+victims_of pass = option_map_or (λ (p : Pass). p.victims) pass []
+
+-- the survivors of an open pass
+abbrev pub survivors_of : Option Pass → List ℕ
+survivors_of pass = option_map_or (λ (p : Pass). p.survivor ∷ []) pass []
+
+-- the open pass is ready for its commit: nothing is left to copy, and each replica of its survivor is sealed
+abbrev pub is_ready : MasterData → Bool
+is_ready d = option_map_or (is_ready_pass d.config.replicas) d.pass false
+
+-- the roll that is under way is a pass's commit
+abbrev pub is_committing : MasterData → Bool
+is_committing d = option_map_or (λ (p : Pass). p.is_committing) d.pass false
+
+-- ---- when a roll may begin
+
+-- the ids of the newest digest, that of a begun roll included
+abbrev pub newest_digest : HeadValue → List ℕ
+newest_digest h = option_map_or (λ (r : Roll). digest_of r.image) h.roll (digest_of h.image)
+
+-- the most segments that a log may have
+abbrev pub most_segments : Config → ℕ
+most_segments c = c.segment / 32
+
+-- how many whole segments have to be free when a roll begins for a command: a put keeps one more than a delete
+abbrev pub segments_for : Command → ℕ
+segments_for (Get k) = 2
+segments_for (Put k value when) = 3
+segments_for (Delete k) = 2
+
+-- an open pass has a whole segment already
+abbrev pub segments_taken : MasterData → ℕ
+segments_taken d = option_map_or (λ (p : Pass). 1) d.pass 0
+
+-- how many segments the next commit takes out: the victims of the open pass, and else at least one
+abbrev pub segments_leaving : MasterData → ℕ
+segments_leaving d = option_map_or (λ (p : Pass). length p.victims) d.pass 1
+
+-- The log may have one more segment, and the last two are kept for a pass and its commit. So many whole segments are
+-- free once the old head counts its length.
+abbrev pub has_space : MasterData → ℕ → Bool
+has_space d segments =
+    let more = length (newest_digest d.head) + 1 in
+    nat_le more (most_segments d.config) && nat_le more (most_segments d.config - 2 + segments_leaving d)
+    && nat_le ((segments - segments_taken d) * whole_seglets d.config + seglets_of d.config d.head.image)
+    (free_seglets d)
+
+-- The rule of a roll: the commit of a pass that is ready may always begin.
+abbrev pub may_roll : MasterData → ℕ → Bool
+may_roll d segments = is_ready d || has_space d segments
+
+-- ---- when a pass may begin
+
+-- The rule of a pass with so many victims: two whole segments are free, and the log may have the survivor and the head
+-- of the commit.
+abbrev pub may_clean : MasterData → ℕ → Bool
+may_clean d victims =
+    nat_le (2 * whole_seglets d.config) (free_seglets d)
+    && nat_le (length (newest_digest d.head) - victims + 2) (most_segments d.config)

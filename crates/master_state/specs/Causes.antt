@@ -1,0 +1,184 @@
+-- Why a step is refused.
+use Rattle.std.specs.Prelude.{ℕ, ◌+◌, ◌*◌, ◌/◌, ◌^◌, ◌==◌, ◌&&◌, length, Bool, nat_le, nat_lt, not, Option, Some, None}
+use Rattle.std.specs.Prelude.{List}
+use Rattle.std.specs.Prelude.{is_none, is_some, true, false, [], ◌∷◌, ◌||◌, if◌then◌else◌}
+use Rattle.std.specs.Option.{option_map_or}
+use Rattle.cleaner.specs.declared.fault.PassFault.{PassFault}
+use Rattle.cleaner.specs.declared.fault.PassFault.TheVariants.{IsHead, NotInLog, PassOpen, NoVictims, TooMany, TooMuch}
+use Rattle.cleaner.specs.declared.fault.PassFault.TheVariants.{Twice}
+use Rattle.cleaner.specs.declared.pass.Pass.{Pass as OpenPass}
+use Rattle.cleaner.specs.Passes.{images_in, places_of, kept_left, is_at_end}
+use Rattle.compactor.specs.Kept.{has_id}
+use Rattle.entry.specs.declared.entry.Entry.{Entry}
+use Rattle.entry.specs.Tablet.{have_key}
+use Rattle.entry.specs.Text.{text_of}
+use Rattle.versioned_map.specs.declared.command.Command.{Command}
+use Rattle.versioned_map.specs.declared.command.Command.TheVariants.{Get, Put, Delete}
+use Rattle.versioned_map.specs.Command.{command_key}
+use Rattle.versioned_map.specs.Represents.{unit_of}
+use Rattle.versioned_map.specs.Versioned.{is_spent}
+use Rattle.log_model.specs.Data.{fewest}
+use Rattle.log_head.specs.declared.head.Roll.{Roll}
+use Rattle.log_head.specs.Head.{HeadValue, is_open, digest_of}
+use Rattle.master_state.specs.declared.step.Refusal.{Refusal}
+use Rattle.master_state.specs.declared.step.Refusal.TheVariants.{Halted, TooBig, NoTablet, HistoryFull, VersionsSpent}
+use Rattle.master_state.specs.declared.step.Refusal.TheVariants.{Full, Rolling, Nothing}
+use Rattle.master_state.specs.declared.step.Refusal.TheVariants.{SegmentsSpent, Pass}
+use Rattle.master_state.specs.Budget.{segments_for, may_roll, may_clean, victims_of}
+use Rattle.master_state.specs.Data.{MasterData}
+use Rattle.master_state.specs.Index.{segment_at}
+use Rattle.master_state.specs.Log.{state_now, find, log_set_ids}
+
+-- ---- a command
+
+-- a put whose tombstone and object are longer than a quarter of a segment of this many bytes
+abbrev pub is_too_big : Command → ℕ → Bool
+is_too_big (Get k) segment = false
+is_too_big (Put k value when) segment = nat_lt (segment / 4) (50 + 2 * length k.bytes + length value)
+is_too_big (Delete k) segment = false
+
+-- the first test that refuses the command before its key is looked up
+abbrev pub early_refusal : MasterData → Command → Option Refusal
+early_refusal d command =
+    if d.is_halted then Some Halted
+    else if is_too_big command d.config.segment then Some TooBig
+    else if not (have_key d.config.tablets (command_key command)) then Some NoTablet
+    else if nat_le d.config.history (length d.history) then Some HistoryFull
+    else None
+
+-- the unit is within the segment's bytes
+abbrev pub has_room : MasterData → List Entry → Bool
+has_room d unit = nat_le (length (text_of d.head.image) + length (text_of unit)) d.config.segment
+
+abbrev pub is_empty : List Entry → Bool
+is_empty [] = true
+is_empty (e ∷ es) = false
+
+-- why the unit of a command is not appended: it doesn't fit the open head and no roll may begin for the command, or a
+-- roll is due
+abbrev pub unit_refusal : MasterData → Command → List Entry → Option Refusal
+unit_refusal d command unit =
+    if is_empty unit then None
+    else if is_open d.head && (not (has_room d unit) && not (may_roll d (segments_for command))) then Some Full
+    else if not (is_open d.head && has_room d unit) then Some Rolling
+    else None
+
+-- the segment in which the index finds the command's key; which one doesn't matter if it finds none
+abbrev pub dead_segment : MasterData → Command → ℕ
+dead_segment d command = segment_at (find d (command_key command))
+
+-- what the command appends
+abbrev pub unit_now : MasterData → Command → List Entry
+unit_now d command = unit_of (state_now d) (dead_segment d command) command
+
+-- the test that refuses a command once its key was looked up
+abbrev pub late_refusal : MasterData → Command → Option Refusal
+late_refusal d command =
+    if is_spent (state_now d).safe ((state_now d).contents (command_key command)) command then Some VersionsSpent
+    else unit_refusal d command (unit_now d command)
+
+-- the first test that refuses the command, apart from memory; None if all are passed
+abbrev pub command_refusal : MasterData → Command → Option Refusal
+command_refusal d command =
+    if is_none (early_refusal d command) then late_refusal d command else early_refusal d command
+
+-- ---- a roll
+
+-- the test that refuses a roll by itself, apart from memory
+abbrev pub roll_refusal : MasterData → Option Refusal
+roll_refusal d =
+    if d.is_halted then Some Halted
+    else if not (is_open d.head) then Some Rolling
+    else if nat_lt (2 ^ 62) d.next then Some SegmentsSpent
+    else if not (may_roll d 2) then Some Full
+    else None
+
+-- ---- a compaction
+
+-- the id is the head's, or that of the head that a roll is opening
+abbrev pub is_head : HeadValue → ℕ → Bool
+is_head h id = (h.id == id) || option_map_or (λ (r : Roll). r.id == id) h.roll false
+
+-- the test that refuses a compaction, apart from memory
+abbrev pub compact_refusal : MasterData → ℕ → Option Refusal
+compact_refusal d id =
+    if d.is_halted then Some Halted
+    else if is_head d.head id then Some (Pass (IsHead id))
+    else if not (has_id (digest_of d.head.image) id) then Some (Pass (NotInLog id))
+    else if has_id (victims_of d.pass) id then Some (Pass PassOpen)
+    else None
+
+-- ---- a pass
+
+-- why the first of some segments that may not be a victim may not: it was there before, is a head, or isn't in the
+-- digest in force
+abbrev pub victim_fault : MasterData → List ℕ → List ℕ → Option PassFault
+victim_fault d before [] = None
+victim_fault d before (id ∷ ids) =
+    if has_id before id then Some (Twice id)
+    else if is_head d.head id then Some (IsHead id)
+    else if not (has_id (digest_of d.head.image) id) then Some (NotInLog id)
+    else victim_fault d (id ∷ before) ids
+
+-- why the segments may not be the victims of a pass, their bytes apart
+abbrev pub victims_fault : MasterData → List ℕ → Option PassFault
+victims_fault d ids =
+    if is_some d.pass then Some PassOpen
+    else if length ids == 0 then Some NoVictims
+    else if nat_lt 8 (length ids) then Some TooMany
+    else victim_fault d [] ids
+
+-- what the victims keep and a header fit one segment
+abbrev pub are_few_bytes : MasterData → List ℕ → Bool
+are_few_bytes d ids =
+    let images = images_in d.closed in
+    nat_le (18 + kept_left (log_set_ids d) d.index images (places_of images ids)) d.config.segment
+
+-- the test that refuses a pass whose victims may be that, apart from memory
+abbrev pub space_refusal : MasterData → List ℕ → Option Refusal
+space_refusal d ids =
+    if not (may_clean d (length ids)) then Some Full
+    else if not (are_few_bytes d ids) then Some (Pass TooMuch)
+    else if nat_lt (2 ^ 62) d.next then Some SegmentsSpent
+    else None
+
+-- the test that refuses a pass, apart from memory
+abbrev pub clean_refusal : MasterData → List ℕ → Option Refusal
+clean_refusal d ids =
+    if d.is_halted then Some Halted
+    else option_map_or (λ (fault : PassFault). Some (Pass fault)) (victims_fault d ids) (space_refusal d ids)
+
+-- the test that refuses a copy, memory apart: no pass is open, or it is at its end
+abbrev pub copy_refusal : MasterData → Option Refusal
+copy_refusal d =
+    if d.is_halted then Some Halted
+    else if option_map_or (λ (p : OpenPass). not (is_at_end p)) d.pass false then None
+    else Some Nothing
+
+-- the test that refuses a seal, what the fleet answers apart: no pass is open, it isn't at its end, or all replicas of
+-- its survivor are sealed
+abbrev pub seal_refusal : MasterData → Option Refusal
+seal_refusal d =
+    if d.is_halted then Some Halted
+    else if option_map_or (λ (p : OpenPass). is_at_end p && nat_lt p.sealed d.config.replicas) d.pass false then None
+    else Some Nothing
+
+-- the test that refuses a free, what the fleet answers apart: nothing waits
+abbrev pub free_refusal : MasterData → Option Refusal
+free_refusal d =
+    if d.is_halted then Some Halted
+    else if length d.waiting == 0 then Some Nothing
+    else None
+
+-- ---- a push
+
+-- each replica is open and has each unit, and no roll is under way
+abbrev pub is_pushed : HeadValue → Bool
+is_pushed h = is_open h && (fewest (length h.units) h.taken == length h.units)
+
+-- the test that refuses a push, what the fleet answers apart
+abbrev pub push_refusal : MasterData → Option Refusal
+push_refusal d =
+    if d.is_halted then Some Halted
+    else if is_pushed d.head then Some Nothing
+    else None

@@ -1,0 +1,59 @@
+-- What a master knows, its fleet apart.
+use Rattle.std.specs.Prelude.{ℕ, List, [], Bool, false, Option, None}
+use Rattle.cleaner.specs.declared.pass.Pass.{Pass}
+use Rattle.entry.specs.declared.entry.Object.{Object}
+use Rattle.hash_index.specs.declared.place.Held.{Held}
+use Rattle.images.specs.declared.image.Image.{Image}
+use Rattle.versioned_map.specs.declared.command.Record.{Record}
+use Rattle.log_model.specs.Steps.{first_start}
+use Rattle.log_head.specs.Head.{HeadValue}
+use Rattle.log_head.specs.Steps.{fresh_head}
+use Rattle.master_state.specs.declared.config.Config.{Config}
+
+-- What a master began its history with: objects that were loaded, the last one first, and a safe version.
+pub record Origin : Type 0 where
+  pub objects : List Object
+  pub safe : ℕ
+
+-- a new master's: no objects
+abbrev pub no_origin : Origin
+no_origin = record { objects = []; safe = 1 }
+
+pub record MasterData : Type 0 where
+  pub config : Config
+  pub head : HeadValue
+  -- the closed segments of the log, and the survivor of the open pass
+  pub closed : List Image
+  -- the first id that no segment had yet
+  pub next : ℕ
+  -- where the live objects lie: the places that the index holds
+  pub index : List Held
+  -- the version that the next new key gets
+  pub safe : ℕ
+  pub history : List Record
+  -- the open pass
+  pub pass : Option Pass
+  -- victims of earlier passes, in the order in which their replicas are freed
+  pub waiting : List ℕ
+  -- how many replicas of the first of these were freed
+  pub freed : ℕ
+  -- a backup failed: no step is accepted any more
+  pub is_halted : Bool
+  pub origin : Origin
+
+-- a new master's
+abbrev pub fresh_data : Config → MasterData
+fresh_data config = record {
+  config = config;
+  head = fresh_head config.master config.replicas first_start;
+  closed = [];
+  next = 2;
+  index = [];
+  safe = 1;
+  history = [];
+  pass = None;
+  waiting = [];
+  freed = 0;
+  is_halted = false;
+  origin = no_origin;
+}

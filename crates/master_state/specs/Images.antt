@@ -1,0 +1,52 @@
+-- The images of a log.
+use Rattle.std.specs.Prelude.{◌==◌, ℕ, List, [], map, filter, not, Option, Some, None, unwrap_or, true, false}
+use Rattle.std.specs.Prelude.{if◌then◌else◌}
+use Rattle.cleaner.specs.declared.pass.Pass.{Pass}
+use Rattle.clean_model.specs.Intact.{survivor_entries}
+use Rattle.entry.specs.declared.entry.Entry.{Entry}
+use Rattle.images.specs.declared.image.Image.{Image}
+use Rattle.images.specs.Sorted.{segment_of, added, changed}
+use Rattle.images.specs.Steps.{trimmed}
+use Rattle.log_model.specs.Ids.{has}
+use Rattle.log_head.specs.declared.head.Roll.{Roll}
+use Rattle.log_head.specs.Head.{HeadValue}
+
+-- the image of a roll's new head if it has this id, else another one
+abbrev pub new_image_or : Option Roll → ℕ → Option (List Entry) → Option (List Entry)
+new_image_or None id other = other
+new_image_or (Some r) id other = if r.id == id then Some r.image else other
+
+-- the image of a segment: of the head, of the head that a roll is opening, or of a closed segment
+abbrev pub image_among : HeadValue → List Image → ℕ → Option (List Entry)
+image_among h cs id = if h.id == id then Some h.image else new_image_or h.roll id (segment_of cs id)
+
+-- the entries that memory has of a segment
+abbrev pub images_among : HeadValue → List Image → ℕ → List Entry
+images_among h cs id = unwrap_or (image_among h cs id) []
+
+-- a segment that is closed, and counts its length
+abbrev pub closed_image : ℕ → List Entry → Image
+closed_image id image = record { id = id; segment = image; is_whole = false }
+
+-- one more closed segment at its place, if there is an image
+abbrev pub with_closed : List Image → ℕ → Option (List Entry) → List Image
+with_closed cs id None = cs
+with_closed cs id (Some image) = added (closed_image id image) cs
+
+-- ---- a pass
+
+-- the image of a new survivor, whose memory is taken whole
+abbrev pub survivor_image : ℕ → ℕ → Image
+survivor_image master id = record { id = id; segment = survivor_entries master id; is_whole = true }
+
+-- the images but for those of victims
+abbrev pub staying : List ℕ → List Image → List Image
+staying victims cs = filter (λ (image : Image). not (has victims image.id)) cs
+
+-- the ids of the victims, as they rise
+abbrev pub leaving : List ℕ → List Image → List ℕ
+leaving victims cs = filter (λ (id : ℕ). has victims id) (map (λ (image : Image). image.id) cs)
+
+-- the images once a pass has ended: its victims are gone, and its survivor takes no more appends
+abbrev pub after_pass : Pass → List Image → List Image
+after_pass p cs = changed (staying p.victims cs) p.survivor trimmed

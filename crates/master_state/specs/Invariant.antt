@@ -1,0 +1,136 @@
+-- What holds of every master's core.
+use Rattle.std.specs.Prelude.{◌≡◌, ℕ, ◌^◌, ◌+◌, ◌<◌, ◌≤◌, ◌==◌, List, [], ◌∷◌, length, map, true, false, Some, None}
+use Rattle.std.specs.Prelude.{IfSome, IsSome}
+use Rattle.std.specs.Prelude.{if◌then◌else◌}
+use Rattle.clean_model.specs.Intact.{BeginAsSurvivor}
+use Rattle.cleaner.specs.declared.pass.Pass.{Pass as OpenPass}
+use Rattle.cleaner.specs.Passes.{images_in, rest_of, kept_left, is_at_end, is_ready as is_ready_pass, IsPass}
+use Rattle.entry.specs.declared.entry.Tombstone.{Tombstone}
+use Rattle.entry.specs.declared.entry.Entry.{Entry}
+use Rattle.entry.specs.declared.entry.Entry.TheVariants as entry
+use Rattle.entry.specs.Bag.{IsAmong}
+use Rattle.log_model.specs.Ids.{has, all_inserted, without}
+use Rattle.entry.specs.declared.key.Key.{Key}
+use Rattle.std.specs.List.{AllByRecursion}
+use Rattle.entry.specs.Text.{text_of, IsSegment}
+use Rattle.hash_index.specs.declared.place.Place.{Place}
+use Rattle.hash_index.specs.Map.{AreKept}
+use Rattle.images.specs.declared.image.Image.{Image}
+use Rattle.images.specs.Images.{ImagesValue}
+use Rattle.versioned_map.specs.History.{IsLegal}
+use Rattle.log_head.specs.Head.{IsHeadValue}
+use Rattle.log_head.specs.declared.head.Roll.{Roll}
+use Rattle.log_head.specs.Log.{head_of, start_of, IsImageOf, IsNewImage}
+use Rattle.log_model.specs.Data.{ids_of}
+use Rattle.log_model.specs.Log.{AreBelow}
+use Rattle.master_state.specs.declared.config.Config.{Config}
+use Rattle.master_state.specs.Budget.{whole_seglets, used_seglets, free_seglets, newest_digest, most_segments}
+use Rattle.master_state.specs.Budget.{victims_of, survivors_of, is_committing}
+use Rattle.master_state.specs.Config.{config_fault}
+use Rattle.master_state.specs.Data.{MasterData}
+use Rattle.compactor.specs.Places.{keys_in}
+use Rattle.master_state.specs.Index.{LiesFound}
+use Rattle.master_state.specs.Log.{opening_of, state_now, images_of, find, log_set_ids}
+
+-- The index leads to the objects that the versioned map has, and to no other.
+pub record IsIndex (d : MasterData) : Type 0 where
+  pub kept : AreKept (keys_in (images_of d)) d.index
+  pub lies : (k : Key) → LiesFound (images_of d) k (find d k) ((state_now d).contents k)
+  pub safe : d.safe ≡ (state_now d).safe
+
+-- the ids that a digest lists beside the head in force, once it leaves out these and takes in those
+abbrev pub listed_with : MasterData → List ℕ → List ℕ → List ℕ
+listed_with d victims survivors = all_inserted survivors (without victims (ids_of (head_of d.head).start))
+
+-- what the digest of a roll lists: the whole log, or what a commit leaves of it
+abbrev pub listed_now : MasterData → List ℕ
+listed_now d =
+    if is_committing d then listed_with d (victims_of d.pass) (survivors_of d.pass) else ids_of (head_of d.head).start
+
+-- A roll is to a head that lists the log, and that is newer than the head in force.
+pub record IsRollOf (d : MasterData) (r : Roll) : Type 0 where
+  pub image : IsNewImage d.config.master r
+  pub lists : (start_of r).others ≡ listed_now d
+  pub within : length (text_of r.image) ≤ d.config.segment
+  pub newer : d.head.id < r.id
+  pub used : r.id < d.next
+
+-- the images are counted by the sizes of the configuration
+pub record AreImagesOf (c : Config) (v : ImagesValue) : Type 0 where
+  pub segment : v.segment ≡ c.segment
+  pub seglet : v.seglet ≡ c.seglet
+  pub seglets : v.seglets ≡ c.seglets
+
+-- ---- an open pass
+
+-- no id is there twice
+abbrev pub AreApart : List ℕ → Type 0
+AreApart [] = Unit {0}
+AreApart (s ∷ ids) = (has ids s ≡ false) × AreApart ids
+
+-- The victims of a pass are one to eight closed segments, each once.
+pub record AreVictims (d : MasterData) (victims : List ℕ) : Type 0 where
+  pub some : 0 < length victims
+  pub few : length victims ≤ 8
+  pub apart : AreApart victims
+  pub older : AllByRecursion (λ (s : ℕ). has (head_of d.head).start.others s ≡ true) victims
+
+-- The survivor of a pass is no segment of a digest yet.
+pub record IsSurvivor (d : MasterData) (s : ℕ) : Type 0 where
+  pub outside : has (ids_of (head_of d.head).start) s ≡ false
+  pub not_new : IfSome d.head.roll (λ r. (r.id == s) ≡ false)
+  pub used : s < d.next
+  pub begins : BeginAsSurvivor d.config.master s (images_in d.closed s)
+
+-- What a pass needs until its commit begins: a whole segment, and a place for its survivor and the next head in the
+-- digest.
+pub record IsSpare (d : MasterData) (victims : ℕ) : Type 0 where
+  pub free : whole_seglets d.config ≤ free_seglets d
+  pub listed : length (newest_digest d.head) + 2 ≤ most_segments d.config + victims
+
+-- the bytes of the survivor with all that is still to be copied
+abbrev pub survivor_len : MasterData → OpenPass → ℕ
+survivor_len d p =
+    length (text_of (images_in d.closed p.survivor))
+    + kept_left (log_set_ids d) d.index (images_in d.closed) (rest_of (images_in d.closed) p)
+
+pub record IsOpenPass (d : MasterData) (p : OpenPass) : Type 0 where
+  pub pass : IsPass d.closed p
+  pub victims : AreVictims d p.victims
+  pub survivor : IsSurvivor d p.survivor
+  pub fits : survivor_len d p ≤ d.config.segment
+  pub sealed : p.sealed ≤ d.config.replicas
+  -- what the index finds in a victim is still to be copied
+  pub live : (k : Key) (q : Place) → find d k ≡ Some q → IsAmong q.segment p.victims
+      → IsAmong q (rest_of (images_in d.closed) p)
+  -- nothing is copied once a replica of the survivor is sealed
+  pub text : 0 < p.sealed → is_at_end p ≡ true
+  pub spare : p.is_committing ≡ false → IsSpare d (length p.victims)
+  -- a commit is a roll of a pass that is ready
+  pub commits : p.is_committing ≡ true → IsSome d.head.roll × (is_ready_pass d.config.replicas p ≡ true)
+
+-- tombstones name ids below this
+abbrev pub NameBelow : (ℕ → List Entry) → ℕ → Type 0
+NameBelow images unused = (s : ℕ) (t : Tombstone) → IsAmong (entry.Tombstone t) (images s) → t.segment < unused
+
+pub record IsCore (d : MasterData) : Type 0 where
+  pub config : config_fault d.config ≡ None
+  pub replicas : d.head.replicas ≡ d.config.replicas
+  pub history : length d.history ≤ d.config.history
+  pub head : IsHeadValue d.head
+  pub image : IsImageOf d.config.master d.head (head_of d.head)
+  pub within : length (text_of d.head.image) ≤ d.config.segment
+  -- the closed segments are the others of the head's digest, with the survivor of the open pass at its place
+  pub closed : map (λ (c : Image). c.id) d.closed ≡ all_inserted (survivors_of d.pass) (head_of d.head).start.others
+  pub segments : AllByRecursion (λ (c : Image). IsSegment c.segment) d.closed
+  pub below : AreBelow (head_of d.head).start
+  pub used : d.head.id < d.next
+  pub next : d.next ≤ 2 ^ 62 + 1
+  pub roll : IfSome d.head.roll (IsRollOf d)
+  pub pass : IfSome d.pass (IsOpenPass d)
+  pub named : NameBelow (images_of d) d.next
+  pub freed : d.freed < d.config.replicas
+  -- no more seglets are counted than there are
+  pub budget : used_seglets d ≤ d.config.seglets
+  pub legal : IsLegal (opening_of d) d.history
+  pub index : IsIndex d

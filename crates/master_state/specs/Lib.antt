@@ -1,0 +1,13 @@
+pub mod Config
+pub mod Images
+pub mod Data
+pub mod Log
+pub mod Budget
+pub mod Causes
+pub mod Steps
+pub mod Index
+pub mod Invariant
+pub mod Waits
+pub mod Names
+pub mod Loading
+pub mod Sizes

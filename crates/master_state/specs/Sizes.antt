@@ -1,0 +1,67 @@
+-- The sizes of the live objects.
+use Rattle.std.specs.Prelude.{◌≡◌, ℕ, ◌+◌, List, [], ◌∷◌, ◌++◌, length, map, true, Option, Some, None, if◌then◌else◌}
+use Rattle.std.specs.List.{flat_map}
+use Rattle.std.specs.List.Sorted.{IsPermutation}
+use Rattle.std.specs.Option.{option_to_list}
+use Rattle.entry.specs.declared.entry.Object.{Object}
+use Rattle.entry.specs.declared.entry.Entry.{Entry}
+use Rattle.entry.specs.declared.entry.Entry.TheVariants as entry
+use Rattle.entry.specs.declared.tablet.Size.{Size}
+use Rattle.entry.specs.Format.{spelling}
+use Rattle.entry.specs.Key.{place_of}
+use Rattle.entry.specs.Meaning.{Contents, contents_of}
+use Rattle.hash_index.specs.declared.place.Held.{Held}
+use Rattle.hash_index.specs.declared.place.Place.{Place}
+use Rattle.hash_index.specs.Map.{hash_of}
+use Rattle.hash_index.specs.Relocation.{holds}
+use Rattle.images.specs.declared.image.Image.{Image}
+use Rattle.tablet_will.specs.Sizes.{are_in_order}
+use Rattle.master_state.specs.Data.{MasterData}
+
+-- ---- what is answered
+
+-- the size of an object: its table, its place, and the length of its entry
+abbrev pub size_of : Object → Size
+size_of o = record {
+  table = o.key.table;
+  place = place_of o.key.bytes;
+  bytes = length (spelling (entry.Object o));
+}
+
+-- no key is there twice
+abbrev pub AreOnce : List Object → Type 0
+AreOnce [] = Unit {0}
+AreOnce (o ∷ os) = (contents_of os o.key ≡ None) × AreOnce os
+
+-- The sizes are those of all objects of the contents, each once, by table, then by place.
+pub record AreSizesOf (contents : Contents) (sizes : List Size) : Type 0 where
+  pub objects : List Object
+  pub all : contents_of objects ≡ contents
+  pub once : AreOnce objects
+  pub of_objects : IsPermutation (map size_of objects) sizes
+  pub order : are_in_order sizes ≡ true
+
+-- ---- how they are found
+
+-- the object, if the entry is one and the index holds its place
+abbrev pub live_at : List Held → Place → Entry → Option Object
+live_at held p (entry.Header h) = None
+live_at held p (entry.Digest l) = None
+live_at held p (entry.Safe version) = None
+live_at held p (entry.Object o) = if holds held (record { hash = hash_of o.key; place = p }) then Some o else None
+live_at held p (entry.Tombstone t) = None
+
+-- these objects among the entries of a segment from an offset on
+abbrev pub live_from : List Held → ℕ → ℕ → List Entry → List Object
+live_from held segment at [] = []
+live_from held segment at (e ∷ es) =
+    option_to_list (live_at held (record { segment = segment; at = at }) e)
+    ++ live_from held segment (at + length (spelling e)) es
+
+-- those of closed segments
+abbrev pub live_closed : List Held → List Image → List Object
+live_closed held images = flat_map (λ (image : Image). live_from held image.id 0 image.segment) images
+
+-- those of all images
+abbrev pub live_objects : MasterData → List Object
+live_objects d = live_closed d.index d.closed ++ live_from d.index d.head.id 0 d.head.image

@@ -1,0 +1,245 @@
+-- What a master's core becomes: a command is applied, a roll or a pass begins, a segment is compacted, an entry is
+-- copied, an op was taken, a take failed.
+use Rattle.std.specs.Prelude.{◌≡◌, ◌⊎◌, ℕ, suc, ◌+◌, ◌==◌, List, [], ◌∷◌, ◌++◌, length, drop, Bool, false, true, Option}
+use Rattle.std.specs.Prelude.{Some, None}
+use Rattle.std.specs.Prelude.{if◌then◌else◌}
+use Rattle.std.specs.Option.{option_map, option_map_or}
+use Rattle.clean_model.specs.Steps.{commit_start, MayCommit}
+use Rattle.cleaner.specs.declared.pass.Copied.{Copied}
+use Rattle.cleaner.specs.declared.pass.Copied.TheVariants as copied
+use Rattle.cleaner.specs.declared.pass.Cursor.{Cursor}
+use Rattle.cleaner.specs.declared.pass.Pass.{Pass}
+use Rattle.cleaner.specs.Passes.{images_in, places_of, rest_of, CopiesOne, is_ready as is_ready_pass}
+use Rattle.entry.specs.declared.entry.Entry.{Entry}
+use Rattle.entry.specs.declared.key.Key.{Key}
+use Rattle.entry.specs.Text.{text_of}
+use Rattle.hash_index.specs.declared.place.Place.{Place}
+use Rattle.images.specs.Sorted.{changed}
+use Rattle.images.specs.Steps.{replaced_by}
+use Rattle.compactor.specs.Kept.{kept_of, moved_all}
+use Rattle.log_head.specs.declared.head.Roll.{Roll}
+use Rattle.log_head.specs.declared.next.Next.{Next}
+use Rattle.log_head.specs.declared.next.Next.TheVariants as next
+use Rattle.log_head.specs.Head.{HeadValue}
+use Rattle.log_head.specs.Steps.{with_unit_end, with_opened_replica, with_one_taken, with_roll, with_new_replica}
+use Rattle.log_head.specs.Steps.{with_closed_replica}
+use Rattle.log_head.specs.Steps.{old_image, start_after}
+use Rattle.log_model.specs.Data.{Start}
+use Rattle.log_model.specs.Steps.{applied, MayApply, next_start, rolling, MayRoll, id_taken}
+use Rattle.replica.specs.declared.op.TakeFault.{TakeFault}
+use Rattle.replica.specs.declared.op.TakeFault.TheVariants as take_fault
+use Rattle.versioned_map.specs.declared.command.Command.{Command}
+use Rattle.versioned_map.specs.declared.command.Record.{Record}
+use Rattle.versioned_map.specs.declared.command.Reply.{Reply}
+use Rattle.versioned_map.specs.declared.command.Reply.TheVariants as reply
+use Rattle.versioned_map.specs.Versioned.{reply_to}
+use Rattle.master_state.specs.declared.step.Refusal.{Refusal}
+use Rattle.master_state.specs.declared.step.Refusal.TheVariants as refusal
+use Rattle.master_state.specs.declared.step.StepAnswer.{StepAnswer}
+use Rattle.master_state.specs.declared.step.StepAnswer.TheVariants.{Applied, Rolling as RollingTo, Compacted, Begun}
+use Rattle.master_state.specs.declared.step.StepAnswer.TheVariants.{Moved, Carried, Dropped}
+use Rattle.master_state.specs.Budget.{victims_of, survivors_of, is_ready}
+use Rattle.master_state.specs.Causes.{command_refusal, roll_refusal, compact_refusal, clean_refusal, copy_refusal}
+use Rattle.master_state.specs.Causes.{dead_segment, unit_now}
+use Rattle.master_state.specs.Data.{MasterData}
+use Rattle.master_state.specs.Images.{with_closed, survivor_image, after_pass, leaving}
+use Rattle.master_state.specs.Log.{log_of, memory_of, state_now, images_of, find, log_set_ids}
+
+-- the head with a record's unit, where there is one
+abbrev pub appended : HeadValue → ℕ → List Entry → HeadValue
+appended h number [] = h
+appended h number (e ∷ es) = with_unit_end h number (e ∷ es)
+
+-- the reply to a command: the versioned map's
+abbrev pub reply_now : MasterData → Command → Reply
+reply_now d command = reply_to (state_now d) command
+
+-- the reply shows a value, so it takes memory
+abbrev pub IsFound : Reply → Type 0
+IsFound (reply.Found version value) = Unit {0}
+IsFound reply.None = ⊥
+IsFound (reply.Ok version) = ⊥
+IsFound (reply.Mismatch version) = ⊥
+
+abbrev pub record_now : MasterData → ℕ → Command → Record
+record_now d seat command = record { seat = seat; command = command; reply = reply_now d command }
+
+-- A command that no test refuses is answered as the versioned map does, and adds its record and its unit to the log.
+pub record Applies (d : MasterData) (seat : ℕ) (command : Command) (answer : StepAnswer) (e : MasterData) : Type 0 where
+  pub passed : command_refusal d command ≡ None
+  pub told : answer ≡ Applied (length d.history) (reply_now d command)
+  pub config : e.config ≡ d.config
+  pub running : e.is_halted ≡ false
+  pub log : log_of e ≡ applied (log_of d) (dead_segment d command) (record_now d seat command)
+  -- what the index finds it found before, or it is in the head
+  pub found : (k : Key) (p : Place) → find e k ≡ Some p → (find d k ≡ Some p) ⊎ (p.segment ≡ d.head.id)
+  -- the head has the unit, and of the rest only the index, the safe version and the history changed
+  pub rest : e ≡ record d {
+    head = appended d.head (length d.history) (unit_now d command);
+    index = e.index;
+    safe = e.safe;
+    history = e.history;
+  }
+
+-- The command of a record is applied, and told with its place and its reply.
+abbrev pub AppliesAs : MasterData → Record → ℕ → MasterData → Type 0
+AppliesAs d r place e = Applies d r.seat r.command (Applied place r.reply) e
+
+-- the laws of the log let the command be applied
+abbrev pub MayApplyNow : MasterData → ℕ → Command → Type 0
+MayApplyNow d seat command = MayApply (log_of d) (dead_segment d command) (record_now d seat command)
+
+-- What the next head begins with. It lists the log, and records the safe version of now. If a pass is ready, it lists
+-- the pass's survivor in place of its victims.
+abbrev pub start_now : MasterData → Start
+start_now d =
+    if is_ready d then start_after d.head (victims_of d.pass) (survivors_of d.pass) d.next d.safe
+    else start_after d.head [] [] d.next d.safe
+
+-- what a core becomes when a roll begins; the roll of a pass that is ready is its commit
+abbrev pub rolling_data : MasterData → MasterData
+rolling_data d = record d {
+  head = with_roll d.head d.config.master (start_now d);
+  next = d.next + 1;
+  pass = option_map (λ (p : Pass). record p { is_committing = is_ready_pass d.config.replicas p }) d.pass;
+}
+
+-- what the next head begins with, as the log has it
+abbrev pub next_now : MasterData → Start
+next_now d = if is_ready d then commit_start (log_of d) (memory_of d) else next_start (log_of d)
+
+-- A roll that no test refuses begins: an ordinary one, or the commit of a pass that is ready.
+pub record BeginsRoll (d : MasterData) (answer : StepAnswer) (e : MasterData) : Type 0 where
+  pub passed : roll_refusal d ≡ None
+  pub told : answer ≡ RollingTo d.next
+  pub log : log_of e ≡ rolling (log_of d) (next_now d)
+  pub rest : e ≡ rolling_data d
+
+-- the laws of the log let the roll begin
+abbrev pub MayRollNow : MasterData → Type 0
+MayRollNow d =
+    (is_ready d ≡ true → MayCommit (log_of d) (memory_of d) (next_now d)) × (is_ready d ≡ false → MayRoll (log_of d))
+
+-- the entries of a segment that compaction keeps
+abbrev pub kept_now : MasterData → ℕ → List Entry
+kept_now d id = kept_of (log_set_ids d) d.index id (images_of d id)
+
+-- what a core becomes when a segment is compacted: its image is the kept entries, and the index follows
+abbrev pub compacted_data : MasterData → ℕ → MasterData
+compacted_data d id = record d {
+  closed = changed d.closed id (replaced_by (kept_now d id));
+  index = moved_all (log_set_ids d) d.index id (images_of d id);
+}
+
+-- A compaction that no test refuses replaces the image, and tells its length. The log stays as it was.
+pub record Compacts (d : MasterData) (id : ℕ) (answer : StepAnswer) (e : MasterData) : Type 0 where
+  pub passed : compact_refusal d id ≡ None
+  pub told : answer ≡ Compacted id (length (text_of (kept_now d id)))
+  pub log : log_of e ≡ log_of d
+  pub rest : e ≡ compacted_data d id
+
+-- ---- a pass
+
+-- a pass that begins, with nothing copied or sealed
+abbrev pub fresh_pass : List ℕ → ℕ → Cursor → Pass
+fresh_pass victims survivor cursor =
+    record { victims = victims; cursor = cursor; survivor = survivor; sealed = 0; is_committing = false }
+
+-- A pass that no test refuses begins. Its survivor has the next id and a whole segment of memory, and it has all
+-- objects and tombstones of its victims before it.
+pub record BeginsPass (d : MasterData) (victims : List ℕ) (answer : StepAnswer) (e : MasterData) : Type 0 where
+  pub passed : clean_refusal d victims ≡ None
+  pub told : answer ≡ Begun d.next
+  pub cursor : Cursor
+  pub begins : rest_of (images_in d.closed) (fresh_pass victims d.next cursor) ≡ places_of (images_in d.closed) victims
+  pub log : log_of e ≡ id_taken (log_of d)
+  pub rest : e ≡ record d {
+    closed = d.closed ++ survivor_image d.config.master d.next ∷ [];
+    next = d.next + 1;
+    pass = Some (fresh_pass victims d.next cursor);
+  }
+
+-- what a copy answers, by what became of the entry
+abbrev pub copy_answer : Copied → StepAnswer
+copy_answer copied.Moved = Moved
+copy_answer copied.Carried = Carried
+copy_answer copied.Dropped = Dropped
+
+-- A copy that no test refuses treats the next entry of the pass: a live object moves to the survivor and the index with
+-- it, a tombstone that is kept is carried there, and any other entry is dropped. The log stays as it was.
+pub record Copies (d : MasterData) (answer : StepAnswer) (e : MasterData) : Type 0 where
+  pub passed : copy_refusal d ≡ None
+  pub pass : Pass
+  pub after : Pass
+  pub copied : Copied
+  pub opened : d.pass ≡ Some pass
+  pub treats : CopiesOne (log_set_ids d) pass d.closed d.index copied after e.closed e.index
+  pub told : answer ≡ copy_answer copied
+  pub log : log_of e ≡ log_of d
+  pub rest : e ≡ record d { closed = e.closed; index = e.index; pass = Some after }
+
+-- what a core becomes when a replica of the survivor was sealed
+abbrev pub sealed_data : MasterData → MasterData
+sealed_data d = record d { pass = option_map (λ (p : Pass). record p { sealed = p.sealed + 1 }) d.pass }
+
+-- What a core becomes when a replica of the first segment that waits was freed. With the last replica the segment waits
+-- no more.
+abbrev pub freed_data : MasterData → MasterData
+freed_data d =
+    if suc d.freed == d.config.replicas then record d { waiting = drop 1 d.waiting; freed = 0 }
+    else record d { freed = suc d.freed }
+
+-- ---- an op of the head
+
+-- A pass has ended: its victims are no longer in memory, and wait to be freed.
+abbrev pub pass_ended : Pass → MasterData → MasterData
+pass_ended p d = record d {
+  closed = after_pass p d.closed;
+  pass = None;
+  waiting = d.waiting ++ leaving p.victims d.closed;
+}
+
+-- the same if the roll that ended was the pass's commit
+abbrev pub roll_ended : Option Pass → MasterData → MasterData
+roll_ended None d = d
+roll_ended (Some p) d = if p.is_committing then pass_ended p d else d
+
+-- one more replica of the old head was closed; with the last one its segment is one of the closed ones, and a commit
+-- ends its pass
+abbrev pub closed_data : MasterData → Roll → MasterData
+closed_data d r =
+    let e = record d {
+      head = with_closed_replica d.head r;
+      closed = with_closed d.closed d.head.id (old_image d.head r);
+    } in
+    if suc r.closed == d.head.replicas then roll_ended d.pass e else e
+
+-- what a core becomes when the op of a push was taken
+abbrev pub taken_data : MasterData → Next → MasterData
+taken_data d (next.OpenFirst j) = record d { head = with_opened_replica d.head }
+taken_data d (next.Extend j) = record d { head = with_one_taken d.head j }
+taken_data d (next.OpenNew j) =
+    option_map_or (λ (r : Roll). record d { head = with_new_replica d.head r }) d.head.roll d
+taken_data d (next.CloseOld j) = option_map_or (closed_data d) d.head.roll d
+
+-- a backup failed
+abbrev pub halted : MasterData → MasterData
+halted d = record d { is_halted = true }
+
+-- ---- faults of a take
+
+abbrev pub refusal_of : TakeFault → Refusal
+refusal_of take_fault.NoMemory = refusal.NoMemory
+refusal_of take_fault.Spent = refusal.Spent
+refusal_of take_fault.Wrong = refusal.Halted
+refusal_of take_fault.Fault = refusal.Halted
+
+abbrev pub is_halting : TakeFault → Bool
+is_halting take_fault.NoMemory = false
+is_halting take_fault.Spent = false
+is_halting take_fault.Wrong = true
+is_halting take_fault.Fault = true
+
+-- what a fault of a take leaves
+abbrev pub failed_data : MasterData → TakeFault → MasterData
+failed_data d fault = if is_halting fault then halted d else d

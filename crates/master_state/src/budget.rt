@@ -1,0 +1,118 @@
+//! How much memory a core counts, and when a roll may begin.
+
+ghost use Rattle.std.specs.Prelude.{◌≡◌, ◌+◌, ◌-◌, ◌*◌, ◌≤◌, ◌^◌, length, true};
+ghost use Rattle.log_head.specs.Head.{is_open};
+ghost use Rattle.master_state.specs.Budget.{used_seglets, free_seglets, seglets_of, may_roll, segments_for};
+ghost use Rattle.master_state.specs.Budget.{is_ready, segments_taken, segments_leaving, newest_digest, whole_seglets};
+
+use crate::state::Core;
+use versioned_map::Command;
+
+impl Core {
+    /// How many seglets of memory are counted. A head that takes appends counts whole, and each other segment counts
+    /// its length.
+    pub fn used(&self) -> u64
+        ensures used { result ≡ used_seglets self.now }
+        ensures within { result ≤ self.now.config.seglets }
+    {
+        let whole = self.config.segment / self.config.seglet;
+        let head = match self.head.roll() {
+            None => whole,
+            Some(_) => self.closing_seglets() + whole,
+        };
+        head + self.closed.used()
+    }
+
+    /// How many seglets of memory are left.
+    pub fn free(&self) -> u64
+        ensures { result ≡ free_seglets self.now }
+    {
+        self.config.seglets - self.used()
+    }
+
+    /// How many seglets the head counts once it is closed.
+    fn closing_seglets(&self) -> u64
+        ensures closing { result ≡ seglets_of self.now.config self.now.head.image }
+        ensures small { result ≤ 2 ^ 32 }
+    {
+        (self.head.image().bytes_len() as u64).div_ceil(self.config.seglet)
+    }
+
+    /// Whether a pass is open that is ready for its commit.
+    pub fn is_ready(&self) -> bool
+        ensures { result ≡ is_ready self.now }
+    {
+        match &self.pass {
+            None => false,
+            Some(pass) => pass.is_ready(self.config.replicas as usize),
+        }
+    }
+
+    /// How many segments an open pass has taken already.
+    fn segments_taken(&self) -> u64
+        ensures { result ≡ segments_taken self.now }
+    {
+        match &self.pass {
+            None => 0,
+            Some(_) => 1,
+        }
+    }
+
+    /// How many segments the next commit takes out, at least.
+    fn segments_leaving(&self) -> u64
+        ensures { result ≡ segments_leaving self.now }
+    {
+        match &self.pass {
+            None => 1,
+            Some(pass) => pass.victims.as_slice().len() as u64,
+        }
+    }
+
+    /// How many ids the digest in force lists.
+    fn listed(&self) -> u64
+        requires { is_open self.now.head ≡ true }
+        ensures listed { result ≡ length (newest_digest self.now.head) }
+        ensures small { result ≤ 2 ^ 32 + 1 }
+    {
+        self.closed.len() as u64 + 1 - self.segments_taken()
+    }
+
+    /// How many seglets have to be free when a roll begins, if so many whole segments are free then. An open pass has
+    /// one of these already.
+    fn needed(&self, free: u64) -> u64
+        requires few { free ≤ 3 }
+        ensures needed { result ≡ (free - segments_taken self.now) * whole_seglets self.now.config
+            + seglets_of self.now.config self.now.head.image }
+    {
+        let whole = self.config.segment / self.config.seglet;
+        free.saturating_sub(self.segments_taken()) * whole + self.closing_seglets()
+    }
+
+    /// The rule of a roll. The commit of a pass that is ready may begin. Any other roll needs one more place in the
+    /// digest than there are now, but for the places that are kept for a pass, and its seglets free.
+    pub fn may_roll(&self, free: u64) -> bool
+        requires open { is_open self.now.head ≡ true }
+        requires few { free ≤ 3 }
+        ensures { result ≡ may_roll self.now free }
+    {
+        if self.is_ready() {
+            return true;
+        }
+        let more = self.listed() + 1;
+        let most = self.config.segment / 32;
+        let left = most - 2 + self.segments_leaving();
+        let needed = self.needed(free);
+        more <= most && more <= left && needed <= self.free()
+    }
+}
+
+/// How many whole segments have to be free when a roll begins for a command.
+pub fn segments_for(command: &Command) -> u64
+    ensures needed { result ≡ segments_for command.now }
+    ensures few { result ≤ 3 }
+{
+    match command {
+        Command::Get(_) | Command::Delete(_) => 2,
+        Command::Put(_, _, _) => 3,
+    }
+}

@@ -1,0 +1,124 @@
+//! What a master is made with.
+
+ghost use Rattle.std.specs.Prelude.{◌≡◌, ◌<◌, ◌≤◌, None, Some};
+ghost use Rattle.std.specs.Result.{result_err};
+ghost use Rattle.master_state.specs.Config.{config_fault, has_backups};
+ghost use Rattle.master_state.specs.Log.{home};
+ghost use Rattle.master_state.specs.Names.{config_fault_name};
+
+use entry::Tablets;
+use segment::MAX_SEGMENT_LEN;
+use std::error::Error;
+use std::fmt;
+
+/// What a master is made with. `check` says whether the numbers are within their limits.
+#[derive(Drop)]
+pub struct Config {
+    /// The master's number.
+    pub master: u64,
+    /// How many backups there are, numbered from 0: 1 to 64.
+    pub backups: u64,
+    /// How many replicas each segment has: 1 to `backups`.
+    pub replicas: u64,
+    /// How far apart the backups of consecutive segments lie: 1 to 64.
+    pub step: u64,
+    /// The bytes of a segment: 512 to 8,388,608, a multiple of `seglet`.
+    pub segment: u64,
+    /// The bytes of a seglet: 64 to 65,536.
+    pub seglet: u64,
+    /// How many seglets of memory the master has: those of four segments to 2^32.
+    pub seglets: u64,
+    /// The tablets that the master owns: at least one, sorted and disjoint.
+    pub tablets: Tablets,
+    /// The most records that the history takes: 1 to 1,048,576.
+    pub history: u64,
+}
+
+/// What is wrong with a configuration.
+#[derive(Clone, Copy, Debug, PartialEq, Eq)]
+pub enum ConfigFault {
+    BadBackups,
+    BadStep,
+    BadSegment,
+    BadSeglet,
+    BadBudget,
+    BadTablets,
+    BadHistory,
+}
+
+impl Error for ConfigFault {}
+
+impl fmt::Display for ConfigFault {
+    ghost output = { λ fault. Some (config_fault_name fault) };
+
+    fn fmt<W: fmt::Write>(&self, f: &mut fmt::Formatter<W>) -> fmt::Result {
+        f.write_str(self.name())
+    }
+}
+
+impl ConfigFault {
+    /// The name that is printed.
+    pub fn name(&self) -> &'static str
+        ensures { result.now ≡ config_fault_name self.now }
+    {
+        match self {
+            ConfigFault::BadBackups => "BadBackups",
+            ConfigFault::BadStep => "BadStep",
+            ConfigFault::BadSegment => "BadSegment",
+            ConfigFault::BadSeglet => "BadSeglet",
+            ConfigFault::BadBudget => "BadBudget",
+            ConfigFault::BadTablets => "BadTablets",
+            ConfigFault::BadHistory => "BadHistory",
+        }
+    }
+}
+
+impl Config {
+    /// Whether the configuration is within its limits. The first thing that is wrong is named, in this order: backups,
+    /// step, seglet, segment, budget, tablets, history.
+    pub fn check(&self) -> Result<(), ConfigFault>
+        ensures { result_err result ≡ config_fault self.now }
+    {
+        if !self.has_backups() {
+            return Err(ConfigFault::BadBackups);
+        }
+        if self.step < 1 || self.step > 64 {
+            return Err(ConfigFault::BadStep);
+        }
+        if self.seglet < 64 || self.seglet > 65_536 {
+            return Err(ConfigFault::BadSeglet);
+        }
+        if self.segment < 512
+            || self.segment > MAX_SEGMENT_LEN as u64
+            || self.segment % self.seglet != 0
+        {
+            return Err(ConfigFault::BadSegment);
+        }
+        if self.seglets < 4 * (self.segment / self.seglet) || self.seglets > 4_294_967_296 {
+            return Err(ConfigFault::BadBudget);
+        }
+        if !self.tablets.are_valid() {
+            return Err(ConfigFault::BadTablets);
+        }
+        if self.history < 1 || self.history > 1_048_576 {
+            return Err(ConfigFault::BadHistory);
+        }
+        Ok(())
+    }
+
+    /// Whether there is at least one replica, on as many backups or more, and at most 64 of those.
+    fn has_backups(&self) -> bool
+        ensures { result ≡ has_backups self.now }
+    {
+        self.replicas >= 1 && self.replicas <= self.backups && self.backups <= 64
+    }
+
+    /// The backup of a replica of a segment: replicas of one segment lie on different backups.
+    pub fn home(&self, segment: u64, replica: usize) -> u64
+        requires config { config_fault self.now ≡ None }
+        requires replica { replica < 64 }
+        ensures { result ≡ home self.now segment replica }
+    {
+        ((segment % self.backups) * self.step + replica as u64) % self.backups
+    }
+}

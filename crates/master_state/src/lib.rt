@@ -1,0 +1,24 @@
+//! What a master knows: its configuration, its log in memory, its index, its history, and how far it has cleaned.
+//!
+//! `Core` has it all in fields that the crates above read and change. What holds of every core is its invariant
+//! (`specs/Invariant.antt`), and each function that is lent a core is held to it at its end. `specs/Log.antt` says
+//! which log a master's data are, `specs/Causes.antt` why a step is refused, and `specs/Steps.antt` what an accepted
+//! one makes.
+//!
+//! The steps themselves are in two crates above, which don't know each other: `master_commands` and `master_space`.
+//! Here is what both use: how much memory is counted, and when a roll may begin.
+#![tactic(auto)]
+
+mod budget;
+mod config;
+mod image;
+mod loaded;
+mod state;
+mod step;
+
+pub use budget::segments_for;
+pub use config::{Config, ConfigFault};
+pub use image::image_of;
+pub use loaded::Loaded;
+pub use state::Core;
+pub use step::{Refusal, Step, StepAnswer};

@@ -1,0 +1,266 @@
+//! What a master knows: how it begins, what it shows, and what a fault leaves.
+
+ghost use Rattle.std.specs.Prelude.{◌≡◌, ◌<◌, None, IfOk, OnErr, IsSome};
+ghost use Rattle.std.specs.Option.{option_map};
+ghost use Rattle.entry.specs.Text.{text_of};
+ghost use Rattle.log_head.specs.Head.{digest_of};
+ghost use Rattle.log_model.specs.Data.{durable_of};
+ghost use Rattle.master_state.specs.Config.{config_fault};
+ghost use Rattle.master_state.specs.Data.{fresh_data};
+ghost use Rattle.master_state.specs.Invariant.{IsCore};
+ghost use Rattle.clean_model.specs.Loading.{restored};
+ghost use Rattle.master_state.specs.Loading.{restored_data, IsBare};
+ghost use Rattle.master_state.specs.Log.{log_config, log_of, image_of, home};
+ghost use Rattle.master_state.specs.Steps.{failed_data, refusal_of};
+
+use crate::config::Config;
+use crate::image::image_of;
+use crate::loaded::Loaded;
+use crate::step::Refusal;
+use cleaner::Pass;
+use entry::{NoMemory, Row, SafeVersion, Tablet};
+use hash_index::Index;
+use images::Images;
+use log_head::Head;
+use replica::{Bytes, TakeFault};
+use std::alloc::Global;
+use std::marker::Model;
+use versioned_map::Record;
+
+/// What a master knows: its configuration, its images, where the live objects lie, the safe version, its history, and
+/// how far it has cleaned. The crates above read and change its fields, and what they leave is held to the invariant.
+#[derive(Drop)]
+pub struct Core {
+    /// Where its memory comes from.
+    pub alloc: Global,
+    pub config: Config,
+    pub head: Head,
+    /// The images of the closed segments.
+    pub closed: Images,
+    /// The first number that no segment had yet.
+    pub next_id: u64,
+    /// Where the live objects lie.
+    pub index: Index,
+    /// The version that the next new key gets.
+    pub safe: SafeVersion,
+    /// The accepted commands, with their replies.
+    pub history: Vec<Record>,
+    /// The open pass of cleaning.
+    pub pass: Option<Pass>,
+    /// Victims of earlier passes, in the order in which their replicas are freed.
+    pub waiting: Vec<u64>,
+    /// How many replicas of the first of these were freed.
+    pub freed: usize,
+    /// Whether a backup failed.
+    pub is_halted: bool,
+    /// What it was loaded with before its history began.
+    pub loaded: Loaded,
+    /// The safe version that its history began with.
+    pub first_safe: SafeVersion,
+}
+
+impl Model for Core {
+    ghost use Rattle.std.specs.Prelude.{◌≡◌, ◌+◌, ◌<◌, ◌≤◌, IsSome, IfSome, true, length, vec_capacity};
+    ghost use Rattle.master_state.specs.Data.{MasterData};
+    ghost use Rattle.master_state.specs.Invariant.{IsCore, AreImagesOf};
+
+    ghost Value = { MasterData };
+
+    ghost view = { λ m. record {
+      config = m.config;
+      head = m.head;
+      closed = m.closed.images;
+      next = m.next_id;
+      index = m.index.held;
+      safe = m.safe;
+      history = m.history.items;
+      pass = m.pass;
+      waiting = m.waiting.items;
+      freed = m.freed;
+      is_halted = m.is_halted;
+      origin = record { objects = m.loaded.objects; safe = m.first_safe };
+    } };
+
+    // while a roll is under way there is room for one more closed segment, and while a pass commits `waiting` has room
+    // for its victims
+    ghost invariant = { λ m. (IsSome m.head.roll → length m.closed.images < m.closed.room)
+        × AreImagesOf m.config m.closed × IsCore (record {
+          config = m.config;
+          head = m.head;
+          closed = m.closed.images;
+          next = m.next_id;
+          index = m.index.held;
+          safe = m.safe;
+          history = m.history.items;
+          pass = m.pass;
+          waiting = m.waiting.items;
+          freed = m.freed;
+          is_halted = m.is_halted;
+          origin = record { objects = m.loaded.objects; safe = m.first_safe };
+        })
+        × IfSome m.pass (λ p. p.is_committing ≡ true
+        → length m.waiting.items + length p.victims ≤ vec_capacity m.waiting) };
+}
+
+impl Core {
+    /// The core of a new master. Its head is in memory alone.
+    pub fn new(alloc: Global, config: Config) -> Result<Core, NoMemory>
+        requires { config_fault config ≡ None }
+        ensures made { IfOk result (λ core. core ≡ fresh_data config) }
+        ensures valid { IfOk result (λ core. IsCore core) }
+    {
+        Core::restore(alloc, config, SafeVersion::first())
+    }
+
+    /// The core of a new master that is to be loaded with objects of versions below `safe`. Its head is in memory
+    /// alone.
+    pub fn restore(alloc: Global, config: Config, safe: SafeVersion) -> Result<Core, NoMemory>
+        requires { config_fault config ≡ None }
+        ensures made { IfOk result (λ core. core ≡ restored_data config safe) }
+        ensures log { IfOk result (λ core. log_of core ≡ restored (log_config config) safe) }
+        ensures valid { IfOk result (λ core. IsCore core) }
+        ensures bare { IfOk result (λ core. IsBare core) }
+    {
+        let replicas = config.replicas as usize;
+        let head = Head::begin(
+            alloc,
+            config.master,
+            replicas,
+            safe,
+            config.segment as usize,
+        )?;
+        let closed = Images::new(
+            alloc,
+            config.segment as usize,
+            config.seglet as usize,
+            config.seglets,
+        );
+        let core = Core {
+            alloc,
+            config,
+            head,
+            closed,
+            next_id: 2,
+            index: Index::new(alloc),
+            safe,
+            history: Vec::new(alloc),
+            pass: None,
+            waiting: Vec::new(alloc),
+            freed: 0,
+            is_halted: false,
+            loaded: Loaded::nothing(),
+            first_safe: safe,
+        };
+        core.show_valid();
+        Ok(core)
+    }
+
+    /// What holds of every core.
+    pub fn show_valid(&self)
+        ensures { IsCore self.now }
+    {
+        let _is_halted = self.is_halted;
+    }
+
+    /// The master's number.
+    pub fn master(&self) -> u64
+        ensures { result ≡ self.now.config.master }
+    {
+        self.config.master
+    }
+
+    /// The tablets of the configuration.
+    pub fn tablets(&self) -> &[Tablet]
+        ensures { result.now ≡ self.now.config.tablets }
+    {
+        self.config.tablets.as_slice()
+    }
+
+    /// Whether a backup failed.
+    pub fn is_halted(&self) -> bool
+        ensures { result ≡ self.now.is_halted }
+    {
+        self.is_halted
+    }
+
+    /// The head of the log.
+    pub fn head(&self) -> &Head
+        ensures head { result.now ≡ self.now.head }
+        ensures valid { IsCore self.now }
+    {
+        &self.head
+    }
+
+    /// How many backups the configuration names. They are numbered from 0.
+    pub fn backups(&self) -> u64
+        ensures { result ≡ self.now.config.backups }
+    {
+        self.config.backups
+    }
+
+    /// The backup of a replica of a segment.
+    pub fn home(&self, segment: u64, replica: usize) -> u64
+        requires { replica < 64 }
+        ensures { result ≡ home self.now.config segment replica }
+    {
+        self.config.home(segment, replica)
+    }
+
+    /// The accepted commands, with their replies.
+    pub fn history(&self) -> &[Record]
+        ensures { result.now ≡ self.now.history }
+    {
+        self.history.as_slice()
+    }
+
+    /// How many of the first records have units that every replica of the head took.
+    pub fn durable(&self) -> u64
+        ensures { result ≡ durable_of (log_of self.now) }
+    {
+        match self.head.first_missing() {
+            None => self.history.len() as u64,
+            Some(number) => number as u64,
+        }
+    }
+
+    // ---- a fault
+
+    /// What a fault of a take answers. After a fault of a backup the master stays halted. No op of a master is Wrong.
+    pub fn fail(&mut self, fault: TakeFault) -> Refusal
+        requires { fault ≡ TakeFault.Wrong → ⊥ }
+        ensures answer { result ≡ refusal_of fault }
+        ensures failed { self.new ≡ failed_data self.old fault }
+        ensures valid { IsCore self.new }
+    {
+        match fault {
+            TakeFault::NoMemory => Refusal::NoMemory,
+            TakeFault::Spent => Refusal::Spent,
+            TakeFault::Fault => {
+                self.is_halted = true;
+                Refusal::Halted
+            }
+            TakeFault::Wrong => unreachable!(),
+        }
+    }
+
+    // ---- what is shown
+
+    /// The ids of the digest in force, in order. Nothing changes.
+    pub fn digest(&self) -> Result<Row<u64>, NoMemory>
+        ensures { IfOk result (λ ids. ids ≡ digest_of self.now.head.image) }
+    {
+        Ok(Row::new(self.head.digest(self.alloc)?))
+    }
+
+    /// The bytes of a segment's image; `None` if there is no such image. Nothing changes.
+    pub fn bytes_of(&self, id: u64) -> Result<Option<Bytes>, NoMemory>
+        ensures image { IfOk result (λ image. image ≡ option_map text_of (image_of self.now id)) }
+        ensures refused { OnErr result (IsSome (image_of self.now id)) }
+    {
+        let Some(image) = image_of(&self.head, &self.closed, id) else {
+            return Ok(None);
+        };
+        let bytes = Vec::from_slice(self.alloc, image.bytes())?;
+        Ok(Some(Bytes::new(bytes)))
+    }
+}
