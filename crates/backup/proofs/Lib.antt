@@ -3,5 +3,4 @@ mod Pictures
 mod Held
 mod Rising
 mod Others
-mod Taking
 pub mod Empty

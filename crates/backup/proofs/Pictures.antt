@@ -146,10 +146,11 @@ refused_by backups b old new op takes end faults take_fault.Wrong change acts = 
 refused_by backups b old new op takes end faults take_fault.Fault change acts = absurd acts
 refused_by backups b old new op takes end faults take_fault.Spent change acts = absurd acts
 
-fits : (f : FleetState) (b : ℕ) (op : OpValue) (e : Option (Option Replica)) → IsSome e → with_effect f b op e ≡ None
+effect_fits : (f : FleetState) (b : ℕ) (op : OpValue) (e : Option (Option Replica)) → IsSome e
+    → with_effect f b op e ≡ None
     → ⊥
-fits f b op None some none = absurd (false≢true some)
-fits f b op (Some r) some none = (cc)
+effect_fits f b op None some none = absurd (false≢true some)
+effect_fits f b op (Some r) some none = (cc)
 
 -- a fleet refuses an op as Wrong exactly if its backup does
 pub wrong_by : (backups : List MemoryBackup) (b : ℕ) (old new : MemoryBackup) (op : OpValue) (takes end faults : ℕ)
@@ -159,7 +160,7 @@ pub wrong_by : (backups : List MemoryBackup) (b : ℕ) (old new : MemoryBackup) 
     ↔ ((takes < end) × (taken (fleet_of backups takes end faults) b op ≡ None))
 wrong_by backups b old new op takes end faults take_fault.NoMemory change left acts = (
   λ e. (cc),
-  λ h. absurd (fits (fleet_of backups takes end faults) b op
+  λ h. absurd (effect_fits (fleet_of backups takes end faults) b op
       (effect op.act (replica_at old op.master op.segment)) acts.0
       (sym (taken-effect backups b old op takes end faults change.is) ∙ h.1)),
 )

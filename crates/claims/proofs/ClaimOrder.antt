@@ -10,7 +10,7 @@ use Rattle.std.specs.declared.cmp.Ordering.TheVariants.{Less, Equal, Greater}
 use Rattle.std.proofs.lemmas.Cmp.{nat_cmp_total, nat_list_cmp_total, on_total, then_total, upto, ranked}
 use Rattle.entry.specs.Bag.{IsAmong}
 use Rattle.entry.specs.Order.{key_cmp, key_cmp_total}
-use Rattle.claims.specs.Claims.{Claimed, claim_cmp}
+use Rattle.claims.specs.Claims.{Claimed, claim_cmp, rank}
 use Rattle.entry.proofs.KeyOrder.{key_cmp_same}
 
 claim_cmp-total : IsTotalOrder claim_cmp
@@ -23,9 +23,6 @@ claim_cmp-total =
 -- the one comes before the other, or the two are the same
 abbrev pub Precedes : Claimed → Claimed → Type 0
 Precedes c d = is_gt (claim_cmp c d) ≡ false
-
-abbrev pub rank : Claimed → ℕ
-rank c = cond c.dead (2 * c.version + 1) (2 * c.version)
 
 then-up : (o r : Ordering) → is_gt (ordering_then o r) ≡ false → is_gt o ≡ false
 then-up Less r h = refl

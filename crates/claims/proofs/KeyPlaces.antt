@@ -1,5 +1,6 @@
 -- The order of keys and that of their places.
-use Rattle.std.proofs.Common.{◌≡◌, ◌≢◌, ℕ, zero, suc, ◌+◌, ◌-◌, ◌*◌, ◌^◌, ◌<◌, ◌≤◌, List, [], ◌∷◌, ◌++◌, length, take, replicate}
+use Rattle.std.proofs.Common.{◌≡◌, ◌≢◌, ℕ, zero, suc, ◌+◌, ◌-◌, ◌*◌, ◌^◌, ◌<◌, ◌≤◌, List, [], ◌∷◌, ◌++◌, length, take}
+use Rattle.std.proofs.Common.{replicate}
 use Rattle.std.proofs.Common.{false, refl, sym, ap, subst, ◌∙◌, inl, inr, arith}
 use Rattle.std.specs.Prelude.{slice_index, ◌==◌}
 use Rattle.std.specs.Cmp.Lexicographic.{slice_cmp, nat_list_cmp_total}
@@ -95,7 +96,8 @@ by_place a b each other same differ =
     table : nat_cmp a.table b.table ≡ Equal
     table = subst (λ (t : ℕ). nat_cmp a.table t ≡ Equal) same (tied_itself nat_cmp_total a.table)
 
-    decided : (o : Ordering) → MatchOrdering o (place_of a.bytes < place_of b.bytes) (place_of a.bytes ≡ place_of b.bytes)
+    decided : (o : Ordering) → MatchOrdering o (place_of a.bytes < place_of b.bytes)
+        (place_of a.bytes ≡ place_of b.bytes)
         (place_of b.bytes < place_of a.bytes) → o ≡ key_cmp a b
     decided Less at = rw (table, places_rise a.bytes b.bytes other at) refl
     decided Equal at = absurd (differ at)

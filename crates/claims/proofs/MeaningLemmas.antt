@@ -18,12 +18,12 @@ use Rattle.claims.specs.Bags.{segments_bag}
 use Rattle.claims.specs.declared.fault.ReplayFault.{ReplayFault}
 use Rattle.claims.specs.declared.fault.ReplayFault.TheVariants as fault
 use Rattle.claims.specs.Rebuilt.{IsRefusal}
-use Rattle.claims.specs.Claims.{Claimed, IsRefusedFor, claim_of, claims_of, object_of}
+use Rattle.claims.specs.Claims.{Claimed, IsRefusedFor, claim_of, claims_of, object_of, rank}
 use Rattle.claims.specs.Claims.{objects_in, tops, has_clash, bound_of_claims}
 use Rattle.entry.proofs.BagLemmas.{among_permutation, among_image}
 use Rattle.entry.proofs.ListLemmas.{all_among}
 use Rattle.entry.proofs.KeyOrder.{key_eq_decides, key_cmp_same}
-use Rattle.claims.proofs.ClaimOrder.{Rises, Rises-from_sorted, before_by, rank}
+use Rattle.claims.proofs.ClaimOrder.{Rises, Rises-from_sorted, before_by}
 use Rattle.claims.proofs.ScanLemmas.{tops-among, tops-highest, tops-some, tops-sorted, keys_of, objects_in-among}
 use Rattle.claims.proofs.ScanLemmas.{objects_in-has, unclashed, clash-found, is_clash-tells}
 

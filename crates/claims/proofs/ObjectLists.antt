@@ -13,7 +13,8 @@ last_of : {X : Type 0} (xs : List X) (x : X) → slice_get xs (length xs - 1) �
     → xs ≡ take (length xs - 1) xs ++ x ∷ []
 last_of xs x is =
     let within = slice_get_within xs (length xs - 1) x is in
-    let here : get_or xs (length xs - 1) x ≡ x = same_Some _ _ (sym (slice_get-get_or xs (length xs - 1) x within) ∙ is) in
+    let here : get_or xs (length xs - 1) x ≡ x = same_Some _ _
+    (sym (slice_get-get_or xs (length xs - 1) x within) ∙ is) in
     let all : length xs ≤ length xs - 1 + 1 = omega (arith, within) in
     sym (take_all (length xs - 1 + 1) xs all) ∙ take_more xs (length xs - 1) x within
     ∙ ap (λ y. take (length xs - 1) xs ++ y ∷ []) here
@@ -31,6 +32,8 @@ last_behind first others n part o lt at last empty =
     at_drop_more all others n part lt ∙ ap (λ (os : List Object). os ++ all (drop (n + 1) others)) (sym at)
     ∙ ap (λ (os : List Object). part ++ os) empty ∙ append-nil part ∙ last_of part o last in
     ap (λ (os : List Object). first ++ os)
-    (ap all (sym (take-append-drop n others)) ∙ flat_map-append (λ (os : List Object). os) (take n others) (drop n others)
-    ∙ ap (λ (os : List Object). all (take n others) ++ os) here ∙ sym (append_assoc (all (take n others)) front (o ∷ [])))
+    (ap all (sym (take-append-drop n others)) ∙ flat_map-append (λ (os : List Object). os)
+    (take n others) (drop n others)
+    ∙ ap (λ (os : List Object). all (take n others) ++ os) here
+    ∙ sym (append_assoc (all (take n others)) front (o ∷ [])))
     ∙ sym (append_assoc first (all (take n others) ++ front) (o ∷ []))

@@ -12,11 +12,11 @@ use Rattle.entry.specs.declared.key.Key.{Key}
 use Rattle.entry.specs.declared.entry.Object.{Object}
 use Rattle.entry.specs.Bag.{IsAmong}
 use Rattle.entry.specs.Order.{key_cmp, key_eq}
-use Rattle.claims.specs.Claims.{Claimed, is_clash, is_last, next_clashes, has_clash, tops, object_of, objects_in}
+use Rattle.claims.specs.Claims.{Claimed, is_clash, is_last, next_clashes, has_clash, tops, object_of, objects_in, rank}
 use Rattle.entry.proofs.BagLemmas.{among_images}
 use Rattle.entry.proofs.ListLemmas.{all_from_among}
 use Rattle.entry.proofs.KeyOrder.{key_eq_decides, key_cmp_between, key_cmp_less}
-use Rattle.claims.proofs.ClaimOrder.{Precedes, Rises, rank, keys-up, ranks-up}
+use Rattle.claims.proofs.ClaimOrder.{Precedes, Rises, keys-up, ranks-up}
 
 -- ---- the last of each key
 

@@ -58,7 +58,8 @@ rebuilt segments cs before recorded r are of clean listed valid safe =
       meaning =
           subst (λ (os : List Object). IsMeaning (among (segments_bag segments)) (contents_of os)) (sym listed)
           (tops-mean (segments_bag segments) cs are clean);
-      order = subst (λ (os : List Object). IsStrictlySortedBy key_cmp (keys_of os)) (sym listed) (tops-sorted cs are.up);
+      order = subst (λ (os : List Object). IsStrictlySortedBy key_cmp (keys_of os)) (sym listed)
+          (tops-sorted cs are.up);
       valid = valid;
       safe = safe ∙ ap (λ n. max recorded n) (bound_of_log segments before of);
     }

@@ -29,10 +29,10 @@ module _ (c : Claimed) (cs : List Claimed) where
   taken_in : is_last c cs ≡ true → c.dead ≡ false → objects_in (tops (c ∷ cs)) ≡ object_of c ∷ objects_in (tops cs)
   taken_in last alive = rw (last, alive) refl
 
-cut : (xs : List Claim) (x : Claim) → 1 ≤ length xs → x ≡ get_or xs 0 x
+first_cut : (xs : List Claim) (x : Claim) → 1 ≤ length xs → x ≡ get_or xs 0 x
     → map claimed xs ≡ claimed x ∷ map claimed (behind xs)
-cut [] x some first = absurd (omega arith)
-cut (y ∷ ys) x some first = rw (take_rest) (ap (λ (c : Claim). claimed c ∷ map claimed ys) (sym first))
+first_cut [] x some first = absurd (omega arith)
+first_cut (y ∷ ys) x some first = rw (take_rest) (ap (λ (c : Claim). claimed c ∷ map claimed ys) (sym first))
 
 module _ (xs : List Claim) (x : Claim) (some : 1 ≤ length xs) (first : x ≡ get_or xs 0 x) where
   -- a claim that is not its key's last, or a tombstone's, adds no object
@@ -41,7 +41,7 @@ module _ (xs : List Claim) (x : Claim) (some : 1 ≤ length xs) (first : x ≡ g
       os ++ objects_in (tops (map claimed (behind xs))) ≡ all
   passed os all which held =
       ap (λ (more : List Object). os ++ more)
-      (sym (ap (λ (cs : List Claimed). objects_in (tops cs)) (cut xs x some first)
+      (sym (ap (λ (cs : List Claimed). objects_in (tops cs)) (first_cut xs x some first)
       ∙ passed_over (claimed x) (map claimed (behind xs)) which)) ∙ held
 
   -- the last of its key adds its object
@@ -55,7 +55,7 @@ module _ (xs : List Claim) (x : Claim) (some : 1 ≤ length xs) (first : x ≡ g
       (pushed ∙ ap (λ (p : Object). os ++ p ∷ []) is)
       ∙ append_assoc os (object_of (claimed x) ∷ []) (objects_in (tops (map claimed (behind xs))))
       ∙ ap (λ (more : List Object). os ++ more)
-      (sym (ap (λ (cs : List Claimed). objects_in (tops cs)) (cut xs x some first)
+      (sym (ap (λ (cs : List Claimed). objects_in (tops cs)) (first_cut xs x some first)
       ∙ taken_in (claimed x) (map claimed (behind xs)) last alive))
       ∙ held
 
@@ -63,12 +63,13 @@ module _ (xs : List Claim) (x : Claim) (some : 1 ≤ length xs) (first : x ≡ g
       → has_clash (map claimed xs) ≡ b →
       has_clash (map claimed (behind xs)) ≡ b
   unclashed_first b none held =
-      sym (ap has_clash (cut xs x some first) ∙ ap (λ (c : Bool). c || has_clash (map claimed (behind xs))) none) ∙ held
+      sym (ap has_clash (first_cut xs x some first) ∙ ap (λ (c : Bool). c || has_clash
+      (map claimed (behind xs))) none) ∙ held
 
   pub clashed_first : (b : Bool) → next_clashes (claimed x) (map claimed (behind xs)) ≡ true
       → has_clash (map claimed xs) ≡ b → b ≡ true
   clashed_first b first_two held =
-      sym held ∙ ap has_clash (cut xs x some first)
+      sym held ∙ ap has_clash (first_cut xs x some first)
       ∙ ap (λ (c : Bool). c || has_clash (map claimed (behind xs))) first_two
 
 pub all_valid : (os now : List Object) (o p : Object) → All IsObject os → IsObject p → now ≡ os ++ o ∷ [] → o ≡ p

@@ -1,5 +1,5 @@
 -- What objects and tombstones claim of their keys.
-use Rattle.std.specs.Prelude.{◌≡◌, ℕ, ◌+◌, max, List, [], ◌∷◌, Option, Some, None, Bool, true}
+use Rattle.std.specs.Prelude.{◌≡◌, ℕ, ◌+◌, ◌*◌, max, List, [], ◌∷◌, Option, Some, None, Bool, true}
 use Rattle.std.specs.Prelude.{false, not, ◌==◌, ◌&&◌, ◌||◌, nat_eq, if◌then◌else◌, ⊤}
 use Rattle.std.specs.List.{filter_map}
 use Rattle.std.specs.Ordering.{nat_cmp, bool_cmp, ordering_then, is_lt}
@@ -46,6 +46,10 @@ object_of c = record { key = c.key; version = c.version; value = c.value }
 abbrev pub bound_of_claims : List Claimed → ℕ
 bound_of_claims [] = 0
 bound_of_claims (c ∷ cs) = max (c.version + 1) (bound_of_claims cs)
+
+-- of one version the tombstone ranks above the object
+abbrev pub rank : Claimed → ℕ
+rank c = if c.dead then 2 * c.version + 1 else 2 * c.version
 
 -- ---- order
 

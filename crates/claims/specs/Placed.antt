@@ -15,7 +15,8 @@ placed_key k = shown_key k.key
 
 -- the same key is an equivalence
 pub key_eq_equiv : IsEquivalence key_eq
-key_eq_equiv = and_equiv (on_equiv (λ (k : Key). k.table) nat_eq_equiv) (on_equiv (λ (k : Key). k.bytes) nat_list_eq_equiv)
+key_eq_equiv = and_equiv (on_equiv (λ (k : Key). k.table) nat_eq_equiv)
+    (on_equiv (λ (k : Key). k.bytes) nat_list_eq_equiv)
 
 -- what a hasher is given of a key: its table, and its bytes at once
 abbrev pub key_writes : Key → List (List ℕ)

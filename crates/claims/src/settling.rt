@@ -13,7 +13,7 @@ use entry::SafeVersion;
 use std::alloc::Global;
 
 /// What a log with these claims is rebuilt to, whatever their order.
-pub fn settle(
+pub fn rebuilt_from(
     alloc: Global,
     recorded: SafeVersion,
     claims: &mut Vec<Claim<'_>>,

@@ -1,8 +1,7 @@
 -- The groups of a segment, entry by entry.
 use Rattle.std.proofs.Common.{◌≡◌, ℕ, zero, suc, ◌+◌, ◌<◌, Bool, true, false, cond, List, [], ◌∷◌, ◌++◌, map}
 use Rattle.std.proofs.Common.{Some, None, refl, sym, ap, subst, ◌∙◌, inl, inr, append_assoc, arith, length, get_or, set}
-use Rattle.std.specs.Prelude.{◌==◌, filter, Result, Ok, Err, if◌then◌else◌}
-use Rattle.std.specs.Result.{is_ok, is_err}
+use Rattle.std.specs.Prelude.{◌==◌, filter, Err}
 use Rattle.std.specs.List.{range_with_len}
 use Rattle.std.proofs.lemmas.Bool.Decides.{Decides-eqb}
 use Rattle.std.proofs.lemmas.List.{append-nil, length-map}
@@ -16,7 +15,8 @@ use Rattle.entry.specs.Text.{is_data}
 use Rattle.tablet_will.specs.declared.part.Part.{Part}
 use Rattle.tablet_will.specs.Parts.{partitions_of}
 use Rattle.division.specs.Groups.{Grouped}
-use Rattle.division.specs.Division.{partition_in, is_number, goes_to, group_in, groups_of, with_entry, added, numbers_of}
+use Rattle.division.specs.Division.{partition_in, is_number, goes_to, group_in, groups_of, with_entry, added}
+use Rattle.division.specs.Division.{numbers_of}
 use Rattle.division.specs.Division.{empty_group, IsCovered, AreCovered, IsSought, IsDivideFault}
 
 pub range_more : (a n : ℕ) → range_with_len a (n + 1) ≡ range_with_len a n ++ (a + n) ∷ []
@@ -29,8 +29,8 @@ range_more a (suc n) =
 front : {x a : ℕ} {xs ns : List ℕ} → x ∷ xs ≡ a ∷ ns → x ≡ a
 front e = cc
 
-back : {x a : ℕ} {xs ns : List ℕ} → x ∷ xs ≡ a ∷ ns → xs ≡ ns
-back e = cc
+same_tail : {x a : ℕ} {xs ns : List ℕ} → x ∷ xs ≡ a ∷ ns → xs ≡ ns
+same_tail e = cc
 
 apart : (m a : ℕ) → m < a → (m == a) ≡ false
 apart m a lt = by_test (m == a) refl
@@ -61,7 +61,7 @@ module _ (qs : List Part) (e : Entry) where
   later (g ∷ gs) a m numbered lt is =
       let here : g.partition ≡ a = front numbered in
       let no : goes_to qs g.partition e ≡ false = rw (is, here) (apart m a lt) in
-      rw no (ap (λ (hs : List Grouped). g ∷ hs) (later gs (a + 1) m (back numbered) (omega (arith, lt)) is))
+      rw no (ap (λ (hs : List Grouped). g ∷ hs) (later gs (a + 1) m (same_tail numbered) (omega (arith, lt)) is))
 
   -- it is added to the group of its partition
   pub added_at : (gs : List Grouped) (a m : ℕ) (g : Grouped) → numbers_of gs ≡ range_with_len a (length gs)
@@ -74,13 +74,13 @@ module _ (qs : List Part) (e : Entry) where
       let at : partition_in qs e ≡ Some a = is ∙ ap Some same in
       let yes : goes_to qs g.partition e ≡ true = rw (at, here) ((Decides-eqb a a).1 refl) in
       rw yes (ap (λ (hs : List Grouped). with_entry e g ∷ hs)
-      (sym (later gs (a + 1) a (back numbered) (omega arith) at)))
+      (sym (later gs (a + 1) a (same_tail numbered) (omega arith) at)))
   added_at (g ∷ gs) a (suc m) h numbered lt is =
       let here : g.partition ≡ a = front numbered in
       let no : goes_to qs g.partition e ≡ false = rw (is, here) (above a m) in
       let next : a + suc m ≡ a + 1 + m = omega arith in
       rw no (ap (λ (hs : List Grouped). g ∷ hs)
-      (added_at gs (a + 1) m h (back numbered) (omega (arith, lt)) (is ∙ ap Some next)))
+      (added_at gs (a + 1) m h (same_tail numbered) (omega (arith, lt)) (is ∙ ap Some next)))
 
   pub numbers-added : (gs : List Grouped) → numbers_of (added qs e gs) ≡ numbers_of gs
   numbers-added [] = refl
@@ -119,10 +119,11 @@ dividing_more qs es left rest e before now new h first is covered =
       numbered = ap numbers_of is ∙ numbers-added qs e now ∙ h.numbered;
       all = all ∙ h.all;
       within = λ f m. h.within f (subst (λ (fs : List Entry). IsAmong f fs) (sym first) (inr m));
-      covered = λ more. h.covered (subst (λ (fs : List Entry). AreCovered qs fs) (sym first) (λ f m. elim m as (λ _. IsCovered qs f) [
-        | inl same ↦ subst (IsCovered qs) same covered
-        | inr later ↦ more f later
-      ]));
+      covered = λ more. h.covered (subst (λ (fs : List Entry). AreCovered qs fs) (sym first)
+          (λ f m. elim m as (λ _. IsCovered qs f) [
+            | inl same ↦ subst (IsCovered qs) same covered
+            | inr later ↦ more f later
+          ]));
     }
 
 -- a group with all of these that go to its partition
@@ -143,7 +144,12 @@ all-filled qs (e ∷ es) gs = all-filled qs es (added qs e gs) ∙ filled_more g
   where
     one : (g : Grouped) (b : Bool) → goes_to qs g.partition e ≡ b
         → filled qs es (cond b (with_entry e g) g)
-        ≡ record { segment = g.segment; partition = g.partition; entries = g.entries ++ cond b (e ∷ filter (goes_to qs g.partition) es) (filter (goes_to qs g.partition) es) }
+        ≡ record {
+          segment = g.segment;
+          partition = g.partition;
+          entries = g.entries ++ cond b (e ∷ filter (goes_to qs g.partition) es)
+              (filter (goes_to qs g.partition) es);
+        }
     one g true is =
         ap (λ (fs : List Entry). record { segment = g.segment; partition = g.partition; entries = fs })
         (append_assoc g.entries (e ∷ []) (filter (goes_to qs g.partition) es))
@@ -164,11 +170,6 @@ division_is qs segment es now h =
     from_empty : (ns : List ℕ) → map (filled qs es) (map (empty_group segment) ns) ≡ map (group_in qs segment es) ns
     from_empty [] = refl
     from_empty (n ∷ ns) = ap (λ (gs : List Grouped). group_in qs segment es n ∷ gs) (from_empty ns)
-
-pub pushed_by : {T E X : Type 0} (r : Result T E) (new more old : List X) → false ≡ is_err r
-    → new ≡ if is_ok r then more else old → new ≡ more
-pushed_by (Ok x) new more old fine is = is
-pushed_by (Err y) new more old fine is = absurd (cc)
 
 -- ---- one turn of the pass
 

@@ -18,7 +18,8 @@ use Rattle.division.specs.declared.gathered.Gathered.{Gathered}
 use Rattle.division.specs.declared.group.Group.{Group}
 use Rattle.division.specs.Placed.{entry_standing, entries_at, Stands, AllStand}
 use Rattle.division.specs.Groups.{Grouped, grouped}
-use Rattle.division.specs.Division.{partition_in, with_entry, empty_group, IsCovered, AreCovered, IsSought, IsDivideFault}
+use Rattle.division.specs.Division.{partition_in, with_entry, empty_group, IsCovered, AreCovered, IsSought}
+use Rattle.division.specs.Division.{IsDivideFault}
 use Rattle.division.specs.Gathering.{group_at, ArePlaces, AreEmpty, AreGathered}
 use Rattle.division.proofs.Ahead.{IsAhead, IsNext, ahead_first, ahead_next, ahead_none}
 use Rattle.division.proofs.Divisions.{IsDividing, dividing_first, dividing_more, division_is, added_none, range_more}
@@ -147,7 +148,8 @@ module _ (qs : List Part) (es : List Entry) (text : List ℕ) where
         stands =
             let before : AllStand text old.places.items =
             subst (λ (g : Gathered). AllStand text g.places.items) (sym was)
-            (all_at (λ (g : Gathered). AllStand text g.places.items) gs m old (omega (arith, lt, gathered_len)) h.stand) in
+            (all_at (λ (g : Gathered). AllStand text g.places.items) gs m old
+            (omega (arith, lt, gathered_len)) h.stand) in
             subst (AllStand text) (sym places)
             (all_push (Stands text) old.places.items at before (ap (λ (o : Option Entry). is_some o) next.stands))
 
@@ -158,7 +160,8 @@ module _ (qs : List Part) (es : List Entry) (text : List ℕ) where
           stand = all_set (λ (g : Gathered). AllStand text g.places.items) gs m new h.stand stands;
           dividing = λ segment.
               dividing_more qs es h.left next.later e _ (map (group_at segment text) gs) _ (h.dividing segment) next.is
-              (entry_added (group_at segment text) qs segment (partitions_of qs) es h.left gs (h.dividing segment) e m old
+              (entry_added (group_at segment text) qs segment (partitions_of qs) es h.left gs
+              (h.dividing segment) e m old
               new lt to was (longer segment)) covered;
         }
 

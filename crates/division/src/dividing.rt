@@ -18,7 +18,11 @@ use tablet_will::Will;
 
 /// The partition of a key, which is named if it has none.
 #[inline(always)]
-fn find(alloc: Global, key: &KeyRef<'_>, will: &Will) -> Result<Option<u32>, DivideFault>
+fn partition_of_key(
+    alloc: Global,
+    key: &KeyRef<'_>,
+    will: &Will,
+) -> Result<Option<u32>, DivideFault>
     ensures { IsFound will.now (shown_key key.now) result }
 {
     match will.partition_of_ref(key) {
@@ -36,8 +40,8 @@ fn sought(alloc: Global, entry: &EntryRef<'_>, will: &Will) -> Result<Option<u32
     ensures { IsSought will.now (shown entry.now) result }
 {
     match entry {
-        EntryRef::Object(object) => find(alloc, &object.key, will),
-        EntryRef::Tombstone(tombstone) => find(alloc, &tombstone.key, will),
+        EntryRef::Object(object) => partition_of_key(alloc, &object.key, will),
+        EntryRef::Tombstone(tombstone) => partition_of_key(alloc, &tombstone.key, will),
         _ => Ok(None),
     }
 }
@@ -52,9 +56,7 @@ fn none_gathered(alloc: Global, partitions: u32) -> Result<Vec<Gathered>, NoMemo
             partition,
             places: Vec::new(alloc),
         };
-        if all.push(none).is_err() {
-            return Err(NoMemory);
-        }
+        all.push(none)?;
     }
     Ok(all)
 }
@@ -112,16 +114,14 @@ fn groups_at<'a>(
             partition: gathered.partition,
             entries: GroupEntries::at_places(segment, gathered.places),
         };
-        if groups.push(group).is_err() {
-            return Err(NoMemory);
-        }
+        groups.push(group)?;
     }
     Ok(groups)
 }
 
 /// The segment's groups: for each partition of the will, in order, the objects and tombstones whose keys are in it. A
-/// group may be empty. The entries stay in the segment's bytes: a group takes 4 bytes for each, and a few words besides.
-/// A key that is in no partition is named by Stray.
+/// group may be empty. The entries stay in the segment's bytes: a group takes 4 bytes for each, and a few words
+/// besides. A key that is in no partition is named by Stray.
 pub fn divide<'a>(
     alloc: Global,
     segment: &'a Segment,

@@ -10,7 +10,7 @@ use Rattle.entry.specs.declared.entry.Entry.TheVariants as entry
 use Rattle.entry.specs.Bag.{IsAmong}
 use Rattle.entry.specs.Meaning.{Versioned, rank_of, IsTop, IsMeaning, IsClean, among, bound_of}
 use Rattle.entry.specs.Meaning.{object_at, versioned, contents_of}
-use Rattle.claims.specs.Claims.{Claimed, claims_of, object_of, objects_in, tops, has_clash, bound_of_claims}
+use Rattle.claims.specs.Claims.{Claimed, claims_of, object_of, objects_in, tops, has_clash, bound_of_claims, rank}
 use Rattle.claims.proofs.ClaimOrder.{Rises}
 use Rattle.claims.proofs.Bounds.{bound_has, bound_under, bound_claimed}
 use Rattle.claims.proofs.ScanLemmas.{tops-among, tops-some, tops-sorted, objects_in-among, objects_in-has}
@@ -18,7 +18,7 @@ use Rattle.claims.proofs.ScanLemmas.{clash-found, is_clash-tells}
 use Rattle.claims.proofs.MeaningLemmas.{claims_of-among, claims_of-has, claim-matches, claim-of_key, object-from_claim}
 use Rattle.claims.proofs.MeaningLemmas.{contents_of-among, contents_of-has}
 use Rattle.partition_replay.specs.declared.kept.Kept.{Kept}
-use Rattle.partition_replay.specs.Keeping.{kept_claim, IsKept, rank, HaveClash, AreTops}
+use Rattle.partition_replay.specs.Keeping.{kept_claim, IsKept, HaveClash, AreTops}
 
 -- of one key one claim is kept
 pub kept_once : (kept : Key → Option Kept) (c d : Claimed) → IsKept kept c → IsKept kept d → c.key ≡ d.key → c ≡ d
@@ -32,14 +32,15 @@ claim_at k x = record { key = k; version = x.version; dead = false; value = x.va
 -- two claims that clash are of entries that are not clean
 pub clash_unclean : (es : List Entry) → HaveClash (claims_of es) → IsClean (among es) → ⊥
 clash_unclean es h clean =
-    let clash = h.5 in
+    let tells = is_clash-tells h.0 h.1 h.4 in
+    let rival = tells.0 in
     let e = claims_of-among es h.0 h.2 in
     let f = claims_of-among es h.1 h.3 in
     let first : IsAmong (entry.Object (object_of h.0)) es =
-    subst (λ (z : Entry). IsAmong z es) (object-from_claim e.0 h.0 e.2 clash.first) e.1 in
+    subst (λ (z : Entry). IsAmong z es) (object-from_claim e.0 h.0 e.2 rival.first) e.1 in
     let second : IsAmong (entry.Object (object_of h.1)) es =
-    subst (λ (z : Entry). IsAmong z es) (object-from_claim f.0 h.1 f.2 clash.second) f.1 in
-    clash.differ (clean (object_of h.0) (object_of h.1) first second h.4 clash.version)
+    subst (λ (z : Entry). IsAmong z es) (object-from_claim f.0 h.1 f.2 rival.second) f.1 in
+    tells.1 (clean (object_of h.0) (object_of h.1) first second rival.key rival.version)
 
 -- a tombstone's claim ranks between those of its version and the next
 level : (a b : Bool) (v w : ℕ) → b ≡ false → cond a (2 * v + 1) (2 * v) ≤ cond b (2 * w + 1) (2 * w)

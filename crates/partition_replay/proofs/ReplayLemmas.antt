@@ -80,7 +80,11 @@ module _ (ids : List ℕ) (gs : List Grouped) (id : ℕ) where
       record {
         listed = among_last ids id;
         missing = none;
-        below = λ n m lt. elim (among_push n ids id m) [ inl before ↦ h n before | inr last ↦ absurd (omega (arith, last, lt)) ];
+        below = λ n m lt. elim (among_push n ids id m) [
+          | inl before ↦ h n before
+          | inr last ↦ absurd
+              (omega (arith, last, lt))
+        ];
       }
   lowest_more (Some low) h none = by_test (nat_le low id) refl
     where
@@ -194,7 +198,8 @@ module _ (kept : Key → Option Kept) (all live after : List Claim) (is : live �
       (among_image claimed after x.0
       (among_permutation x.0 live after moved (subst (λ (xs : List Claim). IsAmong x.0 xs) (sym is) there)))
 
-pub replayed : (partition : ℕ) (ids : List ℕ) (gs : List Grouped) (es : Entries) (all cs : List Claimed) (out : Replayed)
+pub replayed : (partition : ℕ) (ids : List ℕ) (gs : List Grouped) (es : Entries)
+    (all cs : List Claimed) (out : Replayed)
     → AreToppedBy gs es → IsLowest ids gs None → Rises cs → ((c : Claimed) → IsAmong c all → IsKept (kept_at es) c)
     → ((c : Claimed) → IsKept (kept_at es) c → IsAmong c all)
     → ((c : Claimed) → IsAmong c cs → IsKept (kept_at es) c)

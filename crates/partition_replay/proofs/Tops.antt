@@ -10,11 +10,11 @@ use Rattle.entry.proofs.BagLemmas.{among_left, among_right, among_last, among_pu
 use Rattle.entry.proofs.KeyOrder.{key_eq_tells}
 use Rattle.entry.specs.declared.entry.Entry.{Entry}
 use Rattle.std.specs.List.{cons_option}
-use Rattle.claims.specs.Claims.{Claimed, claim_of, claims_of}
+use Rattle.claims.specs.Claims.{Claimed, claim_of, claims_of, rank}
 use Rattle.claims.specs.declared.fault.ReplayFault.{ReplayFault}
 use Rattle.claims.specs.declared.fault.ReplayFault.TheVariants as fault
 use Rattle.partition_replay.specs.declared.kept.Kept.{Kept}
-use Rattle.partition_replay.specs.Keeping.{kept_claim, rank, IsOver, IsAbove, DoesClash, HaveClash, AreTops}
+use Rattle.partition_replay.specs.Keeping.{kept_claim, IsOver, IsAbove, DoesClash, HaveClash, AreTops}
 use Rattle.partition_replay.specs.Keeping.{AddsTops, IsUnkept}
 use Rattle.partition_replay.proofs.MapLemmas.{IsPut}
 
@@ -29,7 +29,8 @@ module _ (all : List Claimed) (old : Key → Option Kept) (tops : AreTops all ol
         each = λ d m. elim (among_push d all c m)
             as (λ _. (y : Kept) × (old d.key ≡ Some y) × IsOver (kept_claim d.key y) d) [
               | inl before ↦ tops.each d before
-              | inr last ↦ subst (λ (e : Claimed). (y : Kept) × (old e.key ≡ Some y) × IsOver (kept_claim e.key y) e) last
+              | inr last ↦ subst (λ (e : Claimed). (y : Kept) × (old e.key ≡ Some y)
+                  × IsOver (kept_claim e.key y) e) last
                   (x, is, over)
             ];
       }
@@ -96,7 +97,7 @@ adds_one old new c x says is put all tops =
     (λ y kept. subst (λ (o : Option Kept). IsAbove o c true) kept says)
 
 within : (cs ds : List Claimed) → ((c : Claimed) → IsAmong c cs → IsAmong c ds) → HaveClash cs → HaveClash ds
-within cs ds h clash = (clash.0, clash.1, h clash.0 clash.2, h clash.1 clash.3, clash.4, clash.5)
+within cs ds h clash = (clash.0, clash.1, h clash.0 clash.2, h clash.1 clash.3, clash.4)
 
 pub clash_one : (old : Key → Option Kept) (c : Claimed) → DoesClash (old c.key) c → IsUnkept old (c ∷ []) fault.Clash
 clash_one old c says all tops = by_kept (old c.key) refl says
@@ -104,7 +105,7 @@ clash_one old c says all tops = by_kept (old c.key) refl says
     by_kept : (o : Option Kept) → old c.key ≡ o → DoesClash o c → HaveClash (all ++ c ∷ [])
     by_kept None is clash = absurd clash
     by_kept (Some x) is clash =
-        (kept_claim c.key x, c, among_left _ all (c ∷ []) (tops.only c.key x is), among_last all c, refl, clash)
+        (kept_claim c.key x, c, among_left _ all (c ∷ []) (tops.only c.key x is), among_last all c, clash)
 
 -- ---- claims one after another
 

@@ -1,6 +1,6 @@
 -- What a replay keeps in memory: of each key the claim of greatest rank.
-use Rattle.std.specs.Prelude.{◌≡◌, ℕ, ◌+◌, ◌*◌, ◌<◌, ◌≤◌, List, ◌++◌, map, Option, Some, None}
-use Rattle.std.specs.Prelude.{Bool, true, false, if◌then◌else◌, ⊤}
+use Rattle.std.specs.Prelude.{◌≡◌, ◌<◌, ◌≤◌, List, ◌++◌, map, Option, Some, None}
+use Rattle.std.specs.Prelude.{Bool, true, false, ⊤}
 use Rattle.std.specs.Option.{option_or}
 use Rattle.std.specs.Map.{lookup}
 use Rattle.entry.specs.declared.key.Key.{Key}
@@ -10,7 +10,7 @@ use Rattle.claims.specs.declared.placed.PlacedKey.{PlacedKey}
 use Rattle.claims.specs.declared.fault.ReplayFault.{ReplayFault}
 use Rattle.claims.specs.declared.fault.ReplayFault.TheVariants as fault
 use Rattle.claims.specs.Placed.{placed_key}
-use Rattle.claims.specs.Claims.{Claimed}
+use Rattle.claims.specs.Claims.{Claimed, rank, is_clash}
 use Rattle.partition_replay.specs.declared.kept.Kept.{Kept}
 
 -- what is kept of a key, as its claim
@@ -35,10 +35,6 @@ IsKept kept c = (x : Kept) × (kept c.key ≡ Some x) × (kept_claim c.key x ≡
 
 -- ---- rank
 
--- of one version the tombstone ranks above the object
-abbrev pub rank : Claimed → ℕ
-rank c = if c.dead then 2 * c.version + 1 else 2 * c.version
-
 -- The other claim of the key doesn't rank above this one. If it is an object's and ranks as high, they are one.
 pub record IsOver (d c : Claimed) : Type 0 where
   pub ranks : rank c ≤ rank d
@@ -49,13 +45,6 @@ abbrev pub IsRanked : Claimed → Claimed → Bool → Type 0
 IsRanked d c true = rank d < rank c
 IsRanked d c false = IsOver d c
 
--- the two claims are objects of one version with different values
-pub record DoClash (d c : Claimed) : Type 0 where
-  pub version : d.version ≡ c.version
-  pub first : d.dead ≡ false
-  pub second : c.dead ≡ false
-  pub differ : ¬ (d.value ≡ c.value)
-
 -- whether the claim ranks above what is kept of its key
 abbrev pub IsAbove : Option Kept → Claimed → Bool → Type 0
 IsAbove None c above = above ≡ true
@@ -64,11 +53,11 @@ IsAbove (Some x) c above = IsRanked (kept_claim c.key x) c above
 -- the claim clashes with what is kept of its key
 abbrev pub DoesClash : Option Kept → Claimed → Type 0
 DoesClash None c = ⊥
-DoesClash (Some x) c = DoClash (kept_claim c.key x) c
+DoesClash (Some x) c = is_clash (kept_claim c.key x) c ≡ true
 
--- two claims of one key clash
+-- two of the claims clash
 abbrev pub HaveClash : List Claimed → Type 0
-HaveClash cs = (d : Claimed) × (c : Claimed) × IsAmong d cs × IsAmong c cs × (d.key ≡ c.key) × DoClash d c
+HaveClash cs = (d : Claimed) × (c : Claimed) × IsAmong d cs × IsAmong c cs × (is_clash d c ≡ true)
 
 -- ---- the map
 

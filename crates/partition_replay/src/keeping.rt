@@ -17,7 +17,7 @@ use entry::NoMemory;
 use std::alloc::Global;
 
 /// What is kept of the key: among the fresh, or else of those before.
-fn find<'k, 'a>(
+fn kept_of<'k, 'a>(
     fresh: &'k Keeping<'a>,
     kept: &'k Keeping<'a>,
     key: &PlacedKey<'a>,
@@ -41,7 +41,7 @@ fn is_above<'a>(
     ensures clash { IfErr result (λ fault. (fault ≡ ReplayFault.Clash)
         × DoesClash (kept_in fresh.now.entries kept.now.entries (placed_key claim.now.key)) (claimed claim.now)) }
 {
-    match find(fresh, kept, &claim.key) {
+    match kept_of(fresh, kept, &claim.key) {
         Some(found) => found.is_below(claim),
         None => Ok(true),
     }

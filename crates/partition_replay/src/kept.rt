@@ -20,10 +20,10 @@ pub struct Kept<'a> {
 pub type Keeping<'a> = HashMap<PlacedKey<'a>, Kept<'a>>;
 
 impl<'a> Kept<'a> {
-    ghost use Rattle.std.specs.Prelude.{◌≡◌, IfOk, IfErr};
-    ghost use Rattle.claims.specs.Claims.{claimed};
+    ghost use Rattle.std.specs.Prelude.{◌≡◌, true, IfOk, IfErr};
+    ghost use Rattle.claims.specs.Claims.{claimed, is_clash};
     ghost use Rattle.claims.specs.Placed.{placed_key};
-    ghost use Rattle.partition_replay.specs.Keeping.{kept_claim, IsRanked, DoClash};
+    ghost use Rattle.partition_replay.specs.Keeping.{kept_claim, IsRanked};
 
     /// What a claim says of its key.
     pub fn of(claim: &Claim<'a>) -> Kept<'a>
@@ -53,7 +53,7 @@ impl<'a> Kept<'a> {
     pub fn is_below(&self, claim: &Claim<'_>) -> Result<bool, ReplayFault>
         ensures ok { IfOk result (IsRanked (kept_claim (placed_key claim.now.key) self.now) (claimed claim.now)) }
         ensures clash { IfErr result (λ fault. (fault ≡ ReplayFault.Clash)
-            × DoClash (kept_claim (placed_key claim.now.key) self.now) (claimed claim.now)) }
+            × (is_clash (kept_claim (placed_key claim.now.key) self.now) (claimed claim.now) ≡ true)) }
     {
         if self.version != claim.version {
             return Ok(self.version < claim.version);

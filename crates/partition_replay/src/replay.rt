@@ -109,7 +109,7 @@ impl<'a> Replay<'a> {
     }
 
     // Whether a group of this segment and partition may come next.
-    fn place(&self, segment: u64, partition: u32) -> Result<(), ReplayFault>
+    fn check_place(&self, segment: u64, partition: u32) -> Result<(), ReplayFault>
         ensures ok { OnOk result (IsPlaced self.now segment partition) }
         ensures err { IfErr result (IsMisplaced self.now segment partition) }
     {
@@ -142,7 +142,7 @@ impl<'a> Replay<'a> {
         ensures err { OnErr result (self.new ≡ self.old) }
         ensures fault { IfErr result (IsTakeFault self.old (grouped group.entry)) }
     {
-        self.place(group.segment, group.partition)?;
+        self.check_place(group.segment, group.partition)?;
         let fresh = gather(self.alloc, &self.kept, &group.entries)?;
         self.kept.reserve(fresh.len())?;
         self.groups.reserve(1)?;

@@ -16,7 +16,8 @@ use Rattle.entry.specs.declared.entry.Entry.TheVariants as entry
 use Rattle.entry.specs.Bag.{IsAmong}
 use Rattle.entry.specs.Format.{IsObject}
 use Rattle.entry.specs.Key.{place_of}
-use Rattle.entry.specs.Meaning.{Versioned, IsOfKey, IsTop, object_at, versioned, IsMeaning, IsClean, among, bound_of, contents_of}
+use Rattle.entry.specs.Meaning.{Versioned, IsOfKey, IsTop, object_at, versioned, IsMeaning, IsClean, among, bound_of}
+use Rattle.entry.specs.Meaning.{contents_of}
 use Rattle.entry.specs.Order.{key_cmp, key_cmp_total}
 use Rattle.entry.proofs.BagLemmas.{among_place, among_either, among_left, among_right}
 use Rattle.entry.proofs.ListLemmas.{all_append, all_among, all_from_among}
@@ -30,7 +31,8 @@ use Rattle.partitions.specs.Parted.{part_of, bag_in, IsListed, IsTopIn, bound_in
 use Rattle.claims.proofs.MeaningLemmas.{claims_within}
 use Rattle.claims.proofs.Members.{same_or_not}
 use Rattle.claims.proofs.Members.{map_at}
-use Rattle.claims.proofs.MeaningLemmas.{claims_of-among, claims_of-has, claim-matches, contents_of-among, contents_of-has, bound_of-bag}
+use Rattle.claims.proofs.MeaningLemmas.{claims_of-among, claims_of-has, claim-matches, contents_of-among}
+use Rattle.claims.proofs.MeaningLemmas.{contents_of-has, bound_of-bag}
 use Rattle.partitions.proofs.Parting.{partition_is, same_goes, bag_within, bag_has}
 use Rattle.claims.proofs.Bounds.{bound_has, bound_under}
 use Rattle.claims.proofs.ScanLemmas.{keys_of}
@@ -83,7 +85,8 @@ pub in_order : (os ps : List Object) (last first : Object) → AreOrdered os →
 in_order os ps last first one other end start less =
     subst (IsStrictlySortedBy key_cmp) (sym (map-append (λ (o : Object). o.key) os ps))
     (behind (keys_of os) (keys_of ps) one other (λ x m y l.
-    behind_last (keys_of os) last.key y one end' (before_first (keys_of ps) first.key last.key other start' less y l) x m))
+    behind_last (keys_of os) last.key y one end' (before_first
+    (keys_of ps) first.key last.key other start' less y l) x m))
   where
     end' : last.key ≡ get_or (keys_of os) (length (keys_of os) - 1) last.key
     end' =
@@ -126,7 +129,8 @@ some_number : (o : Option ℕ) → is_some o ≡ true → (n : ℕ) × (o ≡ So
 some_number None h = absurd (cc)
 some_number (Some n) h = (n, refl)
 
-claims_at_most : (cs : List Claimed) (n : ℕ) → ((c : Claimed) → IsAmong c cs → c.version + 1 ≤ n) → bound_of_claims cs ≤ n
+claims_at_most : (cs : List Claimed) (n : ℕ) → ((c : Claimed) → IsAmong c cs → c.version + 1 ≤ n)
+    → bound_of_claims cs ≤ n
 claims_at_most [] n h = omega arith
 claims_at_most (c ∷ cs) n h =
     let first = h c (inl refl) in
@@ -226,7 +230,8 @@ module _ (qs : List Part) (segments : List (List Entry)) where
         let all = claims_at_most (claims_of (segments_bag segments)) (bound_in qs segments (partitions_of qs))
         (λ c m. let e = claims_of-among (segments_bag segments) c m in
         let s = somewhere c.key e.0 e.1 (claim-matches e.0 c e.2).of_key in
-        let here = bound_has (claims_of (bag_in qs s.0 segments)) c (claims_of-has (bag_in qs s.0 segments) e.0 c s.2 e.2) in
+        let here = bound_has (claims_of (bag_in qs s.0 segments)) c
+        (claims_of-has (bag_in qs s.0 segments) e.0 c s.2 e.2) in
         let one = bound_of-bag (part_of qs s.0 segments) in
         let up = bound_reached (partitions_of qs) s.0 s.1 in
         omega (arith, here, one, up)) in

@@ -13,7 +13,8 @@ use Rattle.entry.specs.Bag.{IsAmong}
 use Rattle.entry.specs.Format.{IsObject}
 use Rattle.entry.specs.Meaning.{IsOfKey, IsMeaning, IsClean, among, contents_of}
 use Rattle.entry.specs.Text.{is_data}
-use Rattle.entry.proofs.BagLemmas.{among_at, among_place, among_either, among_left, among_right, among_image, among_images}
+use Rattle.entry.proofs.BagLemmas.{among_at, among_place, among_either, among_left, among_right, among_image}
+use Rattle.entry.proofs.BagLemmas.{among_images}
 use Rattle.tablet_will.specs.declared.part.Part.{Part}
 use Rattle.tablet_will.specs.Parts.{partition_of_key}
 use Rattle.division.specs.Division.{is_number, partition_in, goes_to}

@@ -59,8 +59,8 @@ impl<D: Division> PartList<D> {
     }
 }
 
-/// The lists of the first partitions, one behind the other. They stay as they are, so nothing is copied. A contract sees
-/// how many these are.
+/// The lists of the first partitions, one behind the other. They stay as they are, so nothing is copied. A contract
+/// sees how many these are.
 #[derive(Drop)]
 pub struct Joined<D: Division> {
     count: u32,

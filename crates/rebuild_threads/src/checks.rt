@@ -3,8 +3,8 @@
 ghost use Rattle.std.specs.Prelude.{◌≡◌, IfErr, OnOk};
 ghost use Rattle.rebuilding.specs.Rebuilds.{NamesEach};
 
-use partitions::{Setback, are_whole};
-use rebuilding::{check_ids, ids_in};
+use partitions::Setback;
+use rebuilding::{Misnamed, check_ids, check_naming, ids_in};
 use segment::Segment;
 use std::alloc::Global;
 
@@ -13,20 +13,10 @@ pub fn test_order(alloc: Global, count: usize, order: &[usize]) -> Result<(), Se
     ensures ok { OnOk result (NamesEach count order.now) }
     ensures setback { IfErr result (λ s. s ≡ Setback.Clash → ⊥) }
 {
-    let mut named = vec![in alloc; false; count]?;
-    for n in order {
-        if *n >= count {
-            return Err(Setback::NotWhole);
-        }
-        if named[*n] {
-            return Err(Setback::NotWhole);
-        }
-        named[*n] = true;
-    }
-    if are_whole(named.as_slice()) {
-        Ok(())
-    } else {
-        Err(Setback::NotWhole)
+    match check_naming(alloc, count, order) {
+        Ok(()) => Ok(()),
+        Err(Misnamed::NoMemory) => Err(Setback::NoMemory),
+        Err(_) => Err(Setback::NotWhole),
     }
 }
 

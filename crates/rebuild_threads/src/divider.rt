@@ -12,8 +12,8 @@ use std::alloc::{AllocError, Global};
 use std::marker::{Model, PhantomData};
 use tablet_will::Will;
 
-/// Hands out the groups of a log by their numbers: group n is of segment n / partitions and of partition n % partitions. A
-/// segment is divided when its first group is asked for. A contract sees which segments are divided.
+/// Hands out the groups of a log by their numbers: group n is of segment n / partitions and of partition n %
+/// partitions. A segment is divided when its first group is asked for. A contract sees which segments are divided.
 #[derive(Drop)]
 pub struct Divider<'a, D: Division> {
     segments: &'a [Segment],

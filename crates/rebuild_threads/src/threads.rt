@@ -49,8 +49,8 @@ impl<D: Division> Promise<Result<Vec<PartList<D>>, Setback>> for Honest<D> {
     ghost kept_by = { λ p r. IfErr r (IsSetback D.segments) };
 }
 
-/// Divides the log, and sends its groups in the order in which they are named, each to the worker of its partition. A worker
-/// that is gone gets none.
+/// Divides the log, and sends its groups in the order in which they are named, each to the worker of its partition. A
+/// worker that is gone gets none.
 fn send_all<'a, D: Division, R: Wait>(
     rt: &R,
     alloc: Global,
@@ -211,16 +211,16 @@ fn rebuild_on<'a, D: Division + Send + Sync + 'static, R: Threads + Wait + Sync,
     }
 }
 
-/// The objects that the plan's segments mean, rebuilt by so many workers, 1 to 64, each in a thread of its own. The calling
-/// thread divides the segments by the will, and sends the groups in this order; partition p goes to worker p % workers,
-/// which has at most four groups waiting. The gate is told when each worker begins and ends. A worker without a partition
-/// begins and ends.
+/// The objects that the plan's segments mean, rebuilt by so many workers, 1 to 64, each in a thread of its own. The
+/// calling thread divides the segments by the will, and sends the groups in this order; partition p goes to worker p %
+/// workers, which has at most four groups waiting. The gate is told when each worker begins and ends. A worker without
+/// a partition begins and ends.
 ///
 /// With Ok the result is that of `rebuild`, and it is refused for the same reasons. If a worker can't be started, or if
 /// a group did not come to its worker once, the calling thread answers by `rebuild`.
 ///
-/// The calling thread takes about n + s p steps for n entries in s segments and p partitions, and each worker n log n for
-/// its own.
+/// The calling thread takes about n + s p steps for n entries in s segments and p partitions, and each worker n log n
+/// for its own.
 pub fn rebuild_threads<R: Threads + Wait + Sync, G: Gate + Sync>(
     rt: &R,
     alloc: Global,

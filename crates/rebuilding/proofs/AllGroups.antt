@@ -23,7 +23,8 @@ use Rattle.tablet_will.specs.Parts.{AreParts, partition_of_key, partitions_of}
 use Rattle.division.specs.declared.fault.DivideFault.{DivideFault}
 use Rattle.division.specs.declared.fault.DivideFault.TheVariants as divide_fault
 use Rattle.division.specs.Groups.{Grouped, bag_of, segments_of}
-use Rattle.division.specs.Division.{is_number, goes_to, group_in, groups_of, numbers_of, AreCovered, IsDivision, IsDivideFault}
+use Rattle.division.specs.Division.{is_number, goes_to, group_in, groups_of, numbers_of, AreCovered, IsDivision}
+use Rattle.division.specs.Division.{IsDivideFault}
 use Rattle.claims.specs.Bags.{segments_bag}
 use Rattle.claims.specs.Claims.{Claimed}
 use Rattle.claims.specs.Faults.{as_replay_fault}
@@ -60,7 +61,8 @@ module _ (qs : List Part) where
       let more : take (i + 1) segments ≡ front ++ es ∷ [] =
       take_more segments i es lt ∙ ap (λ (fs : List Entry). front ++ fs ∷ []) (sym at) in
       pushed ∙ ap (λ gs. gs ++ groups) held ∙ ap (λ gs. all_groups qs front ++ gs) (same ∙ sym (append-nil _))
-      ∙ sym (ap (all_groups qs) more ∙ flat_map-append (λ (fs : List Entry). groups_of qs (id_of fs) fs) front (es ∷ []))
+      ∙ sym (ap (all_groups qs) more ∙ flat_map-append (λ (fs : List Entry). groups_of qs
+      (id_of fs) fs) front (es ∷ []))
 
   pub covered_more : (segments : List (List Entry)) (i : ℕ) (es : List Entry) → i < length segments
       → es ≡ get_or segments i es → AreCovered qs es → AreAllCovered qs (take i segments)

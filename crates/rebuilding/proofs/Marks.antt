@@ -1,6 +1,7 @@
 -- Orders: which numbers are marked.
-use Rattle.std.proofs.Common.{◌≡◌, ◌≢◌, ℕ, zero, suc, ◌+◌, ◌<◌, Bool, true, false, List, [], ◌∷◌, map, length, get_or, set}
-use Rattle.std.proofs.Common.{sym, ap, subst, ◌∙◌, arith, below_more, get_or-set_same, get_or-set_other}
+use Rattle.std.proofs.Common.{◌≡◌, ◌≢◌, ℕ, zero, suc, ◌+◌, ◌<◌, Bool, true, false, List, [], ◌∷◌, map, length, get_or}
+use Rattle.std.proofs.Common.{set}
+use Rattle.std.proofs.Common.{refl, sym, ap, subst, ◌∙◌, arith, below_more, get_or-set_same, get_or-set_other}
 use Rattle.std.specs.Prelude.{slice_index}
 use Rattle.std.proofs.lemmas.List.{length-map, get_or_default}
 use Rattle.entry.specs.Bag.{IsAmong}
@@ -10,7 +11,7 @@ use Rattle.division.specs.Groups.{grouped, segments_of}
 use Rattle.division.specs.Division.{numbers_of}
 use Rattle.claims.proofs.Members.{same_or_not}
 use Rattle.rebuilding.specs.Rebuilds.{NamesEach}
-use Rattle.rebuilding.specs.Turns.{AreMarked, IsSecond, IsUnnamed}
+use Rattle.rebuilding.specs.Turns.{AreMarked, IsTwice, IsOmitted, IsSecond, IsUnnamed}
 
 -- ---- numbers of groups in memory
 
@@ -56,28 +57,24 @@ module _ (order : List ℕ) (named : List Bool) (k : ℕ) (h : AreMarked order k
         once = λ i j apart within e. same_or_not j k ⊥
             (λ last. let here : n ≡ slice_index order i = ap (slice_index order) (sym last) ∙ sym e in
             let on = h.marked i (omega (arith, apart, last)) in
-            let off : get_or named (slice_index order i) false ≡ false = subst (λ m. get_or named m false ≡ false) here none in
+            let off : get_or named (slice_index order i) false ≡ false =
+            subst (λ m. get_or named m false ≡ false) here none in
             cc)
             (λ ne. h.once i j apart (omega (arith, within, ne)) e);
       }
 
   -- a number that is marked already is named at two places
-  pub second_named : (gs : List Group) (g : Group) → length named ≡ length gs → k < length order → n < length gs
-      → get_or named n false ≡ true → g ≡ get_or gs n g → IsSecond (map grouped gs) order g.segment
-  second_named gs g long within lt on at =
+  pub named_twice : (count : ℕ) → k < length order → n < count → get_or named n false ≡ true → IsTwice count order n
+  named_twice count within lt on =
       let before = h.only n on in
-      let same : slice_index order before.0 ≡ n = before.2 in
-      let lt' : n < length (map grouped gs) = rw length-map lt in
       record {
         first = before.0;
         second = k;
         apart = before.1;
         within = within;
-        one_below = subst (λ m. m < length (map grouped gs)) (sym same) lt';
-        other_below = lt';
-        one = ap (slice_index (segments_of (map grouped gs))) same ∙ segment_at gs n g lt at;
-        other = segment_at gs n g lt at;
-        partition = ap (slice_index (numbers_of (map grouped gs))) same;
+        below = lt;
+        one = before.2;
+        other = refl;
       }
 
 module _ (order : List ℕ) (named : List Bool) (h : AreMarked order (length order) named) where
@@ -99,14 +96,41 @@ module _ (order : List ℕ) (named : List Bool) (h : AreMarked order (length ord
         once = h.once;
       }
 
-  pub unnamed : (gs : List Group) (n : ℕ) (g : Group) → n < length gs → get_or named n false ≡ false
-      → ((m : ℕ) → m < n → get_or named m false ≡ true) → g ≡ get_or gs n g
-      → IsUnnamed (map grouped gs) order g.segment
-  unnamed gs n g lt off before at =
+  pub omitted : (count n : ℕ) → n < count → get_or named n false ≡ false
+      → ((m : ℕ) → m < n → get_or named m false ≡ true) → IsOmitted count order n
+  omitted count n lt off before =
       record {
-        number = n;
-        below = rw length-map lt;
-        segment = segment_at gs n g lt at;
+        below = lt;
         missing = λ m. (let on : get_or named n false ≡ true = marked_among n m in cc);
         lowest = λ m low. among_marked m (before m low);
+      }
+
+-- ---- groups with these numbers
+
+module _ (order : List ℕ) (gs : List Group) (n : ℕ) (g : Group) (at : g ≡ get_or gs n g) where
+  pub second_group : IsTwice (length gs) order n → IsSecond (map grouped gs) order g.segment
+  second_group twice =
+      let same : slice_index order twice.first ≡ slice_index order twice.second = twice.one ∙ sym twice.other in
+      let lt : n < length (map grouped gs) = rw length-map twice.below in
+      let segment = segment_at gs n g twice.below at in
+      record {
+        first = twice.first;
+        second = twice.second;
+        apart = twice.apart;
+        within = twice.within;
+        one_below = subst (λ m. m < length (map grouped gs)) (sym twice.one) lt;
+        other_below = subst (λ m. m < length (map grouped gs)) (sym twice.other) lt;
+        one = ap (slice_index (segments_of (map grouped gs))) twice.one ∙ segment;
+        other = ap (slice_index (segments_of (map grouped gs))) twice.other ∙ segment;
+        partition = ap (slice_index (numbers_of (map grouped gs))) same;
+      }
+
+  pub unnamed_group : IsOmitted (length gs) order n → IsUnnamed (map grouped gs) order g.segment
+  unnamed_group omitted =
+      record {
+        number = n;
+        below = rw length-map omitted.below;
+        segment = segment_at gs n g omitted.below at;
+        missing = omitted.missing;
+        lowest = omitted.lowest;
       }

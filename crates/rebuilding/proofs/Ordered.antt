@@ -1,5 +1,6 @@
 -- What groups claim, in the order in which they are named.
-use Rattle.std.proofs.Common.{◌≡◌, ℕ, ◌+◌, ◌<◌, List, [], ◌∷◌, ◌++◌, map, length, get_or, take, refl, sym, ap, subst, ◌∙◌, arith}
+use Rattle.std.proofs.Common.{◌≡◌, ℕ, ◌+◌, ◌<◌, List, [], ◌∷◌, ◌++◌, map, length, get_or, take, refl, sym, ap, subst}
+use Rattle.std.proofs.Common.{◌∙◌, arith}
 use Rattle.std.specs.Prelude.{filter, slice_index, slice_index_or}
 use Rattle.std.specs.List.{flat_map}
 use Rattle.std.proofs.lemmas.Grind.{flat_map-append}
@@ -72,7 +73,8 @@ module _ (gs : List Grouped) (order : List ℕ) (names : NamesEach (length gs) o
   )
 
 -- what the named groups claim is what their entries do
-pub claims_in_turn : (gs : List Grouped) (order : List ℕ) → claims_named gs order ≡ claims_of (segments_bag (entries_in_turn gs order))
+pub claims_in_turn : (gs : List Grouped) (order : List ℕ)
+    → claims_named gs order ≡ claims_of (segments_bag (entries_in_turn gs order))
 claims_in_turn gs [] = refl
 claims_in_turn gs (n ∷ ns) =
     let here : List Entry = slice_index_or (map (λ (g : Grouped). g.entries) gs) n [] in

@@ -36,7 +36,8 @@ top_moved es fs to from k e top =
 module _ (qs : List Part) (segments : List (List Entry)) where
   each_covered : AreCovered qs (segments_bag segments) → AreAllCovered qs segments
   each_covered covered es m e in_es k of_key =
-      covered e (flat_among (filter is_data) segments es e m (filter_among is_data es e in_es (data_of_key k e of_key))) k
+      covered e (flat_among (filter is_data) segments es e m
+      (filter_among is_data es e in_es (data_of_key k e of_key))) k
       of_key
 
   module _ (order : List ℕ) (parts : AreParts qs) (covered : AreCovered qs (segments_bag segments))
@@ -88,8 +89,10 @@ module _ (qs : List Part) (segments : List (List Entry)) where
     turned recorded r h =
         record {
           meaning = λ k x. (
-            λ has. top_moved (segments_bag segments) taken to_taken from_taken k (object_at k x) ((h.meaning k x).0 has),
-            λ top. (h.meaning k x).1 (top_moved taken (segments_bag segments) from_taken to_taken k (object_at k x) top),
+            λ has. top_moved (segments_bag segments) taken to_taken from_taken k (object_at k x)
+                ((h.meaning k x).0 has),
+            λ top. (h.meaning k x).1 (top_moved taken (segments_bag segments) from_taken to_taken k
+                (object_at k x) top),
           );
           order = h.order;
           valid = h.valid;

@@ -41,8 +41,10 @@ pub not_before : (ids : List ℕ) (at : ℕ) → is_before ids at ≡ false → 
     → slice_index ids i ≢ slice_index ids at
 not_before ids at off lt i low same =
     id_no (take at ids) (slice_index ids at) off
-    (among_at (take at ids) i (slice_index ids at) (let long = length-take-le at ids (omega (arith, lt)) in omega (arith, long, low))
-    (sym same ∙ get_or_default ids i 0 (slice_index ids at) (omega (arith, lt, low)) ∙ sym (get_or-take at ids i (slice_index ids at) low)))
+    (among_at (take at ids) i (slice_index ids at) (let long = length-take-le at ids (omega (arith, lt)) in
+    omega (arith, long, low))
+    (sym same ∙ get_or_default ids i 0 (slice_index ids at) (omega (arith, lt, low))
+    ∙ sym (get_or-take at ids i (slice_index ids at) low)))
 
 pub twin_at : (ids : List ℕ) (at : ℕ) → is_before ids at ≡ true → at < length ids → IsTwin ids (slice_index ids at)
 twin_at ids at on lt =
@@ -83,7 +85,8 @@ module _ (ids : List ℕ) (at greatest : ℕ) (h : IsLooking ids at greatest) wh
   looked_new below new = record {
     most = λ i low.
         same_or_not i at (slice_index ids i ≤ greatest)
-        (λ e. let same : slice_index ids i ≡ slice_index ids at = ap (λ m. slice_index ids m) e in omega (arith, same, below))
+        (λ e. let same : slice_index ids i ≡ slice_index ids at = ap (λ m. slice_index ids m) e in
+        omega (arith, same, below))
         (λ ne. h.most i (omega (arith, low, ne)));
     once = once_more new;
   }

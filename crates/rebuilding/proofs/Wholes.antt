@@ -66,7 +66,8 @@ apart_ways (suc i) (suc j) ne =
 module _ (ns : List ℕ) (distinct : IsDistinct equal ns) where
   twice : (i j : ℕ) → i < j → j < length ns → get_or ns i 0 ≡ get_or ns j 0 → ⊥
   twice i j low within same =
-      let off : equal (get_or ns i 0) (get_or ns j 0) ≡ false = apart_from_distinct equal ns i j 0 distinct low within in
+      let off : equal (get_or ns i 0) (get_or ns j 0) ≡ false =
+      apart_from_distinct equal ns i j 0 distinct low within in
       let on : (get_or ns i 0 == get_or ns j 0) ≡ true = (Decides-eqb (get_or ns i 0) (get_or ns j 0)).1 same in cc
 
   one_place : (i j : ℕ) → i < length ns → j < length ns → get_or ns i 0 ≡ get_or ns j 0 → i ≡ j
@@ -110,7 +111,8 @@ module _ (segments : List (List Entry)) (qs : List Part) (order : List ℕ) (can
   only_memory (fault.Double id) h = absurd (no_double id h)
   only_memory fault.Stranger h =
       let lt = among_range 0 (count_of segments qs) h.0
-      (among_permutation h.0 order (range_with_len 0 (count_of segments qs)) (IsPermutation-sym _ order can.whole) h.1) in
+      (among_permutation h.0 order (range_with_len 0 (count_of segments qs))
+      (IsPermutation-sym _ order can.whole) h.1) in
       let le = h.2 in absurd (omega (arith, lt, le))
   only_memory (fault.MissingGroup id) h =
       absurd (h.missing (among_permutation h.number (range_with_len 0 (count_of segments qs)) order can.whole

@@ -1,2 +1,3 @@
 pub mod Rebuilds
 pub mod Turns
+pub mod Orders

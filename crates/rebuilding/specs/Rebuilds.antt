@@ -1,5 +1,5 @@
--- A log rebuilt from its groups, which are taken in some order. Groups are counted from 0: segment by segment, and of one
--- segment by partition.
+-- A log rebuilt from its groups, which are taken in some order. Groups are counted from 0: segment by segment, and of
+-- one segment by partition.
 use Rattle.std.specs.Prelude.{◌≡◌, ◌≢◌, ℕ, ◌*◌, ◌/◌, ◌%◌, ◌<◌, ◌≤◌, ◌==◌, ⊤, List, length, map, slice_index}
 use Rattle.std.specs.Prelude.{Option, Some, None}
 use Rattle.std.specs.List.{IsDistinct, range_with_len}

@@ -9,6 +9,8 @@ use Rattle.division.specs.Groups.{Grouped, segments_of}
 use Rattle.division.specs.Division.{groups_of, numbers_of, AreCovered, IsStray}
 use Rattle.claims.specs.Bags.{segments_bag}
 use Rattle.rebuilding.specs.Rebuilds.{id_of}
+use Rattle.rebuilding.specs.declared.naming.Misnamed.{Misnamed}
+use Rattle.rebuilding.specs.declared.naming.Misnamed.TheVariants as misnamed
 use Rattle.claims.specs.declared.fault.ReplayFault.{ReplayFault}
 use Rattle.claims.specs.declared.fault.ReplayFault.TheVariants as fault
 
@@ -38,6 +40,29 @@ IsGroupsFault qs segments (fault.Stray k) = (e : Entry) × IsAmong e (segments_b
 IsGroupsFault qs segments _ = ⊥
 
 -- ---- orders
+
+-- two places of the order have this number
+pub record IsTwice (count : ℕ) (order : List ℕ) (n : ℕ) : Type 0 where
+  pub first : ℕ
+  pub second : ℕ
+  pub apart : first < second
+  pub within : second < length order
+  pub below : n < count
+  pub one : slice_index order first ≡ n
+  pub other : slice_index order second ≡ n
+
+-- the order does not have this number, and has each below it
+pub record IsOmitted (count : ℕ) (order : List ℕ) (n : ℕ) : Type 0 where
+  pub below : n < count
+  pub missing : ¬ IsAmong n order
+  pub lowest : (m : ℕ) → m < n → IsAmong m order
+
+-- why the order does not name each number below the count, once
+abbrev pub IsMisnamed : ℕ → List ℕ → Misnamed → Type 0
+IsMisnamed count order misnamed.NoMemory = ⊤
+IsMisnamed count order misnamed.Stranger = (n : ℕ) × IsAmong n order × (count ≤ n)
+IsMisnamed count order (misnamed.Twice n) = IsTwice count order n
+IsMisnamed count order (misnamed.LeftOut n) = IsOmitted count order n
 
 -- two places of the order name groups of this segment and of one partition
 pub record IsSecond (groups : List Grouped) (order : List ℕ) (id : ℕ) : Type 0 where

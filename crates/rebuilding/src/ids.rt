@@ -16,9 +16,7 @@ pub fn ids_in(alloc: Global, segments: &[Segment]) -> Result<Vec<u64>, NoMemory>
 {
     let mut ids = Vec::with_capacity(alloc, segments.len())?;
     for segment in segments {
-        if ids.push(segment.view().header().segment).is_err() {
-            return Err(NoMemory);
-        }
+        ids.push(segment.view().header().segment)?;
     }
     Ok(ids)
 }

@@ -5,7 +5,7 @@ ghost use Rattle.entry.specs.Meaning.{IsClean, among};
 ghost use Rattle.claims.specs.Bags.{segments_bag};
 ghost use Rattle.claims.specs.Rebuilt.{IsRebuilt, IsRefusal};
 
-use claims::{Rebuilt, ReplayFault, claims_in, settle};
+use claims::{Rebuilt, ReplayFault, claims_in, rebuilt_from};
 use recovery_plan::Plan;
 use std::alloc::Global;
 
@@ -17,5 +17,5 @@ pub fn rebuild_plain(alloc: Global, plan: &Plan) -> Result<Rebuilt, ReplayFault>
     ensures err { IfErr result (IsRefusal plan.now.segments) }
 {
     let mut claims = claims_in(alloc, plan.segments.as_slice())?;
-    settle(alloc, plan.safe, &mut claims)
+    rebuilt_from(alloc, plan.safe, &mut claims)
 }

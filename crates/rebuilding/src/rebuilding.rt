@@ -8,12 +8,13 @@ ghost use Rattle.claims.specs.Bags.{segments_bag};
 ghost use Rattle.claims.specs.Claims.{claimed, claims_of};
 ghost use Rattle.rebuilding.specs.Rebuilds.{IsRebuildFault, CanBeRebuilt, NamesEach, count_of};
 ghost use Rattle.claims.specs.Rebuilt.{IsRebuilt};
-ghost use Rattle.rebuilding.specs.Turns.{all_groups, entries_in_turn, replayed, AreAllCovered, AreMarked};
+ghost use Rattle.rebuilding.specs.Turns.{all_groups, entries_in_turn, replayed, AreAllCovered};
 ghost use Rattle.claims.specs.Settled.{AreOf};
 ghost use Rattle.rebuilding.specs.Turns.{IsGroupsFault, IsOrderFault};
 
 use crate::ids::{check_ids, ids_in};
-use claims::{Claim, Rebuilt, ReplayFault, add_claims, settle};
+use crate::naming::{Misnamed, check_naming};
+use claims::{Claim, Rebuilt, ReplayFault, add_claims, rebuilt_from};
 use division::{Group, divide};
 use entry::NoMemory;
 use recovery_plan::Plan;
@@ -52,37 +53,20 @@ fn groups_in<'a>(
     Ok(all)
 }
 
-/// Which groups the order names. No group is named twice.
-fn marks(alloc: Global, groups: &[Group<'_>], order: &[usize]) -> Result<Vec<bool>, ReplayFault>
-    ensures long { IfOk result (λ named. length named.items ≡ length groups.now) }
-    ensures ok { IfOk result (λ named. AreMarked order.now (length order.now) named.items) }
-    ensures fault { IfErr result (IsOrderFault (map grouped groups.now) order.now) }
-{
-    let mut named = vec![in alloc; false; groups.len()]?;
-    for n in order {
-        if *n >= groups.len() {
-            return Err(ReplayFault::Stranger);
-        }
-        if named[*n] {
-            return Err(ReplayFault::Double(groups[*n].segment));
-        }
-        named[*n] = true;
-    }
-    Ok(named)
-}
-
 /// Tests whether the order names each group, once.
 fn check_order(alloc: Global, groups: &[Group<'_>], order: &[usize]) -> Result<(), ReplayFault>
     ensures ok { OnOk result (NamesEach (length groups.now) order.now) }
     ensures fault { IfErr result (IsOrderFault (map grouped groups.now) order.now) }
 {
-    let named = marks(alloc, groups, order)?;
-    for n in 0..groups.len() {
-        if !named[n] {
-            return Err(ReplayFault::MissingGroup(groups[n].segment));
-        }
+    match check_naming(alloc, groups.len(), order) {
+        Ok(()) => Ok(()),
+        Err(misnamed) => match misnamed {
+            Misnamed::NoMemory => Err(ReplayFault::NoMemory),
+            Misnamed::Stranger => Err(ReplayFault::Stranger),
+            Misnamed::Twice(n) => Err(ReplayFault::Double(groups[n].segment)),
+            Misnamed::LeftOut(n) => Err(ReplayFault::MissingGroup(groups[n].segment)),
+        },
     }
-    Ok(())
 }
 
 /// How many entries the groups have, for room.
@@ -134,10 +118,10 @@ fn claims_divided<'a>(
     Ok(claims_in_order(alloc, groups.as_slice(), order)?)
 }
 
-/// The objects that the plan's segments mean, in memory of their own. Each segment is divided by the will, and the groups
-/// of all partitions are taken in this order. Groups are counted from 0, segment by segment and of each segment by
-/// partition: group n is of segment n / partitions of the plan, and of partition n % partitions. With Ok the result is
-/// that of `rebuild_plain`, whatever the will and the order.
+/// The objects that the plan's segments mean, in memory of their own. Each segment is divided by the will, and the
+/// groups of all partitions are taken in this order. Groups are counted from 0, segment by segment and of each segment
+/// by partition: group n is of segment n / partitions of the plan, and of partition n % partitions. With Ok the result
+/// is that of `rebuild_plain`, whatever the will and the order.
 ///
 /// A Double names the segment of two groups of one partition that the order names: one group twice, or groups of two
 /// segments that have one id. A Stranger is a number of the order that is not below the count of groups. MissingGroup
@@ -163,5 +147,5 @@ pub fn rebuild(
         CanBeRebuilt plan.now.segments will.now order.now → fault ≡ ReplayFault.NoMemory) }
 {
     let mut claims = claims_divided(alloc, plan.segments.as_slice(), will, order)?;
-    settle(alloc, plan.safe, &mut claims)
+    rebuilt_from(alloc, plan.safe, &mut claims)
 }

@@ -8,20 +8,21 @@ use Rattle.replica.specs.declared.holding.Holding.{Holding}
 use Rattle.replica.specs.Picture.{FleetState, left_on, shown_by, IsHeld}
 use Rattle.replica.specs.Survival.{BothSurvive}
 use Rattle.log_model.specs.Data.{IsHome, newest_opened}
-use Rattle.master_core.specs.declared.config.Config.{Config}
-use Rattle.master_core.specs.declared.step.Refusal.{Refusal}
-use Rattle.master_core.specs.declared.step.Step.{Step}
-use Rattle.master_core.specs.declared.step.StepAnswer.{StepAnswer}
-use Rattle.master_core.specs.Log.{log_of}
+use Rattle.master_state.specs.declared.config.Config.{Config}
+use Rattle.master_state.specs.declared.step.Refusal.{Refusal}
+use Rattle.master_state.specs.declared.step.Step.{Step}
+use Rattle.master_state.specs.declared.step.StepAnswer.{StepAnswer}
+use Rattle.master_state.specs.Log.{log_of}
 use Rattle.master.specs.Steps.{IsRun}
 use Rattle.master.specs.Valid.{IsValid}
 use Rattle.master.specs.World.{World}
 use Rattle.recovery.specs.declared.recovery.RecoveryFault.{RecoveryFault}
-use Rattle.recovery.specs.declared.order.GroupOrder.{GroupOrder}
+use Rattle.rebuilding.specs.declared.order.GroupOrder.{GroupOrder}
 use Rattle.recovery.specs.Orders.{Covers, NamesHeld}
 use Rattle.recovery.specs.Drilled.{IsDrill, IsOfHeld}
 use Rattle.recovery.specs.Kept.{is_kept}
-use Rattle.recovery.specs.Recovered.{IsRecovered, IsLossOrMemory, IsWant, IsRebuiltFrom, IsRefusedFrom, IsSomeLoss, IsSomePrefix}
+use Rattle.recovery.specs.Recovered.{IsRecovered, IsLossOrMemory, IsWant, IsRebuiltFrom, IsRefusedFrom, IsSomeLoss}
+use Rattle.recovery.specs.Recovered.{IsSomePrefix}
 
 run_keeps : (old new : World) (steps : List Step) (answers : List (Result StepAnswer Refusal))
     → IsRun old steps answers new
@@ -74,7 +75,8 @@ module _ (start stop : World) (steps : List Step) (kept : List ℕ) (will : List
         → NamesHeld (left_on (is_kept kept) left.picture) start.knows.config.master will order
         → (r : Result Rebuilt RecoveryFault) → IfErr r (IsSomeLoss hs start.knows.config.master will order)
         → IfErr r (λ e. IsLossOrMemory e
-        × (BothSurvive (IsHome (log_of stop.knows)) (newest_opened (log_of stop.knows)) (shown_by left.picture) stop.knows.config.master (is_kept kept)
+        × (BothSurvive (IsHome (log_of stop.knows)) (newest_opened (log_of stop.knows))
+        (shown_by left.picture) stop.knows.config.master (is_kept kept)
         → IsWant e))
     loss covers names (Ok b) is = tt
     loss covers names (Err e) is =

@@ -106,7 +106,8 @@ module _ (k : Key) (x : Versioned) where
     safe : x.version < st.safe
 
   -- a life that begins later
-  in_later : (ls : List Life) (on : LogData) → AreLives ls on → IsLater (first_log ls on).opening → (d : LogData) → IsAmong d (logs_of ls on)
+  in_later : (ls : List Life) (on : LogData) → AreLives ls on → IsLater (first_log ls on).opening → (d : LogData)
+      → IsAmong d (logs_of ls on)
       → (b : ℕ) → Follows (state_after d b)
   in_later [] on lives later d (inl same) b =
       subst (λ (e : LogData). Follows (state_after e b)) same

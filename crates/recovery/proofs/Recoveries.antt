@@ -19,18 +19,19 @@ use Rattle.claims.specs.declared.fault.ReplayFault.TheVariants as replay_fault
 use Rattle.recovery_plan.specs.declared.chosen.Plan.{Plan}
 use Rattle.recovery_plan.specs.declared.fault.PlanFault.{PlanFault}
 use Rattle.recovery_plan.specs.declared.fault.PlanFault.TheVariants as plan_fault
-use Rattle.recovery_plan.specs.Planned.{IsChoiceOf, IsPlanOf, IsFirstBad, IsPlanFault, NamesLoss}
+use Rattle.recovery_plan.specs.Planned.{IsPlan, IsChoiceOf, IsPlanOf, IsFirstBad, IsPlanFault, NamesLoss}
 use Rattle.entry.proofs.BagLemmas.{among_right}
 use Rattle.versioned_map.specs.History.{commands_of}
 use Rattle.log_model.specs.Data.{LogData, IsHome, newest_opened, state_after}
 use Rattle.log_model.specs.Sound.{IsSound}
 use Rattle.versioned_map.specs.Versioned.{IsSafeAfter}
 use Rattle.versioned_map.proofs.Meanings.{one_contents}
-use Rattle.recovery.specs.Recovered.{Shows, IsRebuiltFrom, IsPlanLoss, IsPlanWant, IsReplayWant, IsSomeLoss, IsSomePrefix}
-use Rattle.recovery.specs.declared.recovery.RecoveryFault.{RecoveryFault}
+use Rattle.recovery.specs.Recovered.{Shows, IsRebuiltFrom, IsPlanLoss, IsPlanWant, IsReplayWant, IsSomeLoss}
+use Rattle.recovery.specs.Recovered.{IsSomePrefix}
 use Rattle.recovery.specs.declared.recovery.RecoveryFault.TheVariants as fault
-use Rattle.recovery.specs.declared.order.GroupOrder.{GroupOrder}
-use Rattle.recovery.specs.Orders.{order_for, Covers, IsPlan, NamesGroups}
+use Rattle.rebuilding.specs.declared.order.GroupOrder.{GroupOrder}
+use Rattle.rebuilding.specs.Orders.{order_for}
+use Rattle.recovery.specs.Orders.{Covers, NamesGroups}
 use Rattle.recovery.proofs.Whole.{ids_differ}
 use Rattle.recovery.proofs.Choices.{bag-of-plan, surviving-choice, shown-choice, shown-good, shown-agree}
 
@@ -78,7 +79,8 @@ rebuilt-from hs m will order plan r planned covered whole rebuilt turns = record
 module _ (hs : List Holding) (m : ℕ) (d : LogData) (p : Picture) (keep : ℕ → Bool)
     (sound : IsSound d p) (is : d.config.master ≡ m) (shows : Shows hs (survivors keep (shown_by p)) m) where
   -- if there is nothing to choose, not both survive
-  not-both : ((c : Choice) → IsChoiceOf hs m c → ⊥) → BothSurvive (IsHome d) (newest_opened d) (shown_by p) d.config.master keep → ⊥
+  not-both : ((c : Choice) → IsChoiceOf hs m c → ⊥) → BothSurvive (IsHome d) (newest_opened d)
+      (shown_by p) d.config.master keep → ⊥
   not-both none both =
       let some = sound.choice keep both in
       none some.0 (shown-choice hs m d p keep is shows some.0 some.1)

@@ -15,12 +15,12 @@ use Rattle.replica.specs.Picture.{Replica, FleetState, is_same_place}
 use Rattle.replica.specs.Take.{effect, with_effect, Takes, Refuses}
 use Rattle.replica.specs.Retire.{freeing, TakesEach, Retires}
 use Rattle.replay.specs.Adopting.{IsAdoptedOn}
-use Rattle.master_core.specs.declared.config.Config.{Config}
-use Rattle.master_core.specs.declared.step.Refusal.{Refusal}
-use Rattle.master_core.specs.declared.step.Step.{Step}
-use Rattle.master_core.specs.declared.step.StepAnswer.{StepAnswer}
-use Rattle.master_core.specs.Data.{Origin}
-use Rattle.master_core.specs.Log.{opening_of}
+use Rattle.master_state.specs.declared.config.Config.{Config}
+use Rattle.master_state.specs.declared.step.Refusal.{Refusal}
+use Rattle.master_state.specs.declared.step.Step.{Step}
+use Rattle.master_state.specs.declared.step.StepAnswer.{StepAnswer}
+use Rattle.master_state.specs.Data.{Origin}
+use Rattle.master_state.specs.Log.{opening_of}
 use Rattle.master.specs.Steps.{IsRun}
 use Rattle.master.specs.World.{MasterValue, World, world}
 use Rattle.recovery.specs.declared.succession.Course.{Course}

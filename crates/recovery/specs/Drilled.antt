@@ -6,15 +6,15 @@ use Rattle.replica.specs.declared.holding.Holding.{Holding}
 use Rattle.replica.specs.Picture.{FleetState, Picture, AreHeld, left_on, shown_by}
 use Rattle.replica.specs.Survival.{BothSurvive}
 use Rattle.log_model.specs.Data.{IsHome, newest_opened}
-use Rattle.master_core.specs.declared.step.Refusal.{Refusal}
-use Rattle.master_core.specs.declared.step.Step.{Step}
-use Rattle.master_core.specs.declared.step.StepAnswer.{StepAnswer}
-use Rattle.master_core.specs.Log.{log_of}
+use Rattle.master_state.specs.declared.step.Refusal.{Refusal}
+use Rattle.master_state.specs.declared.step.Step.{Step}
+use Rattle.master_state.specs.declared.step.StepAnswer.{StepAnswer}
+use Rattle.master_state.specs.Log.{log_of}
 use Rattle.master.specs.Steps.{IsRun}
 use Rattle.master.specs.Valid.{IsValid}
 use Rattle.master.specs.World.{World}
 use Rattle.recovery.specs.declared.recovery.RecoveryFault.{RecoveryFault}
-use Rattle.recovery.specs.declared.order.GroupOrder.{GroupOrder}
+use Rattle.rebuilding.specs.declared.order.GroupOrder.{GroupOrder}
 use Rattle.recovery.specs.Kept.{is_kept}
 use Rattle.recovery.specs.Orders.{Covers, NamesHeld}
 use Rattle.recovery.specs.Recovered.{IsRecovered, IsLossOrMemory, IsWant, IsRebuiltFrom, IsRefusedFrom}

@@ -1,33 +1,18 @@
 -- Wills and orders that a recovery goes through with.
-use Rattle.std.specs.Prelude.{◌≡◌, ℕ, List, reverse, is_some, true}
-use Rattle.std.specs.List.{range_with_len}
+use Rattle.std.specs.Prelude.{◌≡◌, ℕ, List, is_some, true}
 use Rattle.entry.specs.declared.tablet.Tablet.{Tablet}
 use Rattle.replica.specs.declared.holding.Holding.{Holding}
-use Rattle.replica.specs.Choice.{Choice}
 use Rattle.replica.specs.Picture.{Picture, AreHeld}
 use Rattle.tablet_will.specs.declared.part.Part.{Part}
 use Rattle.tablet_will.specs.Parts.{partition_at, is_in_one}
 use Rattle.recovery_plan.specs.declared.chosen.Plan.{Plan}
-use Rattle.recovery_plan.specs.Planned.{IsPlanOf}
+use Rattle.recovery_plan.specs.Planned.{IsPlan}
 use Rattle.rebuilding.specs.Rebuilds.{count_of, IsOrderOf}
-use Rattle.recovery.specs.declared.order.GroupOrder.{GroupOrder}
-use Rattle.recovery.specs.declared.order.GroupOrder.TheVariants.{Forward, Reverse, Given}
+use Rattle.rebuilding.specs.declared.order.GroupOrder.{GroupOrder}
+use Rattle.rebuilding.specs.declared.order.GroupOrder.TheVariants.{Forward, Reverse}
+use Rattle.rebuilding.specs.Orders.{order_for}
 
 -- ---- orders
-
--- the numbers of so many groups, in the order
-abbrev pub order_of : GroupOrder → ℕ → List ℕ
-order_of Forward count = range_with_len 0 count
-order_of Reverse count = reverse (range_with_len 0 count)
-order_of (Given numbers) count = numbers
-
--- a plan of the inventory
-abbrev pub IsPlan : List Holding → ℕ → Plan → Type 0
-IsPlan inventory master plan = (c : Choice) × IsPlanOf inventory master c plan
-
--- the order in which the groups of a plan are replayed
-abbrev pub order_for : Plan → List Part → GroupOrder → List ℕ
-order_for plan will order = order_of order (count_of plan.segments will)
 
 -- Of each plan of the inventory the order names each group once.
 abbrev pub NamesGroups : List Holding → ℕ → List Part → GroupOrder → Type 0

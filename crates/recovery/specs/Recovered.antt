@@ -13,7 +13,7 @@ use Rattle.division.specs.Division.{AreCovered}
 use Rattle.recovery_plan.specs.declared.chosen.Plan.{Plan}
 use Rattle.recovery_plan.specs.declared.fault.PlanFault.{PlanFault}
 use Rattle.recovery_plan.specs.declared.fault.PlanFault.TheVariants as plan_fault
-use Rattle.recovery_plan.specs.Planned.{IsPlanFault, NamesLoss}
+use Rattle.recovery_plan.specs.Planned.{IsPlan, IsPlanFault, NamesLoss}
 use Rattle.claims.specs.declared.fault.ReplayFault.{ReplayFault}
 use Rattle.claims.specs.declared.fault.ReplayFault.TheVariants as replay_fault
 use Rattle.claims.specs.declared.rebuilt.Rebuilt.{Rebuilt}
@@ -21,14 +21,15 @@ use Rattle.claims.specs.Bags.{segments_bag}
 use Rattle.claims.specs.Rebuilt.{IsRebuilt}
 use Rattle.rebuilding.specs.Rebuilds.{IsRebuildFault, NamesEach, count_of}
 use Rattle.rebuilding.specs.Turns.{replayed}
+use Rattle.rebuilding.specs.Orders.{order_for}
 use Rattle.versioned_map.specs.History.{commands_of}
 use Rattle.log_model.specs.Data.{LogData, IsHome, newest_opened, state_after, durable_of}
 use Rattle.log_model.specs.Sound.{IsSound}
 use Rattle.versioned_map.specs.Versioned.{IsSafeAfter}
 use Rattle.recovery.specs.declared.recovery.RecoveryFault.{RecoveryFault}
 use Rattle.recovery.specs.declared.recovery.RecoveryFault.TheVariants as fault
-use Rattle.recovery.specs.declared.order.GroupOrder.{GroupOrder}
-use Rattle.recovery.specs.Orders.{Covers, IsPlan, NamesGroups, order_for}
+use Rattle.rebuilding.specs.declared.order.GroupOrder.{GroupOrder}
+use Rattle.recovery.specs.Orders.{Covers, NamesGroups}
 
 -- the inventory has of this master just what is shown
 abbrev pub Shows : List Holding → Shown → ℕ → Type 0
@@ -85,7 +86,8 @@ IsWant (fault.Replay refused) = IsReplayWant refused
 
 -- ---- any sound state, whatever it is
 
--- of whatever sound state the inventory shows a part: the map after a prefix of its commands, each durable one among them
+-- of whatever sound state the inventory shows a part: the map after a prefix of its commands, each durable one among
+-- them
 abbrev pub IsSomePrefix : List Holding → ℕ → Rebuilt → Type 0
 IsSomePrefix inventory master r = (d : LogData) (p : Picture) (keep : ℕ → Bool)
     → IsSound d p → d.config.master ≡ master → Shows inventory (survivors keep (shown_by p)) master

@@ -5,11 +5,11 @@ use Rattle.replica.specs.Retire.{Retires}
 use Rattle.replica.specs.declared.op.TakeFault.{TakeFault}
 use Rattle.claims.specs.declared.rebuilt.Rebuilt.{Rebuilt}
 use Rattle.replay.specs.Adopting.{IsAdopted, IsAdoptedOn, DeclinesList}
-use Rattle.master_core.specs.declared.config.Config.{Config}
-use Rattle.master_core.specs.declared.step.Refusal.{Refusal}
-use Rattle.master_core.specs.declared.step.Step.{Step}
-use Rattle.master_core.specs.declared.step.StepAnswer.{StepAnswer}
-use Rattle.master_core.specs.Log.{log_of}
+use Rattle.master_state.specs.declared.config.Config.{Config}
+use Rattle.master_state.specs.declared.step.Refusal.{Refusal}
+use Rattle.master_state.specs.declared.step.Step.{Step}
+use Rattle.master_state.specs.declared.step.StepAnswer.{StepAnswer}
+use Rattle.master_state.specs.Log.{log_of}
 use Rattle.master.specs.Steps.{IsRun}
 use Rattle.master.specs.Valid.{IsValid}
 use Rattle.master.specs.World.{World, world}

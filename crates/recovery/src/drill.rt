@@ -5,11 +5,11 @@ ghost use Rattle.master.specs.World.{world};
 ghost use Rattle.recovery.specs.Drilled.{IsDrill};
 
 use crate::inventory::inventory_of;
-use crate::order::GroupOrder;
 use crate::recovery::{RecoveryFault, recover};
 use claims::Rebuilt;
 use entry::NoMemory;
 use master::{Master, Refusal, Step, StepAnswer};
+use rebuilding::GroupOrder;
 use recovery_plan::PlanFault;
 use replica::Fleet;
 use std::alloc::Global;

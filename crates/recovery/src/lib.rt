@@ -9,7 +9,6 @@
 mod drill;
 mod inventory;
 mod laws;
-mod order;
 mod recovery;
 mod succession;
 mod threaded;
@@ -21,8 +20,7 @@ pub use laws::{
     acknowledged_outlive, acknowledged_recovered, drilled_are_lives, orders_name_groups,
     versions_rise,
 };
-pub use order::{GroupOrder, numbers};
-pub use rebuilding::{rebuild, rebuild_plain};
+pub use rebuilding::{GroupOrder, numbers, rebuild, rebuild_plain};
 pub use recovery::{RecoveryFault, recover};
 pub use recovery_plan::{Plan, PlanFault, plan};
 pub use succession::{Course, Drills, End, Lived, NotAdopted, run_lives};

@@ -1,23 +1,18 @@
 //! Recovery from the replicas that are left, and from nothing else.
 
-ghost use Rattle.std.specs.Prelude.{◌≡◌, ℕ, Bool, IfOk, IfErr, OnOk, Some};
+ghost use Rattle.std.specs.Prelude.{◌≡◌, IfOk, IfErr, OnOk, Some};
 ghost use Rattle.entry.specs.Meaning.{IsClean, among};
-ghost use Rattle.replica.specs.Picture.{Picture, shown_by, survivors};
-ghost use Rattle.replica.specs.Survival.{BothSurvive};
 ghost use Rattle.division.specs.Division.{AreCovered};
 ghost use Rattle.claims.specs.Bags.{segments_bag};
 ghost use Rattle.claims.specs.Rebuilt.{IsRebuilt};
 ghost use Rattle.rebuilding.specs.Rebuilds.{IsRebuildFault, CanBeRebuilt, NamesEach, count_of};
 ghost use Rattle.rebuilding.specs.Turns.{replayed};
-ghost use Rattle.log_model.specs.Data.{LogData, IsHome, newest_opened};
-ghost use Rattle.log_model.specs.Sound.{IsSound};
-ghost use Rattle.recovery.specs.Orders.{order_for, Covers, NamesGroups};
-ghost use Rattle.recovery.specs.Recovered.{Shows, IsRecovered, IsLossOrMemory, IsWant, IsRebuiltFrom, IsRefusedFrom};
+ghost use Rattle.rebuilding.specs.Orders.{order_for};
+ghost use Rattle.recovery.specs.Recovered.{IsSomePrefix, IsSomeLoss, IsRebuiltFrom, IsRefusedFrom};
 ghost use Rattle.recovery.specs.Texts.{recovery_fault_text};
 
-use crate::order::{GroupOrder, numbers_for};
 use claims::{Rebuilt, ReplayFault};
-use rebuilding::rebuild;
+use rebuilding::{GroupOrder, numbers_for, rebuild};
 use recovery_plan::{Plan, PlanFault, plan};
 use replica::Inventory;
 use std::alloc::Global;
@@ -80,15 +75,10 @@ pub fn recover(
 ) -> Result<Rebuilt, RecoveryFault>
     // Of whatever sound state of the master the inventory shows what some backups still hold: exactly the map after a
     // prefix of its commands, each durable one among them. So it is by any will and in any order.
-    ensures ok { IfOk result (λ r. (d : LogData) (p : Picture) (keep : ℕ → Bool) →
-        IsSound d p → d.config.master ≡ master → Shows inventory.now (survivors keep (shown_by p)) master →
-        (count : ℕ) × IsRecovered d count r) }
+    ensures ok { IfOk result (IsSomePrefix inventory.now master) }
     // Of such a state a fault is a lost head or segment, or memory ran out; and a loss comes only if it hides the log.
     // The will must cover the tablets, and the order name each group once.
-    ensures refused { IfErr result (λ e. (d : LogData) (p : Picture) (keep : ℕ → Bool) →
-        IsSound d p → d.config.master ≡ master → Shows inventory.now (survivors keep (shown_by p)) master →
-        Covers d.config.tablets will.now → NamesGroups inventory.now master will.now order.now →
-        IsLossOrMemory e × (BothSurvive (IsHome d) (newest_opened d) (shown_by p) d.config.master keep → IsWant e)) }
+    ensures refused { IfErr result (IsSomeLoss inventory.now master will.now order.now) }
     // Of any inventory: what comes back, or the fault, follows from it.
     ensures rebuilt { IfOk result (IsRebuiltFrom inventory.now master will.now order.now) }
     ensures fault { IfErr result (IsRefusedFrom inventory.now master will.now order.now) }

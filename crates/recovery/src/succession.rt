@@ -1,16 +1,17 @@
 //! Lives that are drilled one after another.
 
 ghost use Rattle.std.specs.Prelude.{◌≡◌, ◌≤◌, suc, None, IfOk, IfErr};
-ghost use Rattle.master_core.specs.Config.{config_fault};
+ghost use Rattle.master_state.specs.Config.{config_fault};
 ghost use Rattle.master.specs.World.{world};
-ghost use Rattle.recovery.specs.Succession.{IsNewest, with_number, IsSuccessor, IsLived, IsNotAdopted, IsLast, AreDrilled};
+ghost use Rattle.recovery.specs.Succession.{IsNewest, with_number, IsSuccessor, IsLived, IsNotAdopted, IsLast};
+ghost use Rattle.recovery.specs.Succession.{AreDrilled};
 
 use crate::drill::{Drill, run_drill};
-use crate::order::GroupOrder;
 use crate::recovery::RecoveryFault;
 use claims::Rebuilt;
 use entry::{NoMemory, Tablets};
 use master::{Config, Master, Refusal, Step, StepAnswer};
+use rebuilding::GroupOrder;
 use replay::adopt_list;
 use replica::{Bench, Fleet, TakeFault};
 use std::alloc::Global;

@@ -1,23 +1,19 @@
 //! Recovery by several workers.
 
-ghost use Rattle.std.specs.Prelude.{◌≡◌, ◌≤◌, ℕ, Bool, IfOk, IfErr, OnOk};
-ghost use Rattle.replica.specs.Picture.{Picture, shown_by, survivors};
-ghost use Rattle.replica.specs.Survival.{BothSurvive};
+ghost use Rattle.std.specs.Prelude.{◌≡◌, ◌≤◌, IfOk, IfErr, OnOk};
 ghost use Rattle.division.specs.Division.{AreCovered};
 ghost use Rattle.claims.specs.Bags.{segments_bag};
 ghost use Rattle.claims.specs.Rebuilt.{IsRebuilt};
 ghost use Rattle.rebuilding.specs.Rebuilds.{IsRebuildFault, CanBeRebuilt, NamesEach, count_of};
 ghost use Rattle.rebuilding.specs.Turns.{replayed};
-ghost use Rattle.log_model.specs.Data.{LogData, IsHome, newest_opened};
-ghost use Rattle.log_model.specs.Sound.{IsSound};
-ghost use Rattle.recovery.specs.Orders.{order_for, Covers, NamesGroups};
-ghost use Rattle.recovery.specs.Recovered.{Shows, IsRecovered, IsLossOrMemory, IsWant, IsRebuiltFrom, IsRefusedFrom};
+ghost use Rattle.rebuilding.specs.Orders.{order_for};
+ghost use Rattle.recovery.specs.Recovered.{IsSomePrefix, IsSomeLoss, IsRebuiltFrom, IsRefusedFrom};
 
-use crate::order::{GroupOrder, numbers_for};
 use crate::recovery::RecoveryFault;
 use claims::{Rebuilt, ReplayFault};
 use gate::Gate;
 use rebuild_threads::rebuild_threads;
+use rebuilding::{GroupOrder, numbers_for};
 use recovery_plan::{Plan, plan};
 use replica::Inventory;
 use std::alloc::Global;
@@ -53,8 +49,8 @@ fn rebuild_in_threads<R: Threads + Wait + Sync, G: Gate + Sync>(
     rebuild_threads(rt, alloc, plan, will, numbers.as_slice(), workers, gate)
 }
 
-/// What `recover` gives, by so many workers, each in a thread of its own: 1 to 64. Each tells the gate when it begins and
-/// when it ends.
+/// What `recover` gives, by so many workers, each in a thread of its own: 1 to 64. Each tells the gate when it begins
+/// and when it ends.
 pub fn recover_threads<R: Threads + Wait + Sync, G: Gate + Sync>(
     rt: &R,
     alloc: Global,
@@ -67,13 +63,8 @@ pub fn recover_threads<R: Threads + Wait + Sync, G: Gate + Sync>(
 ) -> Result<Rebuilt, RecoveryFault>
     // The clauses of `recover`, word for word.
     requires workers { (1 ≤ workers) × (workers ≤ 64) }
-    ensures ok { IfOk result (λ r. (d : LogData) (p : Picture) (keep : ℕ → Bool) →
-        IsSound d p → d.config.master ≡ master → Shows inventory.now (survivors keep (shown_by p)) master →
-        (count : ℕ) × IsRecovered d count r) }
-    ensures refused { IfErr result (λ e. (d : LogData) (p : Picture) (keep : ℕ → Bool) →
-        IsSound d p → d.config.master ≡ master → Shows inventory.now (survivors keep (shown_by p)) master →
-        Covers d.config.tablets will.now → NamesGroups inventory.now master will.now order.now →
-        IsLossOrMemory e × (BothSurvive (IsHome d) (newest_opened d) (shown_by p) d.config.master keep → IsWant e)) }
+    ensures ok { IfOk result (IsSomePrefix inventory.now master) }
+    ensures refused { IfErr result (IsSomeLoss inventory.now master will.now order.now) }
     ensures rebuilt { IfOk result (IsRebuiltFrom inventory.now master will.now order.now) }
     ensures fault { IfErr result (IsRefusedFrom inventory.now master will.now order.now) }
 {

@@ -7,9 +7,10 @@ use Rattle.std.proofs.lemmas.Bool.{cases_lt}
 use Rattle.entry.specs.Bag.{IsAmong}
 use Rattle.replica.specs.declared.holding.Holding.{Holding}
 use Rattle.replica.specs.Choice.{IsUsableHeadOf}
-use Rattle.recovery_plan.specs.Good.{IsGood, AreGood, least_head, IsNewest, IsNewestOf}
-use Rattle.recovery_plan.specs.Planned.{IsFirstBad}
-use Rattle.recovery_plan.proofs.Bests.{among-append, among-left, among-right}
+use Rattle.recovery_plan.specs.Good.{IsGood, AreGood, least_head, IsOpenHead, IsNewest, IsNewestOf}
+use Rattle.recovery_plan.specs.Planned.{IsFirstBad, IsHeadClosed, IsOpenNewest, AreNewest}
+use Rattle.recovery_plan.specs.Preferred.{IsBest}
+use Rattle.recovery_plan.proofs.Bests.{among-append, among-left, among-right, best-skip}
 
 -- the element at a place is among them
 pub among-at : {X : Type 0} (xs : List X) (i : ℕ) (x : X) → i < length xs → x ≡ get_or xs i x → IsAmong x xs
@@ -48,6 +49,17 @@ module _ (m : ℕ) (hs : List Holding) (h : Holding) where
         (among-append g hs (h ∷ []) i);
   }
 
+  pub no-head : (o : Option ℕ) (b : Option Holding) → (IsUsableHeadOf least_head m h → ⊥) → AreNewest m hs o b
+      → AreNewest m (hs ++ h ∷ []) o b
+  no-head o b not are = record {
+    newest = newest-skip o not are.newest;
+    best = best-skip (IsOpenNewest m o) hs h b (λ p. not (open-head o p)) are.best;
+  }
+    where
+      open-head : (o : Option ℕ) → IsOpenNewest m o h → IsUsableHeadOf least_head m h
+      open-head None p = absurd p
+      open-head (Some id) p = p.0
+
   last : IsAmong h (hs ++ h ∷ [])
   last = among-right h hs (h ∷ []) (inl refl)
 
@@ -83,6 +95,72 @@ module _ (m : ℕ) (hs : List Holding) (h : Holding) where
         segment = let s : newest.head.segment ≡ id = newest.segment in omega arith;
         greatest = below;
       }
+
+-- ---- the newest head and its open replica, once one more replica of a head has come
+
+module _ (m : ℕ) (hs : List Holding) (h : Holding) (head : IsUsableHeadOf least_head m h) where
+  -- one of an older head changes nothing
+  pub older : (o : Option ℕ) (id s : ℕ) (b : Option Holding) → s ≡ h.segment → o ≡ Some id → s < id
+      → AreNewest m hs o b → AreNewest m (hs ++ h ∷ []) o b
+  older None id s b is some lt are = absurd (cc)
+  older (Some k) id s b is some lt are =
+      let same : k ≡ id = cc in
+      let most : max h.segment k ≡ k = omega arith in
+      record {
+        newest = subst (λ n. IsNewest m (hs ++ h ∷ []) n) most (newest-more m hs h (Some k) head are.newest);
+        best = best-skip (IsOpenHead m k) hs h b (λ p. let e : h.segment ≡ k = p.1 in omega arith) are.best;
+      }
+
+  -- one of the head that was the newest
+  pub same-head : (o : Option ℕ) (id s : ℕ) (b c : Option Holding) → s ≡ h.segment → o ≡ Some id → s ≡ id
+      → AreNewest m hs o b
+      → (IsBest (IsOpenHead m h.segment) hs b → IsBest (IsOpenHead m h.segment) (hs ++ h ∷ []) c)
+      → AreNewest m (hs ++ h ∷ []) (Some s) c
+  same-head None id s b c is some same are more = absurd (cc)
+  same-head (Some k) id s b c is some same are more =
+      let known : k ≡ id = cc in
+      let most : max h.segment k ≡ s = omega arith in
+      let old : k ≡ h.segment = omega arith in
+      record {
+        newest = subst (λ n. IsNewest m (hs ++ h ∷ []) n) most (newest-more m hs h (Some k) head are.newest);
+        best =
+            subst (λ n. IsBest (IsOpenHead m n) (hs ++ h ∷ []) c) (sym is)
+            (more (subst (λ n. IsBest (IsOpenHead m n) hs b) old are.best));
+      }
+
+  -- one of a newer head
+  pub newer : (o : Option ℕ) (s : ℕ) (b c : Option Holding) → s ≡ h.segment
+      → ((id : ℕ) → o ≡ Some id → id < s) → AreNewest m hs o b
+      → (IsBest (IsOpenHead m h.segment) hs None → IsBest (IsOpenHead m h.segment) (hs ++ h ∷ []) c)
+      → AreNewest m (hs ++ h ∷ []) (Some s) c
+  newer None s b c is below are more =
+      let most : max h.segment 0 ≡ s = omega arith in
+      record {
+        newest = subst (λ n. IsNewest m (hs ++ h ∷ []) n) most (newest-more m hs h None head are.newest);
+        best = subst (λ n. IsBest (IsOpenHead m n) (hs ++ h ∷ []) c) (sym is) (more (λ g i p. are.newest g i p.0));
+      }
+  newer (Some id) s b c is below are more =
+      let lt : id < s = below id refl in
+      let most : max h.segment id ≡ s = omega arith in
+      record {
+        newest = subst (λ n. IsNewest m (hs ++ h ∷ []) n) most (newest-more m hs h (Some id) head are.newest);
+        best =
+            subst (λ n. IsBest (IsOpenHead m n) (hs ++ h ∷ []) c) (sym is)
+            (more (λ g i p.
+            let le : g.segment ≤ id = are.newest.greatest g i p.0 in
+            let e : g.segment ≡ h.segment = p.1 in
+            omega arith));
+      }
+
+-- no replica of the newest head is open
+pub head-closed : (m : ℕ) (hs all : List Holding) (o : Option ℕ) (b : Option Holding) (id : ℕ) → hs ≡ all
+    → AreGood m hs → AreNewest m hs o b → o ≡ Some id → b ≡ None → IsHeadClosed all m id
+head-closed m hs all None b id e good are some none = absurd (cc)
+head-closed m hs all (Some k) (Some x) id e good are some none = absurd (cc)
+head-closed m hs all (Some k) None id e good are some none =
+    let same : k ≡ id = cc in
+    let now : AreNewest m all (Some k) None = subst (λ l. AreNewest m l (Some k) None) e are in
+    subst (IsHeadClosed all m) same (record { good = subst (AreGood m) e good; newest = now.newest; closed = now.best })
 
 -- the first that isn't good
 pub first-bad : (hs : List Holding) (m i : ℕ) (h : Holding) → i < length hs → h ≡ get_or hs i h → AreGood m (take i hs)

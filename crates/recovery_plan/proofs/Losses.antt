@@ -10,8 +10,8 @@ use Rattle.recovery_plan.specs.declared.chosen.Plan.{Plan}
 use Rattle.recovery_plan.specs.declared.fault.PlanFault.{PlanFault}
 use Rattle.recovery_plan.specs.declared.fault.PlanFault.TheVariants.{NoHead, HeadClosed, Missing, BadReplica, NoMemory}
 use Rattle.recovery_plan.specs.Good.{IsOpenHead, IsNewest}
-use Rattle.recovery_plan.specs.Planned.{IsChoiceOf, IsHeadTaken, IsMissing, IsLost}
-use Rattle.recovery_plan.specs.Planned.{IsPlanFault, IsLaterFault, NamesLoss}
+use Rattle.recovery_plan.specs.Planned.{IsChoiceOf, IsMissing, IsLost}
+use Rattle.recovery_plan.specs.Planned.{IsLaterFault, NamesLoss}
 use Rattle.recovery_plan.proofs.Bests.{among-append}
 use Rattle.recovery_plan.proofs.Plans.{preferred-among}
 
@@ -74,12 +74,3 @@ pub losses : (hs : List Holding) (m : ℕ) (r : Result Plan PlanFault) → IfErr
     → IfErr r (λ fault. NamesLoss hs m fault)
 losses hs m (Ok p) f = tt
 losses hs m (Err fault) f = later-means hs m fault f
-
--- what may come once it is known which head is taken is a fault
-pub fault_of : (hs : List Holding) (master : ℕ) (head : Holding) → IsHeadTaken hs master head → (fault : PlanFault)
-    → IsLaterFault hs master fault → IsPlanFault hs master fault
-fault_of hs master head taken (Missing id) later = later
-fault_of hs master head taken NoMemory later = later
-fault_of hs master head taken (BadReplica backup id) later = absurd later
-fault_of hs master head taken NoHead later = absurd later
-fault_of hs master head taken (HeadClosed id) later = absurd later

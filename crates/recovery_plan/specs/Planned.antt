@@ -1,5 +1,5 @@
 -- What a plan is, and why there may be none.
-use Rattle.std.specs.Prelude.{◌≡◌, ℕ, ◌<◌, List, [], ◌∷◌, ◌++◌, map, Some}
+use Rattle.std.specs.Prelude.{◌≡◌, ℕ, ◌<◌, List, [], ◌∷◌, ◌++◌, map, Option, Some, None}
 use Rattle.std.specs.List.{AllByRecursion}
 use Rattle.entry.specs.Bag.{IsAmong}
 use Rattle.entry.specs.Text.{Opening, entries_in, opening_in}
@@ -8,8 +8,8 @@ use Rattle.replica.specs.Choice.{Choice, IsUsableHeadOf, IsChoice}
 use Rattle.recovery_plan.specs.declared.chosen.Plan.{Plan}
 use Rattle.recovery_plan.specs.declared.fault.PlanFault.{PlanFault}
 use Rattle.recovery_plan.specs.declared.fault.PlanFault.TheVariants.{NoHead, HeadClosed, Missing, BadReplica, NoMemory}
-use Rattle.recovery_plan.specs.Good.{IsGood, AreGood, least_head, IsOpenHead, IsReplicaOf, IsNewest}
-use Rattle.recovery_plan.specs.Preferred.{IsPreferred}
+use Rattle.recovery_plan.specs.Good.{IsGood, AreGood, least_head, IsOpenHead, IsReplicaOf, IsNewest, IsNewestOf}
+use Rattle.recovery_plan.specs.Preferred.{IsPreferred, IsBest}
 
 -- ---- a plan
 
@@ -26,6 +26,10 @@ pub record IsPlanOf (hs : List Holding) (master : ℕ) (c : Choice) (p : Plan) :
   pub segments : p.segments ≡ map (λ (h : Holding). entries_in h.bytes) (c.others ++ c.head ∷ [])
   pub safe : p.safe ≡ c.opening.safe
 
+-- a plan of the inventory
+abbrev pub IsPlan : List Holding → ℕ → Plan → Type 0
+IsPlan inventory master plan = (c : Choice) × IsPlanOf inventory master c plan
+
 -- ---- a fault
 
 -- the first bad replica of the master is of this segment, on this backup
@@ -39,11 +43,6 @@ pub record IsFirstBad (hs : List Holding) (master backup id : ℕ) : Type 0 wher
   pub of_segment : bad.segment ≡ id
   pub is_bad : IsGood bad → ⊥
   pub good_before : AreGood master before
-
--- the fault of a bad replica
-abbrev pub IsBadFault : List Holding → ℕ → PlanFault → Type 0
-IsBadFault hs master (BadReplica backup id) = IsFirstBad hs master backup id
-IsBadFault hs master _ = ⊥
 
 -- all replicas are well, and none has a digest
 pub record HasNoHead (hs : List Holding) (master : ℕ) : Type 0 where
@@ -61,6 +60,23 @@ pub record IsHeadTaken (hs : List Holding) (master : ℕ) (head : Holding) : Typ
   pub good : AreGood master hs
   pub newest : IsNewest master hs head.segment
   pub preferred : IsPreferred (IsOpenHead master head.segment) hs head
+
+-- an open replica of the newest head, which is the one with this id
+abbrev pub IsOpenNewest : ℕ → Option ℕ → Holding → Type 0
+IsOpenNewest master None h = ⊥
+IsOpenNewest master (Some id) h = IsOpenHead master id h
+
+-- the id of the newest head, and its open replica that is taken; None if there is no such
+pub record AreNewest (master : ℕ) (hs : List Holding) (id : Option ℕ) (taken : Option Holding) : Type 0 where
+  pub newest : IsNewestOf master hs id
+  pub best : IsBest (IsOpenNewest master id) hs taken
+
+-- why no replica of a head is taken
+abbrev pub IsHeadFault : List Holding → ℕ → PlanFault → Type 0
+IsHeadFault hs master (BadReplica backup id) = IsFirstBad hs master backup id
+IsHeadFault hs master NoHead = HasNoHead hs master
+IsHeadFault hs master (HeadClosed id) = IsHeadClosed hs master id
+IsHeadFault hs master _ = ⊥
 
 -- no replica that may be used for this id of the digest is there
 abbrev pub IsLost : List Holding → ℕ → Opening → ℕ → Type 0

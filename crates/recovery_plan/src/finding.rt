@@ -1,56 +1,82 @@
 //! Finding the newest head.
 
-ghost use Rattle.std.specs.Prelude.{◌≡◌, ◌↔◌, IsTrue, IfOk, IfErr};
-ghost use Rattle.std.specs.Option.{option_copied};
-ghost use Rattle.recovery_plan.specs.Good.{IsGood, AreGood, IsOpenHead, IsNewestOf};
+ghost use Rattle.std.specs.Prelude.{◌≡◌, ◌++◌, ◌∷◌, [], ℕ, List, IfOk, IfErr};
+ghost use Rattle.replica.specs.declared.holding.Holding.{Holding as HoldingValue};
+ghost use Rattle.replica.specs.Choice.{IsUsableHeadOf};
+ghost use Rattle.recovery_plan.specs.Good.{least_head, IsOpenHead};
 ghost use Rattle.recovery_plan.specs.Preferred.{IsBest};
-ghost use Rattle.recovery_plan.specs.Planned.{IsBadFault};
+ghost use Rattle.recovery_plan.specs.Planned.{IsHeadTaken, IsHeadFault, AreNewest};
 
 use crate::fault::PlanFault;
-use crate::preferred::better_of;
-use crate::reading::bears_digest;
+use crate::head::{Head, better_head};
+use crate::reading::segment_in;
 use replica::Holding;
 
-/// The newest head of a master, whose replicas are all well; None if no replica has a digest.
-pub(crate) fn newest_head(holdings: &[Holding], master: u64) -> Result<Option<u64>, PlanFault>
-    ensures good { IfOk result (λ newest. AreGood master holdings.now) }
-    ensures newest { IfOk result (λ newest. IsNewestOf master holdings.now newest) }
-    ensures fault { IfErr result (λ fault. IsBadFault holdings.now master fault) }
+/// The id of the newest head so far, and its open replica that is taken so far.
+#[derive(Drop)]
+struct Newest<'a> {
+    id: Option<u64>,
+    taken: Option<Head<'a>>,
+}
+
+/// The open replica of a head that is taken, once this replica of the head has come too.
+fn with_open<'a>(before: Option<Head<'a>>, head: Head<'a>) -> Option<Head<'a>>
+    ensures { (master : ℕ) (hs : List HoldingValue) → IsUsableHeadOf least_head master head.entry →
+        IsBest (IsOpenHead master head.entry.segment) hs before.entry →
+        IsBest (IsOpenHead master head.entry.segment) (hs ++ head.entry ∷ []) result }
 {
-    let mut newest = None;
+    if head.replica().is_open {
+        Some(better_head(before, head))
+    } else {
+        before
+    }
+}
+
+/// The newest head, once this replica of a head has come too.
+fn with_head<'a>(newest: Newest<'a>, head: Head<'a>) -> Newest<'a>
+    ensures { (master : ℕ) (hs : List HoldingValue) → IsUsableHeadOf least_head master head.entry →
+        AreNewest master hs newest.entry.id newest.entry.taken →
+        AreNewest master (hs ++ head.entry ∷ []) result.id result.taken }
+{
+    let id = head.replica().segment;
+    match newest.id {
+        Some(known) if id < known => newest,
+        Some(known) if id == known => Newest {
+            id: Some(id),
+            taken: with_open(newest.taken, head),
+        },
+        _ => Newest {
+            id: Some(id),
+            taken: with_open(None, head),
+        },
+    }
+}
+
+/// The replica of the newest head of a master that is taken. Each replica of the master is read, once.
+pub(crate) fn newest_head<'a>(holdings: &'a [Holding], master: u64) -> Result<Head<'a>, PlanFault>
+    ensures taken { IfOk result (IsHeadTaken holdings.entry.now master) }
+    ensures fault { IfErr result (IsHeadFault holdings.entry.now master) }
+{
+    let mut newest = Newest {
+        id: None,
+        taken: None,
+    };
     for holding in holdings {
         if holding.master == master {
-            match bears_digest(holding) {
-                Some(true) => newest = Some(holding.segment.max(newest.unwrap_or(0))),
-                Some(false) => {}
-                None => return Err(PlanFault::BadReplica(holding.backup, holding.segment)),
+            let Some(segment) = segment_in(holding) else {
+                return Err(PlanFault::BadReplica(holding.backup, holding.segment));
+            };
+            if let Some(head) = Head::of(holding, &segment) {
+                newest = with_head(newest, head);
             }
         }
     }
-    Ok(newest)
-}
-
-// Whether a replica is an open one of a head.
-fn is_open_head(holding: &Holding, master: u64, id: u64) -> bool
-    requires { holding.now.master ≡ master → IsGood holding.now }
-    ensures { IsTrue result ↔ IsOpenHead master id holding.now }
-{
-    holding.master == master
-        && holding.segment == id
-        && holding.is_open
-        && matches!(bears_digest(holding), Some(true))
-}
-
-/// The open replica of a head that is taken.
-pub(crate) fn open_head<'a>(holdings: &'a [Holding], master: u64, id: u64) -> Option<&'a Holding>
-    requires { AreGood master holdings.now }
-    ensures { IsBest (IsOpenHead master id) holdings.entry.now (option_copied result) }
-{
-    let mut best: Option<&'a Holding> = None;
-    for holding in holdings {
-        if is_open_head(holding, master, id) {
-            best = Some(better_of(best, holding));
-        }
+    let Newest { id, taken } = newest;
+    match id {
+        None => Err(PlanFault::NoHead),
+        Some(id) => match taken {
+            Some(head) => Ok(head),
+            None => Err(PlanFault::HeadClosed(id)),
+        },
     }
-    best
 }

@@ -9,6 +9,7 @@
 mod chosen;
 mod fault;
 mod finding;
+mod head;
 mod listed;
 mod missing;
 mod planning;

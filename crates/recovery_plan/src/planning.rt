@@ -1,17 +1,17 @@
 //! The plan of a recovery.
 
 ghost use Rattle.std.specs.Prelude.{◌≡◌, ℕ, IfOk, IfErr};
-ghost use Rattle.replica.specs.Choice.{Choice};
 ghost use Rattle.replica.specs.declared.holding.Holding.{Holding};
-ghost use Rattle.recovery_plan.specs.Planned.{IsPlanOf, IsHeadTaken, IsPlanFault, IsLaterFault, IsFoundFault, NamesLoss};
+ghost use Rattle.recovery_plan.specs.Planned.{IsPlan, IsHeadTaken, IsPlanFault, IsLaterFault, IsFoundFault, NamesLoss};
 
 use crate::chosen::Plan;
 use crate::fault::PlanFault;
-use crate::finding::{newest_head, open_head};
+use crate::finding::newest_head;
+use crate::head::Head;
 use crate::listed::others;
 use crate::missing::first_missing;
 use crate::preferred::best_replicas;
-use crate::reading::{copies, opening};
+use crate::reading::copies;
 use replica::{Holding, Inventory};
 use std::alloc::Global;
 
@@ -20,29 +20,29 @@ fn found_plan(
     alloc: Global,
     holdings: &[Holding],
     master: u64,
-    head: &Holding,
+    head: &Head<'_>,
 ) -> Result<Plan, PlanFault>
     requires { IsHeadTaken holdings.now master head.now }
-    ensures ok { IfOk result (λ plan. (c : Choice) × IsPlanOf holdings.now master c plan) }
+    ensures ok { IfOk result (IsPlan holdings.now master) }
     ensures fault { IfErr result (λ fault. IsFoundFault holdings.now master fault) }
 {
-    let (digest, safe) = opening(head);
+    let (digest, safe) = head.opening();
     let best = best_replicas(alloc, holdings, master)?;
     let mut chosen = match others(alloc, &best, &digest) {
         Ok(others) => others,
         Err(fault) => return Err(fault),
     };
-    chosen.push(head)?;
+    chosen.push(head.replica())?;
     let segments = copies(alloc, &chosen)?;
     Ok(Plan { segments, safe })
 }
 
 // Why there is no plan if memory ran out: a listed segment is lost, or else memory is all that was wanted.
-fn want(holdings: &[Holding], master: u64, head: &Holding) -> PlanFault
+fn want(holdings: &[Holding], master: u64, head: &Head<'_>) -> PlanFault
     requires { IsHeadTaken holdings.now master head.now }
     ensures { IsLaterFault holdings.now master result }
 {
-    let (digest, _) = opening(head);
+    let (digest, _) = head.opening();
     match first_missing(holdings, master, &digest) {
         Some(id) => PlanFault::Missing(id),
         None => PlanFault::NoMemory,
@@ -54,10 +54,10 @@ fn plan_from(
     alloc: Global,
     holdings: &[Holding],
     master: u64,
-    head: &Holding,
+    head: &Head<'_>,
 ) -> Result<Plan, PlanFault>
     requires { IsHeadTaken holdings.now master head.now }
-    ensures ok { IfOk result (λ plan. (c : Choice) × IsPlanOf holdings.now master c plan) }
+    ensures ok { IfOk result (IsPlan holdings.now master) }
     ensures fault { IfErr result (λ fault. IsLaterFault holdings.now master fault) }
 {
     match found_plan(alloc, holdings, master, head) {
@@ -71,18 +71,13 @@ fn plan_from(
 /// taken; of another segment a closed one, else the longest open one; ties go to the lowest backup, then to the first.
 pub fn plan(alloc: Global, inventory: &Inventory, master: u64) -> Result<Plan, PlanFault>
     // The plan is a choice of the newest log, and takes the preferred replicas.
-    ensures ok { IfOk result (λ plan. (c : Choice) × IsPlanOf inventory.now master c plan) }
+    ensures ok { IfOk result (IsPlan inventory.now master) }
     // A fault is the first that the tests find in the inventory. Memory is wanted only if they find none.
     ensures fault { IfErr result (λ fault. IsPlanFault inventory.now master fault) }
     // A loss is named only if there is nothing to choose.
     ensures loss { IfErr result (λ fault. NamesLoss inventory.now master fault) }
 {
     let holdings = inventory.as_slice();
-    let Some(id) = newest_head(holdings, master)? else {
-        return Err(PlanFault::NoHead);
-    };
-    let Some(head) = open_head(holdings, master, id) else {
-        return Err(PlanFault::HeadClosed(id));
-    };
-    plan_from(alloc, holdings, master, head)
+    let head = newest_head(holdings, master)?;
+    plan_from(alloc, holdings, master, &head)
 }

@@ -20,8 +20,8 @@ fn longer(a: &Holding, b: &Holding) -> bool
     b_len < a_len || (a_len == b_len && a.backup < b.backup)
 }
 
-// Whether the first is preferred to the second.
-fn prefers(a: &Holding, b: &Holding) -> bool
+/// Whether the first is preferred to the second.
+pub(crate) fn prefers(a: &Holding, b: &Holding) -> bool
     ensures { result ≡ is_preferred a.now b.now }
 {
     if a.is_open {
@@ -32,7 +32,7 @@ fn prefers(a: &Holding, b: &Holding) -> bool
 }
 
 // The later replica if it is preferred to the best before it, and else that one.
-pub(crate) fn better_of<'a>(best: Option<&'a Holding>, later: &'a Holding) -> &'a Holding
+fn better_of<'a>(best: Option<&'a Holding>, later: &'a Holding) -> &'a Holding
     ensures { result.now ≡ better (option_copied best.entry) later.entry.now }
 {
     match best {

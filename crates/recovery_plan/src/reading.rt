@@ -1,17 +1,14 @@
 //! Reading replicas.
 
-ghost use Rattle.std.specs.Prelude.{◌≡◌, Some, List, map, length, IfSome, IfNone, IfOk, IsSome, is_some};
-ghost use Rattle.std.specs.Option.{option_map};
+ghost use Rattle.std.specs.Prelude.{◌≡◌, map, IfSome, IfNone, IfOk};
 ghost use Rattle.std.specs.List.{AllByRecursion};
-ghost use Rattle.entry.specs.View.{shown_ids};
-ghost use Rattle.entry.specs.Text.{Opening, entries_in, opening_in};
+ghost use Rattle.entry.specs.Text.{entries_in};
 ghost use Rattle.segment.specs.View.{entries_of};
 ghost use Rattle.replica.specs.declared.holding.Holding.{Holding};
 ghost use Rattle.recovery_plan.specs.Good.{IsGood};
 ghost use Rattle.recovery_plan.specs.Looked.{lent};
 
 use crate::chosen::Segments;
-use entry::{DigestRef, SafeVersion};
 use replica::Holding;
 use segment::{Segment, SegmentRef};
 use std::alloc::{AllocError, Global};
@@ -33,33 +30,6 @@ pub(crate) fn segment_in<'a>(holding: &'a Holding) -> Option<SegmentRef<'a>>
         }
         Err(_) => None,
     }
-}
-
-/// Whether a replica has a digest; None if it isn't well.
-pub(crate) fn bears_digest(holding: &Holding) -> Option<bool>
-    ensures good { IfSome result (λ bears. IsGood holding.now) }
-    ensures bears { IfSome result (λ bears. bears ≡ is_some (opening_in holding.now.bytes)) }
-    ensures bad { IfNone result (IsGood holding.now → ⊥) }
-{
-    match segment_in(holding) {
-        Some(segment) => Some(segment.digest().is_some()),
-        None => None,
-    }
-}
-
-/// The digest and the safe version of a head.
-pub(crate) fn opening<'a>(head: &'a Holding) -> (DigestRef<'a>, SafeVersion)
-    requires good { IsGood head.now }
-    requires opening { IsSome (opening_in head.now.bytes) }
-    ensures { opening_in head.entry.now.bytes ≡ Some (record { ids = shown_ids result.0; safe = result.1 }) }
-{
-    let Some(segment) = segment_in(head) else {
-        unreachable!()
-    };
-    let (Some(digest), Some(safe)) = (segment.digest(), segment.safe()) else {
-        unreachable!()
-    };
-    (digest, safe)
 }
 
 /// Copies of the segments of replicas that are well. They aren't read again.

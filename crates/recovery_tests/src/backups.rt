@@ -92,8 +92,8 @@ fn is_answered(alloc: Global, fleet: &mut MemoryFleet, call: &Call) -> bool {
     }
 }
 
-/// How many calls of a fleet with so many backups, from the first on, have the answers that they say. It is none if memory
-/// runs out.
+/// How many calls of a fleet with so many backups, from the first on, have the answers that they say. It is none if
+/// memory runs out.
 fn passed(alloc: Global, backups: u64, calls: &[Call]) -> usize {
     let Ok(mut fleet) = MemoryFleet::new(alloc, backups) else {
         return 0;

@@ -72,8 +72,8 @@ fn hand_groups<'a>(
     }
 }
 
-/// The faults of a partition's replay, one after another, and its objects and their greatest version, or its fault at the
-/// end.
+/// The faults of a partition's replay, one after another, and its objects and their greatest version, or its fault at
+/// the end.
 type Part = (&'static str, Result<(&'static [Shown], u64), &'static str>);
 
 fn is_replayed(replayed: &Replayed, want: &Part) -> bool {

@@ -1,5 +1,5 @@
-//! A partition that is gathered and listed as a worker does it. If a worker gave up, the calling thread would answer in its
-//! place, and no answer would tell.
+//! A partition that is gathered and listed as a worker does it. If a worker gave up, the calling thread would answer in
+//! its place, and no answer would tell.
 
 ghost use Rattle.std.specs.Prelude.{◌≡◌, ◌<◌, ◌∷◌, [], length, map, slice_index_or};
 ghost use Rattle.division.specs.Division.{IsDivision};

@@ -101,8 +101,8 @@ const SIX: &Ordered = &(
     Ok((&[(1, b"a", 1, b"x")], 2)),
 );
 
-/// Each worker is sent its groups, and no more than four wait for it: while worker 0 takes none, the calling thread waits
-/// for it, and worker 1 has no end.
+/// Each worker is sent its groups, and no more than four wait for it: while worker 0 takes none, the calling thread
+/// waits for it, and worker 1 has no end.
 #[test]
 fn groups_wait_for_their_worker(rt: HostRuntime) {
     let gate = Late {

@@ -1,4 +1,5 @@
-use Rattle.std.proofs.Common.{rules, ◌++◌, ◌∷◌, [], ◌<◌, ◌-◌, ℕ, Option, List, length, take, drop, ap, ◌∙◌, refl, subst, arith}
+use Rattle.std.proofs.Common.{rules, ◌++◌, ◌∷◌, [], ◌<◌, ◌-◌, ℕ, Option, List, length, take, drop, ap, ◌∙◌, refl, subst}
+use Rattle.std.proofs.Common.{arith}
 use Rattle.std.specs.Prelude.{IfSome}
 use Rattle.entry.specs.View.{shown}
 use Rattle.segment.proofs.RowLemmas.{front_of-len}

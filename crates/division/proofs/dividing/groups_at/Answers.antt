@@ -1,7 +1,6 @@
 use Rattle.std.proofs.Common.{refl, arith}
 use Rattle.std.proofs.lemmas.List.{nil_from_length}
 use Rattle.entry.specs.Text.{text_of}
-use Rattle.division.proofs.Divisions.{pushed_by}
 use Rattle.division.proofs.Gatherings.{grouping_more, grouping_end}
 use Rattle.division.proofs.dividing.groups_at.Goals as goal
 
@@ -9,7 +8,7 @@ pub loop-gathered-preserved : goal.loop-gathered-preserved
 loop-gathered-preserved c =
     grouping_more c.args.id (text_of c.args.segment.now) c.args.all.items _ c.loop-gathered.groups.items
     c.loop-gathered.invariant c.in-Some.gathered _ c.in-Some.ensures.steps.0 c.push.new.self.items _
-    (pushed_by c.push.result _ _ _ c.if-is_err.ensures.value c.push.ensures.items) refl refl c.at_places.ensures
+    c.in_ok-push.ensures.items refl refl c.at_places.ensures
 
 pub returns : goal.returns
 returns c =

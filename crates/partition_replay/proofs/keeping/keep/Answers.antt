@@ -24,7 +24,8 @@ returns-in-Ok-clause-ok c =
     let old = kept_in c.args.fresh.now.entries c.args.kept.now.entries in
     let new = kept_in c.insert.new.self.entries c.args.kept.now.entries in
     let claim = claimed c.args.claim.now in
-    adds_one old new claim c.of.result (subst (IsAbove (old claim.key) claim) c.if-not-branch.false c.in_ok-is_above.ensures.ok)
+    adds_one old new claim c.of.result (subst (IsAbove (old claim.key) claim) c.if-not-branch.false
+    c.in_ok-is_above.ensures.ok)
     c.of.ensures
     (put_fresh c.args.fresh.now.entries c.insert.new.self.entries c.args.kept.now.entries claim.key c.of.result
     (put_one c.args.fresh.now.entries c.insert.new.self.entries c.args.claim.now.key c.of.result

@@ -27,7 +27,8 @@ returns-clause-turns g c =
     subst (λ (ps : List Part). AreCovered ps (segments_bag segments)) c.requires.parts
     (subst (λ (ss : List (List Entry)). AreCovered g.D.Division.parts (segments_bag ss)) c.requires.segments
     (c.is_whole.ensures c.if-not-is_whole.false)) in
-    if_ok (IsRebuilt g.D.Division.segments g.D.Division.safe) (IsRebuilt (replayed segments qs order) c.args.plan.now.safe)
+    if_ok (IsRebuilt g.D.Division.segments g.D.Division.safe)
+    (IsRebuilt (replayed segments qs order) c.args.plan.now.safe)
     c.join_all.result
     (λ r h. turned qs segments order c.partitions.ensures.valid covered names c.args.plan.now.safe r
     (subst (λ (n : ℕ). IsRebuilt segments n r) c.requires.safe

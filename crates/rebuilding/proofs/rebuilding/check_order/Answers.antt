@@ -1,23 +1,24 @@
-use Rattle.std.proofs.Common.{◌≡◌, ◌<◌, length, map, subst, sym, ◌∙◌, get_or, arith, false}
-use Rattle.std.proofs.lemmas.List.{get_or_default}
+use Rattle.std.proofs.Common.{length, map, subst}
 use Rattle.division.specs.declared.group.Group.{Group}
 use Rattle.division.specs.Groups.{grouped}
-use Rattle.rebuilding.specs.Turns.{IsUnnamed}
-use Rattle.rebuilding.proofs.Marks.{unnamed, names_each}
+use Rattle.rebuilding.specs.declared.naming.Misnamed.{Misnamed}
+use Rattle.rebuilding.specs.Turns.{IsMisnamed, IsSecond, IsUnnamed}
+use Rattle.rebuilding.proofs.Marks.{second_group, unnamed_group}
 use Rattle.rebuilding.proofs.rebuilding.check_order.Goals as goal
 
-pub returns-then-not-index-clause-fault : goal.returns-then-not-index-clause-fault
-returns-then-not-index-clause-fault c =
-    let named = c.in_ok-named.named.items in
-    let lt : c.loop-n.n < length named = subst (λ m. c.loop-n.n < m) (sym c.in_ok-named.ensures.long) c.loop-n-test.true in
-    let off : get_or named c.loop-n.n false ≡ false =
-    get_or_default named c.loop-n.n false c.index.result.now lt ∙ sym c.index.ensures ∙ c.if-not-index.true in
-    subst (λ (g : Group). IsUnnamed (map grouped c.args.groups.now) c.args.order.now g.segment) c.index-groups-n.is
-    (unnamed c.args.order.now c.in_ok-named.named.items c.in_ok-named.ensures.ok c.args.groups.now c.loop-n.n
-    c.index-groups-n.result c.loop-n-test.true off c.loop-n.invariant
-    c.index-groups-n.is)
+pub returns-in-Twice-clause-fault : goal.returns-in-Twice-clause-fault
+returns-in-Twice-clause-fault c =
+    let gs = c.args.groups.now in
+    let twice = subst (λ (m : Misnamed). IsMisnamed (length gs) c.args.order.now m) c.in-Twice.is
+    c.in-Err.ensures.fault in
+    subst (λ (g : Group). IsSecond (map grouped gs) c.args.order.now g.segment) c.index-groups-n.is
+    (second_group c.args.order.now gs c.in-Twice.n c.index-groups-n.result c.index-groups-n.is twice)
 
-pub returns-clause-ok : goal.returns-clause-ok
-returns-clause-ok c =
-    names_each c.args.order.now c.in_ok-named.named.items c.in_ok-named.ensures.ok (length c.args.groups.now)
-    c.in_ok-named.ensures.long (λ n lt. c.loop-n.invariant n (let end = c.loop-n-test.false in omega (arith, lt, end)))
+pub returns-in-LeftOut-clause-fault : goal.returns-in-LeftOut-clause-fault
+returns-in-LeftOut-clause-fault c =
+    let gs = c.args.groups.now in
+    let omitted =
+    subst (λ (m : Misnamed). IsMisnamed (length gs) c.args.order.now m) c.in-LeftOut.is c.in-Err.ensures.fault in
+    subst (λ (g : Group). IsUnnamed (map grouped gs) c.args.order.now g.segment) c.index-groups-n-in-LeftOut.is
+    (unnamed_group c.args.order.now gs c.in-LeftOut.n c.index-groups-n-in-LeftOut.result
+    c.index-groups-n-in-LeftOut.is omitted)

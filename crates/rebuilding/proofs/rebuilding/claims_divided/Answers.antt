@@ -40,7 +40,8 @@ returns-in_err-check_ids-clause-fault c =
     (sym (length-map c.as_slice.result.now grouped) ∙ ap length gs) c.in_ok-check_order.ensures.ok in
     let refused : IsRebuildFault segments qs order f =
     ids_fault segments qs order c.partitions-count.ensures.valid.some names f
-    (subst (λ ids. IsIdsFault ids f) (c.as_slice-2.ensures.value ∙ c.in_ok-ids.ensures) c.in_err-check_ids.ensures.fault) in
+    (subst (λ ids. IsIdsFault ids f) (c.as_slice-2.ensures.value
+    ∙ c.in_ok-ids.ensures) c.in_err-check_ids.ensures.fault) in
     search (rules, refused)
 
 pub claims_in_order-requires : goal.claims_in_order-requires

@@ -23,7 +23,8 @@ loop-segment-preserved c =
     record {
       groups = groups_more c.args.will.now segments i c.segment-item.result (map grouped c.loop-segment.all.items) _
           (map grouped c.in_ok-groups.groups.items) c.loop-segment-test.true c.segment-item.is c.in_ok-groups.ensures.ok
-          (ap (map grouped) c.in_ok-append.ensures ∙ map-append grouped c.loop-segment.all.items c.in_ok-groups.groups.items)
+          (ap (map grouped) c.in_ok-append.ensures ∙ map-append grouped c.loop-segment.all.items
+          c.in_ok-groups.groups.items)
           c.loop-segment.invariant.groups;
       covered = covered_more c.args.will.now segments i c.segment-item.result c.loop-segment-test.true c.segment-item.is
           c.in_ok-groups.ensures.covered c.loop-segment.invariant.covered;

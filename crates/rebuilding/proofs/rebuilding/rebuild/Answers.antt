@@ -12,7 +12,7 @@ use Rattle.claims.specs.Settled.{AreOf, AreRebuilt, AreCleanClaims, AreRefused}
 use Rattle.rebuilding.proofs.Carried.{if_ok, if_err, on_ok}
 use Rattle.rebuilding.proofs.Ordered.{are_claims}
 use Rattle.rebuilding.proofs.Wholes.{only_memory, refusal_fault}
-use Rattle.rebuilding.proofs.rebuilding.rebuild.Goals.{After-from_residual, After-settle}
+use Rattle.rebuilding.proofs.rebuilding.rebuild.Goals.{After-from_residual, After-rebuilt_from}
 use Rattle.rebuilding.proofs.rebuilding.rebuild.Goals as goal
 
 refused_early : (c : After-from_residual)
@@ -37,26 +37,26 @@ returns-in_err-claims-clause-whole c =
     (refused_early (goal.at.returns-in_err-claims-clause-whole c).After-from_residual)
 
 -- the claims are those of the log
-found : (c : After-settle) → AreOf (segments_bag c.args.plan.now.segments) (map claimed c.in_ok-claims.claims.items)
+found : (c : After-rebuilt_from) → AreOf (segments_bag c.args.plan.now.segments) (map claimed c.in_ok-claims.claims.items)
 found c =
     subst (λ (ss : List (List Entry)). AreOf (segments_bag ss) (map claimed c.in_ok-claims.claims.items))
     c.as_slice.ensures c.in_ok-claims.ensures.ok
 
-refused_late : (c : After-settle)
-    → IfErr c.settle.result (IsRebuildFault c.args.plan.now.segments c.args.will.now c.args.order.now)
+refused_late : (c : After-rebuilt_from)
+    → IfErr c.rebuilt_from.result (IsRebuildFault c.args.plan.now.segments c.args.will.now c.args.order.now)
 refused_late c =
     let segments = c.args.plan.now.segments in
     let qs = c.args.will.now in
     let order = c.args.order.now in
     if_err (AreRefused (map claimed c.in_ok-claims.claims.items)) (IsRebuildFault segments qs order) _
-    (λ f h. refusal_fault segments qs order f (h.each segments (found c))) c.settle.ensures.err
+    (λ f h. refusal_fault segments qs order f (h.each segments (found c))) c.rebuilt_from.ensures.err
 
 pub returns-clause-ok : goal.returns-clause-ok
 returns-clause-ok c =
-    let all = (goal.at.returns-clause-ok c).After-settle in
+    let all = (goal.at.returns-clause-ok c).After-rebuilt_from in
     let cs = map claimed c.in_ok-claims.claims.items in
     if_ok (AreRebuilt cs c.args.plan.now.safe) (IsRebuilt c.args.plan.now.segments c.args.plan.now.safe) _
-    (λ r h. h c.args.plan.now.segments (found all)) c.settle.ensures.ok
+    (λ r h. h c.args.plan.now.segments (found all)) c.rebuilt_from.ensures.ok
 
 pub returns-clause-turns : goal.returns-clause-turns
 returns-clause-turns c =
@@ -66,17 +66,17 @@ returns-clause-turns c =
     subst (λ (ss : List (List Entry)). cs ≡ claims_of (segments_bag (replayed ss c.args.will.now c.args.order.now)))
     c.as_slice.ensures c.in_ok-claims.ensures.turns in
     if_ok (AreRebuilt cs c.args.plan.now.safe) (IsRebuilt taken c.args.plan.now.safe) _
-    (λ r h. h taken (are_claims (segments_bag taken) cs here)) c.settle.ensures.ok
+    (λ r h. h taken (are_claims (segments_bag taken) cs here)) c.rebuilt_from.ensures.ok
 
 pub returns-clause-clean : goal.returns-clause-clean
 returns-clause-clean c =
-    let all = (goal.at.returns-clause-clean c).After-settle in
+    let all = (goal.at.returns-clause-clean c).After-rebuilt_from in
     let cs = map claimed c.in_ok-claims.claims.items in
     on_ok (AreCleanClaims cs) (IsClean (among (segments_bag c.args.plan.now.segments))) _
-    (λ h. h c.args.plan.now.segments (found all)) c.settle.ensures.clean
+    (λ h. h c.args.plan.now.segments (found all)) c.rebuilt_from.ensures.clean
 
 pub returns-clause-fault : goal.returns-clause-fault
-returns-clause-fault c = refused_late (goal.at.returns-clause-fault c).After-settle
+returns-clause-fault c = refused_late (goal.at.returns-clause-fault c).After-rebuilt_from
 
 pub returns-clause-whole : goal.returns-clause-whole
 returns-clause-whole c =
@@ -84,4 +84,4 @@ returns-clause-whole c =
     let qs = c.args.will.now in
     let order = c.args.order.now in
     if_err (IsRebuildFault segments qs order) (λ f. CanBeRebuilt segments qs order → f ≡ fault.NoMemory) _
-    (λ f h can. only_memory segments qs order can f h) (refused_late (goal.at.returns-clause-whole c).After-settle)
+    (λ f h can. only_memory segments qs order can f h) (refused_late (goal.at.returns-clause-whole c).After-rebuilt_from)

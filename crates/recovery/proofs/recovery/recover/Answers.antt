@@ -18,7 +18,8 @@ returns-in-Ok-rebuild_in-clause-ok c =
 pub returns-in-Ok-rebuild_in-clause-rebuilt : goal.returns-in-Ok-rebuild_in-clause-rebuilt
 returns-in-Ok-rebuild_in-clause-rebuilt c =
     let e = c.in-Ok-rebuild_in.ensures in
-    rebuilt-from c.args.inventory.now c.args.master c.args.will.now c.args.order.now c.in-Ok.plan c.in-Ok-rebuild_in.rebuilt
+    rebuilt-from c.args.inventory.now c.args.master c.args.will.now c.args.order.now c.in-Ok.plan
+    c.in-Ok-rebuild_in.rebuilt
     c.in-Ok.ensures.ok e.covered e.order e.ok e.turns
 
 pub returns-clause-refused : goal.returns-clause-refused

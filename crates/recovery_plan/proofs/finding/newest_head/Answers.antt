@@ -1,21 +1,21 @@
-use Rattle.std.proofs.Common.{◌≡◌, ◌++◌, ◌∷◌, [], take, ◌+◌, max, sym, ap, ◌∙◌, arith}
-use Rattle.std.specs.Prelude.{Some, false, is_some, unwrap_or}
-use Rattle.std.proofs.lemmas.Bool.{both_ways}
-use Rattle.entry.specs.Text.{opening_in}
+use Rattle.std.proofs.Common.{◌≡◌, ◌++◌, ◌∷◌, [], take, ◌+◌, sym, subst, arith}
+use Rattle.std.proofs.lemmas.List.{take_all}
 use Rattle.replica.specs.declared.holding.Holding.{Holding}
 use Rattle.replica.specs.Choice.{IsUsableHeadOf}
 use Rattle.recovery_plan.specs.Good.{least_head}
+use Rattle.recovery_plan.specs.Planned.{AreNewest}
 use Rattle.recovery_plan.proofs.Bests.{take-more}
-use Rattle.recovery_plan.proofs.Heads.{good-more, newest-more, newest-skip, first-bad}
+use Rattle.recovery_plan.proofs.Heads.{good-more, first-bad, no-head, head-closed}
 use Rattle.recovery_plan.proofs.finding.newest_head.Goals as goal
-use Rattle.recovery_plan.proofs.finding.newest_head.Goals.{then-holding-master+in-Some-true}
-use Rattle.recovery_plan.proofs.finding.newest_head.Goals.{then-holding-master+in-Some-false, else-holding-master}
+use Rattle.recovery_plan.proofs.finding.newest_head.Goals.{then-holding-master+in-Some+in-Some-of}
+use Rattle.recovery_plan.proofs.finding.newest_head.Goals.{then-holding-master+in-Some+in_default-of}
+use Rattle.recovery_plan.proofs.finding.newest_head.Goals.{else-holding-master}
 
-pub returns-in-None-clause-fault : goal.returns-in-None-clause-fault
-returns-in-None-clause-fault c =
+pub returns-in_default-clause-fault : goal.returns-in_default-clause-fault
+returns-in_default-clause-fault c =
     first-bad c.args.holdings.now c.args.master c.loop-holding.holding-index c.holding-item.result
     c.loop-holding-test.true c.holding-item.is
-    c.loop-holding.invariant.good c.if-holding-master.true c.in-None.ensures.bad
+    c.loop-holding.invariant.good c.if-holding-master.true c.in_default.ensures.bad
 
 pub loop-holding-preserved : goal.loop-holding-preserved
 loop-holding-preserved c =
@@ -25,24 +25,25 @@ loop-holding-preserved c =
     let more : take (c.loop-holding.holding-index + 1) c.args.holdings.now ≡ before ++ h ∷ [] =
     take-more c.args.holdings.now c.loop-holding.holding-index h c.loop-holding-test.true c.holding-item.is in
     elim c.if-holding-master.branch [
-      | then-holding-master+in-Some-true w ↦
-          let bears = sym w.in-Some-true.ensures.bears ∙ w.in-Some-true.field-0-test in
-          let head : IsUsableHeadOf least_head m h = (w.if-holding-master.true, bears, omega arith) in
-          let is : c.if-holding-master.newest ≡ Some (max h.segment (unwrap_or c.loop-holding.newest 0)) =
-          w.newest-is ∙ ap (λ n. Some n) (w.max.ensures ∙ ap (max h.segment) w.unwrap_or.ensures) in
+      | then-holding-master+in-Some+in-Some-of w ↦
+          let is : w.in-Some-of.head ≡ h = w.in-Some-of.ensures.some in
+          let usable : IsUsableHeadOf least_head m h =
+          (w.if-holding-master.true, w.in-Some-of.ensures.opens, omega arith) in
           record {
-            good = rw more (good-more m before h c.loop-holding.invariant.good (λ _. w.in-Some-true.ensures.good));
-            newest = rw (more, is) (newest-more m before h c.loop-holding.newest head c.loop-holding.invariant.newest);
-          }
-      | then-holding-master+in-Some-false w ↦
-          let none : is_some (opening_in h.bytes) ≡ false =
-          sym w.in-Some-false.ensures.bears ∙ w.in-Some-false.field-0-test in
-          let no : IsUsableHeadOf least_head m h → ⊥ = λ head. both_ways (is_some (opening_in h.bytes)) none head.1 in
-          record {
-            good = rw more (good-more m before h c.loop-holding.invariant.good (λ _. w.in-Some-false.ensures.good));
+            good = rw more (good-more m before h c.loop-holding.invariant.good (λ _. w.in-Some.ensures.good));
             newest =
-                rw (more, w.newest-is) (newest-skip m before h c.loop-holding.newest no
-                c.loop-holding.invariant.newest);
+                rw (more, w.newest-is)
+                (subst
+                (λ x. AreNewest m (before ++ x ∷ []) w.with_head-newest.result.id w.with_head-newest.result.taken) is
+                (w.with_head-newest.ensures m before (subst (IsUsableHeadOf least_head m) (sym is) usable)
+                c.loop-holding.invariant.newest));
+          }
+      | then-holding-master+in-Some+in_default-of w ↦
+          record {
+            good = rw more (good-more m before h c.loop-holding.invariant.good (λ _. w.in-Some.ensures.good));
+            newest =
+                rw (more, w.newest-is) (no-head m before h c.loop-holding.newest.id c.loop-holding.newest.taken
+                (λ head. w.in_default-of.ensures.none head.1) c.loop-holding.invariant.newest);
           }
       | else-holding-master w ↦
           record {
@@ -50,7 +51,15 @@ loop-holding-preserved c =
                 rw more (good-more m before h c.loop-holding.invariant.good
                 (λ e. absurd (w.if-holding-master.false e)));
             newest =
-                rw (more, w.newest-is) (newest-skip m before h c.loop-holding.newest
+                rw (more, w.newest-is) (no-head m before h c.loop-holding.newest.id c.loop-holding.newest.taken
                 (λ head. w.if-holding-master.false head.0) c.loop-holding.invariant.newest);
           }
     ]
+
+pub returns-in-None-taken-clause-fault : goal.returns-in-None-taken-clause-fault
+returns-in-None-taken-clause-fault c =
+    let i = c.loop-holding.holding-index in
+    let all = take_all i c.args.holdings.now c.loop-holding-test.false in
+    head-closed c.args.master (take i c.args.holdings.now) c.args.holdings.now c.loop-holding.newest.id
+    c.loop-holding.newest.taken c.in-Some-id.id all
+    c.loop-holding.invariant.good c.loop-holding.invariant.newest c.in-Some-id.is c.in-None-taken.is

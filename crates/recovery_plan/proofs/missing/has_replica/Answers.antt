@@ -4,7 +4,8 @@ use Rattle.recovery_plan.proofs.Bests.{take-more}
 use Rattle.recovery_plan.proofs.Heads.{among-at}
 use Rattle.recovery_plan.proofs.Lost.{none_more}
 use Rattle.recovery_plan.proofs.missing.has_replica.Goals as goal
-use Rattle.recovery_plan.proofs.missing.has_replica.Goals.{else-holding-master-via-then-holding-master+else-holding-id, else-holding-master-via-else-holding-master}
+use Rattle.recovery_plan.proofs.missing.has_replica.Goals.{else-holding-master-via-then-holding-master+else-holding-id}
+use Rattle.recovery_plan.proofs.missing.has_replica.Goals.{else-holding-master-via-else-holding-master}
 
 pub returns-then-holding-id : goal.returns-then-holding-id
 returns-then-holding-id c =

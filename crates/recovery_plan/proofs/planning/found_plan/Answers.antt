@@ -7,9 +7,6 @@ use Rattle.recovery_plan.proofs.Digests.{digest-of, ends-some}
 use Rattle.recovery_plan.proofs.Plans.{taken-good, found-taken, lack-later, chosen-good, found-plan}
 use Rattle.recovery_plan.proofs.planning.found_plan.Goals as goal
 
-pub opening-safe-requires-clause-good : goal.opening-safe-requires-clause-good
-opening-safe-requires-clause-good c = taken-good c.args.holdings.now c.args.master c.args.head.now c.requires
-
 pub others-requires : goal.others-requires
 others-requires c =
     let head = c.args.head.now in
@@ -28,21 +25,22 @@ pub copies-requires : goal.copies-requires
 copies-requires c =
     let ids = shown_ids c.opening-safe.result.0 in
     let o : Opening = record { ids = ids; safe = c.opening-safe.result.1 } in
-    let pushed : c.push.new.self.items ≡ c.in-Ok.others.items ++ c.args.head ∷ [] = c.in_ok-push.ensures.items in
+    let pushed : c.push.new.self.items ≡ c.in-Ok.others.items ++ c.replica.result ∷ [] = c.in_ok-push.ensures.items in
     let all =
     found-taken c.args.holdings.now c.args.master (get nat_cmp c.in_ok-best.best) c.in_ok-best.ensures o
     (take (length ids - 1) ids) c.in-Ok.others.items
     c.in-Ok.ensures.found in
-    chosen-good c.args.holdings.now c.args.master c.args.head.now o c.in-Ok.others.items c.deref.result.now c.args.head
-    c.requires all refl (c.deref.ensures.value ∙ pushed)
+    chosen-good c.args.holdings.now c.args.master c.args.head.now o c.in-Ok.others.items
+    c.deref.result.now c.replica.result
+    c.requires all c.replica.ensures (c.deref.ensures.value ∙ pushed)
 
 pub returns-clause-ok : goal.returns-clause-ok
 returns-clause-ok c =
     let o : Opening = record { ids = shown_ids c.opening-safe.result.0; safe = c.opening-safe.result.1 } in
-    let pushed : c.push.new.self.items ≡ c.in-Ok.others.items ++ c.args.head ∷ [] = c.in_ok-push.ensures.items in (
+    let pushed : c.push.new.self.items ≡ c.in-Ok.others.items ++ c.replica.result ∷ [] = c.in_ok-push.ensures.items in (
       _,
       found-plan c.args.holdings.now c.args.master c.args.head.now o (get nat_cmp c.in_ok-best.best)
-          c.in-Ok.others.items c.deref.result.now c.args.head _
-          c.requires c.opening-safe.ensures c.in_ok-best.ensures c.in-Ok.ensures.found refl
+          c.in-Ok.others.items c.deref.result.now c.replica.result _
+          c.requires c.opening-safe.ensures c.in_ok-best.ensures c.in-Ok.ensures.found c.replica.ensures
           (c.deref.ensures.value ∙ pushed) c.in_ok-segments.ensures refl,
     )

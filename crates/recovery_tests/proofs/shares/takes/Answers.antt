@@ -2,7 +2,7 @@ use Rattle.std.proofs.Common.{◌∙◌, ◌++◌, List, map, ap, sym}
 use Rattle.division.specs.declared.group.Group.{Group}
 use Rattle.division.specs.Groups.{grouped}
 use Rattle.rebuild_threads.proofs.Divided.{among_between, division_parcel}
-use Rattle.rebuild_threads.proofs.Taking.{taken_front}
+use Rattle.division.proofs.Taking.{taken_front}
 use Rattle.recovery_tests.proofs.shares.takes.Goals as goal
 
 pub new-requires : goal.new-requires

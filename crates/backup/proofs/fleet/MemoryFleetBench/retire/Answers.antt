@@ -4,7 +4,7 @@ use Rattle.replica.specs.declared.spot.Spot.{Spot}
 use Rattle.replica.specs.Retire.{FreesEach}
 use Rattle.replica.proofs.Retiring.{frees_more, retire_spares}
 use Rattle.backup.specs.State.{fleet_state}
-use Rattle.backup.proofs.Taking.{taken_front, taken_all}
+use Rattle.division.proofs.Taking.{taken_front, taken_all}
 use Rattle.backup.proofs.fleet.MemoryFleetBench.retire.Goals as goal
 
 pub loop-spot-preserved : goal.loop-spot-preserved
@@ -41,7 +41,8 @@ returns-clause-retires c =
     let all = c.into_iter-spot-iterator in
     let whole : c.in-Ok.spots.items ≡ c.loop-spot.yielded =
     sym all.ensures.into_iter_gives.0
-    ∙ taken_all all.result c.loop-spot.yielded c.loop-spot.spot-iterator c.loop-spot.yielded_by c.in-None.ensures.steps.0
+    ∙ taken_all all.result c.loop-spot.yielded c.loop-spot.spot-iterator c.loop-spot.yielded_by
+    c.in-None.ensures.steps.0
     in (
       c.in-Ok.spots.items,
       c.in-Ok.ensures,

@@ -1,4 +1,4 @@
-use Rattle.std.proofs.Common.{◌≡◌, Some, ◌+◌, ◌-◌, [], ◌∷◌, ◌++◌, List, length, take, drop, sym, ap, subst, ◌∙◌, arith}
+use Rattle.std.proofs.Common.{◌≡◌, Some, ◌+◌, ◌-◌, [], ◌++◌, List, length, take, drop, sym, ap, subst, ◌∙◌, arith}
 use Rattle.std.specs.List.{flat_map, slice_get}
 use Rattle.std.specs.Option.{option_copied}
 use Rattle.entry.specs.declared.entry.Object.{Object}
@@ -20,5 +20,6 @@ returns-in-Some-clause-some c =
     let empty : flat_map (λ (os : List Object). os) (drop (n + 1) others) ≡ [] =
     ap (λ m. flat_map (λ (os : List Object). os) (drop m others)) back ∙ c.loop-n.invariant.empty in (
       c.self.inside.first ++ (flat_map (λ (os : List Object). os) (take n others) ++ take (length part - 1) part),
-      sym c.self.view_is ∙ last_behind c.self.inside.first others n part o (omega (arith, some, within)) c.index.ensures last empty,
+      sym c.self.view_is ∙ last_behind c.self.inside.first others n part o
+          (omega (arith, some, within)) c.index.ensures last empty,
     )

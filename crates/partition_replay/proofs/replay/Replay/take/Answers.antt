@@ -15,7 +15,7 @@ returns-in_err-fresh-clause-fault c =
     let gs = map grouped c.self.inside.groups.items in
     let refused : IsTakeFault c.args.self.now (grouped c.args.group) c.in_err-fresh.field-0.0 =
     take_fault gs (grouped c.args.group) c.self.inside.kept.entries c.self.invariant c.args.self.now
-    c.in_err-fresh.field-0.0 (ap (λ (r : Replaying). r.groups) c.self.view_is) c.in_ok-place.ensures.ok
+    c.in_err-fresh.field-0.0 (ap (λ (r : Replaying). r.groups) c.self.view_is) c.in_ok-check_place.ensures.ok
     c.in_err-fresh.ensures.err in
     search (rules, refused)
 
@@ -54,7 +54,7 @@ pub returns-clause-sound : goal.returns-clause-sound
 returns-clause-sound c =
     let a = (goal.at.returns-clause-sound c).After-put in
     record {
-      placed = c.in_ok-place.ensures.ok;
+      placed = c.in_ok-check_place.ensures.ok;
       settled =
           settled_more c.args.self.now (grouped c.args.group) c.put.new.kept.entries
           (subst (λ (r : Replaying). AreToppedBy (r.groups ++ grouped c.args.group ∷ []) c.put.new.kept.entries)

@@ -8,4 +8,5 @@ returns g c =
     let here = c.self.inside in
     λ on. divided_all g.D.Division.parts g.D.Division.segments here.segments.now here.will.now here.divided.items
     c.self.invariant
-    (subst (λ (ms : List Bool). All (λ (mark : Bool). mark ≡ true) ms) c.as_slice.ensures.value (c.are_whole.ensures on))
+    (subst (λ (ms : List Bool). All (λ (mark : Bool). mark ≡ true) ms) c.as_slice.ensures.value
+    (c.are_whole.ensures on))

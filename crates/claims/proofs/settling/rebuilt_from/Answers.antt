@@ -13,8 +13,8 @@ use Rattle.claims.proofs.Listed.{below_safe}
 use Rattle.claims.proofs.MeaningLemmas.{AreClaims, unclashed_clean, refused-for}
 use Rattle.claims.proofs.ScanLemmas.{tops-sorted}
 use Rattle.claims.proofs.Settled.{kept_in_sort, settled, rebuilt}
-use Rattle.claims.proofs.settling.settle.Goals.{After-as_slice-2}
-use Rattle.claims.proofs.settling.settle.Goals as goal
+use Rattle.claims.proofs.settling.rebuilt_from.Goals.{After-as_slice-2}
+use Rattle.claims.proofs.settling.rebuilt_from.Goals as goal
 
 -- the sorted claims are those of each log that has the claims
 sorted : (c : After-as_slice-2) (segments : List (List Entry))

@@ -1,6 +1,6 @@
 use Rattle.std.proofs.Common.{◌≡◌, length}
 use Rattle.rebuilding.specs.Turns.{AreMarked}
-use Rattle.rebuild_threads.proofs.checks.test_order.Given as goal
+use Rattle.rebuilding.proofs.naming.marks.Given as goal
 
 abbrev pub invariant-loop-n : goal.invariant-loop-n
 invariant-loop-n l = record {

@@ -2,7 +2,7 @@
 
 ghost use Rattle.std.specs.Prelude.{◌≡◌, IfOk};
 ghost use Rattle.std.specs.List.{range_with_len};
-ghost use Rattle.recovery.specs.Orders.{order_for, order_of};
+ghost use Rattle.rebuilding.specs.Orders.{order_for, order_of};
 
 use entry::{NoMemory, Row};
 use recovery_plan::Plan;
@@ -25,11 +25,7 @@ pub enum GroupOrder {
 fn counted(alloc: Global, count: usize) -> Result<Vec<usize>, NoMemory>
     ensures { IfOk result (λ numbers. numbers.items ≡ range_with_len 0 count) }
 {
-    let mut numbers = Vec::new(alloc);
-    for number in 0..count {
-        numbers.push(number)?;
-    }
-    Ok(numbers)
+    (0..count).collect(alloc)
 }
 
 /// The numbers of so many groups, in this order. With Given they are the given ones, however many there are.
@@ -47,9 +43,9 @@ pub fn numbers(alloc: Global, order: &GroupOrder, count: usize) -> Result<Vec<us
     }
 }
 
-/// The numbers of the groups of a plan that is divided by the will, in this order. More groups than a `usize` counts are
-/// NoMemory.
-pub(crate) fn numbers_for(
+/// The numbers of the groups of a plan that is divided by the will, in this order. More groups than a `usize` counts
+/// are NoMemory.
+pub fn numbers_for(
     alloc: Global,
     plan: &Plan,
     will: &Will,

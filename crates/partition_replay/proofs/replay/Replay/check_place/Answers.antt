@@ -5,8 +5,8 @@ use Rattle.entry.specs.Bag.{IsAmong}
 use Rattle.partition_replay.specs.Replaying.{Replaying, IsDone}
 use Rattle.partition_replay.proofs.ReplayLemmas.{has_yes, has_no}
 use Rattle.claims.proofs.Members.{id_yes, id_no}
-use Rattle.partition_replay.proofs.replay.Replay.place.Goals.{After-has_id, After-has_group}
-use Rattle.partition_replay.proofs.replay.Replay.place.Goals as goal
+use Rattle.partition_replay.proofs.replay.Replay.check_place.Goals.{After-has_id, After-has_group}
+use Rattle.partition_replay.proofs.replay.Replay.check_place.Goals as goal
 
 -- the test of the list, of the ids that are kept
 listed : (c : After-has_id)

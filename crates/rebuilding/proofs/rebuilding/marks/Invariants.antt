@@ -1,9 +1,0 @@
-use Rattle.std.proofs.Common.{◌≡◌, length}
-use Rattle.rebuilding.specs.Turns.{AreMarked}
-use Rattle.rebuilding.proofs.rebuilding.marks.Given as goal
-
-abbrev pub invariant-loop-n : goal.invariant-loop-n
-invariant-loop-n l = record {
-  long : length l.named.items ≡ length l.groups;
-  marks : AreMarked l.order l.n-index l.named.items;
-}
