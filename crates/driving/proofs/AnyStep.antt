@@ -2,17 +2,20 @@
 use Rattle.std.proofs.Common.{◌≡◌, Bool, true, false, [], refl, sym, ◌∙◌}
 use Rattle.std.proofs.lemmas.List.{append-nil}
 use Rattle.std.specs.Prelude.{Result}
-use Rattle.master_core.specs.declared.step.Refusal.{Refusal}
-use Rattle.master_core.specs.declared.step.Refusal.TheVariants.{Spent}
-use Rattle.master_core.specs.declared.step.Step.{Step}
-use Rattle.master_core.specs.declared.step.Step.TheVariants.{Apply, Push, BeginRoll, Compact, BeginClean, Copy, Seal, Free}
-use Rattle.master_core.specs.declared.step.StepAnswer.{StepAnswer}
+use Rattle.master_state.specs.declared.step.Refusal.{Refusal}
+use Rattle.master_state.specs.declared.step.Refusal.TheVariants.{Spent}
+use Rattle.master_state.specs.declared.step.Step.{Step}
+use Rattle.master_state.specs.declared.step.Step.TheVariants.{Apply, Push, BeginRoll, Compact, BeginClean, Copy, Seal}
+use Rattle.master_state.specs.declared.step.Step.TheVariants.{Free}
+use Rattle.master_state.specs.declared.step.StepAnswer.{StepAnswer}
 use Rattle.master.specs.Keeps.{Keeps}
 use Rattle.master.specs.Steps.{Declines, Steps}
 use Rattle.master.specs.World.{World}
 use Rattle.driving.specs.Served.{IsSpent, LivesOn}
-use Rattle.driving.proofs.MasterSteps.{begun_history, compacted_history, pushed_history, spent_begin, spent_compact, spent_push}
-use Rattle.driving.proofs.PassSteps.{clean_history, copied_history, freed_history, sealed_history, spent_clean, spent_copy, spent_free, spent_seal}
+use Rattle.driving.proofs.MasterSteps.{begun_history, compacted_history, pushed_history, spent_begin, spent_compact}
+use Rattle.driving.proofs.MasterSteps.{spent_push}
+use Rattle.driving.proofs.PassSteps.{clean_history, copied_history, freed_history, sealed_history, spent_clean}
+use Rattle.driving.proofs.PassSteps.{spent_copy, spent_free, spent_seal}
 
 -- any step but a command
 abbrev pub makes_no_record : Step → Bool
@@ -26,7 +29,8 @@ hands_op Seal = true
 hands_op Free = true
 hands_op s = false
 
-same_history : (s : Step) → makes_no_record s ≡ true → (old new : World) (r : Result StepAnswer Refusal) → Steps old s r new
+same_history : (s : Step) → makes_no_record s ≡ true → (old new : World) (r : Result StepAnswer Refusal)
+    → Steps old s r new
     → new.knows.history ≡ old.knows.history
 same_history (Apply seat command) none old new r steps = absurd (cc)
 same_history Push none old new r steps = pushed_history old new r steps
@@ -38,7 +42,8 @@ same_history Seal none old new r steps = sealed_history old new r steps
 same_history Free none old new r steps = freed_history old new r steps
 
 -- the master goes on
-pub step_goes_on : (s : Step) → makes_no_record s ≡ true → (old new : World) (r : Result StepAnswer Refusal) → Steps old s r new → Keeps 1 old new
+pub step_goes_on : (s : Step) → makes_no_record s ≡ true → (old new : World) (r : Result StepAnswer Refusal)
+    → Steps old s r new → Keeps 1 old new
     → LivesOn old.knows new.knows []
 step_goes_on s none old new r steps kept = record {
   config = kept.config;
@@ -48,7 +53,8 @@ step_goes_on s none old new r steps kept = record {
 }
 
 -- only a step that hands an op to a backup is refused as spent, and by a fleet that is
-pub step_spent : (s : Step) → makes_no_record s ≡ true → (old new : World) (r : Refusal) → Declines old s r new → r ≡ Spent
+pub step_spent : (s : Step) → makes_no_record s ≡ true → (old new : World) (r : Refusal) → Declines old s r new
+    → r ≡ Spent
     → IsSpent new.fleet × (hands_op s ≡ true)
 step_spent (Apply seat command) none old new r declines is = absurd (cc)
 step_spent Push none old new r declines is = (spent_push old new r declines is, refl)

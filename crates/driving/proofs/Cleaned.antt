@@ -1,5 +1,6 @@
 -- A whole cleaning commits its pass: the digest in force lists the survivor in place of the victims, and nothing waits.
-use Rattle.std.proofs.Common.{◌≡◌, ◌≤◌, ◌+◌, ℕ, zero, suc, Bool, true, false, List, [], ◌∷◌, length, refl, sym, ap, subst, inl, inr, ◌∙◌, arith}
+use Rattle.std.proofs.Common.{◌≡◌, ◌≤◌, ◌+◌, ℕ, zero, suc, Bool, true, false, List, [], ◌∷◌, length, refl, sym, ap}
+use Rattle.std.proofs.Common.{subst, inl, inr, ◌∙◌, arith}
 use Rattle.std.proofs.lemmas.Bool.{eqb-true, eq-eqb, ltb-true, ltb-false}
 use Rattle.std.proofs.lemmas.List.{nil_from_length}
 use Rattle.std.specs.Prelude.{Option, Some, None, IsSome, ◌==◌, ◌&&◌, not, nat_lt, drop, if◌then◌else◌, unwrap_or}
@@ -11,16 +12,16 @@ use Rattle.log_head.specs.declared.head.Roll.{Roll}
 use Rattle.log_head.specs.Head.{digest_of, is_open}
 use Rattle.log_head.specs.Steps.{start_after}
 use Rattle.log_model.specs.Data.{Start, ids_of}
-use Rattle.master_core.specs.declared.config.Config.{Config}
-use Rattle.master_core.specs.declared.step.Refusal.TheVariants as refusal
-use Rattle.master_core.specs.declared.step.Step.{Step}
-use Rattle.master_core.specs.declared.step.Step.TheVariants.{BeginClean, BeginRoll, Copy, Seal, Push, Free}
-use Rattle.master_core.specs.declared.step.StepAnswer.{StepAnswer}
-use Rattle.master_core.specs.declared.step.StepAnswer.TheVariants.{Begun}
-use Rattle.master_core.specs.Budget.{is_ready, newest_digest, survivors_of, victims_of}
-use Rattle.master_core.specs.Causes.{seal_refusal}
-use Rattle.master_core.specs.Data.{MasterData}
-use Rattle.master_core.specs.Steps.{start_now}
+use Rattle.master_state.specs.declared.config.Config.{Config}
+use Rattle.master_state.specs.declared.step.Refusal.TheVariants as refusal
+use Rattle.master_state.specs.declared.step.Step.{Step}
+use Rattle.master_state.specs.declared.step.Step.TheVariants.{BeginClean, BeginRoll, Copy, Seal, Push, Free}
+use Rattle.master_state.specs.declared.step.StepAnswer.{StepAnswer}
+use Rattle.master_state.specs.declared.step.StepAnswer.TheVariants.{Begun}
+use Rattle.master_state.specs.Budget.{is_ready, newest_digest, survivors_of, victims_of}
+use Rattle.master_state.specs.Causes.{seal_refusal}
+use Rattle.master_state.specs.Data.{MasterData}
+use Rattle.master_state.specs.Steps.{start_now}
 use Rattle.master.specs.Steps.{Accepts}
 use Rattle.master.specs.World.{World}
 use Rattle.driving.specs.Cleans.{IsCleaned, IsFinished, digest_after}
@@ -31,7 +32,8 @@ use Rattle.driving.proofs.Listings.{EndsWithRoll, listing, taken_commit, taken_l
 -- ---- many steps
 
 -- what each step keeps, many keep
-steps_keep : (P : World → Type 0) (s : Step) → ((old new : World) (a : StepAnswer) → Accepts old s a new → P old → P new)
+steps_keep : (P : World → Type 0) (s : Step)
+    → ((old new : World) (a : StepAnswer) → Accepts old s a new → P old → P new)
     → (count : ℕ) (old new : World) → AreStepped s count old new → P old → P new
 steps_keep P s each zero old new same held = subst P (sym same) held
 steps_keep P s each (suc count) old new (mid, before, a, accepts) held =
@@ -66,7 +68,8 @@ module _ (c : Config) (victims : List ℕ) (survivor : ℕ) (ids : List ℕ) whe
 
   copied : (old new : World) (a : StepAnswer) → Accepts old Copy a new → IsCopying old → IsCopying new
   copied old new a (copies, same) (cursor, (lists, opened)) =
-      let was : copies.pass ≡ pass_at cursor 0 false = ap (λ (o : Option Pass). unwrap_or o copies.pass) (sym copies.opened ∙ opened) in (
+      let was : copies.pass ≡ pass_at cursor 0 false = ap (λ (o : Option Pass). unwrap_or o copies.pass)
+      (sym copies.opened ∙ opened) in (
         copies.after.cursor,
         (
           ap listing copies.rest ∙ lists,
@@ -82,10 +85,16 @@ module _ (c : Config) (victims : List ℕ) (survivor : ℕ) (ids : List ℕ) whe
       let (cursor, passing) = steps_keep IsCopying Copy copied count old mid stepped held in
       let opened = passing.1 in
       let ended = ap (λ (o : Option Pass). if mid.knows.is_halted then Some refusal.Halted
-      else if option_map_or (λ (p : Pass). not (is_at_end p)) o false then None else Some refusal.Nothing) (sym opened) ∙ test in
-      (cursor, subst (λ (w : World). IsPassing cursor 0 w.knows) (sym same) passing, tested mid.knows.is_halted (at_end cursor) ended)
+      else if option_map_or (λ (p : Pass). not (is_at_end p)) o false then None else Some refusal.Nothing)
+      (sym opened) ∙ test in (
+        cursor,
+        subst (λ (w : World). IsPassing cursor 0 w.knows) (sym same) passing,
+        tested mid.knows.is_halted (at_end cursor) ended,
+      )
     where
-      tested : (halted ended : Bool) → (if halted then Some refusal.Halted else if not ended then None else Some refusal.Nothing) ≡ Some refusal.Nothing
+      tested : (halted ended : Bool)
+          → (if halted then Some refusal.Halted else if not ended then None else Some refusal.Nothing)
+          ≡ Some refusal.Nothing
           → ended ≡ true
       tested true ended e = absurd (cc)
       tested false true e = refl
@@ -99,19 +108,22 @@ module _ (c : Config) (victims : List ℕ) (survivor : ℕ) (ids : List ℕ) whe
 
     -- a seal is tested by the pass
     test_is : (sealed : ℕ) (d : MasterData) → IsPassing cursor sealed d
-        → (if d.is_halted then Some refusal.Halted else if at_end cursor && nat_lt sealed c.replicas then None else Some refusal.Nothing)
+        → (if d.is_halted then Some refusal.Halted else if at_end cursor && nat_lt sealed c.replicas then None
+        else Some refusal.Nothing)
         ≡ seal_refusal d
     test_is sealed d (lists, opened) =
         let config : c ≡ d.config = ap (λ (l : List ℕ × Config). l.1) (sym lists) in
         let pass : Some (pass_at cursor sealed false) ≡ d.pass = sym opened in
         λ i. if d.is_halted then Some refusal.Halted
-        else if option_map_or (λ (p : Pass). is_at_end p && nat_lt p.sealed (config i).replicas) (pass i) false then None
+        else if option_map_or (λ (p : Pass). is_at_end p && nat_lt p.sealed (config i).replicas) (pass i) false
+        then None
         else Some refusal.Nothing
 
     sealed_one : (old new : World) (a : StepAnswer) → Accepts old Seal a new → IsSealing old → IsSealing new
     sealed_one old new a seal (sealed, few, (lists, opened)) =
         let less = ltb-true sealed c.replicas
-        (tested old.knows.is_halted (at_end cursor) (nat_lt sealed c.replicas) (test_is sealed old.knows (lists, opened) ∙ seal.passed)) in (
+        (tested old.knows.is_halted (at_end cursor) (nat_lt sealed c.replicas)
+        (test_is sealed old.knows (lists, opened) ∙ seal.passed)) in (
           sealed + 1,
           omega arith,
           (
@@ -121,7 +133,8 @@ module _ (c : Config) (victims : List ℕ) (survivor : ℕ) (ids : List ℕ) whe
           ),
         )
       where
-        tested : (halted ended less : Bool) → (if halted then Some refusal.Halted else if ended && less then None else Some refusal.Nothing) ≡ None
+        tested : (halted ended less : Bool)
+            → (if halted then Some refusal.Halted else if ended && less then None else Some refusal.Nothing) ≡ None
             → less ≡ true
         tested true ended less e = absurd (cc)
         tested false true true e = refl
@@ -134,13 +147,15 @@ module _ (c : Config) (victims : List ℕ) (survivor : ℕ) (ids : List ℕ) whe
     seals_end old new (count, mid, stepped, inl (test, same)) ended held =
         let (sealed, few, passing) = steps_keep IsSealing Seal sealed_one count old mid stepped held in
         let more = ltb-false sealed c.replicas
-        (tested mid.knows.is_halted (at_end cursor) (nat_lt sealed c.replicas) ended (test_is sealed mid.knows passing ∙ test)) in
+        (tested mid.knows.is_halted (at_end cursor) (nat_lt sealed c.replicas) ended
+        (test_is sealed mid.knows passing ∙ test)) in
         let all : sealed ≡ c.replicas = omega arith in
         subst (λ (w : World). IsPassing cursor c.replicas w.knows) (sym same)
         (subst (λ (n : ℕ). IsPassing cursor n mid.knows) all passing)
       where
         tested : (halted ended less : Bool) → ended ≡ true
-            → (if halted then Some refusal.Halted else if ended && less then None else Some refusal.Nothing) ≡ Some refusal.Nothing → less ≡ false
+            → (if halted then Some refusal.Halted else if ended && less then None else Some refusal.Nothing)
+            ≡ Some refusal.Nothing → less ≡ false
         tested true ended less is e = absurd (cc)
         tested false true true is e = absurd (cc)
         tested false true false is e = refl
@@ -152,7 +167,8 @@ module _ (c : Config) (victims : List ℕ) (survivor : ℕ) (ids : List ℕ) whe
         → IsPassing cursor c.replicas new.knows
     pushed old new a push (lists, opened) = (
       ap listing push.rest ∙ taken_listing old.knows push.push ∙ lists,
-      ap (λ (d : MasterData). d.pass) push.rest ∙ taken_pass old.knows push.push (pass_at cursor c.replicas false) opened refl,
+      ap (λ (d : MasterData). d.pass) push.rest
+          ∙ taken_pass old.knows push.push (pass_at cursor c.replicas false) opened refl,
     )
 
     -- ---- the commit
@@ -168,12 +184,14 @@ module _ (c : Config) (victims : List ℕ) (survivor : ℕ) (ids : List ℕ) whe
         ap (λ (l : List ℕ × Config). is_ready_pass l.1.replicas (pass_at cursor c.replicas false)) lists
         ∙ ap (λ (b : Bool). b && (c.replicas == c.replicas)) ended ∙ eq-eqb c.replicas c.replicas refl
 
-    committing : (old mid : World) (a : StepAnswer) → Accepts old BeginRoll a mid → IsPassing cursor c.replicas old.knows → at_end cursor ≡ true
+    committing : (old mid : World) (a : StepAnswer) → Accepts old BeginRoll a mid
+        → IsPassing cursor c.replicas old.knows → at_end cursor ≡ true
         → digest_of old.knows.head.image ≡ ids → IsCommitting old.knows.next mid.knows
     committing old mid a (begins, same) (lists, opened) ended digest =
         let d = old.knows in
         let pass_ready = pass_is_ready d (lists, opened) ended in
-        let ready : is_ready d ≡ true = ap (λ (o : Option Pass). option_map_or (is_ready_pass d.config.replicas) o false) opened ∙ pass_ready in
+        let ready : is_ready d ≡ true =
+        ap (λ (o : Option Pass). option_map_or (is_ready_pass d.config.replicas) o false) opened ∙ pass_ready in
         let start : start_now d ≡ start_after d.head victims (survivor ∷ []) d.next d.safe =
         ap (λ (b : Bool). if b then start_after d.head (victims_of d.pass) (survivors_of d.pass) d.next d.safe
         else start_after d.head [] [] d.next d.safe) ready
@@ -183,13 +201,15 @@ module _ (c : Config) (victims : List ℕ) (survivor : ℕ) (ids : List ℕ) whe
               ∙ ap (λ (l : List ℕ × Config). (digest_after ids victims survivor d.next, l.1)) lists,
           inr (
             ap (λ (e : MasterData). e.pass) begins.rest
-                ∙ ap (λ (o : Option Pass). option_map (λ (p : Pass). record p { is_committing = is_ready_pass d.config.replicas p }) o) opened
+                ∙ ap (λ (o : Option Pass). option_map
+                (λ (p : Pass). record p { is_committing = is_ready_pass d.config.replicas p }) o) opened
                 ∙ ap (λ (b : Bool). Some (pass_at cursor c.replicas b)) pass_ready,
             subst (λ (o : Option Roll). IsSome o) (sym (ap (λ (e : MasterData). e.head.roll) begins.rest)) refl,
           ),
         )
 
-    commit_pushed : (head : ℕ) (old new : World) (a : StepAnswer) → Accepts old Push a new → IsCommitting head old.knows → IsCommitting head new.knows
+    commit_pushed : (head : ℕ) (old new : World) (a : StepAnswer) → Accepts old Push a new
+        → IsCommitting head old.knows → IsCommitting head new.knows
     commit_pushed head old new a push (lists, commits) = (
       ap listing push.rest ∙ taken_listing old.knows push.push ∙ lists,
       subst (λ (d : MasterData). EndsWithRoll (pass_at cursor c.replicas true) d) (sym push.rest)
@@ -199,7 +219,8 @@ module _ (c : Config) (victims : List ℕ) (survivor : ℕ) (ids : List ℕ) whe
 -- the newest digest of an open head is its own
 own_digest : (d : MasterData) → is_open d.head ≡ true → digest_of d.head.image ≡ newest_digest d.head
 own_digest d opened =
-    ap (λ (o : Option Roll). option_map_or (λ (r : Roll). digest_of r.image) o (digest_of d.head.image)) (sym (no_roll _ d.head.roll opened))
+    ap (λ (o : Option Roll). option_map_or (λ (r : Roll). digest_of r.image) o (digest_of d.head.image))
+    (sym (no_roll _ d.head.roll opened))
 
 -- ---- frees
 
@@ -213,19 +234,24 @@ freed_as : (ids : List ℕ) (d : MasterData) (last : Bool) → (digest_of d.head
 freed_as ids d true held = held
 freed_as ids d false held = held
 
-freed_one : (ids : List ℕ) (old new : World) (a : StepAnswer) → Accepts old Free a new → IsEnded ids old → IsEnded ids new
+freed_one : (ids : List ℕ) (old new : World) (a : StepAnswer) → Accepts old Free a new → IsEnded ids old
+    → IsEnded ids new
 freed_one ids old new a free held =
     subst (λ (d : MasterData). (digest_of d.head.image ≡ ids) × (d.pass ≡ None)) (sym free.rest)
     (freed_as ids old.knows (suc old.knows.freed == old.knows.config.replicas) held)
 
-frees_end : (ids : List ℕ) (old new : World) → StepsUntil Free old refusal.Nothing new → IsEnded ids old → IsEnded ids new × (new.knows.waiting ≡ [])
+frees_end : (ids : List ℕ) (old new : World) → StepsUntil Free old refusal.Nothing new → IsEnded ids old
+    → IsEnded ids new × (new.knows.waiting ≡ [])
 frees_end ids old new (count, mid, stepped, inr (test, fails)) held = absurd fails
 frees_end ids old new (count, mid, stepped, inl (test, same)) held =
-    let none = nil_from_length mid.knows.waiting (eqb-true _ 0 (tested mid.knows.is_halted (length mid.knows.waiting == 0) test)) in
+    let none = nil_from_length mid.knows.waiting
+    (eqb-true _ 0 (tested mid.knows.is_halted (length mid.knows.waiting == 0) test)) in
     subst (λ (w : World). IsEnded ids w × (w.knows.waiting ≡ [])) (sym same)
     (steps_keep (IsEnded ids) Free (freed_one ids) count old mid stepped held, none)
   where
-    tested : (halted none : Bool) → (if halted then Some refusal.Halted else if none then Some refusal.Nothing else None) ≡ Some refusal.Nothing → none ≡ true
+    tested : (halted none : Bool)
+        → (if halted then Some refusal.Halted else if none then Some refusal.Nothing else None) ≡ Some refusal.Nothing
+        → none ≡ true
     tested true none e = absurd (cc)
     tested false true e = refl
     tested false false e = absurd (cc)
@@ -239,11 +265,14 @@ ended_pass p d (inr (pass, rolls)) opened =
     let never : false ≡ true = subst (λ (o : Option Roll). IsSome o) (no_roll _ d.head.roll opened) rolls in
     absurd (cc)
 
-rolled_ended : (c : Config) (victims : List ℕ) (survivor : ℕ) (ids : List ℕ) (cursor : Cursor) (old : World) (head : ℕ) (new : World)
-    → IsPassing c victims survivor ids cursor c.replicas old.knows → at_end c victims survivor ids cursor ≡ true → is_open old.knows.head ≡ true
+rolled_ended : (c : Config) (victims : List ℕ) (survivor : ℕ) (ids : List ℕ) (cursor : Cursor) (old : World)
+    (head : ℕ) (new : World)
+    → IsPassing c victims survivor ids cursor c.replicas old.knows → at_end c victims survivor ids cursor ≡ true
+    → is_open old.knows.head ≡ true
     → IsRolled old head new → IsEnded (digest_after ids victims survivor head) new
 rolled_ended c victims survivor ids cursor old head new passing ended opened rolled =
-    let own : digest_of old.knows.head.image ≡ ids = own_digest old.knows opened ∙ ap (λ (l : List ℕ × Config). l.0) passing.0 in
+    let own : digest_of old.knows.head.image ≡ ids = own_digest old.knows opened
+    ∙ ap (λ (l : List ℕ × Config). l.0) passing.0 in
     let begins = begins_now old rolled.mid rolled.rolling opened in
     let begun = committing c victims survivor ids cursor old rolled.mid begins.0 begins.1 passing ended own in
     let last = pushes_keep (λ (w : World). IsCommitting c victims survivor ids cursor old.knows.next w.knows)
@@ -258,30 +287,31 @@ survivor_in (Begun s) = s
 survivor_in _ = 0
 
 -- a pass that began and was made whole was committed, and all that it left was freed
-pub cleaned : (old begun : World) (victims : List ℕ) (survivor head : ℕ) (new : World) (a : StepAnswer) → a ≡ Begun survivor
+pub cleaned : (old begun : World) (victims : List ℕ) (survivor head : ℕ) (new : World) (a : StepAnswer)
+    → a ≡ Begun survivor
     → Accepts old (BeginClean victims) a begun → IsFinished begun head new → IsCleaned old victims survivor head new
 cleaned old begun victims survivor head new a is (begins, same) finished =
     let c = old.knows.config in
     let ids = newest_digest old.knows.head in
     let next : old.knows.next ≡ survivor = sym (ap survivor_in begins.told) ∙ ap survivor_in is in
     let prepared = finished.prepared in
-    let sealed = prepared.sealed in
     let ready = finished.ready in
     let copying : IsCopying c victims survivor ids begun = (
       begins.cursor,
       (
         ap listing begins.rest,
-        ap (λ (d : MasterData). d.pass) begins.rest ∙ ap (λ (s : ℕ). Some (pass_at c victims s ids begins.cursor 0 false)) next,
+        ap (λ (d : MasterData). d.pass) begins.rest
+            ∙ ap (λ (s : ℕ). Some (pass_at c victims s ids begins.cursor 0 false)) next,
       ),
     ) in
-    let (cursor, passing, ended) = copies_end c victims survivor ids begun prepared.mid prepared.copies copying in
-    let all = seals_end c victims survivor ids cursor prepared.mid sealed.mid sealed.seals ended (0, omega arith, passing) in
+    let (cursor, passing, ended) = copies_end c victims survivor ids begun prepared.copied prepared.copies copying in
+    let all = seals_end c victims survivor ids cursor prepared.copied prepared.sealed prepared.seals ended
+    (0, omega arith, passing) in
     let waits = pushes_keep (λ (w : World). IsPassing c victims survivor ids cursor c.replicas w.knows)
-    (pushed c victims survivor ids cursor) sealed.mid ready sealed.pushes all in
-    let opened = last_open sealed.mid ready sealed.pushes in
-    let committed = finished.committed in
-    let left = frees_end (digest_after ids victims survivor head) committed.mid new committed.frees
-    (rolled_ended c victims survivor ids cursor ready head committed.mid waits ended opened committed.rolled) in
+    (pushed c victims survivor ids cursor) prepared.sealed ready prepared.pushes all in
+    let opened = last_open prepared.sealed ready prepared.pushes in
+    let left = frees_end (digest_after ids victims survivor head) finished.mid new finished.frees
+    (rolled_ended c victims survivor ids cursor ready head finished.mid waits ended opened finished.rolled) in
     record {
       begun = begun;
       begins = subst (λ (x : StepAnswer). Accepts old (BeginClean victims) x begun) is (begins, same);

@@ -4,12 +4,12 @@ use Rattle.std.specs.Option.{option_map_or}
 use Rattle.std.specs.Prelude.{Option, Some, None, Result, Ok, Err, ◌==◌, if◌then◌else◌}
 use Rattle.cleaner.specs.declared.fault.PassFault.{PassFault}
 use Rattle.cleaner.specs.declared.fault.PassFault.TheVariants.{TooMuch}
-use Rattle.master_core.specs.declared.step.Refusal.{Refusal}
-use Rattle.master_core.specs.declared.step.Refusal.TheVariants as refusal
-use Rattle.master_core.specs.declared.step.Step.TheVariants.{BeginClean, Copy, Seal, Free}
-use Rattle.master_core.specs.declared.step.StepAnswer.{StepAnswer}
-use Rattle.master_core.specs.Causes.{space_refusal}
-use Rattle.master_core.specs.Data.{MasterData}
+use Rattle.master_state.specs.declared.step.Refusal.{Refusal}
+use Rattle.master_state.specs.declared.step.Refusal.TheVariants as refusal
+use Rattle.master_state.specs.declared.step.Step.TheVariants.{BeginClean, Copy, Seal, Free}
+use Rattle.master_state.specs.declared.step.StepAnswer.{StepAnswer}
+use Rattle.master_state.specs.Causes.{space_refusal}
+use Rattle.master_state.specs.Data.{MasterData}
 use Rattle.master.specs.Passes.{IsSealOp, IsFreeOp}
 use Rattle.master.specs.Steps.{Steps, Declines}
 use Rattle.master.specs.World.{World}
@@ -23,21 +23,27 @@ pub clean_history : (old new : World) (ids : List ℕ) (r : Result StepAnswer Re
 clean_history old new ids (Ok a) h = ap (λ (d : MasterData). d.history) h.0.rest
 clean_history old new ids (Err r) h = ap (λ (w : World). w.knows.history) h.0
 
-pub copied_history : (old new : World) (r : Result StepAnswer Refusal) → Steps old Copy r new → new.knows.history ≡ old.knows.history
+pub copied_history : (old new : World) (r : Result StepAnswer Refusal) → Steps old Copy r new
+    → new.knows.history ≡ old.knows.history
 copied_history old new (Ok a) h = ap (λ (d : MasterData). d.history) h.0.rest
 copied_history old new (Err r) h = ap (λ (w : World). w.knows.history) h.0
 
-pub sealed_history : (old new : World) (r : Result StepAnswer Refusal) → Steps old Seal r new → new.knows.history ≡ old.knows.history
+pub sealed_history : (old new : World) (r : Result StepAnswer Refusal) → Steps old Seal r new
+    → new.knows.history ≡ old.knows.history
 sealed_history old new (Ok a) h = ap (λ (d : MasterData). d.history) h.rest
 sealed_history old new (Err r) (inl h) = ap (λ (w : World). w.knows.history) h.1
 sealed_history old new (Err r) (inr h) = refused_history (IsSealOp old.knows) old new r h.1
 
-freed_as : (d : MasterData) (last : Bool) → (if last then record d { waiting = drop 1 d.waiting; freed = 0 } else record d { freed = suc d.freed }).history ≡ d.history
+freed_as : (d : MasterData) (last : Bool)
+    → (if last then record d { waiting = drop 1 d.waiting; freed = 0 } else record d { freed = suc d.freed }).history
+    ≡ d.history
 freed_as d true = refl
 freed_as d false = refl
 
-pub freed_history : (old new : World) (r : Result StepAnswer Refusal) → Steps old Free r new → new.knows.history ≡ old.knows.history
-freed_history old new (Ok a) h = ap (λ (d : MasterData). d.history) h.rest ∙ freed_as old.knows (suc old.knows.freed == old.knows.config.replicas)
+pub freed_history : (old new : World) (r : Result StepAnswer Refusal) → Steps old Free r new
+    → new.knows.history ≡ old.knows.history
+freed_history old new (Ok a) h =
+    ap (λ (d : MasterData). d.history) h.rest ∙ freed_as old.knows (suc old.knows.freed == old.knows.config.replicas)
 freed_history old new (Err r) (inl h) = ap (λ (w : World). w.knows.history) h.1
 freed_history old new (Err r) (inr h) = refused_history (IsFreeOp old.knows) old new r h.1
 
@@ -51,11 +57,13 @@ space_unspent false true spent e = cc
 space_unspent false false true e = cc
 space_unspent false false false e = cc
 
-pub spent_clean : (old new : World) (ids : List ℕ) (r : Refusal) → Declines old (BeginClean ids) r new → r ≡ refusal.Spent → ⊥
+pub spent_clean : (old new : World) (ids : List ℕ) (r : Refusal) → Declines old (BeginClean ids) r new
+    → r ≡ refusal.Spent → ⊥
 spent_clean old new ids r h is = go (subst (λ (x : Refusal). Declines old (BeginClean ids) x new) is h)
   where
     tested : (halted : Bool) (fault : Option PassFault) → (if halted then Some refusal.Halted
-        else option_map_or (λ (f : PassFault). Some (refusal.Pass f)) fault (space_refusal old.knows ids)) ≡ Some refusal.Spent → ⊥
+        else option_map_or (λ (f : PassFault). Some (refusal.Pass f)) fault (space_refusal old.knows ids))
+        ≡ Some refusal.Spent → ⊥
     tested true fault e = cc
     tested false (Some f) e = cc
     tested false None e = space_unspent _ _ _ e
@@ -65,7 +73,8 @@ spent_clean old new ids r h is = go (subst (λ (x : Refusal). Declines old (Begi
     go (same, inr memory) = let none = memory.1 in cc
 
 -- nor a copy
-waits_unspent : (halted waits : Bool) → (if halted then Some refusal.Halted else if waits then None else Some refusal.Nothing) ≡ Some refusal.Spent → ⊥
+waits_unspent : (halted waits : Bool)
+    → (if halted then Some refusal.Halted else if waits then None else Some refusal.Nothing) ≡ Some refusal.Spent → ⊥
 waits_unspent true waits e = cc
 waits_unspent false true e = cc
 waits_unspent false false e = cc
@@ -88,7 +97,8 @@ spent_seal old new r h is = go (subst (λ (x : Refusal). Declines old Seal x new
 pub spent_free : (old new : World) (r : Refusal) → Declines old Free r new → r ≡ refusal.Spent → IsSpent new.fleet
 spent_free old new r h is = go (subst (λ (x : Refusal). Declines old Free x new) is h)
   where
-    tested : (halted none : Bool) → (if halted then Some refusal.Halted else if none then Some refusal.Nothing else None) ≡ Some refusal.Spent → ⊥
+    tested : (halted none : Bool)
+        → (if halted then Some refusal.Halted else if none then Some refusal.Nothing else None) ≡ Some refusal.Spent → ⊥
     tested true none e = cc
     tested false true e = cc
     tested false false e = cc

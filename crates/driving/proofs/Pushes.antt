@@ -1,23 +1,27 @@
 -- Pushes that are made for a record.
 use Rattle.std.proofs.Common.{◌≡◌, ℕ, zero, suc, subst}
 use Rattle.std.specs.Prelude.{Result, Ok}
-use Rattle.master_core.specs.declared.step.Refusal.{Refusal}
-use Rattle.master_core.specs.declared.step.Step.TheVariants.{Push}
-use Rattle.master_core.specs.declared.step.StepAnswer.{StepAnswer}
+use Rattle.master_state.specs.declared.step.Refusal.{Refusal}
+use Rattle.master_state.specs.declared.step.Step.TheVariants.{Push}
+use Rattle.master_state.specs.declared.step.StepAnswer.{StepAnswer}
 use Rattle.master.specs.Steps.{Steps}
 use Rattle.master.specs.World.{World}
 use Rattle.driving.specs.Commands.{ArePushedFor, IsAwaited, StopsShort}
 use Rattle.driving.specs.Rolls.{ArePushed, PushesUntil}
 
 -- one push more
-pub one_more_for : (place : ℕ) (from old new : World) (r : Result StepAnswer Refusal) (a : StepAnswer) → IsAwaited place old → r ≡ Ok a
-    → Steps old Push r new → ((count : ℕ) × ArePushedFor place count from old) → (count : ℕ) × ArePushedFor place count from new
+pub one_more_for : (place : ℕ) (from old new : World) (r : Result StepAnswer Refusal) (a : StepAnswer)
+    → IsAwaited place old → r ≡ Ok a
+    → Steps old Push r new → ((count : ℕ) × ArePushedFor place count from old)
+    → (count : ℕ) × ArePushedFor place count from new
 one_more_for place from old new r a awaited is push (count, before) =
     (suc count, (old, before, awaited, a, subst (λ (x : Result StepAnswer Refusal). Steps old Push x new) is push))
 
 pushed_for : (place count : ℕ) (old new : World) → ArePushedFor place count old new → ArePushed count old new
 pushed_for place zero old new same = same
-pushed_for place (suc count) old new (mid, before, awaited, a, push) = (mid, pushed_for place count old mid before, a, push)
+pushed_for place (suc count) old new (mid, before, awaited, a, push) =
+    (mid, pushed_for place count old mid before, a, push)
 
 pub stops_until : (place : ℕ) (old new : World) (r : Refusal) → StopsShort place old r new → PushesUntil old r new
-stops_until place old new r (count, mid, before, awaited, declines) = (count, mid, pushed_for place count old mid before, declines)
+stops_until place old new r (count, mid, before, awaited, declines) =
+    (count, mid, pushed_for place count old mid before, declines)

@@ -2,25 +2,25 @@
 use Rattle.std.specs.Prelude.{◌≡◌, ◌⊎◌, ℕ, List, [], ◌∷◌, ◌++◌, Result, Ok, Err, None}
 use Rattle.log_head.specs.Head.{digest_of}
 use Rattle.log_model.specs.Ids.{inserted, without}
-use Rattle.master_core.specs.Budget.{newest_digest}
-use Rattle.master_core.specs.declared.step.Refusal.{Refusal}
-use Rattle.master_core.specs.declared.step.Refusal.TheVariants.{Nothing}
-use Rattle.master_core.specs.declared.step.Step.{Step}
-use Rattle.master_core.specs.declared.step.Step.TheVariants.{BeginClean, Copy, Seal, Push, Free}
-use Rattle.master_core.specs.declared.step.StepAnswer.TheVariants.{Begun}
+use Rattle.master_state.specs.Budget.{newest_digest}
+use Rattle.master_state.specs.declared.step.Refusal.{Refusal}
+use Rattle.master_state.specs.declared.step.Refusal.TheVariants.{Nothing}
+use Rattle.master_state.specs.declared.step.Step.{Step}
+use Rattle.master_state.specs.declared.step.Step.TheVariants.{BeginClean, Copy, Seal, Push, Free}
+use Rattle.master_state.specs.declared.step.StepAnswer.TheVariants.{Begun}
 use Rattle.master.specs.Steps.{Accepts, Declines}
 use Rattle.master.specs.World.{World}
-use Rattle.driving.specs.declared.whole_pass.Part.{Part}
-use Rattle.driving.specs.declared.whole_pass.Part.TheVariants as part
+use Rattle.driving.specs.declared.whole_pass.Phase.{Phase}
+use Rattle.driving.specs.declared.whole_pass.Phase.TheVariants as phase
 use Rattle.driving.specs.Rolls.{StepsUntil, IsRolled, IsNotRolled}
 
 -- ---- a part
 
 -- the steps of a part
-abbrev pub step_of : Part → Step
-step_of part.Copies = Copy
-step_of part.Seals = Seal
-step_of part.Frees = Free
+abbrev pub step_of : Phase → Step
+step_of phase.Copies = Copy
+step_of phase.Seals = Seal
+step_of phase.Frees = Free
 
 -- steps of one kind were made until one was refused, and something was left to do
 abbrev pub StopsAt : Step → World → Refusal → World → Type 0
@@ -33,65 +33,41 @@ MakesAll step old (Err r) new = StopsAt step old r new
 
 -- ---- up to the commit
 
--- All replicas of the survivor were sealed, and then pushes were taken until nothing waited.
-pub record IsSealed (old new : World) : Type 0 where
-  pub mid : World
-  pub seals : StepsUntil Seal old Nothing mid
-  pub pushes : StepsUntil Push mid Nothing new
-
--- the seals or the pushes stopped at a refusal
-abbrev pub IsNotSealed : World → Refusal → World → Type 0
-IsNotSealed old r new =
-    StopsAt Seal old r new ⊎ ((mid : World) × StepsUntil Seal old Nothing mid × StopsAt Push mid r new)
-
-abbrev pub SealsAll : World → Result (Unit {0}) Refusal → World → Type 0
-SealsAll old (Ok done) new = IsSealed old new
-SealsAll old (Err r) new = IsNotSealed old r new
-
--- All entries were copied, and the survivor was sealed.
+-- All entries were copied, then all replicas of the survivor were sealed, and then pushes were taken until nothing
+-- waited.
 pub record IsPrepared (old new : World) : Type 0 where
-  pub mid : World
-  pub copies : StepsUntil Copy old Nothing mid
-  pub sealed : IsSealed mid new
+  pub copied : World
+  pub copies : StepsUntil Copy old Nothing copied
+  pub sealed : World
+  pub seals : StepsUntil Seal copied Nothing sealed
+  pub pushes : StepsUntil Push sealed Nothing new
 
--- the copies stopped at a refusal, or what came after them did
+-- the copies stopped at a refusal, or the seals after them, or the pushes after these
 abbrev pub IsNotPrepared : World → Refusal → World → Type 0
-IsNotPrepared old r new =
-    StopsAt Copy old r new ⊎ ((mid : World) × StepsUntil Copy old Nothing mid × IsNotSealed mid r new)
+IsNotPrepared old r new = StopsAt Copy old r new
+    ⊎ ((copied : World) × StepsUntil Copy old Nothing copied × (StopsAt Seal copied r new
+    ⊎ ((sealed : World) × StepsUntil Seal copied Nothing sealed × StopsAt Push sealed r new)))
 
 abbrev pub Prepares : World → Result (Unit {0}) Refusal → World → Type 0
 Prepares old (Ok done) new = IsPrepared old new
 Prepares old (Err r) new = IsNotPrepared old r new
 
--- ---- from the commit on
-
--- A roll was made, whose head has this id, and then all replicas that waited were freed.
-pub record IsCommitted (old : World) (head : ℕ) (new : World) : Type 0 where
-  pub mid : World
-  pub rolled : IsRolled old head mid
-  pub frees : StepsUntil Free mid Nothing new
-
--- the roll was not made, or the frees after it stopped at a refusal
-abbrev pub IsNotCommitted : World → Refusal → World → Type 0
-IsNotCommitted old r new =
-    IsNotRolled old r new ⊎ ((mid : World) × (head : ℕ) × IsRolled old head mid × StopsAt Free mid r new)
-
-abbrev pub Commits : World → Result ℕ Refusal → World → Type 0
-Commits old (Ok head) new = IsCommitted old head new
-Commits old (Err r) new = IsNotCommitted old r new
-
 -- ---- whole
 
--- All of a pass that had begun was made. The roll of its commit ended with this head.
+-- All of a pass that had begun was made: what comes before its commit, then a roll, whose head has this id, and then
+-- all replicas that waited were freed.
 pub record IsFinished (old : World) (head : ℕ) (new : World) : Type 0 where
   pub ready : World
   pub prepared : IsPrepared old ready
-  pub committed : IsCommitted ready head new
+  pub mid : World
+  pub rolled : IsRolled ready head mid
+  pub frees : StepsUntil Free mid Nothing new
 
--- it stopped at a refusal; what was done stays done
+-- it stopped at a refusal: before the roll, in the roll, or in the frees after it; what was done stays done
 abbrev pub IsNotFinished : World → Refusal → World → Type 0
-IsNotFinished old r new =
-    IsNotPrepared old r new ⊎ ((ready : World) × IsPrepared old ready × IsNotCommitted ready r new)
+IsNotFinished old r new = IsNotPrepared old r new
+    ⊎ ((ready : World) × IsPrepared old ready × (IsNotRolled ready r new
+    ⊎ ((mid : World) × (head : ℕ) × IsRolled ready head mid × StopsAt Free mid r new)))
 
 abbrev pub Finishes : World → Result ℕ Refusal → World → Type 0
 Finishes old (Ok head) new = IsFinished old head new

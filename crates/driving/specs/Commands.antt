@@ -3,12 +3,12 @@ use Rattle.std.specs.Prelude.{◌≡◌, ◌⊎◌, ◌<◌, ◌≤◌, ℕ, zer
 use Rattle.versioned_map.specs.declared.command.Command.{Command}
 use Rattle.versioned_map.specs.declared.command.Reply.{Reply}
 use Rattle.log_model.specs.Data.{durable_of}
-use Rattle.master_core.specs.declared.step.Refusal.{Refusal}
-use Rattle.master_core.specs.declared.step.Refusal.TheVariants.{Rolling}
-use Rattle.master_core.specs.declared.step.Step.TheVariants.{Apply, Push}
-use Rattle.master_core.specs.declared.step.StepAnswer.{StepAnswer}
-use Rattle.master_core.specs.declared.step.StepAnswer.TheVariants.{Applied}
-use Rattle.master_core.specs.Log.{log_of}
+use Rattle.master_state.specs.declared.step.Refusal.{Refusal}
+use Rattle.master_state.specs.declared.step.Refusal.TheVariants.{Rolling}
+use Rattle.master_state.specs.declared.step.Step.TheVariants.{Apply, Push}
+use Rattle.master_state.specs.declared.step.StepAnswer.{StepAnswer}
+use Rattle.master_state.specs.declared.step.StepAnswer.TheVariants.{Applied}
+use Rattle.master_state.specs.Log.{log_of}
 use Rattle.master.specs.Steps.{Accepts, Declines}
 use Rattle.master.specs.World.{World}
 use Rattle.driving.specs.Rolls.{Rolls}

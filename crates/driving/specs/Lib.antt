@@ -2,3 +2,4 @@ pub mod Rolls
 pub mod Commands
 pub mod Cleans
 pub mod Served
+pub mod GoesOn

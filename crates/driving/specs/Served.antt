@@ -5,12 +5,12 @@ use Rattle.versioned_map.specs.declared.command.Command.{Command}
 use Rattle.versioned_map.specs.declared.command.Record.{Record}
 use Rattle.versioned_map.specs.declared.command.Reply.{Reply}
 use Rattle.log_model.specs.Data.{durable_of}
-use Rattle.master_core.specs.declared.step.Refusal.{Refusal}
-use Rattle.master_core.specs.declared.step.Refusal.TheVariants as refusal
-use Rattle.master_core.specs.declared.step.Refusal.TheVariants.{NoMemory}
-use Rattle.master_core.specs.Causes.{command_refusal}
-use Rattle.master_core.specs.Data.{MasterData}
-use Rattle.master_core.specs.Log.{log_of}
+use Rattle.master_state.specs.declared.step.Refusal.{Refusal}
+use Rattle.master_state.specs.declared.step.Refusal.TheVariants as refusal
+use Rattle.master_state.specs.declared.step.Refusal.TheVariants.{NoMemory}
+use Rattle.master_state.specs.Causes.{command_refusal}
+use Rattle.master_state.specs.Data.{MasterData}
+use Rattle.master_state.specs.Log.{log_of}
 use Rattle.master.specs.Valid.{IsValid}
 use Rattle.master.specs.World.{World}
 use Rattle.driving.specs.Commands.{StopsShort}
@@ -28,6 +28,11 @@ pub record LivesOn (old new : MasterData) (more : List Record) : Type 0 where
   pub origin : new.origin ≡ old.origin
   pub durable : durable_of (log_of old) ≤ durable_of (log_of new)
   pub history : new.history ≡ old.history ++ more
+
+-- a master that is loaded goes on: its configuration is the same, and it has loaded the same
+pub record StaysLoaded (old new : MasterData) : Type 0 where
+  pub config : new.config ≡ old.config
+  pub origin : new.origin ≡ old.origin
 
 abbrev pub record_of : Command → Reply → List Record
 record_of command reply = record { seat = 0; command = command; reply = reply } ∷ []

@@ -3,27 +3,27 @@
 ghost use Rattle.std.specs.Prelude.{◌≡◌, ◌<◌, [], length, true, IfOk, IfErr};
 ghost use Rattle.log_model.specs.Data.{durable_of};
 ghost use Rattle.log_head.specs.Head.{is_open};
-ghost use Rattle.master_core.specs.Log.{log_of};
+ghost use Rattle.master_state.specs.Log.{log_of};
 ghost use Rattle.master.specs.World.{world};
 ghost use Rattle.driving.specs.Commands.{PushesTo, StopsShort};
 ghost use Rattle.driving.specs.Rolls.{PushesUntil, IsRolled, IsNotRolled};
 ghost use Rattle.driving.specs.Served.{LivesOn, IsSpent, is_of_push};
 
+use crate::driven::Driven;
 use master::{Master, Refusal, Step};
 use replica::Fleet;
 
 /// Pushes until nothing waits, or a push is refused.
-pub fn push_all<F: Fleet>(master: &mut Master<F>) -> Result<(), Refusal>
-    ensures goes_on { LivesOn master.old.knows master.new.knows [] }
-    ensures open { IfOk result (λ _. is_open master.new.knows.head ≡ true) }
-    ensures pushed { IfOk result (λ _.
-        PushesUntil (world F.state master.old) Refusal.Nothing (world F.state master.new)) }
-    ensures refused { IfErr result (λ r. PushesUntil (world F.state master.old) r (world F.state master.new)) }
+pub fn push_all<D: Driven>(master: &mut D) -> Result<(), Refusal>
+    ensures goes_on { D.goes_on (D.world master.old) (D.world master.new) }
+    ensures open { IfOk result (λ _. is_open (D.world master.new).knows.head ≡ true) }
+    ensures pushed { IfOk result (λ _. PushesUntil (D.world master.old) Refusal.Nothing (D.world master.new)) }
+    ensures refused { IfErr result (λ r. PushesUntil (D.world master.old) r (D.world master.new)) }
     ensures waits { IfErr result (λ r. r ≡ Refusal.Nothing → ⊥) }
-    ensures spent { IfErr result (λ r. r ≡ Refusal.Spent → IsSpent (F.state master.new.fleet)) }
+    ensures spent { IfErr result (λ r. r ≡ Refusal.Spent → IsSpent (D.world master.new).fleet) }
 {
     loop {
-        if let Err(refusal) = master.step(Step::Push) {
+        if let Err(refusal) = master.push() {
             return match refusal {
                 Refusal::Nothing => Ok(()),
                 _ => Err(refusal),
@@ -33,14 +33,14 @@ pub fn push_all<F: Fleet>(master: &mut Master<F>) -> Result<(), Refusal>
 }
 
 /// Begins a roll if none is under way, and pushes until nothing waits.
-pub fn roll_all<F: Fleet>(master: &mut Master<F>) -> Result<(), Refusal>
-    ensures goes_on { LivesOn master.old.knows master.new.knows [] }
+pub fn roll_all<D: Driven>(master: &mut D) -> Result<(), Refusal>
+    ensures goes_on { D.goes_on (D.world master.old) (D.world master.new) }
     ensures rolled { IfOk result (λ _.
-        IsRolled (world F.state master.old) master.new.knows.head.id (world F.state master.new)) }
-    ensures refused { IfErr result (λ r. IsNotRolled (world F.state master.old) r (world F.state master.new)) }
-    ensures spent { IfErr result (λ r. r ≡ Refusal.Spent → IsSpent (F.state master.new.fleet)) }
+        IsRolled (D.world master.old) (D.world master.new).knows.head.id (D.world master.new)) }
+    ensures refused { IfErr result (λ r. IsNotRolled (D.world master.old) r (D.world master.new)) }
+    ensures spent { IfErr result (λ r. r ≡ Refusal.Spent → IsSpent (D.world master.new).fleet) }
 {
-    match master.step(Step::BeginRoll) {
+    match master.begin_roll() {
         Ok(_) => push_all(master),
         Err(refusal) => match refusal {
             Refusal::Rolling => push_all(master),

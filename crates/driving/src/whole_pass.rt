@@ -2,7 +2,7 @@
 
 ghost use Rattle.std.specs.Prelude.{◌≡◌, [], IfErr};
 ghost use Rattle.master.specs.World.{world};
-ghost use Rattle.driving.specs.Cleans.{Cleans, Commits, Finishes, MakesAll, Prepares, SealsAll, step_of};
+ghost use Rattle.driving.specs.Cleans.{Cleans, Finishes, MakesAll, Prepares, step_of};
 ghost use Rattle.driving.specs.Served.{IsSpent, LivesOn};
 
 use crate::pushing::{push_all, roll_all};
@@ -10,37 +10,37 @@ use entry::Row;
 use master::{Master, Refusal, Step, StepAnswer};
 use replica::Fleet;
 
-/// A part of a cleaning: steps of one kind, which are made until nothing is left to do.
+/// A phase of a cleaning: steps of one kind, which are made until nothing is left to do.
 #[derive(Clone, Copy)]
-pub(crate) enum Part {
+pub(crate) enum Phase {
     Copies,
     Seals,
     Frees,
 }
 
-impl Part {
-    /// The step that the part is made of.
+impl Phase {
+    /// The step that the phase is made of.
     #[inline(always)]
     fn kind(self) -> Step
         ensures { result ≡ step_of self }
     {
         match self {
-            Part::Copies => Step::Copy,
-            Part::Seals => Step::Seal,
-            Part::Frees => Step::Free,
+            Phase::Copies => Step::Copy,
+            Phase::Seals => Step::Seal,
+            Phase::Frees => Step::Free,
         }
     }
 }
 
-/// Makes the steps of a part until nothing is left to do, or one is refused.
+/// Makes the steps of a phase until nothing is left to do, or one is refused.
 #[inline(always)]
-fn make_all<F: Fleet>(master: &mut Master<F>, part: Part) -> Result<(), Refusal>
+fn make_all<F: Fleet>(master: &mut Master<F>, phase: Phase) -> Result<(), Refusal>
     ensures goes_on { LivesOn master.old.knows master.new.knows [] }
-    ensures made { MakesAll (step_of part) (world F.state master.old) result (world F.state master.new) }
+    ensures made { MakesAll (step_of phase) (world F.state master.old) result (world F.state master.new) }
     ensures spent { IfErr result (λ r. r ≡ Refusal.Spent → IsSpent (F.state master.new.fleet)) }
 {
     loop {
-        if let Err(refusal) = master.step(part.kind()) {
+        if let Err(refusal) = master.step(phase.kind()) {
             return match refusal {
                 Refusal::Nothing => Ok(()),
                 _ => Err(refusal),
@@ -49,58 +49,29 @@ fn make_all<F: Fleet>(master: &mut Master<F>, part: Part) -> Result<(), Refusal>
     }
 }
 
-/// Seals all replicas of the survivor, and pushes until nothing waits.
-fn seal_all<F: Fleet>(master: &mut Master<F>) -> Result<(), Refusal>
-    ensures goes_on { LivesOn master.old.knows master.new.knows [] }
-    ensures sealed { SealsAll (world F.state master.old) result (world F.state master.new) }
-    ensures spent { IfErr result (λ r. r ≡ Refusal.Spent → IsSpent (F.state master.new.fleet)) }
-{
-    match make_all(master, Part::Seals) {
-        Ok(()) => push_all(master),
-        Err(refusal) => Err(refusal),
-    }
-}
-
-/// Copies all entries of a pass, seals its survivor, and pushes until nothing waits.
+/// Copies all entries of a pass, seals all replicas of its survivor, and pushes until nothing waits.
 fn prepare<F: Fleet>(master: &mut Master<F>) -> Result<(), Refusal>
     ensures goes_on { LivesOn master.old.knows master.new.knows [] }
     ensures prepared { Prepares (world F.state master.old) result (world F.state master.new) }
     ensures spent { IfErr result (λ r. r ≡ Refusal.Spent → IsSpent (F.state master.new.fleet)) }
 {
-    match make_all(master, Part::Copies) {
-        Ok(()) => seal_all(master),
-        Err(refusal) => Err(refusal),
-    }
+    make_all(master, Phase::Copies)?;
+    make_all(master, Phase::Seals)?;
+    push_all(master)
 }
 
-/// Makes a roll, which commits a pass that is ready, and frees all that waits. It answers the new head.
-fn commit<F: Fleet>(master: &mut Master<F>) -> Result<u64, Refusal>
-    ensures goes_on { LivesOn master.old.knows master.new.knows [] }
-    ensures committed { Commits (world F.state master.old) result (world F.state master.new) }
-    ensures spent { IfErr result (λ r. r ≡ Refusal.Spent → IsSpent (F.state master.new.fleet)) }
-{
-    match roll_all(master) {
-        Ok(()) => {
-            let head = master.head();
-            match make_all(master, Part::Frees) {
-                Ok(()) => Ok(head),
-                Err(refusal) => Err(refusal),
-            }
-        }
-        Err(refusal) => Err(refusal),
-    }
-}
-
-/// Makes all of a pass that has begun. It answers the head that its commit ends with.
+/// Makes all of a pass that has begun: what comes before its commit, the roll that commits it, and the frees of all
+/// that waits. It answers the head that the roll ends with.
 fn finish<F: Fleet>(master: &mut Master<F>) -> Result<u64, Refusal>
     ensures goes_on { LivesOn master.old.knows master.new.knows [] }
     ensures finished { Finishes (world F.state master.old) result (world F.state master.new) }
     ensures spent { IfErr result (λ r. r ≡ Refusal.Spent → IsSpent (F.state master.new.fleet)) }
 {
-    match prepare(master) {
-        Ok(()) => commit(master),
-        Err(refusal) => Err(refusal),
-    }
+    prepare(master)?;
+    roll_all(master)?;
+    let head = master.head();
+    make_all(master, Phase::Frees)?;
+    Ok(head)
 }
 
 /// Cleans these segments. It answers the survivor and the new head. After a refusal, what was done stays done.

@@ -3,7 +3,7 @@
 ghost use Rattle.std.specs.Prelude.{◌≡◌, ◌≤◌, ◌==◌, ℕ, None, IfSome};
 ghost use Rattle.std.specs.List.{list_any};
 ghost use Rattle.backup.specs.State.{fleet_state};
-ghost use Rattle.master_core.specs.Config.{config_fault};
+ghost use Rattle.master_state.specs.Config.{config_fault};
 ghost use Rattle.replica.specs.declared.holding.Holding.{Holding as HoldingValue};
 
 use crate::answers::{Call, passed, run};
@@ -24,7 +24,8 @@ fn has_replica(holdings: &[Holding], master: u64) -> bool
     holdings.iter().any(|holding| holding.master == master)
 }
 
-/// The configuration of master 2, if it can be made on the fleet: that has the backups, and no replica of such a master.
+/// The configuration of master 2, if it can be made on the fleet: that has the backups, and no replica of such a
+/// master.
 fn config_on(alloc: Global, fleet: &MemoryFleet, seglets: u64) -> Option<Config>
     ensures checked { IfSome result (λ config. config_fault config ≡ None) }
     ensures backups { IfSome result (λ config. config.backups ≤ (fleet_state fleet.now).backups) }

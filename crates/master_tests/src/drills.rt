@@ -18,8 +18,8 @@ pub enum Order {
     Given(&'static [usize]),
 }
 
-/// What a master is asked, the backups that are kept, the objects that begin the partitions of the will, and the order in
-/// which groups are replayed.
+/// What a master is asked, the backups that are kept, the objects that begin the partitions of the will, and the order
+/// in which groups are replayed.
 pub type Life = (&'static [Ask], &'static [u64], &'static [Size], Order);
 
 fn order_of(alloc: Global, order: &Order) -> Option<GroupOrder> {

@@ -2,7 +2,7 @@
 
 ghost use Rattle.std.specs.Prelude.{◌≡◌, ◌≤◌, ℕ, None, IfSome};
 ghost use Rattle.backup.specs.State.{fleet_state};
-ghost use Rattle.master_core.specs.Config.{config_fault};
+ghost use Rattle.master_state.specs.Config.{config_fault};
 
 use backup::MemoryFleet;
 use entry::{Tablet, Tablets};

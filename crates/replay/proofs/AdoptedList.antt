@@ -1,5 +1,6 @@
 -- A list that is adopted.
-use Rattle.std.proofs.Common.{◌≡◌, ℕ, zero, suc, Bool, true, false, List, [], ◌∷◌, length, refl, sym, ap, subst, inl, inr, ◌∙◌, arith}
+use Rattle.std.proofs.Common.{◌≡◌, ℕ, zero, suc, Bool, true, false, List, [], ◌∷◌, length, refl, sym, ap, subst, inl}
+use Rattle.std.proofs.Common.{inr, ◌∙◌, arith}
 use Rattle.std.specs.Prelude.{Some, None, if◌then◌else◌, ◌==◌, ◌&&◌, is_none}
 use Rattle.std.proofs.lemmas.Bool.{and_parts}
 use Rattle.entry.specs.declared.entry.Entry.TheVariants as entry
@@ -12,20 +13,21 @@ use Rattle.log_model.specs.Steps.{no_units}
 use Rattle.log_head.specs.Head.{HeadValue, is_open}
 use Rattle.log_head.specs.Steps.{settled}
 use Rattle.log_head.proofs.Rolls.{zeros_length}
-use Rattle.master_core.specs.declared.config.Config.{Config}
-use Rattle.master_core.specs.declared.step.Refusal.{Refusal}
-use Rattle.master_core.specs.declared.step.Refusal.TheVariants as refusal
-use Rattle.master_core.specs.declared.step.Step.TheVariants.{BeginRoll}
-use Rattle.master_core.specs.Causes.{is_pushed}
-use Rattle.master_core.specs.Data.{MasterData}
-use Rattle.master_core.specs.Loading.{restored_data, Settles}
+use Rattle.master_state.specs.declared.config.Config.{Config}
+use Rattle.master_state.specs.declared.step.Refusal.{Refusal}
+use Rattle.master_state.specs.declared.step.Refusal.TheVariants as refusal
+use Rattle.master_state.specs.Causes.{is_pushed}
+use Rattle.master_state.specs.Data.{MasterData}
+use Rattle.master_state.specs.Loading.{restored_data, Settles}
 use Rattle.master.specs.Loading.{DeclinesLoad}
-use Rattle.master.specs.Steps.{Declines}
 use Rattle.master.specs.World.{World, world_of}
 use Rattle.claims.specs.declared.rebuilt.Rebuilt.{Rebuilt}
-use Rattle.replay.specs.Adopting.{PushesUntil, LoadsAll, IsStuck, Stops, IsAdopted, IsAdoptedOn, AdoptsList}
+use Rattle.driving.specs.Rolls.{PushesUntil}
+use Rattle.driving.specs.Served.{IsSpent}
+use Rattle.driving.proofs.MasterSteps.{nothing_waits, spent_begin, spent_push}
+use Rattle.replay.specs.Adopting.{LoadsAll, IsStuck, Stops, IsAdopted, IsAdoptedOn, AdoptsList}
 use Rattle.replay.proofs.LoadList.{contents_loaded}
-use Rattle.replay.proofs.LoadSteps.{all_keeps, nothing_waits, stacked}
+use Rattle.replay.proofs.LoadSteps.{all_keeps, stacked}
 
 -- ---- a head that is settled
 
@@ -46,7 +48,8 @@ settled_pushed h opened =
 all_pushed : (os : List Object) (old new : World) → LoadsAll os old new → is_pushed new.knows.head ≡ true
 all_pushed os old new (mid, loaded, (count, last, pushes, declines)) = (nothing_waits last new declines).1
 
-pub adopts : (c : Config) (r : Rebuilt) (os : List Object) (f : FleetState) (start now new : World) → start.knows ≡ restored_data c r.safe
+pub adopts : (c : Config) (r : Rebuilt) (os : List Object) (f : FleetState) (start now new : World)
+    → start.knows ≡ restored_data c r.safe
     → start.fleet ≡ f → os ≡ r.objects → LoadsAll os start now → Settles now.knows new.knows → new.fleet ≡ now.fleet
     → AdoptsList c r f new
 adopts c r os f start now new made fleet listed loads settles same = record {
@@ -60,7 +63,8 @@ adopts c r os f start now new made fleet listed loads settles same = record {
     begins : start ≡ world_of (restored_data c r.safe) f
     begins = λ i. record { knows = made i; fleet = fleet i }
 
-pub adopted_is : (c : Config) (r : Rebuilt) (os : List Object) (start now : World) (m : MasterData) → start.knows ≡ restored_data c r.safe
+pub adopted_is : (c : Config) (r : Rebuilt) (os : List Object) (start now : World) (m : MasterData)
+    → start.knows ≡ restored_data c r.safe
     → os ≡ r.objects → LoadsAll os start now → Settles now.knows m → IsAdopted c r m
 adopted_is c r os start now m made listed loads settles =
     let kept = all_keeps os start now loads in
@@ -76,14 +80,16 @@ adopted_is c r os start now m made listed loads settles =
     record {
       config = ap (λ (d : MasterData). d.config) settles.rest ∙ kept.config ∙ ap (λ (d : MasterData). d.config) made;
       opening = λ i. record { contents = λ k. contents k i; safe = safe i };
-      history = ap (λ (d : MasterData). d.history) settles.rest ∙ kept.history ∙ ap (λ (d : MasterData). d.history) made;
+      history =
+          ap (λ (d : MasterData). d.history) settles.rest ∙ kept.history ∙ ap (λ (d : MasterData). d.history) made;
       opened = ap (λ (d : MasterData). is_open d.head) settles.rest ∙ settled_open now.knows.head ∙ opened;
       pushed = ap (λ (d : MasterData). is_pushed d.head) settles.rest ∙ settled_pushed now.knows.head opened;
     }
 
 -- ---- its fleet
 
-pub adopted_from : (c : Config) (safe : ℕ) (start : World) (f g h : FleetState) → start.knows ≡ restored_data c safe → start.fleet ≡ f
+pub adopted_from : (c : Config) (safe : ℕ) (start : World) (f g h : FleetState) → start.knows ≡ restored_data c safe
+    → start.fleet ≡ f
     → IsAdoptedOn start.knows.config.master start.fleet g → h ≡ g → IsAdoptedOn c.master f h
 adopted_from c safe start f g h made fleet is same =
     subst (IsAdoptedOn c.master f) (sym same)
@@ -92,14 +98,8 @@ adopted_from c safe start f g h made fleet is same =
 
 -- ---- spent
 
-until_spent : (old new : World) → PushesUntil old refusal.Spent new → new.fleet.takes ≡ new.fleet.end
-until_spent old new (count, mid, pushes, inl h) = absurd (tested mid.knows.is_halted (is_pushed mid.knows.head) h.0)
-  where
-    tested : (halted pushed : Bool) → (if halted then Some refusal.Halted else if pushed then Some refusal.Nothing else None) ≡ Some refusal.Spent → ⊥
-    tested true pushed e = cc
-    tested false true e = cc
-    tested false false e = cc
-until_spent old new (count, mid, pushes, inr h) = subst (λ (w : World). w.fleet.takes ≡ w.fleet.end) (sym h.1.1) h.1.0
+until_spent : (old new : World) → PushesUntil old refusal.Spent new → IsSpent new.fleet
+until_spent old new (count, mid, pushes, declines) = spent_push mid new refusal.Spent declines refl
 
 spent_load : (o : Object) (old new : World) → DeclinesLoad old.knows (entry.Object o) refusal.Spent new.knows → ⊥
 spent_load o old new (same, inl test) = tested _ _ _ _ test
@@ -113,25 +113,15 @@ spent_load o old new (same, inl test) = tested _ _ _ _ test
     tested false false false false e = cc
 spent_load o old new (same, inr memory) = let none = memory.1 in cc
 
-spent_roll : (old new : World) → Declines old BeginRoll refusal.Spent new → ⊥
-spent_roll old new (same, inl test) = tested _ _ _ _ test
-  where
-    tested : (halted opened spent may : Bool) → (if halted then Some refusal.Halted else if opened then Some refusal.Rolling
-        else if spent then Some refusal.SegmentsSpent else if may then Some refusal.Full else None) ≡ Some refusal.Spent → ⊥
-    tested true opened spent may e = cc
-    tested false true spent may e = cc
-    tested false false true may e = cc
-    tested false false false true e = cc
-    tested false false false false e = cc
-spent_roll old new (same, inr memory) = let none = memory.1 in cc
-
-stuck_spent : (os : List Object) (old new : World) → IsStuck os old refusal.Spent new → new.fleet.takes ≡ new.fleet.end
+stuck_spent : (os : List Object) (old new : World) → IsStuck os old refusal.Spent new → IsSpent new.fleet
 stuck_spent [] old new until = until_spent old new until
 stuck_spent (o ∷ os) old new (rooms, mid, made, inl (declines, fleet)) = absurd (spent_load o mid new declines)
-stuck_spent (o ∷ os) old new (rooms, mid, made, inr (waits, inl declines)) = absurd (spent_roll mid new declines)
-stuck_spent (o ∷ os) old new (rooms, mid, made, inr (waits, inr (later, rolling, until))) = until_spent later new until
+stuck_spent (o ∷ os) old new (rooms, mid, made, inr (waits, inl (declines, not_rolling))) =
+    absurd (spent_begin mid new refusal.Spent declines refl)
+stuck_spent (o ∷ os) old new (rooms, mid, made, inr (waits, inr (later, rolling, until, not_nothing))) =
+    until_spent later new until
 
 -- only a fleet that is spent refuses as Spent
-pub stops_spent : (os : List Object) (a c : World) (r : Refusal) → Stops os a r c → r ≡ refusal.Spent → c.fleet.takes ≡ c.fleet.end
+pub stops_spent : (os : List Object) (a c : World) (r : Refusal) → Stops os a r c → r ≡ refusal.Spent → IsSpent c.fleet
 stops_spent os a c r stops is =
     stuck_spent stops.left stops.mid c (subst (λ (x : Refusal). IsStuck stops.left stops.mid x c) is stops.cause)

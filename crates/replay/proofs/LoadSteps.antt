@@ -1,33 +1,35 @@
 -- What the steps of a master that is loaded keep.
-use Rattle.std.proofs.Common.{◌≡◌, ◌<◌, ℕ, zero, suc, ◌+◌, Bool, true, false, List, [], ◌∷◌, ◌++◌, refl, sym, ap, subst, inl, inr, ◌∙◌, arith}
+use Rattle.std.proofs.Common.{◌≡◌, ℕ, zero, suc, List, [], ◌∷◌, ◌++◌, refl, sym, ap, subst}
+use Rattle.std.proofs.Common.{inl, inr, ◌∙◌, arith}
 use Rattle.std.proofs.lemmas.List.{append-nil}
-use Rattle.std.specs.Prelude.{Option, Some, None, if◌then◌else◌, nat_lt, unwrap_or}
 use Rattle.entry.specs.declared.entry.Object.{Object}
 use Rattle.replica.specs.Op.{OpValue}
-use Rattle.replica.specs.Picture.{Replica, FleetState}
-use Rattle.replica.specs.Take.{Refuses, effect, taken, with_effect}
+use Rattle.replica.specs.Picture.{FleetState}
+use Rattle.replica.specs.Take.{Refuses}
 use Rattle.replica.specs.declared.op.TakeFault.TheVariants as take_fault
 use Rattle.log_model.specs.Ops.{op_of}
-use Rattle.master_core.specs.declared.step.Refusal.{Refusal}
-use Rattle.master_core.specs.declared.step.Refusal.TheVariants as refusal
-use Rattle.master_core.specs.declared.step.Step.TheVariants.{Push, BeginRoll}
-use Rattle.master_core.specs.declared.step.StepAnswer.{StepAnswer}
-use Rattle.master_core.specs.Causes.{is_pushed}
-use Rattle.master_core.specs.Data.{MasterData}
-use Rattle.master_core.specs.Loading.{Loads}
+use Rattle.master_state.specs.declared.step.Refusal.{Refusal}
+use Rattle.master_state.specs.declared.step.Refusal.TheVariants as refusal
+use Rattle.master_state.specs.declared.step.Step.TheVariants.{Push, BeginRoll}
+use Rattle.master_state.specs.declared.step.StepAnswer.{StepAnswer}
+use Rattle.master_state.specs.Data.{MasterData}
+use Rattle.master_state.specs.Loading.{Loads}
 use Rattle.master.specs.Steps.{Accepts, Declines, FailsTake, IsPushOp}
 use Rattle.master.specs.World.{World}
 use Rattle.master.proofs.Keeping.{taken_beside, fault_beside, take_failed}
 use Rattle.master.proofs.Pushed.{same_rest}
-use Rattle.replay.specs.Adopting.{ArePushed, PushesUntil, GoesRolling, IsRolled, IsNotRolled, IsAdoptedOn, ops_left}
-use Rattle.replay.specs.Adopting.{HasRoomMade, LoadsOne, HasLoaded, LoadsAll, DeclinesOne, IsStuck, Stops}
+use Rattle.driving.specs.Rolls.{ArePushed, PushesUntil, GoesRolling, IsRolled, IsNotRolled}
+use Rattle.driving.proofs.Heads.{taken_counts}
+use Rattle.driving.proofs.MasterSteps.{nothing_waits}
+use Rattle.replay.specs.Adopting.{HasRoomMade, LoadsOne, HasLoaded, LoadsAll, DeclinesOne, IsStuck, Stops, IsAdoptedOn}
 
 -- ---- the fleet
 
 pub adopted_same : (master : ℕ) (f : FleetState) → IsAdoptedOn master f f
 adopted_same master f = record { backups = refl; takes = omega arith; end = refl; others = λ b m s other. refl }
 
-pub adopted_further : (master : ℕ) (f g h : FleetState) → IsAdoptedOn master f g → IsAdoptedOn master g h → IsAdoptedOn master f h
+pub adopted_further : (master : ℕ) (f g h : FleetState) → IsAdoptedOn master f g → IsAdoptedOn master g h
+    → IsAdoptedOn master f h
 adopted_further master f g h first later =
     let low = first.takes in
     let high = later.takes in
@@ -38,24 +40,6 @@ adopted_further master f g h first later =
       others = λ b m s other. later.others b m s other ∙ first.others b m s other;
     }
 
--- what an op leaves of the counts
-pub record IsCounted (old new : FleetState) : Type 0 where
-  pub backups : new.backups ≡ old.backups
-  pub takes : new.takes ≡ old.takes + 1
-  pub end : new.end ≡ old.end
-
-taken_counts : (old : FleetState) (b : ℕ) (op : OpValue) (new : FleetState) → taken old b op ≡ Some new → IsCounted old new
-taken_counts old b op new is = go (nat_lt b old.backups) (effect op.act (old.picture b op.master op.segment)) is
-  where
-    go : (there : Bool) (r : Option (Option Replica)) → (if there then with_effect old b op r else None) ≡ Some new → IsCounted old new
-    go true (Some r) e = record {
-      backups = sym (ap (λ (o : Option FleetState). (unwrap_or o new).backups) e);
-      takes = sym (ap (λ (o : Option FleetState). (unwrap_or o new).takes) e);
-      end = sym (ap (λ (o : Option FleetState). (unwrap_or o new).end) e);
-    }
-    go true None e = absurd (cc)
-    go false r e = absurd (cc)
-
 module _ (old new : World) where
   pub push_adopts : (a : StepAnswer) → Accepts old Push a new → IsAdoptedOn old.knows.config.master old.fleet new.fleet
   push_adopts a p =
@@ -63,15 +47,6 @@ module _ (old new : World) where
       let beside = taken_beside old.fleet p.op.backup op new.fleet p.takes.1 in
       let counts = taken_counts old.fleet p.op.backup op new.fleet p.takes.1 in
       record { backups = counts.backups; takes = beside.takes.0; end = counts.end; others = beside.others }
-
-  -- fewer are left to a fleet that took one
-  pub push_fewer : (a : StepAnswer) → Accepts old Push a new → ops_left new.fleet < ops_left old.fleet
-  push_fewer a p =
-      let counts = taken_counts old.fleet p.op.backup (op_of old.knows.config.master p.op) new.fleet p.takes.1 in
-      let more = counts.takes in
-      let same = counts.end in
-      let left = p.takes.0 in
-      omega arith
 
   fault_counts : (b : ℕ) (op : OpValue) → Refuses old.fleet b op take_fault.Fault new.fleet
       → (new.fleet.backups ≡ old.fleet.backups) × (new.fleet.end ≡ old.fleet.end)
@@ -87,7 +62,8 @@ module _ (old new : World) where
       subst (λ (w : World). IsAdoptedOn old.knows.config.master old.fleet w.fleet) (sym same)
       (adopted_same old.knows.config.master old.fleet)
 
-  halted_adopts : FailsTake (IsPushOp old) old refusal.Halted new → IsAdoptedOn old.knows.config.master old.fleet new.fleet
+  halted_adopts : FailsTake (IsPushOp old) old refusal.Halted new
+      → IsAdoptedOn old.knows.config.master old.fleet new.fleet
   halted_adopts t =
       let op = op_of old.knows.config.master t.1.0 in
       let beside = fault_beside old.fleet t.1.0.backup op new.fleet t.1.2 in
@@ -125,7 +101,8 @@ keeps_same w = record {
   fleet = adopted_same w.knows.config.master w.fleet;
 }
 
-keeps_further : (os ps : List Object) (a b c : World) → KeepsLoaded os a b → KeepsLoaded ps b c → KeepsLoaded (os ++ ps) a c
+keeps_further : (os ps : List Object) (a b c : World) → KeepsLoaded os a b → KeepsLoaded ps b c
+    → KeepsLoaded (os ++ ps) a c
 keeps_further os ps a b c first later = record {
   config = later.config ∙ first.config;
   history = later.history ∙ first.history;
@@ -140,7 +117,8 @@ keeps_at old new same = subst (KeepsLoaded [] old) (sym same) (keeps_same old)
 
 module _ (old new : World) where
   quiet : new.fleet ≡ old.fleet → IsAdoptedOn old.knows.config.master old.fleet new.fleet
-  quiet same = subst (IsAdoptedOn old.knows.config.master old.fleet) (sym same) (adopted_same old.knows.config.master old.fleet)
+  quiet same =
+      subst (IsAdoptedOn old.knows.config.master old.fleet) (sym same) (adopted_same old.knows.config.master old.fleet)
 
   push_keeps : (a : StepAnswer) → Accepts old Push a new → KeepsLoaded [] old new
   push_keeps a p =
@@ -171,18 +149,6 @@ module _ (old new : World) where
     fleet = quiet fleet;
   }
 
--- nothing waits
-pub nothing_waits : (old new : World) → Declines old Push refusal.Nothing new → (new ≡ old) × (is_pushed new.knows.head ≡ true)
-nothing_waits old new (inl h) =
-    (h.1, ap (λ (w : World). is_pushed w.knows.head) h.1 ∙ tested old.knows.is_halted (is_pushed old.knows.head) h.0)
-  where
-    tested : (halted pushed : Bool)
-        → (if halted then Some refusal.Halted else if pushed then Some refusal.Nothing else None) ≡ Some refusal.Nothing → pushed ≡ true
-    tested true pushed e = absurd (cc)
-    tested false true e = refl
-    tested false false e = absurd (cc)
-nothing_waits old new (inr h) = absurd h.1
-
 pushed_keeps : (count : ℕ) (old new : World) → ArePushed count old new → KeepsLoaded [] old new
 pushed_keeps zero old new same = keeps_at old new same
 pushed_keeps (suc count) old new (mid, before, a, push) =
@@ -190,20 +156,21 @@ pushed_keeps (suc count) old new (mid, before, a, push) =
 
 until_keeps : (old new : World) → PushesUntil old refusal.Nothing new → KeepsLoaded [] old new
 until_keeps old new (count, mid, pushes, declines) =
-    keeps_further [] [] old mid new (pushed_keeps count old mid pushes) (keeps_at mid new (nothing_waits mid new declines).0)
+    keeps_further [] [] old mid new (pushed_keeps count old mid pushes)
+    (keeps_at mid new (nothing_waits mid new declines).0)
 
 rolling_keeps : (old new : World) → GoesRolling old new → KeepsLoaded [] old new
-rolling_keeps old new (inl (opened, a, roll)) = roll_keeps old new a roll
-rolling_keeps old new (inr (shut, same)) = keeps_at old new same
+rolling_keeps old new (inl (a, roll)) = roll_keeps old new a roll
+rolling_keeps old new (inr (same, why)) = keeps_at old new same
 
-rolled_keeps : (old new : World) → IsRolled old new → KeepsLoaded [] old new
-rolled_keeps old new (mid, rolling, pushes) =
-    keeps_further [] [] old mid new (rolling_keeps old mid rolling) (until_keeps mid new pushes)
+rolled_keeps : (id : ℕ) (old new : World) → IsRolled old id new → KeepsLoaded [] old new
+rolled_keeps id old new h =
+    keeps_further [] [] old h.mid new (rolling_keeps old h.mid h.rolling) (until_keeps h.mid new h.pushed)
 
 pub room_keeps : (count : ℕ) (o : Object) (old new : World) → HasRoomMade count o old new → KeepsLoaded [] old new
 room_keeps zero o old new same = keeps_at old new same
 room_keeps (suc count) o old new (mid, before, waits, rolled) =
-    keeps_further [] [] old mid new (room_keeps count o old mid before) (rolled_keeps mid new rolled)
+    keeps_further [] [] old mid new (room_keeps count o old mid before) (rolled_keeps new.knows.head.id mid new rolled)
 
 pub one_keeps : (o : Object) (old new : World) → LoadsOne o old new → KeepsLoaded (o ∷ []) old new
 one_keeps o old new (rooms, mid, made, loads, fleet) =
@@ -224,28 +191,33 @@ all_keeps os old new (mid, loaded, pushes) =
 pub loads_none : (w : World) → HasLoaded [] w w
 loads_none w = refl
 
-pub loads_more : (os : List Object) (o : Object) (a b c : World) → HasLoaded os a b → LoadsOne o b c → HasLoaded (os ++ o ∷ []) a c
+pub loads_more : (os : List Object) (o : Object) (a b c : World) → HasLoaded os a b → LoadsOne o b c
+    → HasLoaded (os ++ o ∷ []) a c
 loads_more [] o a b c same one = (c, subst (λ (w : World). LoadsOne o w c) same one, refl)
 loads_more (p ∷ os) o a b c (mid, first, rest) one = (mid, first, loads_more os o mid b c rest one)
 
 -- ---- where it ends
 
-then_adopts : (os : List Object) (a b c : World) → KeepsLoaded os a b → IsAdoptedOn b.knows.config.master b.fleet c.fleet
+then_adopts : (os : List Object) (a b c : World) → KeepsLoaded os a b
+    → IsAdoptedOn b.knows.config.master b.fleet c.fleet
     → IsAdoptedOn a.knows.config.master a.fleet c.fleet
 then_adopts os a b c kept later =
     adopted_further a.knows.config.master a.fleet b.fleet c.fleet kept.fleet
     (subst (λ (m : ℕ). IsAdoptedOn m b.fleet c.fleet) (ap (λ c. c.master) kept.config) later)
 
-until_adopts : (old new : World) (r : Refusal) → PushesUntil old r new → IsAdoptedOn old.knows.config.master old.fleet new.fleet
+until_adopts : (old new : World) (r : Refusal) → PushesUntil old r new
+    → IsAdoptedOn old.knows.config.master old.fleet new.fleet
 until_adopts old new r (count, mid, pushes, declines) =
     then_adopts [] old mid new (pushed_keeps count old mid pushes) (declined_adopts mid new r declines)
 
-unrolled_adopts : (old new : World) (r : Refusal) → IsNotRolled old r new → IsAdoptedOn old.knows.config.master old.fleet new.fleet
-unrolled_adopts old new r (inl h) = same_adopts old new h.0
-unrolled_adopts old new r (inr (mid, rolling, until)) =
+unrolled_adopts : (old new : World) (r : Refusal) → IsNotRolled old r new
+    → IsAdoptedOn old.knows.config.master old.fleet new.fleet
+unrolled_adopts old new r (inl (declines, not_rolling)) = same_adopts old new declines.0
+unrolled_adopts old new r (inr (mid, rolling, until, not_nothing)) =
     then_adopts [] old mid new (rolling_keeps old mid rolling) (until_adopts mid new r until)
 
-one_adopts : (o : Object) (old new : World) (r : Refusal) → DeclinesOne o old r new → IsAdoptedOn old.knows.config.master old.fleet new.fleet
+one_adopts : (o : Object) (old new : World) (r : Refusal) → DeclinesOne o old r new
+    → IsAdoptedOn old.knows.config.master old.fleet new.fleet
 one_adopts o old new r (inl (declines, fleet)) = quiet old new fleet
 one_adopts o old new r (inr (waits, h)) = unrolled_adopts old new r h
 
@@ -255,7 +227,8 @@ stuck_adopts [] old new r until = until_adopts old new r until
 stuck_adopts (o ∷ os) old new r (rooms, mid, made, h) =
     then_adopts [] old mid new (room_keeps rooms o old mid made) (one_adopts o mid new r h)
 
-pub stops_adopts : (os : List Object) (a c : World) (r : Refusal) → Stops os a r c → IsAdoptedOn a.knows.config.master a.fleet c.fleet
+pub stops_adopts : (os : List Object) (a c : World) (r : Refusal) → Stops os a r c
+    → IsAdoptedOn a.knows.config.master a.fleet c.fleet
 stops_adopts os a c r stops =
     then_adopts stops.loaded a stops.mid c (loaded_keeps stops.loaded a stops.mid stops.steps)
     (stuck_adopts stops.left stops.mid c r stops.cause)

@@ -1,50 +1,21 @@
 -- How a master adopts a rebuilt list.
-use Rattle.std.specs.Prelude.{◌≡◌, ◌⊎◌, ◌≤◌, ℕ, zero, suc, ◌-◌, List, [], ◌∷◌, ◌++◌, true, false, Some}
+use Rattle.std.specs.Prelude.{◌≡◌, ◌⊎◌, ◌≤◌, ℕ, zero, suc, List, [], ◌∷◌, ◌++◌, true, Some}
 use Rattle.entry.specs.declared.entry.Entry.TheVariants as entry
 use Rattle.entry.specs.declared.entry.Object.{Object}
 use Rattle.entry.specs.Meaning.{contents_of}
 use Rattle.replica.specs.Picture.{FleetState}
 use Rattle.log_head.specs.Head.{is_open}
-use Rattle.master_core.specs.declared.config.Config.{Config}
-use Rattle.master_core.specs.declared.step.Refusal.{Refusal}
-use Rattle.master_core.specs.declared.step.Refusal.TheVariants as refusal
-use Rattle.master_core.specs.declared.step.Step.TheVariants.{Push, BeginRoll}
-use Rattle.master_core.specs.declared.step.StepAnswer.{StepAnswer}
-use Rattle.master_core.specs.Causes.{is_pushed}
-use Rattle.master_core.specs.Data.{MasterData}
-use Rattle.master_core.specs.Loading.{load_refusal, restored_data, Loads, Settles}
-use Rattle.master_core.specs.Log.{opening_of}
+use Rattle.master_state.specs.declared.config.Config.{Config}
+use Rattle.master_state.specs.declared.step.Refusal.{Refusal}
+use Rattle.master_state.specs.declared.step.Refusal.TheVariants as refusal
+use Rattle.master_state.specs.Causes.{is_pushed}
+use Rattle.master_state.specs.Data.{MasterData}
+use Rattle.master_state.specs.Loading.{load_refusal, restored_data, Loads, Settles}
+use Rattle.master_state.specs.Log.{opening_of}
 use Rattle.master.specs.Loading.{DeclinesLoad}
-use Rattle.master.specs.Steps.{Accepts, Declines}
 use Rattle.master.specs.World.{World, world_of}
+use Rattle.driving.specs.Rolls.{PushesUntil, IsRolled, IsNotRolled}
 use Rattle.claims.specs.declared.rebuilt.Rebuilt.{Rebuilt}
-
--- ---- pushes and rolls
-
--- so many pushes were accepted, one after another
-abbrev pub ArePushed : ℕ → World → World → Type 0
-ArePushed zero old new = new ≡ old
-ArePushed (suc count) old new =
-    (mid : World) × ArePushed count old mid × (answer : StepAnswer) × Accepts mid Push answer new
-
--- pushes were made until one was refused; if it was refused as Nothing, nothing waits any more
-abbrev pub PushesUntil : World → Refusal → World → Type 0
-PushesUntil old r new = (count : ℕ) × (mid : World) × ArePushed count old mid × Declines mid Push r new
-
--- a roll began if the head was open, and nothing was done if it wasn't
-abbrev pub GoesRolling : World → World → Type 0
-GoesRolling old new =
-    ((is_open old.knows.head ≡ true) × (answer : StepAnswer) × Accepts old BeginRoll answer new)
-    ⊎ ((is_open old.knows.head ≡ false) × (new ≡ old))
-
--- a roll began if the head was open, and then pushes were made until nothing waited
-abbrev pub IsRolled : World → World → Type 0
-IsRolled old new = (mid : World) × GoesRolling old mid × PushesUntil mid refusal.Nothing new
-
--- the roll couldn't begin, or one of the pushes was refused
-abbrev pub IsNotRolled : World → Refusal → World → Type 0
-IsNotRolled old r new =
-    Declines old BeginRoll r new ⊎ ((mid : World) × GoesRolling old mid × PushesUntil mid r new)
 
 -- ---- a master that is loaded
 
@@ -56,7 +27,7 @@ HasToWait o w = load_refusal w.knows o ≡ Some refusal.Rolling
 abbrev pub HasRoomMade : ℕ → Object → World → World → Type 0
 HasRoomMade zero o old new = new ≡ old
 HasRoomMade (suc count) o old new =
-    (mid : World) × HasRoomMade count o old mid × HasToWait o mid × IsRolled mid new
+    (mid : World) × HasRoomMade count o old mid × HasToWait o mid × IsRolled mid new.knows.head.id new
 
 -- The object was loaded, once room was made for it as often as it had to wait.
 abbrev pub LoadsOne : Object → World → World → Type 0
@@ -97,10 +68,6 @@ pub record Stops (os : List Object) (old : World) (r : Refusal) (new : World) : 
   pub steps : HasLoaded loaded old mid
   pub cause : IsStuck left mid r new
   pub final : IsFinal r
-
--- how many more ops the fleet takes
-abbrev pub ops_left : FleetState → ℕ
-ops_left f = f.end - f.takes
 
 -- ---- an adoption
 

@@ -1,52 +1,21 @@
 //! A master that goes on with what a log stands for.
 
 ghost use Rattle.std.specs.Prelude.{◌≡◌, ◌≤◌, ℕ, [], ◌∷◌, None, IfOk, IfErr, OnOk};
-ghost use Rattle.master_core.specs.Config.{config_fault};
-ghost use Rattle.master_core.specs.Loading.{IsNewObject};
+ghost use Rattle.master_state.specs.Config.{config_fault};
+ghost use Rattle.master_state.specs.Loading.{IsNewObject};
 ghost use Rattle.master.specs.Valid.{IsValid};
 ghost use Rattle.master.specs.World.{world};
-ghost use Rattle.replay.specs.Adopting.{PushesUntil, IsRolled, IsNotRolled, IsFinal, LoadsOne, IsStuck, LoadsAll, Stops};
+ghost use Rattle.replay.specs.Adopting.{IsFinal, LoadsOne, IsStuck, LoadsAll, Stops};
 ghost use Rattle.replay.specs.Adopting.{IsAdopted, IsAdoptedOn, AdoptsList, DeclinesList};
 ghost use Rattle.replay.specs.Fresh.{AreNew};
 
 use claims::{Objects, Rebuilt};
+use driving::{push_all, roll_all};
 use entry::{NoMemory, Object};
 use master::{Loading, Master};
 use master_core::{Config, Refusal};
 use replica::Fleet;
 use std::alloc::Global;
-
-/// Pushes until nothing waits.
-fn push_all<F: Fleet>(loading: &mut Loading<F>) -> Result<(), Refusal>
-    ensures pushed { OnOk result (
-        PushesUntil (world F.state loading.old) Refusal.Nothing (world F.state loading.new)) }
-    ensures stopped { IfErr result (λ r.
-        PushesUntil (world F.state loading.old) r (world F.state loading.new) × IsFinal r) }
-{
-    loop {
-        if let Err(refusal) = loading.push() {
-            return match refusal {
-                Refusal::Nothing => Ok(()),
-                _ => Err(refusal),
-            };
-        }
-    }
-}
-
-/// Begins a roll if the head is open, and pushes until nothing waits.
-fn make_room<F: Fleet>(loading: &mut Loading<F>) -> Result<(), Refusal>
-    ensures rolled { OnOk result (IsRolled (world F.state loading.old) (world F.state loading.new)) }
-    ensures stopped { IfErr result (λ r.
-        IsNotRolled (world F.state loading.old) r (world F.state loading.new) × IsFinal r) }
-{
-    match loading.begin_roll() {
-        Ok(_) => push_all(loading),
-        Err(refusal) => match refusal {
-            Refusal::Rolling => push_all(loading),
-            _ => Err(refusal),
-        },
-    }
-}
 
 /// Loads one object, into a new head if the one in force has no room for it.
 fn load_one<F: Fleet>(loading: &mut Loading<F>, object: &Object) -> Result<(), Refusal>
@@ -60,7 +29,7 @@ fn load_one<F: Fleet>(loading: &mut Loading<F>, object: &Object) -> Result<(), R
         match loading.load_object(object) {
             Ok(()) => return Ok(()),
             Err(refusal) => match refusal {
-                Refusal::Rolling => make_room(loading)?,
+                Refusal::Rolling => roll_all(loading)?,
                 _ => return Err(refusal),
             },
         }

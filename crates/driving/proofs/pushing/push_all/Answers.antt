@@ -1,33 +1,41 @@
+use Rattle.std.proofs.Common.{refl}
 use Rattle.driving.proofs.Heads.{fewer_left, one_more}
-use Rattle.driving.proofs.MasterSteps.{open_push, push_goes_on}
+use Rattle.driving.proofs.MasterSteps.{open_push, spent_push}
 use Rattle.driving.proofs.pushing.push_all.Goals as goal
 
+pub loop-refusal-init : goal.loop-refusal-init
+loop-refusal-init g c = (g.met.D.Driven.stays _, (0, refl))
+
 pub returns-in-Nothing-clause-goes_on : goal.returns-in-Nothing-clause-goes_on
-returns-in-Nothing-clause-goes_on g c = push_goes_on _ _ _ _ c.loop-refusal.invariant.0 c.step.ensures.gives c.step.ensures.keeps
+returns-in-Nothing-clause-goes_on g c = g.met.D.Driven.further _ _ _ c.loop-refusal.invariant.0 c.push.ensures.goes_on
 
 pub returns-in-Nothing-clause-open : goal.returns-in-Nothing-clause-open
 returns-in-Nothing-clause-open g c = open_push _ _ _ c.in-Err.ensures.gives c.in-Nothing.is
 
 pub returns-in_default-refusal-clause-goes_on : goal.returns-in_default-refusal-clause-goes_on
-returns-in_default-refusal-clause-goes_on g c = push_goes_on _ _ _ _ c.loop-refusal.invariant.0 c.step.ensures.gives c.step.ensures.keeps
-
-pub loop-refusal-preserved : goal.loop-refusal-preserved
-loop-refusal-preserved g c = (
-  push_goes_on _ _ _ _ c.loop-refusal.invariant.0 c.step.ensures.gives c.step.ensures.keeps,
-  one_more _ _ _ _ c.in_default.field-0 c.in_default.is c.step.ensures.gives c.loop-refusal.invariant.1,
-)
-
-pub loop-refusal-smaller : goal.loop-refusal-smaller
-loop-refusal-smaller g c = fewer_left _ _ _ c.in_default.field-0 c.in_default.is c.step.ensures.gives
-
-pub loop-refusal-preserved-in_default-3 : goal.loop-refusal-preserved-in_default-3
-loop-refusal-preserved-in_default-3 g c = (
-  push_goes_on _ _ _ _ c.loop-refusal.invariant.0 c.step.ensures.gives c.step.ensures.keeps,
-  one_more _ _ _ _ c.in_default.field-0 c.in_default.is c.step.ensures.gives c.loop-refusal.invariant.1,
-)
+returns-in_default-refusal-clause-goes_on g c =
+    g.met.D.Driven.further _ _ _ c.loop-refusal.invariant.0 c.push.ensures.goes_on
 
 pub returns-in_default-refusal-clause-open : goal.returns-in_default-refusal-clause-open
 returns-in_default-refusal-clause-open g c = tt
 
+pub returns-in_default-refusal-clause-spent : goal.returns-in_default-refusal-clause-spent
+returns-in_default-refusal-clause-spent g c = spent_push _ _ _ c.in-Err.ensures.gives
+
+pub loop-refusal-preserved : goal.loop-refusal-preserved
+loop-refusal-preserved g c = (
+  g.met.D.Driven.further _ _ _ c.loop-refusal.invariant.0 c.push.ensures.goes_on,
+  one_more _ _ _ _ c.in_default.field-0 c.in_default.is c.push.ensures.gives c.loop-refusal.invariant.1,
+)
+
+pub loop-refusal-smaller : goal.loop-refusal-smaller
+loop-refusal-smaller g c = fewer_left _ _ _ c.in_default.field-0 c.in_default.is c.push.ensures.gives
+
+pub loop-refusal-preserved-in_default-3 : goal.loop-refusal-preserved-in_default-3
+loop-refusal-preserved-in_default-3 g c = (
+  g.met.D.Driven.further _ _ _ c.loop-refusal.invariant.0 c.push.ensures.goes_on,
+  one_more _ _ _ _ c.in_default.field-0 c.in_default.is c.push.ensures.gives c.loop-refusal.invariant.1,
+)
+
 pub loop-refusal-smaller-in_default-3 : goal.loop-refusal-smaller-in_default-3
-loop-refusal-smaller-in_default-3 g c = fewer_left _ _ _ c.in_default.field-0 c.in_default.is c.step.ensures.gives
+loop-refusal-smaller-in_default-3 g c = fewer_left _ _ _ c.in_default.field-0 c.in_default.is c.push.ensures.gives

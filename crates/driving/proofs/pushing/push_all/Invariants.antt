@@ -1,12 +1,12 @@
-use Rattle.std.proofs.Common.{ℕ, ◌-◌, []}
-use Rattle.master.specs.World.{world}
+use Rattle.std.proofs.Common.{ℕ, ◌-◌}
 use Rattle.driving.specs.Rolls.{ArePushed}
-use Rattle.driving.specs.Served.{LivesOn}
 use Rattle.driving.proofs.pushing.push_all.Given as goal
 
 abbrev pub invariant-loop-refusal : goal.invariant-loop-refusal
-invariant-loop-refusal g l = LivesOn l.fn.master.knows l.master.knows []
-    × ((count : ℕ) × ArePushed count (world g.F.Fleet.state l.fn.master) (world g.F.Fleet.state l.master))
+invariant-loop-refusal g l =
+    let world = g.D.Driven.world in
+    g.D.Driven.goes_on (world l.fn.master) (world l.master)
+    × ((count : ℕ) × ArePushed count (world l.fn.master) (world l.master))
 
 abbrev pub decreases-loop-refusal : goal.decreases-loop-refusal
-decreases-loop-refusal g l = (g.F.Fleet.state l.master.fleet).end - (g.F.Fleet.state l.master.fleet).takes
+decreases-loop-refusal g l = let left = (g.D.Driven.world l.master).fleet in left.end - left.takes

@@ -1,8 +1,8 @@
 use Rattle.std.proofs.Common.{inr, subst}
 use Rattle.std.specs.Prelude.{Ok}
-use Rattle.master_core.specs.declared.step.Step.TheVariants.{Apply}
-use Rattle.master_core.specs.declared.step.StepAnswer.{StepAnswer}
-use Rattle.master_core.specs.declared.step.StepAnswer.TheVariants.{Applied}
+use Rattle.master_state.specs.declared.step.Step.TheVariants.{Apply}
+use Rattle.master_state.specs.declared.step.StepAnswer.{StepAnswer}
+use Rattle.master_state.specs.declared.step.StepAnswer.TheVariants.{Applied}
 use Rattle.master.specs.Steps.{Accepts, Steps}
 use Rattle.master.specs.World.{world}
 use Rattle.driving.proofs.MasterSteps.{applied_goes_on, spent_command}
@@ -15,7 +15,8 @@ returns-in-Err-clause-spent g c = λ is. absurd (spent_command _ _ _ _ c.in-Err.
 pub returns-in-Ok-push_until-clause-tried : goal.returns-in-Ok-push_until-clause-tried
 returns-in-Ok-push_until-clause-tried g c =
     let a = c.in-Ok-Applied in
-    carried_out _ _ _ c.args.command a.field-0 a.place a.reply a.field-0-is a.ensures.gives c.in-Ok-push_until.ensures.pushed
+    carried_out _ _ _ c.args.command a.field-0 a.place a.reply a.field-0-is a.ensures.gives
+    c.in-Ok-push_until.ensures.pushed
 
 pub returns-in-Err-push_until-clause-unserved : goal.returns-in-Err-push_until-clause-unserved
 returns-in-Err-push_until-clause-unserved g c =

@@ -18,7 +18,8 @@ returns-in_err-load_one-clause-stopped g c =
     let after = world g.F.Fleet.state c.load_one.new.loading in
     let r = c.in_err-load_one.field-0.0 in
     let stops : Stops c.args.objects.now before r after =
-    stops_in_list c.args.objects.now c.loop-object.invariant.0 c.loop-object.object-iterator c.next.new.self c.in-Some.object.now
+    stops_in_list c.args.objects.now c.loop-object.invariant.0 c.loop-object.object-iterator c.next.new.self
+    c.in-Some.object.now
     before now after r c.in-Some.ensures.steps c.loop-object.invariant.1 c.loop-object.invariant.2
     c.in_err-load_one.ensures.stopped in
     search (rules, stops)
@@ -43,15 +44,17 @@ pub returns-clause-loaded : goal.returns-clause-loaded
 returns-clause-loaded g c =
     list_loaded c.args.objects.now c.loop-object.invariant.0 c.loop-object.object-iterator
     (world g.F.Fleet.state c.args.loading.now) (world g.F.Fleet.state c.loop-object.loading)
-    (world g.F.Fleet.state c.push_all.new.loading) c.in-None.ensures.steps.0 c.loop-object.invariant.1 c.loop-object.invariant.2
+    (world g.F.Fleet.state c.push_all.new.master) c.in-None.ensures.steps.0 c.loop-object.invariant.1
+    c.loop-object.invariant.2
     c.push_all.result c.push_all.ensures.pushed
 
 pub returns-clause-stopped : goal.returns-clause-stopped
 returns-clause-stopped g c =
     list_stopped c.args.objects.now c.loop-object.invariant.0 c.loop-object.object-iterator
     (world g.F.Fleet.state c.args.loading.now) (world g.F.Fleet.state c.loop-object.loading)
-    (world g.F.Fleet.state c.push_all.new.loading) c.in-None.ensures.steps.0 c.loop-object.invariant.1 c.loop-object.invariant.2
-    c.push_all.result c.push_all.ensures.stopped
+    (world g.F.Fleet.state c.push_all.new.master) c.in-None.ensures.steps.0 c.loop-object.invariant.1
+    c.loop-object.invariant.2
+    c.push_all.result c.push_all.ensures.refused c.push_all.ensures.waits
 
 pub loop-object-init : goal.loop-object-init
 loop-object-init g c =

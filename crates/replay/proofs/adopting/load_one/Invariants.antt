@@ -1,6 +1,6 @@
 use Rattle.master.specs.World.{world}
-use Rattle.replay.specs.Adopting.{ops_left}
 use Rattle.replay.proofs.LoadList.{HasRoom}
+use Rattle.replay.proofs.LoadRoom.{ops_left}
 use Rattle.replay.proofs.adopting.load_one.Given as goal
 
 abbrev pub invariant-loop-refusal : goal.invariant-loop-refusal

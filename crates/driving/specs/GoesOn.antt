@@ -1,0 +1,26 @@
+-- What is kept by no step, and by many: the laws of `Driven`.
+use Rattle.std.proofs.Common.{[], refl, sym, ◌∙◌}
+use Rattle.std.proofs.Math.Nat.{le_refl, le_trans}
+use Rattle.std.proofs.lemmas.List.{append-nil}
+use Rattle.master_state.specs.Data.{MasterData}
+use Rattle.driving.specs.Served.{LivesOn, StaysLoaded}
+
+pub goes_nowhere : (d : MasterData) → LivesOn d d []
+goes_nowhere d = record { config = refl; origin = refl; durable = le_refl _; history = sym (append-nil d.history) }
+
+pub goes_further : (old mid new : MasterData) → LivesOn old mid [] → LivesOn mid new [] → LivesOn old new []
+goes_further old mid new before more = record {
+  config = more.config ∙ before.config;
+  origin = more.origin ∙ before.origin;
+  durable = le_trans before.durable more.durable;
+  history = more.history ∙ append-nil mid.history ∙ before.history;
+}
+
+pub loaded_same : (d : MasterData) → StaysLoaded d d
+loaded_same d = record { config = refl; origin = refl }
+
+pub loaded_further : (old mid new : MasterData) → StaysLoaded old mid → StaysLoaded mid new → StaysLoaded old new
+loaded_further old mid new before more = record {
+  config = more.config ∙ before.config;
+  origin = more.origin ∙ before.origin;
+}
