@@ -24,15 +24,18 @@ module _ (all rest next : List (List ℕ)) (word : List ℕ) (left : AreLeft all
 
 -- ---- wrong words
 
-pub wrong_among : (words : List (List ℕ)) (word : List ℕ) (found : Option Reason) → IsAmong words word → IfSome found (IsWrongWord word) → IfSome found (IsWrong words)
+pub wrong_among : (words : List (List ℕ)) (word : List ℕ) (found : Option Reason) → IsAmong words word
+    → IfSome found (IsWrongWord word) → IfSome found (IsWrong words)
 wrong_among words word None there wrong = tt
 wrong_among words word (Some why) there wrong = (word, there, wrong)
 
 -- a word behind the first one
-behind : (first : List ℕ) (rest : List (List ℕ)) (word : List ℕ) (text : List ℕ) → slice_split is_space text ≡ first ∷ rest → IsAmong rest word → HasWord text word
+behind : (first : List ℕ) (rest : List (List ℕ)) (word : List ℕ) (text : List ℕ)
+    → slice_split is_space text ≡ first ∷ rest → IsAmong rest word → HasWord text word
 behind first rest word text is there = (first ∷ there.0, there.1, is ∙ ap (λ ws. first ∷ ws) there.2)
 
-pub wrong_behind : (text first : List ℕ) (rest : List (List ℕ)) (why : Reason) → slice_split is_space text ≡ first ∷ rest → IsWrong rest why → HasReason text why
+pub wrong_behind : (text first : List ℕ) (rest : List (List ℕ)) (why : Reason)
+    → slice_split is_space text ≡ first ∷ rest → IsWrong rest why → HasReason text why
 wrong_behind text first rest reason.Number is w = (w.0, behind first rest w.0 text is w.1, w.2)
 wrong_behind text first rest reason.LongKey is w = (w.0, behind first rest w.0 text is w.1, w.2)
 wrong_behind text first rest reason.CarriageReturn is w = absurd w.2

@@ -1,5 +1,6 @@
 -- Where a text is cut at its first space.
-use Rattle.std.proofs.Common.{◌≡◌, ◌+◌, ◌-◌, ◌≤◌, ◌∷◌, [], ℕ, List, length, take, drop, cond, ltb, Option, Some, None, true, false, arith}
+use Rattle.std.proofs.Common.{◌≡◌, ◌+◌, ◌-◌, ◌≤◌, ◌∷◌, [], ℕ, List, length, take, drop, cond, ltb, Option, Some, None}
+use Rattle.std.proofs.Common.{true, false, arith}
 use Rattle.std.specs.List.{slice_split, position_or_len}
 use Rattle.std.proofs.lemmas.List.{take_rest}
 use Rattle.std.proofs.lemmas.List.Sums.{fails_before_first}
@@ -12,11 +13,14 @@ abbrev found : List ℕ → Option ℕ
 found text = cond (ltb (position_or_len is_space text) (length text)) (Some (position_or_len is_space text)) None
 
 pub cut_at : (text : List ℕ) (at : ℕ) → Some at ≡ found text
-    → slice_split is_space text ≡ take at text ∷ slice_split is_space (take (length text - (at + 1)) (drop (at + 1) text))
+    → slice_split is_space text ≡ take at text ∷ slice_split is_space
+    (take (length text - (at + 1)) (drop (at + 1) text))
 cut_at text at is =
-    elim (ltb (position_or_len is_space text) (length text)) as (λ b. ltb (position_or_len is_space text) (length text) ≡ b
+    elim (ltb (position_or_len is_space text) (length text)) as (λ b. ltb
+    (position_or_len is_space text) (length text) ≡ b
     → Some at ≡ cond b (Some (position_or_len is_space text)) None
-    → slice_split is_space text ≡ take at text ∷ slice_split is_space (take (length text - (at + 1)) (drop (at + 1) text))) [
+    → slice_split is_space text ≡ take at text ∷ slice_split is_space
+    (take (length text - (at + 1)) (drop (at + 1) text))) [
       | true ↦ λ yes e.
           let same : at ≡ position_or_len is_space text = cc in
           rw (take_rest, same) (slice_split_first is_space text 0 (ltb-true _ _ yes))
@@ -25,7 +29,8 @@ cut_at text at is =
 
 pub not_cut : (text : List ℕ) → None ≡ found text → slice_split is_space text ≡ text ∷ []
 not_cut text is =
-    elim (ltb (position_or_len is_space text) (length text)) as (λ b. ltb (position_or_len is_space text) (length text) ≡ b
+    elim (ltb (position_or_len is_space text) (length text)) as (λ b. ltb
+    (position_or_len is_space text) (length text) ≡ b
     → None ≡ cond b (Some (position_or_len is_space text)) None → slice_split is_space text ≡ text ∷ []) [
       | true ↦ λ yes e. absurd (cc)
       | false ↦ λ no e.

@@ -1,5 +1,6 @@
 -- Decimal digits that are read from the left, and their numbers.
-use Rattle.std.proofs.Common.{◌≡◌, ◌∙◌, ◌+◌, ◌-◌, ◌*◌, ◌^◌, ◌<◌, ◌≤◌, ◌∷◌, [], Option, Some, None, ap, sym, subst, ℕ, zero, suc, List, length, drop, get_or, arith}
+use Rattle.std.proofs.Common.{◌≡◌, ◌∙◌, ◌+◌, ◌-◌, ◌*◌, ◌^◌, ◌<◌, ◌≤◌, ◌∷◌, [], Option, Some, None, ap, sym, subst, ℕ}
+use Rattle.std.proofs.Common.{zero, suc, List, length, drop, get_or, arith}
 use Rattle.std.specs.Prelude.{IfSome}
 use Rattle.std.specs.Fmt.{decimal}
 use Rattle.std.specs.Int.{IsInRange}
@@ -37,7 +38,12 @@ module _ (ds : List ℕ) (i n : ℕ) (below : i < length ds) (so_far : AreReadTo
 
   -- a digit that makes the number too large
   pub too_large : IsInRange 48 57 c → 2 ^ 64 ≤ n * 10 + (c - 48) → 2 ^ 64 ≤ digits_value 10 ds
-  too_large is large = omega (arith, next_value, digit_value_digit c is, grows (n * 10 + digit_value c) (drop (i + 1) ds))
+  too_large is large = omega (
+    arith,
+    next_value,
+    digit_value_digit c is,
+    grows (n * 10 + digit_value c) (drop (i + 1) ds),
+  )
 
   -- a digit more
   pub one_more : IsInRange 48 57 c → AreReadTo ds (i + 1) (n * 10 + (c - 48))
@@ -57,7 +63,8 @@ pub written : (ds : List ℕ) (result : Option ℕ) → IfSome result (λ n. All
 written ds None read small some no_zero = tt
 written ds (Some n) read small some no_zero =
     let fits = subst (λ k. k < 2 ^ 64) (sym read.1) small in
-    sym (decimal-digits_value (numerals_by_value (AllDigits 10) tells_digits) ds read.0 some (λ e. absurd (no_zero e)) fits) ∙ ap decimal read.1
+    sym (decimal-digits_value (numerals_by_value (AllDigits 10) tells_digits) ds read.0 some
+    (λ e. absurd (no_zero e)) fits) ∙ ap decimal read.1
 
 -- one zero alone
 pub zero_alone : (ds : List ℕ) → get_or ds 0 0 ≡ 48 → length ds ≡ 1 → ds ≡ decimal 0
@@ -72,7 +79,8 @@ only_zero (suc n) ds small is first =
     absurd (omega (arith, same, first_decimal (suc n) (omega arith) small))
 
 -- the digits of a number that is too large are those of no number of 64 bits
-pub too_large_to_write : (ds : List ℕ) (n : ℕ) → n < 2 ^ 64 → (AllDigits 10 ds → 2 ^ 64 ≤ digits_value 10 ds) → ds ≡ decimal n → ⊥
+pub too_large_to_write : (ds : List ℕ) (n : ℕ) → n < 2 ^ 64 → (AllDigits 10 ds → 2 ^ 64 ≤ digits_value 10 ds)
+    → ds ≡ decimal n → ⊥
 too_large_to_write ds n small large is =
     let numeral = decimal_is_IsNumeral n small in
     let value : digits_value 10 ds ≡ n = ap (digits_value 10) is ∙ numeral.1 in

@@ -1,9 +1,11 @@
 -- Words are those of one line at most, which their first word decides.
-use Rattle.std.proofs.Common.{◌≡◌, ◌∙◌, ◌==◌, ◌+◌, ◌^◌, ◌<◌, ◌≤◌, ◌∷◌, [], None, ap, sym, ℕ, List, Bool, get_or, drop, map, cond, codes, arith}
+use Rattle.std.proofs.Common.{◌≡◌, ◌∙◌, ◌==◌, ◌+◌, ◌^◌, ◌<◌, ◌≤◌, ◌∷◌, [], None, ap, sym, ℕ, List, Bool, get_or, drop}
+use Rattle.std.proofs.Common.{map, cond, codes, arith}
 use Rattle.std.specs.Str.Parse.{digits_value}
 use Rattle.std.specs.Fmt.{decimal}
 use Rattle.lines.specs.Grammar.{LineValue, words_of}
-use Rattle.lines.specs.Grammar.{Idle, Put, New, Cas, Get, Del, Compact, Roll, BeginRoll, Push, Log, Room, Hex, Stop, Crash, Lose, Will, Recover, Holdings}
+use Rattle.lines.specs.Grammar.{Idle, Put, New, Cas, Get, Del, Compact, Roll, BeginRoll, Push, Log, Room, Hex, Stop}
+use Rattle.lines.specs.Grammar.{Crash, Lose, Will, Recover, Holdings}
 use Rattle.lines.specs.Grammar.{Clean, Begin, Copy, Seal, Free, Clients}
 use Rattle.lines.specs.declared.line.ReplayOrder.{ReplayOrder}
 use Rattle.lines.specs.declared.line.ReplayOrder.TheVariants.{Forward, Reverse, Threads}
@@ -58,7 +60,8 @@ line_of ws =
     (cond (are_named (codes "copy") ws) Copy
     (cond (are_named (codes "seal") ws) Seal
     (cond (are_named (codes "free") ws) Free
-    (cond (are_named (codes "clients") ws) (Clients (number_at 1 ws) (number_at 2 ws) (number_at 3 ws)) Idle)))))))))))))))))))))))
+    (cond (are_named (codes "clients") ws) (Clients (number_at 1 ws) (number_at 2 ws) (number_at 3 ws))
+    Idle)))))))))))))))))))))))
 
 pub line_is : (words : List (List ℕ)) (line : LineValue) → AreWordsOf words line → line_of words ≡ line
 line_is words Idle are = absurd are
@@ -66,7 +69,8 @@ line_is words (Put t k v) are = ap line_of are.spelled ∙ ap (λ n. Put n k v) 
 line_is words (New t k v) are = ap line_of are.spelled ∙ ap (λ n. New n k v) (value t are.limits.0)
 line_is words (Cas t k n v) are =
     let read = digits_value 10 (decimal n) in
-    ap line_of are.spelled ∙ (ap (λ m. Cas m k read v) (value t are.limits.0) ∙ ap (λ m. Cas t k m v) (value n are.limits.2))
+    ap line_of are.spelled ∙ (ap (λ m. Cas m k read v) (value t are.limits.0)
+    ∙ ap (λ m. Cas t k m v) (value n are.limits.2))
 line_is words (Get t k) are = ap line_of are.spelled ∙ ap (λ n. Get n k) (value t are.limits.0)
 line_is words (Del t k) are = ap line_of are.spelled ∙ ap (λ n. Del n k) (value t are.limits.0)
 line_is words (Compact n) are = ap line_of are.spelled ∙ ap Compact (value n are.limits)
@@ -94,7 +98,8 @@ line_is words (Clients c n p) are =
     let rounds = digits_value 10 (decimal n) in
     let passes = digits_value 10 (decimal p) in
     ap line_of are.spelled ∙ (ap (λ m. Clients m rounds passes) (value c (omega (arith, are.limits.0.1)))
-    ∙ (ap (λ m. Clients c m passes) (value n (omega (arith, are.limits.1.1))) ∙ ap (Clients c n) (value p are.limits.2)))
+    ∙ (ap (λ m. Clients c m passes) (value n (omega (arith, are.limits.1.1)))
+    ∙ ap (Clients c n) (value p are.limits.2)))
 
 -- no version is behind the key of `cas`
 pub no_version : (rest behind : List (List ℕ)) (t : ℕ) (k : List ℕ) → rest ≡ decimal t ∷ k ∷ behind
@@ -103,13 +108,17 @@ no_version rest behind t k is none Idle are = are
 no_version rest behind t k is none (Cas u l n v) are =
     none n (v ∷ []) are.limits.2 (ap (drop 3) (sym (ap (λ ws. codes "cas" ∷ ws) is) ∙ are.spelled))
 no_version rest behind t k is none line are =
-    let names : sum_of (codes "cas") ≡ sum_of (word_at 0 (words_of line)) = ap (λ ws. sum_of (word_at 0 ws)) are.spelled in absurd (omega arith)
+    let names : sum_of (codes "cas") ≡ sum_of (word_at 0 (words_of line)) =
+    ap (λ ws. sum_of (word_at 0 ws)) are.spelled in absurd (omega arith)
 
 -- no number of rounds is behind that of the clients
 pub no_rounds : (rest behind : List (List ℕ)) (c : ℕ) → rest ≡ decimal c ∷ behind
-    → ((n : ℕ) (ws : List (List ℕ)) → 1 ≤ n → n ≤ 1000000 → behind ≡ decimal n ∷ ws → ⊥) → ReadsWords (codes "clients" ∷ rest) None
+    → ((n : ℕ) (ws : List (List ℕ)) → 1 ≤ n → n ≤ 1000000 → behind ≡ decimal n ∷ ws → ⊥)
+    → ReadsWords (codes "clients" ∷ rest) None
 no_rounds rest behind c is none Idle are = are
 no_rounds rest behind c is none (Clients d n p) are =
-    none n (decimal p ∷ []) are.limits.1.0 are.limits.1.1 (ap (drop 2) (sym (ap (λ ws. codes "clients" ∷ ws) is) ∙ are.spelled))
+    none n (decimal p ∷ []) are.limits.1.0 are.limits.1.1
+    (ap (drop 2) (sym (ap (λ ws. codes "clients" ∷ ws) is) ∙ are.spelled))
 no_rounds rest behind c is none line are =
-    let names : sum_of (codes "clients") ≡ sum_of (word_at 0 (words_of line)) = ap (λ ws. sum_of (word_at 0 ws)) are.spelled in absurd (omega arith)
+    let names : sum_of (codes "clients") ≡ sum_of (word_at 0 (words_of line)) =
+    ap (λ ws. sum_of (word_at 0 ws)) are.spelled in absurd (omega arith)

@@ -2,7 +2,8 @@
 use Rattle.std.proofs.Common.{◌∷◌, codes, ap, ℕ, List, map, arith}
 use Rattle.std.specs.Fmt.{decimal}
 use Rattle.std.proofs.lemmas.List.Elements.{All-cons}
-use Rattle.lines.specs.Grammar.{IsWord, Clean, Begin}
+use Rattle.lines.specs.Keys.{IsWord}
+use Rattle.lines.specs.Grammar.{Clean, Begin}
 use Rattle.lines.specs.Words.{AreNumbers, AreWordsOf}
 use Rattle.lines.proofs.NumberWords.{are_words}
 

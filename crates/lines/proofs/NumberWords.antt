@@ -1,5 +1,6 @@
 -- Words that are numbers, and the numbers that they are.
-use Rattle.std.proofs.Common.{◌≡◌, ◌∙◌, ◌^◌, ◌<◌, ◌∷◌, [], ap, sym, refl, subst, ◌↔◌, Bool, false, Option, Some, None, ℕ, List, length, get_or, map, arith}
+use Rattle.std.proofs.Common.{◌≡◌, ◌∙◌, ◌^◌, ◌<◌, ◌∷◌, [], ap, sym, refl, subst, ◌↔◌, Bool, false, Option, Some, None}
+use Rattle.std.proofs.Common.{ℕ, List, length, get_or, map, arith}
 use Rattle.std.specs.Prelude.{IfSome, IsNone, IsSome, IsTrue, MatchOption}
 use Rattle.std.specs.List.{All, slice_split}
 use Rattle.std.specs.Fmt.{decimal}
@@ -9,7 +10,7 @@ use Rattle.std.proofs.lemmas.List.{length-map}
 use Rattle.std.proofs.lemmas.List.Elements.{All-cons, All-head, All-map, All-rest, All-same, All-tail}
 use Rattle.std.proofs.lemmas.List.Splits.{length-slice_split}
 use Rattle.lines.specs.Cutting.{IsNumberWord, is_space}
-use Rattle.lines.specs.Grammar.{IsWord}
+use Rattle.lines.specs.Keys.{IsWord}
 use Rattle.lines.specs.Words.{AreNumbers}
 use Rattle.lines.proofs.Spelling.{decimal_is_word}
 
@@ -29,10 +30,14 @@ number_word word n small is =
 pub is_number : (word : List ℕ) (result : Option ℕ) → IfSome result (λ n. word ≡ decimal n) → IfSome result IsSmall
     → (IsNone result → (n : ℕ) → n < 2 ^ 64 → word ≡ decimal n → ⊥) → IsSome result ↔ IsNumberWord word
 is_number word (Some n) is small none = (λ _. number_word word n small is, λ _. refl)
-is_number word None is small none = (λ some. absurd (cc), λ number. absurd (none refl (digits_value 10 word) number.small number.spelled))
+is_number word None is small none = (
+  λ some. absurd (cc),
+  λ number. absurd (none refl (digits_value 10 word) number.small number.spelled),
+)
 
 -- a first word is one number only
-pub same_number : (words left rest : List (List ℕ)) (m n : ℕ) → m < 2 ^ 64 → n < 2 ^ 64 → words ≡ decimal m ∷ left → words ≡ decimal n ∷ rest → m ≡ n
+pub same_number : (words left rest : List (List ℕ)) (m n : ℕ) → m < 2 ^ 64 → n < 2 ^ 64 → words ≡ decimal m ∷ left
+    → words ≡ decimal n ∷ rest → m ≡ n
 same_number words left rest m n small also is other =
     sym (value m small) ∙ (ap (λ ws. digits_value 10 (get_or ws 0 [])) (sym is ∙ other) ∙ value n also)
 
@@ -47,7 +52,8 @@ spelled [] all = refl
 spelled (w ∷ ws) all = λ i. (All-head IsNumberWord w ws all).spelled i ∷ spelled ws (All-tail IsNumberWord w ws all) i
 
 -- the first of several words is read
-pub read_first : (words left : List (List ℕ)) (word : List ℕ) (result : Option ℕ) → words ≡ word ∷ left → All IsNumberWord words
+pub read_first : (words left : List (List ℕ)) (word : List ℕ) (result : Option ℕ) → words ≡ word ∷ left
+    → All IsNumberWord words
     → IfSome result (λ n. word ≡ decimal n) → IfSome result IsSmall
     → (IsNone result → (n : ℕ) → n < 2 ^ 64 → word ≡ decimal n → ⊥)
     → MatchOption result ((map (digits_value 10) words ≡ []) × (map (digits_value 10) left ≡ []))
@@ -63,7 +69,8 @@ pub are_words : (ns : List ℕ) → All IsSmall ns → All IsWord (map decimal n
 are_words ns small = All-map IsWord decimal ns (λ k d below. decimal_is_word (get_or ns k d) (small k d below))
 
 -- words are numbers if there is one or more and each is a number
-pub are_numbers : (words : List (List ℕ)) → (0 < length words) × All IsNumberWord words → AreNumbers words (map (digits_value 10) words)
+pub are_numbers : (words : List (List ℕ)) → (0 < length words) × All IsNumberWord words
+    → AreNumbers words (map (digits_value 10) words)
 are_numbers words is = record {
   spelled = spelled words is.1;
   some = omega (arith, is.0, length-map words (digits_value 10));
@@ -71,11 +78,13 @@ are_numbers words is = record {
 }
 
 -- and only then
-pub only_numbers : (words : List (List ℕ)) (ns : List ℕ) → AreNumbers words ns → (0 < length words) × All IsNumberWord words
+pub only_numbers : (words : List (List ℕ)) (ns : List ℕ) → AreNumbers words ns → (0 < length words)
+    × All IsNumberWord words
 only_numbers words ns are = (
   omega (arith, ap length are.spelled, length-map ns decimal, are.some),
   All-same IsNumberWord words (map decimal ns) are.spelled
-      (All-map IsNumberWord decimal ns (λ k d below. number_word (decimal (get_or ns k d)) (get_or ns k d) (are.small k d below) refl)),
+      (All-map IsNumberWord decimal ns (λ k d below. number_word (decimal (get_or ns k d)) (get_or ns k d)
+      (are.small k d below) refl)),
 )
 
 -- there is a word in each text

@@ -10,7 +10,8 @@ head [] = 0
 head (b ∷ bs) = b
 
 -- words that are joined begin as the first of them
-first_of_joined : (words : List (List ℕ)) → 0 < head (get_or words 0 []) → head (join_with_byte 32 words) ≡ head (get_or words 0 [])
+first_of_joined : (words : List (List ℕ)) → 0 < head (get_or words 0 [])
+    → head (join_with_byte 32 words) ≡ head (get_or words 0 [])
 first_of_joined [] some = refl
 first_of_joined (word ∷ []) some = refl
 first_of_joined ([] ∷ next ∷ words) some = absurd (omega arith)
@@ -22,8 +23,10 @@ only_idle text Idle idle says = refl
 only_idle text line idle says =
     let begins = first_of_joined (words_of line) (omega arith) in
     elim idle [
-      | inl e ↦ let first : 0 ≡ head (get_or (words_of line) 0 []) = ap head (sym e ∙ says.spaced) ∙ begins in absurd (omega arith)
-      | inr p ↦ let first : 35 ≡ head (get_or (words_of line) 0 []) = ap head (sym p.1 ∙ says.spaced) ∙ begins in absurd (omega arith)
+      | inl e ↦ let first : 0 ≡ head (get_or (words_of line) 0 []) = ap head (sym e ∙ says.spaced) ∙ begins in
+          absurd (omega arith)
+      | inr p ↦ let first : 35 ≡ head (get_or (words_of line) 0 []) = ap head (sym p.1 ∙ says.spaced) ∙ begins in
+          absurd (omega arith)
     ]
 
 pub one_line : EachTextSaysOneLine

@@ -2,7 +2,8 @@
 use Rattle.std.proofs.Common.{◌≡◌, ◌∙◌, ◌≤◌, ◌∷◌, [], None, ap, codes, ℕ, List, drop, arith}
 use Rattle.std.specs.Fmt.{decimal}
 use Rattle.std.proofs.lemmas.List.Elements.{All-cons, All-nil, All-tail}
-use Rattle.lines.specs.Grammar.{IsWord, Idle, Recover, order_words, words_of}
+use Rattle.lines.specs.Keys.{IsWord}
+use Rattle.lines.specs.Grammar.{Idle, Recover, order_words, words_of}
 use Rattle.lines.specs.Words.{NameOrder, ReadsOrder, ReadsWords}
 use Rattle.lines.specs.declared.line.ReplayOrder.TheVariants.{Threads}
 use Rattle.lines.proofs.Names.{sum_of, word_at}
@@ -30,4 +31,5 @@ no_order rest none (Recover order) are = none order (record {
   limits = are.limits;
 })
 no_order rest none line are =
-    let names : sum_of (codes "recover") ≡ sum_of (word_at 0 (words_of line)) = ap (λ ws. sum_of (word_at 0 ws)) are.spelled in absurd (omega arith)
+    let names : sum_of (codes "recover") ≡ sum_of (word_at 0 (words_of line)) =
+    ap (λ ws. sum_of (word_at 0 ws)) are.spelled in absurd (omega arith)

@@ -1,12 +1,14 @@
 -- The words of a line are words, and its text is cut into them.
-use Rattle.std.proofs.Common.{◌≡◌, ◌⊎◌, ◌∙◌, ◌+◌, ◌%◌, ◌<◌, ◌≤◌, ◌^◌, ◌++◌, ◌∷◌, [], codes, Some, None, inl, inr, ap, sym, refl, subst, ℕ, suc, List, length-append, false, arith}
+use Rattle.std.proofs.Common.{◌≡◌, ◌⊎◌, ◌∙◌, ◌+◌, ◌%◌, ◌<◌, ◌≤◌, ◌^◌, ◌++◌, ◌∷◌, [], codes, Some, None, inl, inr, ap}
+use Rattle.std.proofs.Common.{sym, refl, subst, ℕ, suc, List, length-append, false, arith}
 use Rattle.std.specs.List.{All, slice_split, join_with_byte}
 use Rattle.std.specs.Fmt.{decimal}
 use Rattle.std.proofs.lemmas.Bool.Decides.{nat_tests}
 use Rattle.std.proofs.lemmas.List.Elements.{All-push, All-nil, All-cons}
 use Rattle.std.proofs.lemmas.List.Splits.{slice_split_at, slice_split_none, join_with_byte-slice_split}
 use Rattle.std.proofs.lemmas.Fmt.{decimal_by_steps}
-use Rattle.lines.specs.Grammar.{IsIdle, IsKeyWord, IsWord, LineValue, Says, Idle, Del, Lose, shown_line}
+use Rattle.lines.specs.Keys.{IsKeyWord, IsWord}
+use Rattle.lines.specs.Grammar.{IsIdle, LineValue, Says, Idle, Del, Lose, shown_line}
 use Rattle.lines.specs.Cutting.{is_space}
 use Rattle.lines.specs.Words.{AreNumber, AreWordsOf, ReadsWords}
 use Rattle.lines.specs.declared.line.Line.{Line}
@@ -17,7 +19,11 @@ abbrev IsVisible : ℕ → Type 0
 IsVisible b = (33 ≤ b) × (b ≤ 126)
 
 one_digit : (n : ℕ) → n < 10 → IsWord ((48 + n) ∷ [])
-one_digit n small = record { some = omega arith; visible = All-cons IsVisible (48 + n) [] (omega arith, omega arith) (All-nil IsVisible) }
+one_digit n small = record {
+  some = omega arith;
+  visible = All-cons IsVisible (48 + n) [] (omega arith, omega arith)
+      (All-nil IsVisible);
+}
 
 more_digits : (n : ℕ) (digits : List ℕ) → 10 ≤ n → IsWord digits → IsWord (digits ++ (48 + n % 10) ∷ [])
 more_digits n digits large word = record {
@@ -46,7 +52,8 @@ del words table key behind cut small key_is = record {
 }
 
 -- what is behind `lose`
-pub lose : (words : List (List ℕ)) (backup : ℕ) → AreNumber words backup → AreWordsOf (codes "lose" ∷ words) (Lose backup)
+pub lose : (words : List (List ℕ)) (backup : ℕ) → AreNumber words backup
+    → AreWordsOf (codes "lose" ∷ words) (Lose backup)
 lose words backup number = record {
   spelled = ap (λ ws. codes "lose" ∷ ws) number.spelled;
   each = All-cons IsWord (codes "lose") (decimal backup ∷ []) is_lose
@@ -83,7 +90,8 @@ said text line are = record {
 }
 
 -- the text of a line that does something is cut into its words
-pub cut_or_idle : (text : List ℕ) (line : LineValue) → Says text line → (line ≡ Idle) ⊎ AreWordsOf (slice_split is_space text) line
+pub cut_or_idle : (text : List ℕ) (line : LineValue) → Says text line → (line ≡ Idle)
+    ⊎ AreWordsOf (slice_split is_space text) line
 cut_or_idle text Idle says = inl refl
 cut_or_idle text line says = inr (record {
   spelled = ap (slice_split is_space) says.spaced ∙ split_joined _ _ says.words;
@@ -94,9 +102,11 @@ cut_or_idle text line says = inr (record {
 -- the line that is read of the words is that of the text
 pub read_is_said : (text : List ℕ) (words : List (List ℕ)) (line : Line) → words ≡ slice_split is_space text
     → ReadsWords words (Some line) → Says text (shown_line line)
-read_is_said text words line split reads = said text (shown_line line) (subst (λ ws. AreWordsOf ws (shown_line line)) split reads)
+read_is_said text words line split reads = said text (shown_line line)
+    (subst (λ ws. AreWordsOf ws (shown_line line)) split reads)
 
-pub unread_is_unsaid : (text : List ℕ) (words : List (List ℕ)) → words ≡ slice_split is_space text → (IsIdle text → ⊥) → ReadsWords words None
+pub unread_is_unsaid : (text : List ℕ) (words : List (List ℕ)) → words ≡ slice_split is_space text → (IsIdle text → ⊥)
+    → ReadsWords words None
     → (line : LineValue) → Says text line → ⊥
 unread_is_unsaid text words split busy reads line says =
     elim (cut_or_idle text line says) [

@@ -2,7 +2,10 @@
 use Rattle.std.specs.Prelude.{◌≡◌, ◌⊎◌, ◌<◌, ◌≤◌, ◌^◌, ℕ, List, [], ◌∷◌, length, map, codes}
 use Rattle.std.specs.List.{All, join_with_byte}
 use Rattle.std.specs.Fmt.{decimal}
+use Rattle.lines.specs.Keys.{IsKeyWord, IsWord}
 use Rattle.lines.specs.Numbers.{numbers_of}
+use Rattle.lines.specs.declared.command.CommandLine.{CommandLine}
+use Rattle.lines.specs.declared.command.CommandLine.TheVariants as command
 use Rattle.lines.specs.declared.line.Line.{Line}
 use Rattle.lines.specs.declared.line.Line.TheVariants as line
 use Rattle.lines.specs.declared.line.ReplayOrder.{ReplayOrder}
@@ -38,14 +41,18 @@ pub data LineValue : Type 0 where
   Free : LineValue
   Clients : (clients rounds passes : ℕ) → LineValue
 
+-- the value of a command's line of the program
+abbrev pub shown_command : CommandLine → LineValue
+shown_command (command.Put table key value) = Put table key.bytes.now value.now
+shown_command (command.New table key value) = New table key.bytes.now value.now
+shown_command (command.Cas table key version value) = Cas table key.bytes.now version value.now
+shown_command (command.Get table key) = Get table key.bytes.now
+shown_command (command.Del table key) = Del table key.bytes.now
+
 -- the value of a line of the program
 abbrev pub shown_line : Line → LineValue
 shown_line line.Idle = Idle
-shown_line (line.Put table key value) = Put table key.now value.now
-shown_line (line.New table key value) = New table key.now value.now
-shown_line (line.Cas table key version value) = Cas table key.now version value.now
-shown_line (line.Get table key) = Get table key.now
-shown_line (line.Del table key) = Del table key.now
+shown_line (line.Command c) = shown_command c
 shown_line (line.Compact segment) = Compact segment
 shown_line line.Roll = Roll
 shown_line line.BeginRoll = BeginRoll
@@ -65,18 +72,6 @@ shown_line line.Copy = Copy
 shown_line line.Seal = Seal
 shown_line line.Free = Free
 shown_line (line.Clients clients rounds passes) = Clients clients rounds passes
-
--- ---- words
-
--- a word is one byte or more, each from 0x21 to 0x7E
-pub record IsWord (word : List ℕ) : Type 0 where
-  pub some : 0 < length word
-  pub visible : All (λ b. (33 ≤ b) × (b ≤ 126)) word
-
--- a key is a word of at most 1,024 bytes
-pub record IsKeyWord (key : List ℕ) : Type 0 where
-  pub word : IsWord key
-  pub short : length key ≤ 1024
 
 -- ---- how a line is written
 

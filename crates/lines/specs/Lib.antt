@@ -1,5 +1,6 @@
 pub mod Cutting
 pub mod Grammar
+pub mod Keys
 pub mod Numbers
 pub mod Reading
 pub mod Reasons

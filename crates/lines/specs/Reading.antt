@@ -5,8 +5,8 @@ use Rattle.std.specs.List.{All}
 use Rattle.std.specs.Io.KnownBytes.{Consumes, IsAtEnd, Keeps}
 use Rattle.lines.specs.declared.reading.Taken.{Taken}
 use Rattle.lines.specs.declared.reading.Taken.TheVariants.{Ended, Last, TooLong, Nothing}
-use Rattle.lines.specs.declared.reading.Shown.{Shown}
-use Rattle.lines.specs.declared.reading.Shown.TheVariants as shown
+use Rattle.lines.specs.declared.reading.Took.{Took}
+use Rattle.lines.specs.declared.reading.Took.TheVariants as took_as
 use Rattle.lines.specs.declared.reading.ReadFault.{ReadFault}
 use Rattle.lines.specs.declared.reading.ReadFault.TheVariants.{ReadFailed, WriteFailed, NoMemory}
 
@@ -53,12 +53,12 @@ GrowsBy before after part = (after ≡ before ++ part) × IsUnbroken part
 
 -- What was taken of the bytes that a reader shows: the last part of a line with the line feed behind it, or a part of
 -- one byte or more, or nothing. A fault takes nothing.
-abbrev pub TakesShown : Option (List ℕ) → Option (List ℕ) → List ℕ → List ℕ → Result Shown ReadFault → Type 0
-TakesShown old new before after (Ok shown.Ended) =
+abbrev pub TakesShown : Option (List ℕ) → Option (List ℕ) → List ℕ → List ℕ → Result Took ReadFault → Type 0
+TakesShown old new before after (Ok took_as.Ended) =
     (part : List ℕ) × Consumes old new (part ++ 10 ∷ []) × GrowsBy before after part × (length after ≤ 4096)
-TakesShown old new before after (Ok shown.Part) =
+TakesShown old new before after (Ok took_as.Part) =
     (part : List ℕ) × Consumes old new part × GrowsBy before after part × (length after ≤ 4097) × (0 < length part)
-TakesShown old new before after (Ok shown.Nothing) = Keeps old new × (after ≡ before)
+TakesShown old new before after (Ok took_as.Nothing) = Keeps old new × (after ≡ before)
 TakesShown old new before after (Err ReadFailed) = Keeps old new × (after ≡ before)
 TakesShown old new before after (Err WriteFailed) = ⊥
 TakesShown old new before after (Err NoMemory) = ⊥

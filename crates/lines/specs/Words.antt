@@ -3,7 +3,8 @@ use Rattle.std.specs.Prelude.{◌≡◌, ◌≢◌, ◌<◌, ◌≤◌, ◌^◌,
 use Rattle.std.specs.Prelude.{Option, Some, None}
 use Rattle.std.specs.List.{All}
 use Rattle.std.specs.Fmt.{decimal}
-use Rattle.lines.specs.Grammar.{IsLine, IsOrder, IsWord, LineValue, Idle, order_words, shown_line, words_of}
+use Rattle.lines.specs.Keys.{IsWord}
+use Rattle.lines.specs.Grammar.{IsLine, IsOrder, LineValue, Idle, order_words, shown_line, words_of}
 use Rattle.lines.specs.declared.line.Line.{Line}
 use Rattle.lines.specs.declared.line.ReplayOrder.{ReplayOrder}
 

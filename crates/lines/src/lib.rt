@@ -1,10 +1,11 @@
 //! The lines of a script: read one at a time from any reader, and parsed.
 //!
-//! `LineReader::next_line` promises which bytes it took of the reader and where they ended, also at a fault. `parse_line` promises
-//! that the text is that of its line, and at `None` that the text is that of no line. `specs/Grammar.antt` defines what
-//! each line is written as, and uses nothing of the parser.
+//! `LineReader::next_line` promises which bytes it took of the reader and where they ended, also at a fault.
+//! `parse_line` promises that the text is that of its line, and at `None` that the text is that of no line.
+//! `specs/Grammar.antt` defines what each line is written as, and uses nothing of the parser.
 #![tactic(auto)]
 
+mod command;
 mod laws;
 mod line;
 mod numbers;
@@ -14,6 +15,7 @@ mod reason;
 mod why;
 mod words;
 
+pub use command::{CommandLine, KeyWord};
 pub use laws::one_line;
 pub use line::{Line, ReplayOrder};
 pub use numbers::Numbers;

@@ -1,5 +1,6 @@
 //! The lines of a script.
 
+use crate::command::CommandLine;
 use crate::numbers::Numbers;
 
 /// In which order a recovery takes what it replays.
@@ -18,35 +19,8 @@ pub enum ReplayOrder {
 pub enum Line<'a> {
     /// Nothing to do: an empty line, or one that begins with `#`.
     Idle,
-    /// Put a value under a key of a table.
-    Put {
-        table: u64,
-        key: &'a [u8],
-        value: &'a [u8],
-    },
-    /// Put a value under a key only if the key is absent.
-    New {
-        table: u64,
-        key: &'a [u8],
-        value: &'a [u8],
-    },
-    /// Put a value under a key only if the key has this version.
-    Cas {
-        table: u64,
-        key: &'a [u8],
-        version: u64,
-        value: &'a [u8],
-    },
-    /// Get the value of a key of a table.
-    Get {
-        table: u64,
-        key: &'a [u8],
-    },
-    /// Delete a key of a table.
-    Del {
-        table: u64,
-        key: &'a [u8],
-    },
+    /// Ask the map for something: put, new, cas, get or del.
+    Command(CommandLine<'a>),
     /// Drop what a closed segment doesn't keep from its image in memory.
     Compact {
         segment: u64,

@@ -9,8 +9,8 @@ use std::fmt;
 
 /// The numbers of a line that are still to come, in order.
 ///
-/// They lie in the text as words, which were found to be numbers of 64 bits when the line was parsed. To read them takes
-/// no memory; `collect` puts them into a list.
+/// They lie in the text as words, which were found to be numbers of 64 bits when the line was parsed. To read them
+/// takes no memory; `collect` puts them into a list.
 #[derive(Clone, Copy)]
 pub struct Numbers<'a> {
     pub(crate) rest: Option<&'a [u8]>,

@@ -6,6 +6,7 @@ ghost use Rattle.lines.specs.Grammar.{IsIdle, IsOrder, LineValue, Says, order_wo
 ghost use Rattle.lines.specs.Words.{AreNumber, IsNoLongName, ReadsOrder, ReadsWords};
 ghost use Rattle.lines.specs.declared.line.ReplayOrder.{ReplayOrder};
 
+use crate::command::{CommandLine, KeyWord};
 use crate::line::{Line, ReplayOrder};
 use crate::reason::Reason;
 use crate::why::reason_of;
@@ -85,7 +86,8 @@ fn put(mut words: Words<'_>) -> Option<Line<'_>>
     let table = words.number()?;
     let key = words.key()?;
     let value = words.last()?;
-    Some(Line::Put { table, key, value })
+    let key = KeyWord { bytes: key };
+    Some(Line::Command(CommandLine::Put { table, key, value }))
 }
 
 /// The words behind `new` as a table, a key and a value.
@@ -97,7 +99,8 @@ fn new(mut words: Words<'_>) -> Option<Line<'_>>
     let table = words.number()?;
     let key = words.key()?;
     let value = words.last()?;
-    Some(Line::New { table, key, value })
+    let key = KeyWord { bytes: key };
+    Some(Line::Command(CommandLine::New { table, key, value }))
 }
 
 /// The words behind `cas` as a table, a key, a version and a value.
@@ -110,12 +113,13 @@ fn cas(mut words: Words<'_>) -> Option<Line<'_>>
     let key = words.key()?;
     let version = words.number()?;
     let value = words.last()?;
-    Some(Line::Cas {
+    let key = KeyWord { bytes: key };
+    Some(Line::Command(CommandLine::Cas {
         table,
         key,
         version,
         value,
-    })
+    }))
 }
 
 /// The words behind `get` as a table and a key.
@@ -125,7 +129,8 @@ fn get(mut words: Words<'_>) -> Option<Line<'_>>
 {
     let table = words.number()?;
     let key = words.last_key()?;
-    Some(Line::Get { table, key })
+    let key = KeyWord { bytes: key };
+    Some(Line::Command(CommandLine::Get { table, key }))
 }
 
 /// The words behind `del` as a table and a key.
@@ -135,7 +140,8 @@ fn del(mut words: Words<'_>) -> Option<Line<'_>>
 {
     let table = words.number()?;
     let key = words.last_key()?;
-    Some(Line::Del { table, key })
+    let key = KeyWord { bytes: key };
+    Some(Line::Command(CommandLine::Del { table, key }))
 }
 
 /// The word behind `hex` as the number of a segment.

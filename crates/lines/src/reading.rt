@@ -1,6 +1,7 @@
 //! Reading lines one at a time, each of a bounded length, in a dialogue with a writer.
 
-ghost use Rattle.std.specs.Prelude.{◌≡◌, ◌+◌, ◌≤◌, ◌++◌, [], List, ℕ, length, IfErr, IfOk, OnErr, vec_capacity, vec_len};
+ghost use Rattle.std.specs.Prelude.{◌≡◌, ◌+◌, ◌≤◌, ◌++◌, [], List, ℕ, length, IfErr, IfOk, OnErr, vec_capacity};
+ghost use Rattle.std.specs.Prelude.{vec_len};
 ghost use Rattle.std.specs.Io.KnownBytes.{Keeps};
 ghost use Rattle.lines.specs.Reading.{IsFrontOfLine, StopsIn, TakesByte, TakesLine, TakesShown};
 
@@ -72,8 +73,8 @@ impl LineReader {
 
     /// Reads the next line.
     ///
-    /// The writer is flushed before the reader is asked for bytes that it didn't show yet. So whoever sends a line and waits
-    /// for its answer gets it. While the reader has more to show, the writer may go on writing in blocks.
+    /// The writer is flushed before the reader is asked for bytes that it didn't show yet. So whoever sends a line and
+    /// waits for its answer gets it. While the reader has more to show, the writer may go on writing in blocks.
     ///
     /// It asks for the memory of the longest line before it reads anything. It tries an interrupted read again.
     pub fn next_line<R: BufRead, W: Write>(
@@ -94,10 +95,10 @@ impl LineReader {
                 return Err(ReadFault::WriteFailed);
             }
             match take_shown(reader, &mut self.text, &mut self.is_spent)? {
-                Shown::Ended => return Ok(Taken::Ended),
-                Shown::Part => {}
+                Took::Ended => return Ok(Taken::Ended),
+                Took::Part => {}
                 // Only a read is certain to find the end of the input.
-                Shown::Nothing => match next_byte(reader)? {
+                Took::Nothing => match next_byte(reader)? {
                     Some(b'\n') => return Ok(Taken::Ended),
                     Some(byte) => self.text.push_reserved(byte),
                     None if self.text.is_empty() => return Ok(Taken::Nothing),
@@ -129,7 +130,7 @@ fn next_byte<R: Read>(reader: &mut R) -> Result<Option<u8>, ReadFault>
 
 /// What `take_shown` took.
 #[derive(Clone, Copy)]
-enum Shown {
+enum Took {
     /// The last bytes of the line, and its line feed.
     Ended,
     /// A byte of the line or more.
@@ -143,16 +144,16 @@ fn take_shown<R: BufRead>(
     reader: &mut R,
     line: &mut Vec<u8>,
     is_spent: &mut bool,
-) -> Result<Shown, ReadFault>
+) -> Result<Took, ReadFault>
     requires short { vec_len line.old ≤ 4096 }
     requires room { 4097 ≤ vec_capacity line.old }
     ensures taken { TakesShown (R.remaining reader.old) (R.remaining reader.new) line.old.items line.new.items result }
     ensures capacity { vec_capacity line.old ≤ vec_capacity line.new }
 {
     let shown = match reader.fill_buf() {
-        Ok([]) => return Ok(Shown::Nothing),
+        Ok([]) => return Ok(Took::Nothing),
         Ok(shown) => shown,
-        Err(error) if error.kind() == ErrorKind::Interrupted => return Ok(Shown::Nothing),
+        Err(error) if error.kind() == ErrorKind::Interrupted => return Ok(Took::Nothing),
         Err(_) => return Err(ReadFault::ReadFailed),
     };
     let (len, is_ended) = front_of_line(shown, MAX_LINE_LEN + 1 - line.len());
@@ -160,10 +161,10 @@ fn take_shown<R: BufRead>(
     *is_spent = len + usize::from(is_ended) == shown.len();
     if is_ended {
         reader.consume(len + 1);
-        Ok(Shown::Ended)
+        Ok(Took::Ended)
     } else {
         reader.consume(len);
-        Ok(Shown::Part)
+        Ok(Took::Part)
     }
 }
 
@@ -184,7 +185,5 @@ fn append(line: &mut Vec<u8>, bytes: &[u8])
     ensures items { line.new.items ≡ line.old.items ++ bytes.now }
     ensures capacity { vec_capacity line.old ≤ vec_capacity line.new }
 {
-    let Ok(()) = line.extend_from_slice(bytes) else {
-        unreachable!()
-    };
+    line.extend_from_slice(bytes).unwrap();
 }

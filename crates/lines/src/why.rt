@@ -63,12 +63,9 @@ pub(crate) fn reason_of(text: &[u8]) -> Reason
 fn hidden_byte(text: &[u8]) -> Option<u8>
     ensures { IfSome result (HasHidden text.now) }
 {
-    for byte in text {
-        if *byte < 0x20 || *byte > 0x7e {
-            return Some(*byte);
-        }
-    }
-    None
+    text.iter()
+        .copied()
+        .find(|byte| *byte < 0x20 || *byte > 0x7e)
 }
 
 /// Whether the text has a word without a byte.
@@ -88,24 +85,17 @@ fn has_empty_word(text: &[u8]) -> bool
 fn command(name: &[u8]) -> Option<(&'static str, Shape)>
     ensures { IfSome result (λ command. command.0.now ≡ name.now) }
 {
-    for (other, shape) in COMMANDS {
-        if other.as_bytes() == name {
-            return Some((*other, *shape));
-        }
-    }
-    None
+    COMMANDS
+        .iter()
+        .copied()
+        .find(|command| command.0.as_bytes() == name)
 }
 
 /// Whether one of the bytes is a capital letter.
 fn has_capital(word: &[u8]) -> bool
     ensures { IsTrue result → HasCapital word.now }
 {
-    for byte in word {
-        if byte.is_ascii_uppercase() {
-            return true;
-        }
-    }
-    false
+    word.iter().any(|byte| byte.is_ascii_uppercase())
 }
 
 /// Which of the words behind a command's name is wrong. `None` if there are more or fewer than it has.
@@ -113,47 +103,58 @@ fn wrong_word(rest: Option<&[u8]>, shape: Shape) -> Option<Reason>
     ensures { IfSome result (IsWrong (words_left rest.entry)) }
 {
     match shape {
-        Shape::Value => wrong_of(rest, &[Part::Number, Part::Key, Part::Any]),
-        Shape::Version => wrong_of(rest, &[Part::Number, Part::Key, Part::Number, Part::Any]),
-        Shape::Key => wrong_of(rest, &[Part::Number, Part::Key]),
-        Shape::Segment | Shape::Ops | Shape::Backup => wrong_of(rest, &[Part::Number]),
+        Shape::Value => wrong_of(rest, &[WordKind::Number, WordKind::Key, WordKind::Any]),
+        Shape::Version => wrong_of(
+            rest,
+            &[
+                WordKind::Number,
+                WordKind::Key,
+                WordKind::Number,
+                WordKind::Any,
+            ],
+        ),
+        Shape::Key => wrong_of(rest, &[WordKind::Number, WordKind::Key]),
+        Shape::Segment | Shape::Ops | Shape::Backup => wrong_of(rest, &[WordKind::Number]),
         Shape::Segments => wrong_number(rest),
-        Shape::Clients => wrong_of(rest, &[Part::Number, Part::Number, Part::Number]),
+        Shape::Clients => wrong_of(
+            rest,
+            &[WordKind::Number, WordKind::Number, WordKind::Number],
+        ),
         Shape::Order | Shape::Alone => None,
     }
 }
 
 /// A word behind a command's name.
 #[derive(Clone, Copy)]
-enum Part {
+enum WordKind {
     Number,
     Key,
     Any,
 }
 
-/// Which of the words is no such part. `None` if there are more or fewer words than parts.
-fn wrong_of(rest: Option<&[u8]>, parts: &[Part]) -> Option<Reason>
+/// Which of the words is no such kind. `None` if there are more or fewer words than kinds.
+fn wrong_of(rest: Option<&[u8]>, kinds: &[WordKind]) -> Option<Reason>
     ensures { IfSome result (IsWrong (words_left rest.entry)) }
 {
     let mut words = Words::left(rest);
     let mut found = None;
-    for part in parts {
+    for kind in kinds {
         let word = words.next_word()?;
         if found.is_none() {
-            found = wrong_part(word, *part);
+            found = wrong_of_kind(word, *kind);
         }
     }
     words.end()?;
     found
 }
 
-/// Why the word is no such part, if it isn't.
-fn wrong_part(word: &[u8], part: Part) -> Option<Reason>
+/// Why the word is no such kind, if it isn't.
+fn wrong_of_kind(word: &[u8], kind: WordKind) -> Option<Reason>
     ensures { IfSome result (IsWrongWord word.now) }
 {
-    match part {
-        Part::Number if !is_number(word) => Some(Reason::Number),
-        Part::Key if word.len() > MAX_KEY_LEN => Some(Reason::LongKey),
+    match kind {
+        WordKind::Number if !is_number(word) => Some(Reason::Number),
+        WordKind::Key if word.len() > MAX_KEY_LEN => Some(Reason::LongKey),
         _ => None,
     }
 }

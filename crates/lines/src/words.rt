@@ -1,11 +1,12 @@
 //! The words of a text, read one after another.
 
-ghost use Rattle.std.specs.Prelude.{◌≡◌, ◌≢◌, ◌∷◌, ◌^◌, ◌<◌, ◌≤◌, ◌↔◌, ℕ, List, [], IfSome, IsNone, IsSome, IsTrue, MatchOption, length};
+ghost use Rattle.std.specs.Prelude.{◌≡◌, ◌≢◌, ◌∷◌, ◌^◌, ◌<◌, ◌≤◌, ◌↔◌, ℕ, List, [], IfSome, IsNone, IsSome, IsTrue};
+ghost use Rattle.std.specs.Prelude.{MatchOption, length};
 ghost use Rattle.std.specs.List.{All, slice_split};
 ghost use Rattle.std.specs.Fmt.{decimal};
 ghost use Rattle.std.specs.Str.Parse.{AllDigits, digits_value};
 ghost use Rattle.lines.specs.Cutting.{IsNumberWord, is_space, words_left};
-ghost use Rattle.lines.specs.Grammar.{IsKeyWord, IsWord};
+ghost use Rattle.lines.specs.Keys.{IsKeyWord, IsWord};
 ghost use Rattle.lines.specs.Numbers.{numbers_of};
 ghost use Rattle.lines.specs.Words.{AreNumbers, IsVisible, IsVisibleFront};
 

@@ -1,9 +1,9 @@
 -- What a life of a master begins with.
 use Rattle.std.specs.Prelude.{◌≡◌, ◌≤◌, ℕ, None, []}
 use Rattle.command_line.specs.declared.settings.Options.{Options}
-use Rattle.master_core.specs.declared.config.Config.{Config}
-use Rattle.master_core.specs.Config.{config_fault}
-use Rattle.master_core.specs.Data.{MasterData}
+use Rattle.master_state.specs.declared.config.Config.{Config}
+use Rattle.master_state.specs.Config.{config_fault}
+use Rattle.master_state.specs.Data.{MasterData}
 use Rattle.replica.specs.Picture.{FleetState}
 
 -- it is within its limits, and has as many records as the options say

@@ -4,7 +4,7 @@ ghost use Rattle.std.specs.Prelude.{◌≡◌, ℕ, suc, max, None, IfOk, IfSome
 ghost use Rattle.backup.specs.State.{fleet_state};
 ghost use Rattle.one_seat.specs.Lives.{CanBegin};
 ghost use Rattle.replica.specs.Picture.{AreHeld};
-ghost use Rattle.script.specs.Numbers.{greatest_of};
+ghost use Rattle.next_master.specs.Numbers.{greatest_of};
 
 use backup::MemoryFleet;
 use entry::NoMemory;
@@ -31,7 +31,7 @@ pub struct Coordinator {
 
 /// The table of a master, and what the one that is to adopt it begins with.
 #[derive(Drop)]
-pub struct Found {
+pub struct Inheritance {
     pub rebuilt: Rebuilt,
     pub config: Config,
     pub will: Will,
@@ -57,13 +57,13 @@ impl Coordinator {
     }
 
     /// Recovers the table of the last master, and chooses the next master's number. If it can't, it answers why.
-    pub fn find(
+    pub fn find_inheritance(
         &self,
         alloc: Global,
         options: &Options,
         fleet: &MemoryFleet,
         order: ReplayOrder,
-    ) -> Result<Found, Answer>
+    ) -> Result<Inheritance, Answer>
         ensures { IfOk result (λ f. CanBegin options.now (fleet_state fleet.now) f.config) }
     {
         let Ok(inventory) = fleet.inventory(alloc) else {
@@ -78,7 +78,7 @@ impl Coordinator {
             Err(answer) => return Err(answer),
         };
         match whole_will(alloc, options) {
-            Ok(will) => Ok(Found {
+            Ok(will) => Ok(Inheritance {
                 rebuilt,
                 config,
                 will,
@@ -151,9 +151,7 @@ fn next_number(inventory: &[Holding], master: u64) -> Option<u64>
 {
     let mut greatest = master;
     for holding in inventory {
-        if greatest < holding.master {
-            greatest = holding.master;
-        }
+        greatest = greatest.max(holding.master);
     }
     greatest.checked_add(1)
 }

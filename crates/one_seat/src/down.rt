@@ -4,7 +4,7 @@ ghost use Rattle.std.specs.Prelude.{◌≡◌, IfOk, IfSome};
 ghost use Rattle.backup.specs.State.{fleet_state};
 ghost use Rattle.one_seat.specs.Lives.{CanBegin, IsOpening};
 
-use crate::coordinator::{Coordinator, Found};
+use crate::coordinator::{Coordinator, Inheritance};
 use backup::MemoryFleet;
 use entry::NoMemory;
 use lines::{Line, parse_line};
@@ -48,7 +48,7 @@ fn find_next<R: Wait, I: BufRead + Drop, O: Write + Drop>(
     options: &Options,
     coordinator: &Coordinator,
     fleet: &mut MemoryFleet,
-) -> Option<Found>
+) -> Option<Inheritance>
     ensures { IfSome result (λ f. CanBegin options.now (fleet_state fleet.new) f.config) }
 {
     for _ in rt.forever() {
@@ -69,7 +69,7 @@ fn run_text<I: BufRead + Drop, O: Write + Drop>(
     options: &Options,
     coordinator: &Coordinator,
     fleet: &mut MemoryFleet,
-) -> Option<Found>
+) -> Option<Inheritance>
     ensures { IfSome result (λ f. CanBegin options.now (fleet_state fleet.new) f.config) }
 {
     let line = match parse_line(dialogue.lines.text()) {
@@ -80,7 +80,7 @@ fn run_text<I: BufRead + Drop, O: Write + Drop>(
         }
     };
     if let Line::Recover { order } = line {
-        return match coordinator.find(alloc, options, fleet, order) {
+        return match coordinator.find_inheritance(alloc, options, fleet, order) {
             Ok(found) => Some(found),
             Err(answer) => {
                 dialogue.answer(answer);
@@ -129,13 +129,13 @@ fn succeed<I: BufRead + Drop, O: Write + Drop>(
     dialogue: &mut Dialogue<I, O>,
     options: &Options,
     coordinator: &mut Coordinator,
-    found: Found,
+    found: Inheritance,
     fleet: MemoryFleet,
 ) -> Result<Master<MemoryFleet>, MemoryFleet>
     requires { CanBegin options.now (fleet_state fleet) found.config }
     ensures { IfOk result (λ m. IsOpening options.now m.knows) }
 {
-    let Found {
+    let Inheritance {
         rebuilt,
         config,
         will,

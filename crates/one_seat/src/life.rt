@@ -47,7 +47,8 @@ impl<B: Naming> Life<B> {
         will: &mut Will,
         line: Line<'_>,
     ) -> Result<Answer, LineFault> {
-        if let Some(command) = command_of(self.alloc, line)? {
+        if let Line::Command(command) = line {
+            let command = command_of(self.alloc, command)?;
             return self.call(rt, command);
         }
         if let Some(answer) = turn_line(rt, self.alloc, &self.store, line)? {
@@ -109,10 +110,8 @@ impl<B: Naming> Life<B> {
     pub fn keep(&mut self, answer: Answer) -> Result<bool, NoMemory> {
         match answer {
             Answer::Reply(reply) => {
-                match self.replies.push(reply) {
-                    Ok(()) => Ok(true),
-                    Err(_) => Err(NoMemory),
-                }
+                self.replies.push(reply)?;
+                Ok(true)
             }
             Answer::Crashed => Ok(false),
             Answer::Stopped => Ok(false),

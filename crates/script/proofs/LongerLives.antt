@@ -1,35 +1,38 @@
 -- What lines tell of a life, they tell of a longer one.
-use Rattle.std.proofs.Common.{◌≡◌, ℕ, zero, suc, ◌≤◌, List, [], ◌∷◌, ◌++◌, take, length, refl, sym, ap, subst, inl, inr, ◌∙◌, arith}
+use Rattle.std.proofs.Common.{[], ◌≡◌, ℕ, zero, suc, ◌≤◌, List, ◌∷◌, ◌++◌, take, length, refl, sym, ap, subst, inl, inr}
+use Rattle.std.proofs.Common.{◌∙◌, arith}
 use Rattle.std.proofs.lemmas.List.{length-append, take-append-le}
 use Rattle.std.specs.Prelude.{Option, None, Some, Result, Ok, slice_get}
 use Rattle.lines.specs.Grammar.{LineValue}
 use Rattle.versioned_map.specs.declared.command.Command.{Command}
 use Rattle.versioned_map.specs.declared.command.Record.{Record}
-use Rattle.master_core.specs.declared.config.Config.{Config}
+use Rattle.master_state.specs.declared.config.Config.{Config}
 use Rattle.versioned_map.specs.History.{commands_of}
 use Rattle.versioned_map.specs.Versioned.{State, after as map_after, IsSafeAfter}
 use Rattle.claims.specs.declared.rebuilt.Rebuilt.{Rebuilt}
-use Rattle.script.specs.declared.answer.Answer.{Answer}
+use Rattle.answers.specs.declared.answer.Answer.{Answer}
 use Rattle.store_clients.specs.Workloads.{AreAccepted}
-use Rattle.script.specs.declared.answer.Answer.TheVariants as answer
-use Rattle.script.specs.Counted.{AreCounted}
-use Rattle.script.specs.Lives.{Life, life_to, Left, IsLeftBy, IsLeftBySpent, Position}
-use Rattle.master_core.specs.declared.step.Refusal.{Refusal}
-use Rattle.master_core.specs.declared.step.Step.{Step}
-use Rattle.master_core.specs.declared.step.StepAnswer.{StepAnswer}
-use Rattle.master_core.specs.declared.step.Step.TheVariants as step
-use Rattle.master_core.specs.declared.step.StepAnswer.TheVariants as step_answer
-use Rattle.script.specs.Told.{IsRecordAt, IsIn, IsCause, IsImageAt, IsPushedAt, IsRecoveredAt, IsUnadopted, Tells}
-use Rattle.script.specs.Told.{IsStepAt, IsRollAt, IsCleanAt, IsStepRefusal, IsDigestAt, IsRoomAt, IsWillAt, AreHeldAt}
+use Rattle.answers.specs.declared.answer.Answer.TheVariants as answer
+use Rattle.node.specs.Counted.{AreCounted}
+use Rattle.node.specs.Lives.{Life, life_to, Left, IsLeftBy, IsLeftBySpent, Position}
+use Rattle.master_state.specs.declared.step.Refusal.{Refusal}
+use Rattle.master_state.specs.declared.step.Step.{Step}
+use Rattle.master_state.specs.declared.step.StepAnswer.{StepAnswer}
+use Rattle.master_state.specs.declared.step.Step.TheVariants as step
+use Rattle.master_state.specs.declared.step.StepAnswer.TheVariants as step_answer
+use Rattle.node.specs.Told.{IsRecordAt, IsIn, IsCause, IsImageAt, IsPushedAt, IsRecoveredAt, IsUnadopted, Tells}
+use Rattle.node.specs.Told.{IsStepAt, IsRollAt, IsCleanAt, IsStepRefusal, IsDigestAt, IsRoomAt, IsWillAt, AreHeldAt}
 
 -- ---- a longer history tells the same
 
-slice_get-longer : (xs ys : List Record) (place : ℕ) (r : Record) → slice_get xs place ≡ Some r → slice_get (xs ++ ys) place ≡ Some r
+slice_get-longer : (xs ys : List Record) (place : ℕ) (r : Record) → slice_get xs place ≡ Some r
+    → slice_get (xs ++ ys) place ≡ Some r
 slice_get-longer [] ys place r is = absurd (cc)
 slice_get-longer (x ∷ xs) ys zero r is = is
 slice_get-longer (x ∷ xs) ys (suc place) r is = slice_get-longer xs ys place r is
 
-take-commands : (xs ys : List Record) (count : ℕ) → count ≤ length xs → take count (commands_of (xs ++ ys)) ≡ take count (commands_of xs)
+take-commands : (xs ys : List Record) (count : ℕ) → count ≤ length xs
+    → take count (commands_of (xs ++ ys)) ≡ take count (commands_of xs)
 take-commands xs ys zero within = refl
 take-commands [] ys (suc count) within = absurd (omega arith)
 take-commands (x ∷ xs) ys (suc count) within = ap (λ l. x.command ∷ l) (take-commands xs ys count (omega arith))
@@ -39,12 +42,14 @@ module _ (config : Config) (life : Life) where
   as_before : (at next : Position) → next ≡ at → at.made ≤ next.made
   as_before at next is = let same = ap (λ (p : Position). p.made) is in omega arith
 
-  pub rises : (at : Position) (line : LineValue) (a : Answer) (next : Position) → Tells config life at line a next → at.made ≤ next.made
+  pub rises : (at : Position) (line : LineValue) (a : Answer) (next : Position) → Tells config life at line a next
+      → at.made ≤ next.made
   rises at line answer.Silent next t = as_before at next t.1
   rises at line (answer.Reply reply) next t = let made = ap (λ (p : Position). p.made) t.1.1 in omega arith
   rises at line (answer.Refused r) next t = elim t [
     | inl (none, inl (unspent, inl (out, why))) ↦ let made = ap (λ (p : Position). p.made) out.2 in omega arith
-    | inl (none, inl (unspent, inr (added, pushed, waits))) ↦ let made = ap (λ (p : Position). p.made) added.2 in omega arith
+    | inl (none, inl (unspent, inr (added, pushed, waits))) ↦ let made =
+        ap (λ (p : Position). p.made) added.2 in omega arith
     | inl (none, inr refused) ↦ let made = ap (λ (p : Position). p.made) refused.3 in omega arith
     | inr (inl u) ↦ as_before at next u.2
     | inr (inr (unspent, inl u)) ↦ as_before at next u.2
@@ -98,7 +103,8 @@ module _ (config : Config) (opening : State) (history more : List Record) where
   abbrev longer : Life
   longer = record { opening = opening; history = history ++ more }
 
-  record_longer : (place : ℕ) (line : LineValue) (reply : _) → IsRecordAt life place line reply → IsRecordAt longer place line reply
+  record_longer : (place : ℕ) (line : LineValue) (reply : _) → IsRecordAt life place line reply
+      → IsRecordAt longer place line reply
   record_longer place line reply is = (is.0, is.1, slice_get-longer history more place _ is.2)
 
   same_front : (count : ℕ) → count ≤ length history → life_to life count ≡ life_to longer count
@@ -106,10 +112,12 @@ module _ (config : Config) (opening : State) (history more : List Record) where
       let same = sym (take-append-le count history more within) in
       λ i. record { opening = opening; history = same i }
 
-  in_longer : (at : Position) (line : LineValue) (left : Option Left) (next : Position) → IsIn life at line left next → IsIn longer at line left next
+  in_longer : (at : Position) (line : LineValue) (left : Option Left) (next : Position) → IsIn life at line left next
+      → IsIn longer at line left next
   in_longer at line left next (reply, there, is) = (reply, record_longer at.made line reply there, is)
 
-  step_longer : (at : Position) (is : Type 0) (s : Step) (a : Result StepAnswer Refusal) (next : Position) → at.made ≤ length history
+  step_longer : (at : Position) (is : Type 0) (s : Step) (a : Result StepAnswer Refusal) (next : Position)
+      → at.made ≤ length history
       → (at.left ≡ None) × is × IsStepAt config (life_to life at.made) s a × (next ≡ at)
       → (at.left ≡ None) × is × IsStepAt config (life_to longer at.made) s a × (next ≡ at)
   step_longer at is s a next within t =
@@ -133,35 +141,59 @@ module _ (config : Config) (opening : State) (history more : List Record) where
         },
       )
 
-  unadopted_longer : (at : Position) (line : LineValue) (r : Refusal) (next : Position) → IsUnadopted config life at line r next
+  unadopted_longer : (at : Position) (line : LineValue) (r : Refusal) (next : Position)
+      → IsUnadopted config life at line r next
       → IsUnadopted config longer at line r next
   unadopted_longer at line r next (asks, (l, left, table, (found, of_left), new, number, declined), is) =
       (asks, (l, left, table, (recovered_longer at table found, of_left), new, number, declined), is)
 
   -- the records of clients
-  counted_longer : (at : Position) (clients rounds calls : ℕ) (next : Position) → at.made ≤ length history → next.made ≤ length history
+  counted_longer : (at : Position) (clients rounds calls : ℕ) (next : Position) → at.made ≤ length history
+      → next.made ≤ length history
       → AreCounted life at clients rounds calls next → AreCounted longer at clients rounds calls next
   counted_longer at clients rounds calls next within after c = record {
     count = c.count;
     more = c.more;
-    accepted = subst (λ (l : List Record). AreAccepted clients rounds (take at.made (history ++ more)) l) (sym (take-append-le next.made history more after))
-        (subst (λ (l : List Record). AreAccepted clients rounds l (take next.made history)) (sym (take-append-le at.made history more within)) c.accepted);
+    accepted = subst (λ (l : List Record). AreAccepted clients rounds (take at.made (history ++ more)) l)
+        (sym (take-append-le next.made history more after))
+        (subst (λ (l : List Record). AreAccepted clients rounds l (take next.made history))
+        (sym (take-append-le at.made history more within)) c.accepted);
     acknowledged = c.acknowledged;
   }
 
-  pub tells_longer : (at : Position) (line : LineValue) (a : Answer) (next : Position) → at.made ≤ length history → next.made ≤ length history
+  pub tells_longer : (at : Position) (line : LineValue) (a : Answer) (next : Position) → at.made ≤ length history
+      → next.made ≤ length history
       → Tells config life at line a next → Tells config longer at line a next
   tells_longer at line answer.Silent next within after t = t
   tells_longer at line (answer.Reply reply) next within after t = (t.0, (record_longer at.made line reply t.1.0, t.1.1))
   tells_longer at line (answer.Refused r) next within after t = elim t [
     | inl (none, inl (unspent, inl (out, inl memory))) ↦ inl (none, inl (unspent, inl (out, inl memory)))
     | inl (none, inl (unspent, inl (out, inr (c, is, cause)))) ↦
-        inl (none, inl (unspent, inl (out, inr (c, is, subst (λ (l : Life). IsCause config l c r) (same_front at.made within) cause))))
+        inl (
+          none,
+          inl (
+            unspent,
+            inl (
+              out,
+              inr (
+                c,
+                is,
+                subst (λ (l : Life). IsCause config l c r)
+                    (same_front at.made within) cause,
+              ),
+            ),
+          ),
+        )
     | inl (none, inl (unspent, inr (added, pushed, waits))) ↦ inl (
       none,
       inl (
         unspent,
-        inr (in_longer at line None next added, subst (λ (l : Life). IsPushedAt config l r) (same_front next.made after) pushed, waits),
+        inr (
+          in_longer at line None next added,
+          subst (λ (l : Life). IsPushedAt config l r)
+              (same_front next.made after) pushed,
+          waits,
+        ),
       ),
     )
     | inl (none, inr refused) ↦ inl (
@@ -179,7 +211,8 @@ module _ (config : Config) (opening : State) (history more : List Record) where
   ]
   tells_longer at line (answer.Head id) next within after t =
       (t.0, t.1, subst (λ (l : Life). IsRollAt config l (Ok id)) (same_front at.made within) t.2, t.3)
-  tells_longer at line (answer.Opening id) next within after t = step_longer at _ step.BeginRoll (Ok (step_answer.Rolling id)) next within t
+  tells_longer at line (answer.Opening id) next within after t =
+      step_longer at _ step.BeginRoll (Ok (step_answer.Rolling id)) next within t
   tells_longer at line (answer.Compacted segment len) next within after t =
       step_longer at _ (step.Compact segment) (Ok (step_answer.Compacted segment len)) next within t
   tells_longer at line (answer.Extended backup segment) next within after t =
@@ -193,19 +226,29 @@ module _ (config : Config) (opening : State) (history more : List Record) where
     (
       t.1.0,
       t.1.1,
-      subst (λ (l : Life). IsStepAt config l (step.BeginClean t.1.0) (Ok (step_answer.Begun survivor))) (same_front at.made within) t.1.2,
+      subst (λ (l : Life). IsStepAt config l (step.BeginClean t.1.0) (Ok (step_answer.Begun survivor)))
+          (same_front at.made within) t.1.2,
     ),
     t.2,
   )
-  tells_longer at line answer.Moved next within after t = step_longer at _ step.Copy (Ok step_answer.Moved) next within t
-  tells_longer at line answer.Carried next within after t = step_longer at _ step.Copy (Ok step_answer.Carried) next within t
-  tells_longer at line answer.Dropped next within after t = step_longer at _ step.Copy (Ok step_answer.Dropped) next within t
-  tells_longer at line (answer.Sealed backup) next within after t = step_longer at _ step.Seal (Ok (step_answer.Sealed backup)) next within t
+  tells_longer at line answer.Moved next within after t =
+      step_longer at _ step.Copy (Ok step_answer.Moved) next within t
+  tells_longer at line answer.Carried next within after t =
+      step_longer at _ step.Copy (Ok step_answer.Carried) next within t
+  tells_longer at line answer.Dropped next within after t =
+      step_longer at _ step.Copy (Ok step_answer.Dropped) next within t
+  tells_longer at line (answer.Sealed backup) next within after t =
+      step_longer at _ step.Seal (Ok (step_answer.Sealed backup)) next within t
   tells_longer at line (answer.Freed segment backup) next within after t =
       step_longer at _ step.Free (Ok (step_answer.Freed segment backup)) next within t
   tells_longer at line (answer.Cleaned survivor head) next within after t = (
     t.0,
-    (t.1.0, t.1.1, subst (λ (l : Life). IsCleanAt config l t.1.0 (Ok (survivor, head))) (same_front at.made within) t.1.2),
+    (
+      t.1.0,
+      t.1.1,
+      subst (λ (l : Life). IsCleanAt config l t.1.0 (Ok (survivor, head)))
+          (same_front at.made within) t.1.2,
+    ),
     t.2,
   )
   tells_longer at line (answer.Counted clients rounds calls) next within after t =
@@ -219,8 +262,16 @@ module _ (config : Config) (opening : State) (history more : List Record) where
   tells_longer at line (answer.BadLimits limits) next within after t = t
   tells_longer at line (answer.Holdings hs) next within after t =
       (t.0, subst (λ (l : Life). AreHeldAt config l at.left hs) (same_front at.made within) t.1, t.2, t.3)
-  tells_longer at line (answer.Hex bytes) next within after t =
-      (t.0, (t.1.0, t.1.1, subst (λ (l : Life). IsImageAt config l t.1.0 (Some bytes)) (same_front at.made within) t.1.2), t.2)
+  tells_longer at line (answer.Hex bytes) next within after t = (
+    t.0,
+    (
+      t.1.0,
+      t.1.1,
+      subst (λ (l : Life). IsImageAt config l t.1.0 (Some bytes))
+          (same_front at.made within) t.1.2,
+    ),
+    t.2,
+  )
   tells_longer at line (answer.NotInLog segment) next within after t =
       (t.0, t.1, subst (λ (l : Life). IsImageAt config l segment None) (same_front at.made within) t.2, t.3)
   tells_longer at line (answer.Stop takes) next within after t = t

@@ -1,5 +1,7 @@
 -- Lines that are run in turn.
-use Rattle.std.proofs.Common.{◌≡◌, ℕ, suc, ◌+◌, ◌-◌, ◌^◌, ◌<◌, ◌≤◌, Bool, true, false, List, [], ◌∷◌, ◌++◌, length, refl, sym, ap, subst, inl, inr, ◌∙◌, arith}
+use Rattle.std.proofs.Common.{[], ◌≡◌, ℕ, suc, ◌+◌, ◌-◌, ◌^◌, ◌<◌, ◌≤◌, Bool, true, false, List, ◌∷◌, ◌++◌, length}
+use Rattle.std.proofs.Common.{refl}
+use Rattle.std.proofs.Common.{sym, ap, subst, inl, inr, ◌∙◌, arith}
 use Rattle.std.proofs.lemmas.List.{append-nil, length-append}
 use Rattle.std.proofs.lemmas.List.Elements.{All-nil, All-push}
 use Rattle.std.proofs.lemmas.List.Concat.{flat_map-append}
@@ -12,32 +14,36 @@ use Rattle.lines.specs.declared.reading.ReadFault.{ReadFault}
 use Rattle.lines.specs.declared.reading.Taken.{Taken}
 use Rattle.lines.specs.declared.reason.Reason.{Reason}
 use Rattle.versioned_map.specs.declared.command.Record.{Record}
-use Rattle.master_core.specs.declared.config.Config.{Config}
-use Rattle.master_core.specs.Data.{Origin, MasterData, no_origin}
-use Rattle.master_core.specs.Log.{opening_of}
+use Rattle.master_state.specs.declared.config.Config.{Config}
+use Rattle.master_state.specs.Data.{Origin, MasterData, no_origin}
+use Rattle.master_state.specs.Log.{opening_of}
 use Rattle.versioned_map.specs.Represents.{empty_state}
-use Rattle.script.specs.declared.answer.Answer.{Answer}
-use Rattle.script.specs.declared.fault.ScriptFault.{ScriptFault}
-use Rattle.script.specs.declared.fault.ScriptFault.TheVariants as fault
+use Rattle.answers.specs.declared.answer.Answer.{Answer}
+use Rattle.answers.specs.declared.fault.ScriptFault.{ScriptFault}
+use Rattle.answers.specs.declared.fault.ScriptFault.TheVariants as fault
 use Rattle.script.specs.declared.session.Session.{Session}
-use Rattle.script.specs.Runs.{AreRunOn, IsOfFleet, IsScriptLine, texts_of, answers_of, AreLines, IsTakenLine, IsBadLine, IsReasonFor, EndsWith, Prints, RunsScript}
+use Rattle.script.specs.Runs.{AreRunOn, IsOfFleet, IsScriptLine, texts_of, answers_of, AreLines, IsTakenLine}
+use Rattle.script.specs.Runs.{IsBadLine, IsReasonFor, EndsWith, Prints, RunsScript}
 use Rattle.command_line.specs.declared.settings.Options.{Options}
 use Rattle.lines.specs.Grammar.{LineValue, Recover}
-use Rattle.script.specs.Configuration.{config_of}
-use Rattle.script.specs.Lives.{Life, Position, at_start}
-use Rattle.script.specs.Recoveries.{RunsLine, standing_of}
-use Rattle.script.specs.Served.{BeginsSession, AnswersLine, IsNodeAt, IsCovered, Stands, life_of}
-use Rattle.script.specs.Texts.{answer_text}
-use Rattle.script.specs.Succession.{Standing, at_first, Succeeds, Moves, AreTelling, TellLives}
-use Rattle.script.specs.Told.{Told, Tells}
+use Rattle.next_master.specs.Configuration.{config_of}
+use Rattle.node.specs.Lives.{Life, Position, at_start}
+use Rattle.script.specs.Sessions.{RunsLine, BeginsSession, IsCovered, Stands}
+use Rattle.next_master.specs.Recoveries.{standing_of}
+use Rattle.node.specs.Served.{AnswersLine, IsNodeAt, life_of}
+use Rattle.answers.specs.Texts.{answer_text}
+use Rattle.next_master.specs.Succession.{Standing, Succeeds}
+use Rattle.script.specs.Telling.{at_first, Moves, AreTelling, TellLives, Told}
+use Rattle.node.specs.Told.{Tells}
 use Rattle.script.specs.Turns.{RunsText, IsPrinted, PrintsText, TakesTurn, IsNoMore}
 use Rattle.script.proofs.Succeeding.{nothing_more, telling_longer, telling_more, with_more}
-use Rattle.script.proofs.Standing.{legal_of, same_opening}
+use Rattle.node.proofs.Standing.{legal_of, same_opening}
 use Rattle.entry.specs.Meaning.{contents_of}
 
 -- ---- a line that was run
 
-pub answer_printed : (old new : Session) (text : List ℕ) (number : ℕ) (held holds : Option (List ℕ)) (answer : Answer) (r : Result (Unit {0}) ScriptFault)
+pub answer_printed : (old new : Session) (text : List ℕ) (number : ℕ) (held holds : Option (List ℕ)) (answer : Answer)
+    (r : Result (Unit {0}) ScriptFault)
     → RunsText old text new answer → IsPrinted held holds answer r → PrintsText old new text number held holds r
 answer_printed old new text number held holds answer (Ok done) runs printed = (answer, runs, printed)
 answer_printed old new text number held holds answer (Err e) runs failed =
@@ -45,38 +51,47 @@ answer_printed old new text number held holds answer (Err e) runs failed =
 
 -- ---- what was taken for a line
 
-pub taken_as : (had left : Option (List ℕ)) (text bytes : List ℕ) (was is : Taken) → was ≡ is → text ≡ bytes → TakesLine had left text was
+pub taken_as : (had left : Option (List ℕ)) (text bytes : List ℕ) (was is : Taken) → was ≡ is → text ≡ bytes
+    → TakesLine had left text was
     → TakesLine had left bytes is
 taken_as had left text bytes was is same whole there =
     subst (λ (l : List ℕ). TakesLine had left l is) whole (subst (λ (t : Taken). TakesLine had left text t) same there)
 
-pub stopped_as : (had left : Option (List ℕ)) (text : List ℕ) (was is : ReadFault) → was ≡ is → StopsIn had left text was → StopsIn had left text is
+pub stopped_as : (had left : Option (List ℕ)) (text : List ℕ) (was is : ReadFault) → was ≡ is
+    → StopsIn had left text was → StopsIn had left text is
 stopped_as had left text was is same there = subst (λ (f : ReadFault). StopsIn had left text f) same there
 
 -- ---- the writer was flushed before the line was run
 
-kept_first : (held wrote holds : Option (List ℕ)) (bytes : List ℕ) → Keeps held wrote → Appends wrote holds bytes → Appends held holds bytes
+kept_first : (held wrote holds : Option (List ℕ)) (bytes : List ℕ) → Keeps held wrote → Appends wrote holds bytes
+    → Appends held holds bytes
 kept_first None wrote holds bytes kept more = tt
 kept_first (Some xs) None holds bytes kept more = absurd kept
 kept_first (Some xs) (Some ys) None bytes kept more = absurd more
 kept_first (Some xs) (Some ys) (Some zs) bytes kept more = more ∙ ap (λ l. l ++ bytes) kept
 
-pub flushed_first : (old new : Session) (text : List ℕ) (number : ℕ) (held wrote holds : Option (List ℕ)) (r : Result (Unit {0}) ScriptFault)
+pub flushed_first : (old new : Session) (text : List ℕ) (number : ℕ) (held wrote holds : Option (List ℕ))
+    (r : Result (Unit {0}) ScriptFault)
     → Keeps held wrote → PrintsText old new text number wrote holds r → PrintsText old new text number held holds r
-flushed_first old new text number held wrote holds (Ok done) kept p = (p.0, p.1, kept_first held wrote holds (answer_text p.0) kept p.2)
-flushed_first old new text number held wrote holds (Err (fault.BadLine n why)) kept p = (p.0, p.1, Keeps-trans held wrote holds kept p.2, p.3)
+flushed_first old new text number held wrote holds (Ok done) kept p =
+    (p.0, p.1, kept_first held wrote holds (answer_text p.0) kept p.2)
+flushed_first old new text number held wrote holds (Err (fault.BadLine n why)) kept p =
+    (p.0, p.1, Keeps-trans held wrote holds kept p.2, p.3)
 flushed_first old new text number held wrote holds (Err fault.ReadFailed) kept p = absurd p
 flushed_first old new text number held wrote holds (Err fault.WriteFailed) kept p = p
 flushed_first old new text number held wrote holds (Err fault.NoMemory) kept p = Keeps-trans held wrote holds kept p
 
 -- ---- a turn that failed
 
-pub turn_fault : (old new : Session) (number : ℕ) (had left held holds : Option (List ℕ)) (text taken : List ℕ) (f : ScriptFault) → IsLineText text
-    → Consumes had left taken → IsTakenLine text taken left → PrintsText old new text number held holds (Err f) → TakesTurn old new number had left held holds (Err f)
+pub turn_fault : (old new : Session) (number : ℕ) (had left held holds : Option (List ℕ)) (text taken : List ℕ)
+    (f : ScriptFault) → IsLineText text
+    → Consumes had left taken → IsTakenLine text taken left → PrintsText old new text number held holds (Err f)
+    → TakesTurn old new number had left held holds (Err f)
 turn_fault old new number had left held holds text taken (fault.BadLine n why) whole consumed is p =
     (p.0, taken, consumed, inr (text, whole, is, inr p.1), p.2, inl (text, is, p.3))
 turn_fault old new number had left held holds text taken fault.ReadFailed whole consumed is p = absurd p
-turn_fault old new number had left held holds text taken fault.WriteFailed whole consumed is p = inl (text, taken, whole, consumed, is, p.0, p.1)
+turn_fault old new number had left held holds text taken fault.WriteFailed whole consumed is p =
+    inl (text, taken, whole, consumed, is, p.0, p.1)
 turn_fault old new number had left held holds text taken fault.NoMemory whole consumed is p =
     let short = whole.short in
     let count : length taken ≤ 4097 = elim is [
@@ -92,7 +107,8 @@ empty_opening d is = ap (λ (o : Origin). record { contents = contents_of o.obje
 -- ---- all lines so far
 
 -- the lines that were run before the one of this number, and what the session stands for
-pub record Running (options : Options) (session : Session) (had left held holds : Option (List ℕ)) (number : ℕ) : Type 0 where
+pub record Running (options : Options) (session : Session) (had left held holds : Option (List ℕ))
+    (number : ℕ) : Type 0 where
   pub told : List Told
   pub first : Life
   pub start : Session
@@ -106,11 +122,13 @@ pub record Running (options : Options) (session : Session) (had left held holds 
   pub count : suc (length told) ≡ number
   pub lines : All (IsScriptLine options.backups) told
   pub opening : first.opening ≡ empty_state
-  pub telling : AreTelling (at_first (config_of options 1) first) told (standing_of (config_of session.options session.master) knows at)
+  pub telling : AreTelling (at_first (config_of options 1) first) told
+      (standing_of (config_of session.options session.master) knows at)
   pub consumed : Consumes had left (texts_of told)
   pub printed : Appends held holds (answers_of told)
 
-pub starts_running : (options : Options) (session : Session) (had held : Option (List ℕ)) → BeginsSession options session
+pub starts_running : (options : Options) (session : Session) (had held : Option (List ℕ))
+    → BeginsSession options session
     → Running options session had had held held 1
 starts_running options session had held begins =
     let d = begins.stands.0 in
@@ -145,12 +163,14 @@ running_stands options session had left held holds number r = (r.covers, (r.know
 
 -- the session stands for another master or the same, and the line leads there from where it stood
 abbrev LeadsOn : Session → LineValue → Answer → Session → MasterData → Position → Type 0
-LeadsOn old line a new d at = (e : MasterData) × (next : Position) × IsNodeAt new.node (config_of new.options new.master) e next
+LeadsOn old line a new d at = (e : MasterData) × (next : Position)
+    × IsNodeAt new.node (config_of new.options new.master) e next
     × ((more : List Record)
     × Moves (with_more (standing_of (config_of old.options old.master) d at) more) line a
     (standing_of (config_of new.options new.master) e next))
 
-answers_lead : (old new : Session) (line : LineValue) (a : Answer) (d : MasterData) (at : Position) → new.options ≡ old.options
+answers_lead : (old new : Session) (line : LineValue) (a : Answer) (d : MasterData) (at : Position)
+    → new.options ≡ old.options
     → new.master ≡ old.master → AnswersLine old.node (config_of old.options old.master) line new.node a
     → IsNodeAt old.node (config_of old.options old.master) d at → LeadsOn old line a new d at
 answers_lead old new line a d at options number answers s =
@@ -167,13 +187,20 @@ answers_lead old new line a d at options number answers s =
       subst (λ (k : Config). IsNodeAt new.node k e told.1) (sym same) told.2,
       (
         told.3.0,
-        inl (record { config = same; life = lives; tells = subst (λ (l : Life). Tells c l at line a told.1) lives told.4 }),
+        inl (record {
+          config = same;
+          life = lives;
+          tells = subst
+              (λ (l : Life). Tells c l at line a told.1) lives told.4;
+        }),
       ),
     )
 
-line_leads : (old new : Session) (line : LineValue) (a : Answer) → RunsLine old line new a → (d : MasterData) (at : Position)
+line_leads : (old new : Session) (line : LineValue) (a : Answer) → RunsLine old line new a
+    → (d : MasterData) (at : Position)
     → IsNodeAt old.node (config_of old.options old.master) d at → LeadsOn old line a new d at
-line_leads old new line a (inl r) d at s = answers_lead old new line a d at r.options r.number (r.answers (config_of old.options old.master) refl) s
+line_leads old new line a (inl r) d at s = answers_lead old new line a d at r.options r.number
+    (r.answers (config_of old.options old.master) refl) s
 line_leads old new line a (inr r) d at s =
     subst (λ (l : LineValue). LeadsOn old l a new d at) (sym r.asks)
     (elim r.recovers [
@@ -187,8 +214,10 @@ line_leads old new line a (inr r) d at s =
             subst (λ (o : Options). IsNodeAt new.node (config_of o new.master) next.0 next.1) options next.2,
             (
               [],
-              subst (λ (f : Standing). Moves f (Recover r.order) a (standing_of (config_of new.options new.master) next.0 next.1)) (sym (nothing_more from))
-                  (inr (subst (λ (o : Options). Succeeds from (Recover r.order) a (standing_of (config_of o new.master) next.0 next.1)) options next.4)),
+              subst (λ (f : Standing). Moves f (Recover r.order) a
+                  (standing_of (config_of new.options new.master) next.0 next.1)) (sym (nothing_more from))
+                  (inr (subst (λ (o : Options). Succeeds from (Recover r.order) a
+                  (standing_of (config_of o new.master) next.0 next.1)) options next.4)),
             ),
           )
     ])
@@ -202,7 +231,8 @@ options_on old new line a (inl r) = r.options
 options_on old new line a (inr r) = r.options
 
 -- one line more was run
-runs_more : (first : Session) (told : List Told) (old : Session) (t : Told) (new : Session) → AreRunOn first told old → RunsLine old t.line new t.answer
+runs_more : (first : Session) (told : List Told) (old : Session) (t : Told) (new : Session) → AreRunOn first told old
+    → RunsLine old t.line new t.answer
     → AreRunOn first (told ++ t ∷ []) new
 runs_more first [] old t new same runs = (new, subst (λ (s : Session). RunsLine s t.line new t.answer) same runs, refl)
 runs_more first (u ∷ us) old t new (mid, ran, rest) runs = (mid, ran, runs_more mid us old t new rest runs)
@@ -211,9 +241,11 @@ texts-more : (told : List Told) (t : Told) → texts_of (told ++ t ∷ []) ≡ t
 texts-more told t = flat_map-append _ told (t ∷ []) ∙ ap (λ l. texts_of told ++ l) (append-nil (t.text ++ 10 ∷ []))
 
 answers-more : (told : List Told) (t : Told) → answers_of (told ++ t ∷ []) ≡ answers_of told ++ answer_text t.answer
-answers-more told t = flat_map-append _ told (t ∷ []) ∙ ap (λ l. answers_of told ++ l) (append-nil (answer_text t.answer))
+answers-more told t = flat_map-append _ told (t ∷ []) ∙ ap (λ l. answers_of told ++ l)
+    (append-nil (answer_text t.answer))
 
-module _ (options : Options) (old : Session) (had mid left held wrote holds : Option (List ℕ)) (number : ℕ) (r : Running options old had mid held wrote number) where
+module _ (options : Options) (old : Session) (had mid left held wrote holds : Option (List ℕ)) (number : ℕ)
+    (r : Running options old had mid held wrote number) where
   fleet : old.options.backups ≡ options.backups
   fleet = ap (λ (o : Options). o.backups) r.set
 
@@ -240,14 +272,17 @@ module _ (options : Options) (old : Session) (had mid left held wrote holds : Op
     abbrev after_this : Standing
     after_this = standing_of (config_of new.options new.master) after_line.0 after_line.1
 
-    abbrev longer : (before : List Record) × AreTelling (with_more (at_first (config_of options 1) r.first) before) r.told (with_more now after_line.3.0)
-    longer = telling_longer (at_first (config_of options 1) r.first) r.told now after_line.3.0 (let made = r.stands.made in omega arith) r.telling
+    abbrev longer : (before : List Record) × AreTelling (with_more (at_first (config_of options 1) r.first) before)
+        r.told (with_more now after_line.3.0)
+    longer = telling_longer (at_first (config_of options 1) r.first) r.told now after_line.3.0
+        (let made = r.stands.made in omega arith) r.telling
 
     abbrev first_on : Life
     first_on = record { opening = r.first.opening; history = r.first.history ++ longer.0 }
 
     telling_on : AreTelling (at_first (config_of options 1) first_on) (r.told ++ next_told ∷ []) after_this
-    telling_on = telling_more (at_first (config_of options 1) first_on) r.told (with_more now after_line.3.0) next_told after_this longer.1 after_line.3.1
+    telling_on = telling_more (at_first (config_of options 1) first_on) r.told
+        (with_more now after_line.3.0) next_told after_this longer.1 after_line.3.1
 
     tell_longer : TellLives (config_of options 1) (r.told ++ next_told ∷ [])
     tell_longer = (
@@ -255,7 +290,10 @@ module _ (options : Options) (old : Session) (had mid left held wrote holds : Op
       r.opening,
       after_this,
       telling_on,
-      record { legal = legal_of new.node after_line.1.left after_line.0 after_line.2.node_of; whole = after_line.2.made },
+      record {
+        legal = legal_of new.node after_line.1.left after_line.0 after_line.2.node_of;
+        whole = after_line.2.made;
+      },
     )
 
     run_on : AreRunOn r.start (r.told ++ next_told ∷ []) new
@@ -263,13 +301,20 @@ module _ (options : Options) (old : Session) (had mid left held wrote holds : Op
 
     line_there : All (IsScriptLine options.backups) (r.told ++ next_told ∷ [])
     line_there = All-push (IsScriptLine options.backups) r.told next_told r.lines
-        (record { whole = whole; says = runs.says; of_fleet = subst (λ (n : ℕ). IsOfFleet n runs.line) fleet runs.of_fleet })
+        (record {
+          whole = whole;
+          says = runs.says;
+          of_fleet = subst
+              (λ (n : ℕ). IsOfFleet n runs.line) fleet runs.of_fleet;
+        })
 
     answers_on : Appends wrote holds (answer_text a) → Appends held holds (answers_of (r.told ++ next_told ∷ []))
-    answers_on printed = subst (Appends held holds) (sym (answers-more r.told next_told)) (Appends-trans held wrote holds (answers_of r.told) (answer_text a) r.printed printed)
+    answers_on printed = subst (Appends held holds) (sym (answers-more r.told next_told))
+        (Appends-trans held wrote holds (answers_of r.told) (answer_text a) r.printed printed)
 
     -- one line more was run
-    runs_on : Consumes mid left (text ++ 10 ∷ []) → Appends wrote holds (answer_text a) → Running options new had left held holds (number + 1)
+    runs_on : Consumes mid left (text ++ 10 ∷ []) → Appends wrote holds (answer_text a)
+        → Running options new had left held holds (number + 1)
     runs_on consumed printed =
         let count = r.count in
         let longer = length-append r.told (next_told ∷ []) in
@@ -288,17 +333,20 @@ module _ (options : Options) (old : Session) (had mid left held wrote holds : Op
           lines = line_there;
           opening = r.opening;
           telling = telling_on;
-          consumed = subst (Consumes had left) (sym (texts-more r.told next_told)) (Consumes-trans had mid left (texts_of r.told) (text ++ 10 ∷ []) r.consumed consumed);
+          consumed = subst (Consumes had left) (sym (texts-more r.told next_told))
+              (Consumes-trans had mid left (texts_of r.told) (text ++ 10 ∷ []) r.consumed consumed);
           printed = answers_on printed;
         }
 
-    lines_are : (taken : List ℕ) → IsTakenLine text taken left → AreLines (r.told ++ next_told ∷ []) (texts_of r.told ++ taken)
+    lines_are : (taken : List ℕ) → IsTakenLine text taken left
+        → AreLines (r.told ++ next_told ∷ []) (texts_of r.told ++ taken)
     lines_are taken (inl e) = inl (ap (λ l. texts_of r.told ++ l) e ∙ sym (texts-more r.told next_told))
     lines_are taken (inr e) = inr (r.told, next_told, refl, ap (λ l. texts_of r.told ++ l) e.0, e.1)
 
     -- a line was run, and no more
     ends_here : (taken : List ℕ) (result : Result (Unit {0}) ScriptFault) → Consumes mid left taken
-        → EndsWith options.backups (r.told ++ next_told ∷ []) (texts_of r.told ++ taken) left result → Prints held holds (r.told ++ next_told ∷ []) result
+        → EndsWith options.backups (r.told ++ next_told ∷ []) (texts_of r.told ++ taken) left result
+        → Prints held holds (r.told ++ next_told ∷ []) result
         → RunsScript options had left held holds result
     ends_here taken result consumed ends prints = record {
       told = r.told ++ next_told ∷ [];
@@ -311,15 +359,19 @@ module _ (options : Options) (old : Session) (had mid left held wrote holds : Op
       prints = prints;
     }
 
-    runs_last : Consumes mid left text → IsAtEnd left → 0 < length text → Appends wrote holds (answer_text a) → RunsScript options had left held holds (Ok tt)
-    runs_last consumed end some printed = ends_here text (Ok tt) consumed (lines_are text (inr (refl, some, end)), end) (answers_on printed)
+    runs_last : Consumes mid left text → IsAtEnd left → 0 < length text → Appends wrote holds (answer_text a)
+        → RunsScript options had left held holds (Ok tt)
+    runs_last consumed end some printed = ends_here text (Ok tt) consumed (lines_are text (inr (refl, some, end)), end)
+        (answers_on printed)
 
-    fails_to_write : (taken : List ℕ) → Consumes mid left taken → IsTakenLine text taken left → RunsScript options had left held holds (Err fault.WriteFailed)
+    fails_to_write : (taken : List ℕ) → Consumes mid left taken → IsTakenLine text taken left
+        → RunsScript options had left held holds (Err fault.WriteFailed)
     fails_to_write taken consumed is = ends_here taken (Err fault.WriteFailed) consumed (inl (lines_are taken is)) tt
 
   -- the lines were run, and no more
   closes : (taken : List ℕ) (result : Result (Unit {0}) ScriptFault) → Consumes mid left taken
-      → EndsWith options.backups r.told (texts_of r.told ++ taken) left result → Prints held holds r.told result → RunsScript options had left held holds result
+      → EndsWith options.backups r.told (texts_of r.told ++ taken) left result → Prints held holds r.told result
+      → RunsScript options had left held holds result
   closes taken result consumed ends prints = record {
     told = r.told;
     taken = texts_of r.told ++ taken;
@@ -337,42 +389,67 @@ module _ (options : Options) (old : Session) (had mid left held wrote holds : Op
   runs_out : Consumes mid left [] → IsAtEnd left → Keeps wrote holds → RunsScript options had left held holds (Ok tt)
   runs_out consumed end kept = closes [] (Ok tt) consumed (inl (append-nil (texts_of r.told)), end) (kept_answers kept)
 
-  bad_here : (n : ℕ) (bad : List ℕ) → n ≡ number → IsBadLine old.options.backups number bad left → IsBadLine options.backups n bad left
-  bad_here n bad is line = subst (λ (k : ℕ). IsBadLine k n bad left) fleet (subst (λ (k : ℕ). IsBadLine old.options.backups k bad left) (sym is) line)
+  bad_here : (n : ℕ) (bad : List ℕ) → n ≡ number → IsBadLine old.options.backups number bad left
+      → IsBadLine options.backups n bad left
+  bad_here n bad is line = subst (λ (k : ℕ). IsBadLine k n bad left) fleet
+      (subst (λ (k : ℕ). IsBadLine old.options.backups k bad left) (sym is) line)
 
-  reason_here : (n : ℕ) (bad : List ℕ) (why : Reason) → n ≡ number → IsReasonFor old.options.backups number bad left why → IsReasonFor options.backups n bad left why
+  reason_here : (n : ℕ) (bad : List ℕ) (why : Reason) → n ≡ number → IsReasonFor old.options.backups number bad left why
+      → IsReasonFor options.backups n bad left why
   reason_here n bad why is reason =
-      subst (λ (k : ℕ). IsReasonFor k n bad left why) fleet (subst (λ (k : ℕ). IsReasonFor old.options.backups k bad left why) (sym is) reason)
+      subst (λ (k : ℕ). IsReasonFor k n bad left why) fleet
+      (subst (λ (k : ℕ). IsReasonFor old.options.backups k bad left why) (sym is) reason)
 
-  pub fails : (new : Session) (f : ScriptFault) → TakesTurn old new number mid left wrote holds (Err f) → RunsScript options had left held holds (Err f)
+  pub fails : (new : Session) (f : ScriptFault) → TakesTurn old new number mid left wrote holds (Err f)
+      → RunsScript options had left held holds (Err f)
   fails new (fault.BadLine n why) t =
-      closes t.1 (Err (fault.BadLine n why)) t.2 (t.0 ∙ sym r.count, t.1, refl, bad_here n t.1 t.0 t.3, reason_here n t.1 why t.0 t.5) (kept_answers t.4)
+      closes t.1 (Err (fault.BadLine n why)) t.2 (
+        t.0 ∙ sym r.count,
+        t.1,
+        refl,
+        bad_here n t.1 t.0 t.3,
+        reason_here n t.1 why t.0 t.5,
+      ) (kept_answers t.4)
   fails new fault.ReadFailed t = closes t.0 (Err fault.ReadFailed) t.1 (t.0, refl, t.2) (kept_answers t.3)
   fails new fault.WriteFailed (inl t) = fails_to_write new t.0 t.5 t.6 t.2 t.1 t.3 t.4
   fails new fault.WriteFailed (inr t) = closes t.0 (Err fault.WriteFailed) t.1 (inr (t.0, refl, t.2)) tt
   fails new fault.NoMemory t = closes t.0 (Err fault.NoMemory) t.1 (t.0, refl, t.2) (kept_answers t.3)
 
-  none_left : (new : Session) → TakesTurn old new number mid left wrote holds (Ok false) → RunsScript options had left held holds (Ok tt)
+  none_left : (new : Session) → TakesTurn old new number mid left wrote holds (Ok false)
+      → RunsScript options had left held holds (Ok tt)
   none_left new (inl t) = runs_last new t.0 t.5.0 t.5.1 t.1 t.2 t.3 t.4 t.5.2
   none_left new (inr t) = runs_out t.0 t.1 t.2
 
-  pub none_ran : (new : Session) (more : Bool) → more ≡ false → TakesTurn old new number mid left wrote holds (Ok more) → RunsScript options had left held holds (Ok tt)
-  none_ran new more is t = none_left new (subst (λ (b : Bool). TakesTurn old new number mid left wrote holds (Ok b)) is t)
+  pub none_ran : (new : Session) (more : Bool) → more ≡ false → TakesTurn old new number mid left wrote holds (Ok more)
+      → RunsScript options had left held holds (Ok tt)
+  none_ran new more is t = none_left new (subst (λ (b : Bool). TakesTurn old new number mid left wrote
+      holds (Ok b)) is t)
 
   pub more_ran : (new : Session) (more : Bool) → more ≡ true → TakesTurn old new number mid left wrote holds (Ok more)
       → Running options new had left held holds (number + 1)
   more_ran new more is t =
-      let ran : TakesTurn old new number mid left wrote holds (Ok true) = subst (λ (b : Bool). TakesTurn old new number mid left wrote holds (Ok b)) is t in
+      let ran : TakesTurn old new number mid left wrote holds (Ok true) =
+      subst (λ (b : Bool). TakesTurn old new number mid left wrote holds (Ok b)) is t in
       runs_on new ran.0 ran.3.0 ran.3.1 ran.1 ran.2 ran.3.2
 
 -- ---- behind the last number, and behind the last line
 
-pub runs_dry : (options : Options) (old : Session) (had mid left held wrote holds : Option (List ℕ)) (number : ℕ) → number ≡ 2 ^ 64 - 1 → (r : Running options old had mid held wrote number)
-    (result : Result (Unit {0}) ScriptFault) → IsNoMore mid left wrote holds result → RunsScript options had left held holds result
-runs_dry options old had mid left held wrote holds number is r (Ok done) n = runs_out options old had mid left held wrote holds number r n.0 n.1 n.2
+pub runs_dry : (options : Options) (old : Session) (had mid left held wrote holds : Option (List ℕ)) (number : ℕ)
+    → number ≡ 2 ^ 64 - 1 → (r : Running options old had mid held wrote number)
+    (result : Result (Unit {0}) ScriptFault) → IsNoMore mid left wrote holds result
+    → RunsScript options had left held holds result
+runs_dry options old had mid left held wrote holds number is r (Ok done) n =
+    runs_out options old had mid left held wrote holds number r n.0 n.1 n.2
 runs_dry options old had mid left held wrote holds number is r (Err (fault.BadLine n why)) none =
-    fails options old had mid left held wrote holds number r old (fault.BadLine n why)
-    (none.0 ∙ sym is, none.1, none.2, subst (λ (k : ℕ). IsBadLine old.options.backups k none.1 left) (none.0 ∙ sym is) (none.3 old.options.backups), none.4, inr (inr (none.5, is)))
+    fails options old had mid left held wrote holds number r old (fault.BadLine n why) (
+      none.0 ∙ sym is,
+      none.1,
+      none.2,
+      subst (λ (k : ℕ). IsBadLine old.options.backups k none.1 left) (none.0 ∙ sym is)
+          (none.3 old.options.backups),
+      none.4,
+      inr (inr (none.5, is)),
+    )
 runs_dry options old had mid left held wrote holds number is r (Err fault.ReadFailed) none =
     fails options old had mid left held wrote holds number r old fault.ReadFailed none
 runs_dry options old had mid left held wrote holds number is r (Err fault.WriteFailed) none =
@@ -382,7 +459,8 @@ runs_dry options old had mid left held wrote holds number is r (Err fault.NoMemo
 
 -- the writer was flushed
 module _ (options : Options) (had left held wrote holds : Option (List ℕ)) (kept : Keeps wrote holds) where
-  pub flushes : (result : Result (Unit {0}) ScriptFault) → RunsScript options had left held wrote result → RunsScript options had left held holds result
+  pub flushes : (result : Result (Unit {0}) ScriptFault) → RunsScript options had left held wrote result
+      → RunsScript options had left held holds result
   flushes result r = record {
     told = r.told;
     taken = r.taken;
@@ -393,18 +471,30 @@ module _ (options : Options) (had left held wrote holds : Option (List ℕ)) (ke
     ends = r.ends;
     prints = flushed result r.prints;
   } where
-    flushed : (result : Result (Unit {0}) ScriptFault) → Prints held wrote r.told result → Prints held holds r.told result
+    flushed : (result : Result (Unit {0}) ScriptFault) → Prints held wrote r.told result
+        → Prints held holds r.told result
     flushed (Ok done) p = Appends-kept held wrote holds (answers_of r.told) p kept
     flushed (Err (fault.BadLine n why)) p = Appends-kept held wrote holds (answers_of r.told) p kept
     flushed (Err fault.ReadFailed) p = Appends-kept held wrote holds (answers_of r.told) p kept
     flushed (Err fault.WriteFailed) p = tt
     flushed (Err fault.NoMemory) p = Appends-kept held wrote holds (answers_of r.told) p kept
 
-  pub fails_to_flush : (done : Unit {0}) → RunsScript options had left held wrote (Ok done) → RunsScript options had left held holds (Err fault.WriteFailed)
-  fails_to_flush done r = record { told = r.told; taken = r.taken; consumed = r.consumed; lines = r.lines; tells = r.tells; session = r.session; ends = inl r.ends.0; prints = tt }
+  pub fails_to_flush : (done : Unit {0}) → RunsScript options had left held wrote (Ok done)
+      → RunsScript options had left held holds (Err fault.WriteFailed)
+  fails_to_flush done r = record {
+    told = r.told;
+    taken = r.taken;
+    consumed = r.consumed;
+    lines = r.lines;
+    tells = r.tells;
+    session = r.session;
+    ends = inl r.ends.0;
+    prints = tt;
+  }
 
 -- nothing was begun
-pub begins_not : (options : Options) (had held : Option (List ℕ)) → RunsScript options had had held held (Err fault.NoMemory)
+pub begins_not : (options : Options) (had held : Option (List ℕ))
+    → RunsScript options had had held held (Err fault.NoMemory)
 begins_not options had held = record {
   told = [];
   taken = [];

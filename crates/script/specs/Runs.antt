@@ -1,5 +1,6 @@
 -- What a run of a script takes of its reader, what its lines tell, and what it prints.
-use Rattle.std.specs.Prelude.{◌≡◌, ◌⊎◌, ◌<◌, ◌≤◌, ◌-◌, ◌^◌, ℕ, suc, List, [], ◌∷◌, ◌++◌, length, Option, Result, Ok, Err}
+use Rattle.std.specs.Prelude.{[], ◌≡◌, ◌⊎◌, ◌<◌, ◌≤◌, ◌-◌, ◌^◌, ℕ, suc, List, ◌∷◌, ◌++◌, length, Option, Result, Ok}
+use Rattle.std.specs.Prelude.{Err}
 use Rattle.std.specs.List.{All, flat_map}
 use Rattle.std.specs.Io.KnownBytes.{Appends, Consumes, IsAtEnd}
 use Rattle.command_line.specs.declared.settings.Options.{Options}
@@ -8,15 +9,13 @@ use Rattle.lines.specs.Reading.{IsUnbroken, IsLineText}
 use Rattle.lines.specs.Reasons.{HasReason}
 use Rattle.lines.specs.declared.reason.Reason.{Reason}
 use Rattle.lines.specs.declared.reason.Reason.TheVariants.{NoBackup, TooLong, TooMany}
-use Rattle.script.specs.declared.fault.ScriptFault.{ScriptFault}
-use Rattle.script.specs.declared.fault.ScriptFault.TheVariants.{BadLine, ReadFailed, WriteFailed, NoMemory}
+use Rattle.answers.specs.declared.fault.ScriptFault.{ScriptFault}
+use Rattle.answers.specs.declared.fault.ScriptFault.TheVariants.{BadLine, ReadFailed, WriteFailed, NoMemory}
 use Rattle.script.specs.declared.session.Session.{Session}
-use Rattle.script.specs.Configuration.{config_of}
-use Rattle.script.specs.Recoveries.{RunsLine}
-use Rattle.script.specs.Served.{BeginsSession}
-use Rattle.script.specs.Succession.{TellLives}
-use Rattle.script.specs.Texts.{answer_text}
-use Rattle.script.specs.Told.{Told}
+use Rattle.next_master.specs.Configuration.{config_of}
+use Rattle.script.specs.Sessions.{RunsLine, BeginsSession}
+use Rattle.script.specs.Telling.{TellLives, Told}
+use Rattle.answers.specs.Texts.{answer_text}
 
 -- ---- lines
 

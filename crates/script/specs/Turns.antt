@@ -1,18 +1,19 @@
 -- What one line of a script comes to.
-use Rattle.std.specs.Prelude.{◌≡◌, ◌⊎◌, ◌<◌, ◌≤◌, ◌-◌, ◌^◌, ℕ, List, [], ◌∷◌, ◌++◌, length, Bool, true, false, Option, Result, Ok, Err}
+use Rattle.std.specs.Prelude.{[], ◌≡◌, ◌⊎◌, ◌<◌, ◌≤◌, ◌-◌, ◌^◌, ℕ, List, ◌∷◌, ◌++◌, length, Bool, true, false, Option}
+use Rattle.std.specs.Prelude.{Result, Ok, Err}
 use Rattle.std.specs.Io.KnownBytes.{Appends, Consumes, IsAtEnd, Keeps}
 use Rattle.lines.specs.Grammar.{LineValue, Says, Put, New, Cas}
 use Rattle.lines.specs.Reading.{IsLineText}
 use Rattle.lines.specs.declared.reason.Reason.TheVariants.{TooMany}
-use Rattle.script.specs.declared.answer.Answer.{Answer}
-use Rattle.script.specs.declared.fault.ScriptFault.{ScriptFault}
-use Rattle.script.specs.declared.fault.ScriptFault.TheVariants as fault
+use Rattle.answers.specs.declared.answer.Answer.{Answer}
+use Rattle.answers.specs.declared.fault.ScriptFault.{ScriptFault}
+use Rattle.answers.specs.declared.fault.ScriptFault.TheVariants as fault
 use Rattle.script.specs.declared.session.LineFault.{LineFault}
 use Rattle.script.specs.declared.session.LineFault.TheVariants as line_fault
 use Rattle.script.specs.declared.session.Session.{Session}
 use Rattle.script.specs.Runs.{IsOfFleet, IsTakenLine, IsBadLine, IsReasonFor, IsReasonOf, RunResult}
-use Rattle.script.specs.Recoveries.{RunsLine}
-use Rattle.script.specs.Texts.{answer_text}
+use Rattle.script.specs.Sessions.{RunsLine}
+use Rattle.answers.specs.Texts.{answer_text}
 
 -- what a reader has left or a writer holds, if that is known
 abbrev pub Known : Type 0
@@ -68,7 +69,8 @@ TakesTurn old new number had left held holds (Ok false) =
     × AnswersText old text new held holds)
     ⊎ (Consumes had left [] × IsAtEnd left × Keeps held holds)
 TakesTurn old new number had left held holds (Err (fault.BadLine n why)) =
-    (n ≡ number) × (bad : List ℕ) × Consumes had left bad × IsBadLine old.options.backups number bad left × Keeps held holds
+    (n ≡ number) × (bad : List ℕ) × Consumes had left bad × IsBadLine old.options.backups number bad left
+    × Keeps held holds
     × IsReasonFor old.options.backups number bad left why
 TakesTurn old new number had left held holds (Err fault.ReadFailed) =
     (part : List ℕ) × Consumes had left part × IsLineText part × Keeps held holds

@@ -1,30 +1,24 @@
 //! The script: lines come in, drive a master and its recovery, and replies and rebuilt tables come out.
+//!
+//! `run_script` runs lines in order, and prints exactly their answers. What they tell is one life of a master after
+//! another (`specs/Runs.antt`). `run_program` goes from the words of the command line to the exit status
+//! (`specs/Program.antt`). Inside, a session is what the lines drive: a node with the coordinator's will and numbers
+//! (`specs/Sessions.antt`). The crate stands on `node`, `next_master` and `answers`, and reads with `lines` and
+//! `command_line`.
 #![tactic(auto)]
 
-mod answer;
-mod cleaning;
-mod clients;
-mod errors;
-mod fault;
-mod node;
 mod program;
-mod recovering;
 mod running;
 mod session;
-mod setup;
-mod will;
 
-pub use answer::{Answer, write_answer};
+pub use answers::{Answer, ErrorOutput, Limits, ScriptFault, report, report_config, write_answer};
 pub use backup::{MemoryBackup, MemoryFleet};
 pub use command_line::{Options, options};
-pub use errors::ErrorOutput;
-pub use fault::{ScriptFault, report, report_config};
 pub use lines::Reason;
+pub use next_master::configuration;
 pub use program::{run_options, run_program};
 pub use recovery::{
     Drill, Plan, PlanFault, Rebuilt, RecoveryFault, ReplayFault, acknowledged_recovered,
     inventory_of, plan, rebuild_plain, recover, run_drill,
 };
 pub use running::run_script;
-pub use setup::configuration;
-pub use will::Limits;

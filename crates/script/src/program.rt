@@ -6,13 +6,12 @@ ghost use Rattle.clap.specs.Words.{FailsBy};
 ghost use Rattle.command_line.specs.CommandLine.{ramlog_faults, ramlog_matches};
 ghost use Rattle.script.specs.Program.{RunsMatches, RunsOptions, Streams};
 
-use crate::errors::ErrorOutput;
-use crate::fault::{ScriptFault, report, report_config};
 use crate::running::run_script;
 use crate::session::FIRST_MASTER;
-use crate::setup::configuration;
+use answers::{ErrorOutput, ScriptFault, report, report_config};
 use clap::Error;
 use command_line::{Options, options};
+use next_master::configuration;
 use std::alloc::Global;
 use std::io::{BufRead, Write};
 use std::sync::Wait;

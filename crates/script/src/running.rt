@@ -1,17 +1,16 @@
 //! Runs a script, line by line.
 
 ghost use Rattle.std.specs.Prelude.{◌≡◌, None};
-ghost use Rattle.master_core.specs.Config.{config_fault};
+ghost use Rattle.master_state.specs.Config.{config_fault};
 ghost use Rattle.command_line.specs.declared.settings.Options.{Options as OptionsValue};
 ghost use Rattle.lines.specs.Reading.{IsLineText};
-ghost use Rattle.script.specs.Configuration.{config_of};
+ghost use Rattle.next_master.specs.Configuration.{config_of};
 ghost use Rattle.script.specs.Runs.{RunsScript};
-ghost use Rattle.script.specs.Served.{BeginsSession, Stands};
+ghost use Rattle.script.specs.Sessions.{BeginsSession, Stands};
 ghost use Rattle.script.specs.Turns.{IsNoMore, IsPrinted, PrintsText, TakesTurn};
 
-use crate::answer::{Answer, write_answer};
-use crate::fault::ScriptFault;
 use crate::session::{LineFault, Session};
+use answers::{Answer, ScriptFault, write_answer};
 use command_line::Options;
 use lines::{LineReader, ReadFault, Reason, Taken, one_line, parse_line};
 use std::alloc::Global;

@@ -1,30 +1,28 @@
 //! What a script drives: a fleet, and the master over it if there is one.
 
-ghost use Rattle.std.specs.Prelude.{◌≡◌, ◌≤◌, ℕ, List, length, None, Some, IfOk, IfErr, IsSome};
-ghost use Rattle.lines.specs.Grammar.{Begin, Clean, Clients, Recover, IsKeyWord, IsLine, IsOrder, shown_line};
+ghost use Rattle.std.specs.Prelude.{◌≡◌, ◌≤◌, ℕ, List, length, None, Some, IfOk, IfErr};
+ghost use Rattle.lines.specs.Grammar.{Begin, Clean, Clients, Recover, IsLine, IsOrder, shown_command, shown_line};
 ghost use Rattle.lines.specs.Grammar.{Will as WillLine};
 ghost use Rattle.lines.specs.Numbers.{numbers_of};
-ghost use Rattle.master_core.specs.Config.{config_fault};
-ghost use Rattle.script.specs.Configuration.{config_of};
+ghost use Rattle.master_state.specs.Config.{config_fault};
+ghost use Rattle.next_master.specs.Configuration.{config_of};
 ghost use Rattle.script.specs.declared.session.LineFault.TheVariants as line_fault;
 ghost use Rattle.script.specs.Runs.{IsOfFleet};
-ghost use Rattle.script.specs.Recoveries.{RunsLine, SessionRecovers};
-ghost use Rattle.script.specs.Served.{BeginsSession, SessionAnswers, Stands};
-ghost use Rattle.script.specs.Told.{command_of};
+ghost use Rattle.script.specs.Sessions.{RunsLine, SessionRecovers};
+ghost use Rattle.script.specs.Sessions.{BeginsSession, SessionAnswers, Stands};
+ghost use Rattle.node.specs.Told.{command_of};
 ghost use Rattle.script.specs.Turns.{HasValue, RefusesLine};
-ghost use Rattle.script.specs.Waits.{AnswersAfterRoll};
+ghost use Rattle.script.specs.Sessions.{AnswersAfterRoll};
 
-use crate::answer::Answer;
-use crate::clients::Served;
-use crate::node::Node;
-use crate::setup::{configuration, whole_will};
-use crate::will::Limits;
+use answers::{Answer, Limits};
 use backup::MemoryFleet;
 use command_line::Options;
 use driving::push_all;
-use entry::{Key, KeyFault, MAX_VALUE_LEN, NoMemory, Row, Value};
-use lines::{Line, Numbers, ReplayOrder};
-use master::{Command, If, Master, Refusal};
+use entry::{Key, KeyRef, MAX_VALUE_LEN, NoMemory, Row, Value};
+use lines::{CommandLine, KeyWord, Line, Numbers, ReplayOrder};
+use master::{Command, If, Master, Refusal, Step};
+use next_master::{configuration, recover_node, whole_will};
+use node::{Node, Served};
 use recovery::{PlanFault, RecoveryFault};
 use std::alloc::Global;
 use std::sync::Wait;
@@ -50,7 +48,22 @@ impl From<NoMemory> for LineFault {
 /// The number of the first master.
 pub(crate) const FIRST_MASTER: u64 = 1;
 
-/// What a script drives.
+/// What a script drives: a node, which is a fleet with the master over it if there is one, and what outlives the
+/// masters of a node: the coordinator's will, and the numbers that masters had.
+///
+/// `start` makes an empty fleet with a master whose head is open. `run_line` runs one line, and gives the answer to
+/// print.
+///
+/// - What holds: the will covers the tablets, and the node stands for one life of a master after another (*Stands*).
+/// - Refusals: a line that the node refuses is answered, and the session goes on. `LineFault` comes only for a line
+///   that names a backup that there isn't, or if memory runs out before the line began; then nothing has changed.
+/// - Cost: what the node's own call costs. A session has no more than the node, a will and a few words.
+///
+/// ```text
+/// let mut session = Session::start(alloc, &options)?;
+/// let answer = session.run_line(rt, Line::Crash)?;                                        // crashed
+/// let answer = session.run_line(rt, Line::Recover { order: ReplayOrder::Forward })?;      // the table
+/// ```
 #[derive(Drop)]
 pub struct Session {
     alloc: Global,
@@ -119,11 +132,7 @@ impl Session {
     {
         match line {
             Line::Idle => Ok(Answer::Silent),
-            Line::Put { .. }
-            | Line::New { .. }
-            | Line::Cas { .. }
-            | Line::Get { .. }
-            | Line::Del { .. } => self.run_command(line),
+            Line::Command(command) => self.run_command(command),
             Line::Hex { segment } => Ok(self.node.hex(segment)),
             Line::Stop { takes } => Ok(self.node.stop(takes)),
             Line::Crash => Ok(self.node.crash()),
@@ -132,14 +141,14 @@ impl Session {
             Line::Will => Ok(self.run_will()),
             Line::Recover { order } => Ok(self.run_recover(rt, order)),
             Line::Roll => Ok(self.node.roll()),
-            Line::BeginRoll => Ok(self.node.begin_roll()),
-            Line::Compact { segment } => Ok(self.node.compact(segment)),
-            Line::Push => Ok(self.node.push()),
+            Line::BeginRoll => Ok(self.node.step(Step::BeginRoll)),
+            Line::Compact { segment } => Ok(self.node.step(Step::Compact(segment))),
+            Line::Push => Ok(self.node.step(Step::Push)),
             Line::Clean { segments } => self.run_clean(segments),
             Line::Begin { segments } => self.run_begin(segments),
-            Line::Copy => Ok(self.node.copy()),
-            Line::Seal => Ok(self.node.seal()),
-            Line::Free => Ok(self.node.free()),
+            Line::Copy => Ok(self.node.step(Step::Copy)),
+            Line::Seal => Ok(self.node.step(Step::Seal)),
+            Line::Free => Ok(self.node.step(Step::Free)),
             Line::Log => Ok(self.node.log()),
             Line::Room => Ok(self.node.room()),
             Line::Holdings => Ok(self.node.holdings(self.alloc)),
@@ -169,8 +178,8 @@ impl Session {
         self.node.will(self.alloc, limits, &mut self.will)
     }
 
-    /// Runs the line that recovers what the master left. From the end of an adoption on, the new master is the one that a
-    /// recovery is for, and the will is one partition again.
+    /// Runs the line that recovers what the master left. From the end of an adoption on, the new master is the one that
+    /// a recovery is for, and the will is one partition again.
     fn run_recover<H: Threads + Wait + Sync>(&mut self, rt: &H, order: ReplayOrder) -> Answer
         requires order { IsOrder order }
         requires stands { Stands self.old }
@@ -186,9 +195,10 @@ impl Session {
         let Ok(whole) = whole_will(self.alloc, &self.options) else {
             return Answer::NotRecovered(RecoveryFault::Plan(PlanFault::NoMemory));
         };
-        let recovery = self.node.recover(
+        let recovery = recover_node(
             rt,
             self.alloc,
+            &mut self.node,
             &self.options,
             self.master,
             self.used,
@@ -225,7 +235,7 @@ impl Session {
         ensures refused { IfErr result (λ fault. fault ≡ LineFault.NoMemory) }
     {
         let victims = row_of(self.alloc, segments)?;
-        Ok(self.node.begin(victims))
+        Ok(self.node.step(Step::BeginClean(victims)))
     }
 
     /// Runs the line that cleans these segments.
@@ -240,11 +250,9 @@ impl Session {
 
     /// Runs the line of a command.
     #[inline(always)]
-    fn run_command(&mut self, line: Line<'_>) -> Result<Answer, LineFault>
-        requires line { IsLine (shown_line line) }
-        requires value { HasValue (shown_line line) }
-        requires command { IsSome (command_of (shown_line line)) }
-        ensures ran { IfOk result (λ answer. SessionAnswers self.old (shown_line line.entry) self.new answer) }
+    fn run_command(&mut self, line: CommandLine<'_>) -> Result<Answer, LineFault>
+        requires value { HasValue (shown_command line) }
+        ensures ran { IfOk result (λ answer. SessionAnswers self.old (shown_command line.entry) self.new answer) }
         ensures refused { IfErr result (λ fault. fault ≡ LineFault.NoMemory) }
     {
         let command = line_command(self.alloc, line)?;
@@ -256,11 +264,9 @@ impl Session {
 
     /// Makes the roll that a command's line waits for, and runs the line again.
     #[inline(never)]
-    fn run_after_roll(&mut self, line: Line<'_>) -> Result<Answer, LineFault>
-        requires line { IsLine (shown_line line) }
-        requires value { HasValue (shown_line line) }
-        requires command { IsSome (command_of (shown_line line)) }
-        ensures ran { IfOk result (λ answer. AnswersAfterRoll self.old (shown_line line.entry) self.new answer) }
+    fn run_after_roll(&mut self, line: CommandLine<'_>) -> Result<Answer, LineFault>
+        requires value { HasValue (shown_command line) }
+        ensures ran { IfOk result (λ answer. AnswersAfterRoll self.old (shown_command line.entry) self.new answer) }
         ensures refused { IfErr result (λ fault. fault ≡ LineFault.NoMemory) }
     {
         if let Some(answer) = self.node.make_room() {
@@ -283,52 +289,46 @@ fn row_of(alloc: Global, numbers: Numbers<'_>) -> Result<Row<u64>, NoMemory>
 
 /// The command of a line.
 #[inline(always)]
-fn line_command(alloc: Global, line: Line<'_>) -> Result<Command, NoMemory>
-    requires line { IsLine (shown_line line) }
-    requires value { HasValue (shown_line line) }
-    requires command { IsSome (command_of (shown_line line)) }
-    ensures { IfOk result (λ command. command_of (shown_line line.entry) ≡ Some command) }
+fn line_command(alloc: Global, line: CommandLine<'_>) -> Result<Command, NoMemory>
+    requires value { HasValue (shown_command line) }
+    ensures { IfOk result (λ command. command_of (shown_command line.entry) ≡ Some command) }
 {
     match line {
-        Line::Put { table, key, value } => put_command(alloc, table, key, value, If::Any),
-        Line::New { table, key, value } => put_command(alloc, table, key, value, If::Absent),
-        Line::Cas {
+        CommandLine::Put { table, key, value } => put_command(alloc, table, key, value, If::Any),
+        CommandLine::New { table, key, value } => put_command(alloc, table, key, value, If::Absent),
+        CommandLine::Cas {
             table,
             key,
             version,
             value,
         } => put_command(alloc, table, key, value, If::Version(version)),
-        Line::Get { table, key } => Ok(Command::Get(make_key(alloc, table, key)?)),
-        Line::Del { table, key } => Ok(Command::Delete(make_key(alloc, table, key)?)),
-        _ => unreachable!(),
+        CommandLine::Get { table, key } => Ok(Command::Get(make_key(alloc, table, key)?)),
+        CommandLine::Del { table, key } => Ok(Command::Delete(make_key(alloc, table, key)?)),
     }
 }
 
-fn make_key(alloc: Global, table: u64, bytes: &[u8]) -> Result<Key, NoMemory>
-    requires { IsKeyWord bytes.now }
-    ensures { IfOk result (λ key. key ≡ record { table = table; bytes = bytes.now }) }
+fn make_key(alloc: Global, table: u64, word: KeyWord<'_>) -> Result<Key, NoMemory>
+    ensures { IfOk result (λ key. key ≡ record { table = table; bytes = word.entry.bytes.now }) }
 {
-    match Key::new(alloc, table, bytes) {
-        Ok(key) => Ok(key),
-        Err(KeyFault::NoMemory) => Err(NoMemory),
-        Err(KeyFault::Empty) => unreachable!(),
-        Err(KeyFault::TooLong) => unreachable!(),
-    }
+    let key = KeyRef {
+        table,
+        bytes: word.bytes,
+    };
+    key.to_key(alloc)
 }
 
 fn put_command(
     alloc: Global,
     table: u64,
-    key: &[u8],
+    word: KeyWord<'_>,
     value: &[u8],
     when: If,
 ) -> Result<Command, NoMemory>
-    requires key { IsKeyWord key.now }
     requires value { length value.now ≤ MAX_VALUE_LEN }
     ensures { IfOk result (λ command.
-        command ≡ Command.Put (record { table = table; bytes = key.now }) value.now when) }
+        command ≡ Command.Put (record { table = table; bytes = word.entry.bytes.now }) value.now when) }
 {
-    let key = make_key(alloc, table, key)?;
+    let key = make_key(alloc, table, word)?;
     let value = Value::from_slice(alloc, value)?;
     Ok(Command::Put(key, value, when))
 }

@@ -9,8 +9,8 @@ const WORDS: &[&str] = &["ramlog", "--segment", "8192", "--seglets", "4096"];
 
 const SCRIPT: &[u8] = b"clients 4 100 5\ncrash\nrecover\n";
 
-/// What it prints. Each `x` stands for one of the digits from 0 to 3, which come once: who made the first put has the least
-/// version.
+/// What it prints. Each `x` stands for one of the digits from 0 to 3, which come once: who made the first put has the
+/// least version.
 const OUTPUT: &[u8] =
     b"clients 4 100 800\ncrashed\n1 c0 10x 100\n1 c1 10x 100\n1 c2 10x 100\n1 c3 10x 100\nrecovered 4\n";
 

@@ -1,49 +1,49 @@
 //! The command of a line.
 
 use crate::fault::LineFault;
-use entry::{Key, MAX_VALUE_LEN, Row, Value};
-use lines::{Line, Numbers};
+use entry::{Key, KeyRef, MAX_VALUE_LEN, NoMemory, Row, Value};
+use lines::{CommandLine, KeyWord, Numbers};
 use master::{Command, If};
 use std::alloc::Global;
 
-/// The command of a line, if it has one.
-pub fn command_of(alloc: Global, line: Line<'_>) -> Result<Option<Command>, LineFault> {
+/// The command of a line.
+pub fn command_of(alloc: Global, line: CommandLine<'_>) -> Result<Command, LineFault> {
     match line {
-        Line::Put { table, key, value } => put(alloc, table, key, value, If::Any),
-        Line::New { table, key, value } => put(alloc, table, key, value, If::Absent),
-        Line::Cas {
+        CommandLine::Put { table, key, value } => put(alloc, table, key, value, If::Any),
+        CommandLine::New { table, key, value } => put(alloc, table, key, value, If::Absent),
+        CommandLine::Cas {
             table,
             key,
             version,
             value,
         } => put(alloc, table, key, value, If::Version(version)),
-        Line::Get { table, key } => Ok(Some(Command::Get(make_key(alloc, table, key)?))),
-        Line::Del { table, key } => Ok(Some(Command::Delete(make_key(alloc, table, key)?))),
-        _ => Ok(None),
+        CommandLine::Get { table, key } => Ok(Command::Get(make_key(alloc, table, key)?)),
+        CommandLine::Del { table, key } => Ok(Command::Delete(make_key(alloc, table, key)?)),
     }
 }
 
-/// A put. A line has no longer keys and values than an entry takes.
+/// A put. A line has no longer values than an entry takes.
 fn put(
     alloc: Global,
     table: u64,
-    key: &[u8],
+    word: KeyWord<'_>,
     value: &[u8],
     when: If,
-) -> Result<Option<Command>, LineFault> {
+) -> Result<Command, LineFault> {
     if value.len() > MAX_VALUE_LEN {
         return Err(LineFault::NoMemory);
     }
-    let key = make_key(alloc, table, key)?;
+    let key = make_key(alloc, table, word)?;
     let value = Value::from_slice(alloc, value)?;
-    Ok(Some(Command::Put(key, value, when)))
+    Ok(Command::Put(key, value, when))
 }
 
-fn make_key(alloc: Global, table: u64, bytes: &[u8]) -> Result<Key, LineFault> {
-    match Key::new(alloc, table, bytes) {
-        Ok(key) => Ok(key),
-        Err(_) => Err(LineFault::NoMemory),
-    }
+fn make_key(alloc: Global, table: u64, word: KeyWord<'_>) -> Result<Key, NoMemory> {
+    let key = KeyRef {
+        table,
+        bytes: word.bytes,
+    };
+    key.to_key(alloc)
 }
 
 /// The numbers of a line, in memory of their own.

@@ -1,8 +1,8 @@
 //! What the lines of a script ask of a store, and how its answers are printed.
 //!
-//! A line is a command, which a seat calls with (`command_of`), some turns of the cleaner or of the log (`turn_line`), a look
-//! (`look_line`, `renew`), or something that ends a life or is for the time between two. `Dialogue` is the open script. No contract
-//! says what a store did under its lock, so nothing is promised here but that the code is safe.
+//! A line is a command, which a seat calls with (`command_of`), some turns of the cleaner or of the log (`turn_line`),
+//! a look (`look_line`, `renew`), or something that ends a life or is for the time between two. `Dialogue` is the open
+//! script. No contract says what a store did under its lock, so nothing is promised here but that the code is safe.
 //!
 //! The crate stands on `locked_log`, and on `script` for options, answers and faults. It waits, and starts no thread.
 #![tactic(auto)]
@@ -17,4 +17,4 @@ pub use command::command_of;
 pub use dialogue::Dialogue;
 pub use fault::{LineFault, tell};
 pub use looks::{look_line, renew};
-pub use turns::{Part, refuse, take_all, turn_line};
+pub use turns::{Phase, refuse, take_all, turn_line};

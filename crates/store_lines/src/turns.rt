@@ -13,20 +13,20 @@ use std::sync::Wait;
 
 /// Turns of one kind.
 #[derive(Clone, Copy)]
-pub enum Part {
+pub enum Phase {
     Pushes,
     Copies,
     Seals,
     Frees,
 }
 
-impl Part {
+impl Phase {
     fn turn(self) -> CleanTurn {
         match self {
-            Part::Pushes => CleanTurn::Push,
-            Part::Copies => CleanTurn::Copy,
-            Part::Seals => CleanTurn::Seal,
-            Part::Frees => CleanTurn::Free,
+            Phase::Pushes => CleanTurn::Push,
+            Phase::Copies => CleanTurn::Copy,
+            Phase::Seals => CleanTurn::Seal,
+            Phase::Frees => CleanTurn::Free,
         }
     }
 }
@@ -107,10 +107,10 @@ pub fn refuse<B: Naming, R: Wait>(
 pub fn take_all<B: Naming, R: Wait>(
     rt: &R,
     store: &Store<MemoryFleet, B>,
-    part: Part,
+    phase: Phase,
 ) -> Result<(), Refusal> {
     for _ in rt.forever() {
-        if let Err(refusal) = store.turn(rt, part.turn()) {
+        if let Err(refusal) = store.turn(rt, phase.turn()) {
             return match refusal {
                 Refusal::Nothing => Ok(()),
                 _ => Err(refusal),
@@ -126,7 +126,7 @@ fn roll_all<B: Naming, R: Wait>(rt: &R, store: &Store<MemoryFleet, B>) -> Result
         None | Some(Refusal::Rolling) => {}
         Some(refusal) => return Err(refusal),
     }
-    take_all(rt, store, Part::Pushes)?;
+    take_all(rt, store, Phase::Pushes)?;
     match store.look(rt, Look::Digest) {
         Ok(shown) => head_in(&shown).ok_or(Refusal::NoMemory),
         Err(NoMemory) => Err(Refusal::NoMemory),
@@ -162,10 +162,10 @@ fn clean<B: Naming, R: Wait>(rt: &R, store: &Store<MemoryFleet, B>, victims: Row
 
 /// Makes all of a pass that has begun. Answers the head that it ends with.
 fn finish_pass<B: Naming, R: Wait>(rt: &R, store: &Store<MemoryFleet, B>) -> Result<u64, Refusal> {
-    take_all(rt, store, Part::Copies)?;
-    take_all(rt, store, Part::Seals)?;
-    take_all(rt, store, Part::Pushes)?;
+    take_all(rt, store, Phase::Copies)?;
+    take_all(rt, store, Phase::Seals)?;
+    take_all(rt, store, Phase::Pushes)?;
     let head = roll_all(rt, store)?;
-    take_all(rt, store, Part::Frees)?;
+    take_all(rt, store, Phase::Frees)?;
     Ok(head)
 }

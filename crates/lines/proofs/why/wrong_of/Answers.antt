@@ -5,12 +5,14 @@ use Rattle.lines.proofs.Among.{among, one_read, wrong_among}
 use Rattle.lines.proofs.why.wrong_of.Goals.{then-is_none, else-is_none}
 use Rattle.lines.proofs.why.wrong_of.Goals as goal
 
-pub loop-part-preserved : goal.loop-part-preserved
-loop-part-preserved c = record {
-  left = one_read _ _ _ c.in_ok-word.word.now c.loop-part.invariant.left c.in_ok-word.ensures;
+pub loop-kind-preserved : goal.loop-kind-preserved
+loop-kind-preserved c = record {
+  left = one_read _ _ _ c.in_ok-word.word.now c.loop-kind.invariant.left c.in_ok-word.ensures;
   found = elim c.if-is_none.branch as (λ _. IfSome c.if-is_none.found (IsWrong (words_left c.args.rest))) [
     | then-is_none w ↦ rw w.found-is
-        (wrong_among _ c.in_ok-word.word.now w.wrong_part-found.result (among _ _ _ c.in_ok-word.word.now c.loop-part.invariant.left c.in_ok-word.ensures) w.wrong_part-found.ensures)
-    | else-is_none w ↦ rw w.found-is c.loop-part.invariant.found
+        (wrong_among _ c.in_ok-word.word.now w.wrong_of_kind-found.result
+        (among _ _ _ c.in_ok-word.word.now c.loop-kind.invariant.left c.in_ok-word.ensures)
+        w.wrong_of_kind-found.ensures)
+    | else-is_none w ↦ rw w.found-is c.loop-kind.invariant.found
   ];
 }

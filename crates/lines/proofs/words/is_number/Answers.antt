@@ -4,5 +4,6 @@ use Rattle.lines.proofs.words.is_number.Goals as goal
 
 pub returns : goal.returns
 returns c =
-    let is = is_number _ c.parse_number.result c.parse_number.ensures.sound (search (rules, arith)) c.parse_number.ensures.complete in
+    let is = is_number _ c.parse_number.result c.parse_number.ensures.sound
+    (search (rules, arith)) c.parse_number.ensures.complete in
     search rules

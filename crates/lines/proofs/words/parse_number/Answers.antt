@@ -10,7 +10,8 @@ returns-then-is_empty-clause-complete c = λ _ n small is.
 
 pub returns-then-word-ne48-clause-sound : goal.returns-then-word-ne48-clause-sound
 returns-then-word-ne48-clause-sound c =
-    written c.args.word.now c.digits_value.result c.digits_value.ensures.sound c.digits_value.ensures.fits (search (rules, arith)) (search rules)
+    written c.args.word.now c.digits_value.result c.digits_value.ensures.sound c.digits_value.ensures.fits
+    (search (rules, arith)) (search rules)
 
 pub returns-then-word-ne48-clause-complete : goal.returns-then-word-ne48-clause-complete
 returns-then-word-ne48-clause-complete c = λ none n small is.

@@ -7,11 +7,13 @@ use Rattle.lines.proofs.words.visible_len.Goals as goal
 pub loop-len-preserved : goal.loop-len-preserved
 loop-len-preserved c = record {
   within = search (rules, arith);
-  visible = some_more c.args.bytes.now c.loop-len.len 8 c.loop-len.invariant.visible (c.are_visible.ensures.0 c.if-are_visible.true);
+  visible = some_more c.args.bytes.now c.loop-len.len 8 c.loop-len.invariant.visible
+      (c.are_visible.ensures.0 c.if-are_visible.true);
 }
 
 pub loop-len-2-preserved : goal.loop-len-2-preserved
 loop-len-2-preserved c = record {
   within = search (rules, arith);
-  visible = All-more IsVisible c.args.bytes.now c.loop-len-2.len 0 (search (rules, arith)) c.loop-len-2.invariant.visible (c.is_visible.ensures.0 c.if-is_visible.true);
+  visible = All-more IsVisible c.args.bytes.now c.loop-len-2.len 0
+      (search (rules, arith)) c.loop-len-2.invariant.visible (c.is_visible.ensures.0 c.if-is_visible.true);
 }

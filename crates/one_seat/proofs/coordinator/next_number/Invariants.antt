@@ -1,5 +1,5 @@
 use Rattle.std.proofs.Common.{◌≡◌, max, drop}
-use Rattle.script.specs.Numbers.{greatest_of}
+use Rattle.next_master.specs.Numbers.{greatest_of}
 use Rattle.one_seat.proofs.coordinator.next_number.Given as goal
 
 abbrev pub invariant-loop-holding : goal.invariant-loop-holding

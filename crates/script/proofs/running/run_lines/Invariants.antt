@@ -1,5 +1,5 @@
 use Rattle.command_line.specs.declared.settings.Options.{Options}
-use Rattle.script.specs.Served.{BeginsSession}
+use Rattle.script.specs.Sessions.{BeginsSession}
 use Rattle.script.proofs.Turning.{Running}
 use Rattle.script.proofs.running.run_lines.Given as goal
 

@@ -6,8 +6,13 @@ use Rattle.script.proofs.running.run_next.Goals as goal
 
 pub returns-in-Ok : goal.returns-in-Ok
 returns-in-Ok g c =
-    let taken = taken_as _ _ _ _ _ Ended c.in-Ok-Ended.field-0-is (sym c.text.ensures) c.in-Ok-Ended.ensures.taken in
-    (c.text.result.now, taken.1, taken.0, flushed_first _ _ _ c.args.number _ _ _ (Ok tt) c.next_line.ensures.flushed c.in-Ok.ensures)
+    let taken = taken_as _ _ _ _ _ Ended c.in-Ok-Ended.field-0-is (sym c.text.ensures) c.in-Ok-Ended.ensures.taken in (
+      c.text.result.now,
+      taken.1,
+      taken.0,
+      flushed_first _ _ _ c.args.number _ _ _
+          (Ok tt) c.next_line.ensures.flushed c.in-Ok.ensures,
+    )
 
 pub returns-in-Err : goal.returns-in-Err
 returns-in-Err g c =
@@ -17,15 +22,18 @@ returns-in-Err g c =
 
 pub returns-in-Ok-run_text : goal.returns-in-Ok-run_text
 returns-in-Ok-run_text g c =
-    let taken = taken_as _ _ _ _ _ Last c.in-Ok-Last.field-0-is (sym c.text-in-Ok-Last.ensures) c.in-Ok-Last.ensures.taken in
+    let taken = taken_as _ _ _ _ _ Last c.in-Ok-Last.field-0-is
+    (sym c.text-in-Ok-Last.ensures) c.in-Ok-Last.ensures.taken in
     let ran = flushed_first _ _ _ c.args.number _ _ _ (Ok tt) c.next_line.ensures.flushed c.in-Ok-run_text.ensures in
     inl (c.text-in-Ok-Last.result.now, taken.3, taken.0, taken.1, taken.2, ran)
 
 pub returns-in-Err-run_text : goal.returns-in-Err-run_text
 returns-in-Err-run_text g c =
-    let taken = taken_as _ _ _ _ _ Last c.in-Ok-Last.field-0-is (sym c.text-in-Ok-Last.ensures) c.in-Ok-Last.ensures.taken in
+    let taken = taken_as _ _ _ _ _ Last c.in-Ok-Last.field-0-is
+    (sym c.text-in-Ok-Last.ensures) c.in-Ok-Last.ensures.taken in
     turn_fault _ _ _ _ _ _ _ _ _ c.in-Err-run_text.fault taken.3 taken.0 (inr (refl, taken.2, taken.1))
-    (flushed_first _ _ _ c.args.number _ _ _ (Err c.in-Err-run_text.fault) c.next_line.ensures.flushed c.in-Err-run_text.ensures)
+    (flushed_first _ _ _ c.args.number _ _ _ (Err c.in-Err-run_text.fault) c.next_line.ensures.flushed
+    c.in-Err-run_text.ensures)
 
 pub returns-in-Ok-Nothing : goal.returns-in-Ok-Nothing
 returns-in-Ok-Nothing g c =
@@ -34,8 +42,14 @@ returns-in-Ok-Nothing g c =
 
 pub returns-in-Ok-TooLong : goal.returns-in-Ok-TooLong
 returns-in-Ok-TooLong g c =
-    let there = taken_as _ _ _ _ _ TooLong c.in-Ok-TooLong.field-0-is refl c.in-Ok-TooLong.ensures.taken in
-    (refl, c.next_line.new.self, there.0, inl (there.1, there.2), c.next_line.ensures.flushed, inr (inl (refl, there.2)))
+    let there = taken_as _ _ _ _ _ TooLong c.in-Ok-TooLong.field-0-is refl c.in-Ok-TooLong.ensures.taken in (
+      refl,
+      c.next_line.new.self,
+      there.0,
+      inl (there.1, there.2),
+      c.next_line.ensures.flushed,
+      inr (inl (refl, there.2)),
+    )
 
 pub returns-in-Err-ReadFailed : goal.returns-in-Err-ReadFailed
 returns-in-Err-ReadFailed g c =

@@ -16,4 +16,9 @@ returns-in-Ok-run_line g c =
     c.print.ensures
 
 pub returns-in-Err : goal.returns-in-Err
-returns-in-Err g c = (refl, λ line says of_fleet. c.in-Err.ensures.complete refl line says, Keeps-refl _, inl c.in-Err.ensures.reason)
+returns-in-Err g c = (
+  refl,
+  λ line says of_fleet. c.in-Err.ensures.complete refl line says,
+  Keeps-refl _,
+  inl c.in-Err.ensures.reason,
+)

@@ -1,6 +1,6 @@
 use Rattle.std.proofs.Common.{◌≡◌, ◌∙◌, sym, subst, rules}
 use Rattle.std.specs.List.{slice_split}
-use Rattle.lines.specs.Grammar.{IsWord}
+use Rattle.lines.specs.Keys.{IsWord}
 use Rattle.lines.specs.Cutting.{is_space}
 use Rattle.lines.proofs.Spelling.{one_word, one_word_only}
 use Rattle.lines.proofs.words.Words.last.Goals as goal

@@ -1,9 +1,20 @@
 use Rattle.std.proofs.Common.{ℕ, List, refl, subst}
 use Rattle.lines.specs.Grammar.{Begin}
-use Rattle.script.specs.Served.{SessionAnswers}
+use Rattle.script.specs.Sessions.{SessionAnswers}
 use Rattle.script.proofs.session.Session.run_begin.Goals as goal
 
 pub returns-clause-ran : goal.returns-clause-ran
 returns-clause-ran c =
-    subst (λ (ids : List ℕ). SessionAnswers c.args.self.now (Begin ids) (record c.args.self.now { node = c.begin.new.self }) c.begin.result) c.in_ok-victims.ensures
-    (record { number = refl; options = refl; used = refl; covers = λ all. all.0; answers = λ config number. c.begin.ensures.told config; makes = c.begin.ensures.stepped; wills = refl; word = refl })
+    subst (λ (ids : List ℕ). SessionAnswers c.args.self.now (Begin ids)
+    (record c.args.self.now { node = c.step.new.self }) c.step.result) c.in_ok-victims.ensures
+    (record {
+      number = refl;
+      options = refl;
+      used = refl;
+      covers = λ all. all.0;
+      answers = λ config number. c.step.ensures.told config;
+      makes = c.step.ensures.stepped;
+      wills =
+          refl;
+      word = refl;
+    })

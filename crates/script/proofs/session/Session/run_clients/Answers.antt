@@ -1,5 +1,5 @@
 use Rattle.std.proofs.Common.{refl}
-use Rattle.script.proofs.ClientLines.{has_records, word_kept}
+use Rattle.script.proofs.Sessions.{has_records, word_kept}
 use Rattle.script.proofs.session.Session.run_clients.Goals as goal
 
 pub returns : goal.returns

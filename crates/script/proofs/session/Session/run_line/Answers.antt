@@ -1,56 +1,205 @@
 use Rattle.std.proofs.Common.{inl, inr, refl}
 use Rattle.lines.specs.Grammar.{Idle}
-use Rattle.script.specs.declared.answer.Answer.TheVariants.{Silent}
-use Rattle.script.proofs.Standing.{stays_told}
+use Rattle.answers.specs.declared.answer.Answer.TheVariants.{Silent}
+use Rattle.node.proofs.Standing.{stays_told}
 use Rattle.script.proofs.session.Session.run_line.Goals as goal
 
 pub returns-in-Idle-clause-ran : goal.returns-in-Idle-clause-ran
-returns-in-Idle-clause-ran g c = rw c.in-Idle.is (inl (record { number = refl; options = refl; used = refl; covers = λ all. all.0; answers = λ config number. stays_told c.args.self.now.node config Idle Silent (λ d at s. (refl, refl)); makes = refl; wills = refl; word = refl }))
+returns-in-Idle-clause-ran g c = rw c.in-Idle.is (inl (record {
+  number = refl;
+  options = refl;
+  used = refl;
+  covers = λ all. all.0;
+  answers = λ config number. stays_told c.args.self.now.node config Idle Silent
+      (λ d at s. (refl, refl));
+  makes = refl;
+  wills = refl;
+  word = refl;
+}))
 
 pub returns-in-Hex-clause-ran : goal.returns-in-Hex-clause-ran
-returns-in-Hex-clause-ran g c = rw c.in-Hex.is (inl (record { number = refl; options = refl; used = refl; covers = λ all. all.0; answers = λ config number. c.hex.ensures.told config; makes = (refl, c.hex.ensures.shown); wills = refl; word = refl }))
+returns-in-Hex-clause-ran g c = rw c.in-Hex.is (inl (record {
+  number = refl;
+  options = refl;
+  used = refl;
+  covers = λ all. all.0;
+  answers = λ config number. c.hex.ensures.told config;
+  makes = (refl, c.hex.ensures.shown);
+  wills = refl;
+  word = refl;
+}))
 
 pub returns-in-Stop-clause-ran : goal.returns-in-Stop-clause-ran
-returns-in-Stop-clause-ran g c = rw c.in-Stop.is (inl (record { number = refl; options = refl; used = refl; covers = λ all. all.0; answers = λ config number. c.stop.ensures.told config; makes = c.stop.ensures.limited; wills = refl; word = refl }))
+returns-in-Stop-clause-ran g c = rw c.in-Stop.is (inl (record {
+  number = refl;
+  options = refl;
+  used = refl;
+  covers = λ all. all.0;
+  answers = λ config number. c.stop.ensures.told config;
+  makes = c.stop.ensures.limited;
+  wills = refl;
+  word = refl;
+}))
 
 pub returns-in-Crash-clause-ran : goal.returns-in-Crash-clause-ran
-returns-in-Crash-clause-ran g c = rw c.in-Crash.is (inl (record { number = refl; options = refl; used = refl; covers = λ all. all.0; answers = λ config number. c.crash.ensures.told config; makes = c.crash.ensures.dropped; wills = refl; word = refl }))
+returns-in-Crash-clause-ran g c = rw c.in-Crash.is (inl
+    (record {
+      number = refl;
+      options = refl;
+      used = refl;
+      covers = λ all. all.0;
+      answers = λ config number. c.crash.ensures.told config;
+      makes = c.crash.ensures.dropped;
+      wills =
+          refl;
+      word = refl;
+    }))
 
 pub returns-in-Lose-2-clause-ran : goal.returns-in-Lose-2-clause-ran
-returns-in-Lose-2-clause-ran g c = rw c.in-Lose-2.is (inl (record { number = refl; options = refl; used = refl; covers = λ all. all.0; answers = λ config number. c.lose.ensures.told config; makes = c.lose.ensures.lost; wills = refl; word = refl }))
+returns-in-Lose-2-clause-ran g c = rw c.in-Lose-2.is (inl
+    (record {
+      number = refl;
+      options = refl;
+      used = refl;
+      covers = λ all. all.0;
+      answers = λ config number. c.lose.ensures.told config;
+      makes = c.lose.ensures.lost;
+      wills = refl;
+      word = refl;
+    }))
 
 pub returns-in-Recover-clause-ran : goal.returns-in-Recover-clause-ran
 returns-in-Recover-clause-ran g c = rw c.in-Recover.is (inr c.run_recover.ensures)
 
 pub returns-in-Roll-clause-ran : goal.returns-in-Roll-clause-ran
-returns-in-Roll-clause-ran g c = rw c.in-Roll.is (inl (record { number = refl; options = refl; used = refl; covers = λ all. all.0; answers = λ config number. c.roll.ensures.told config; makes = c.roll.ensures.rolled; wills = refl; word = refl }))
+returns-in-Roll-clause-ran g c = rw c.in-Roll.is (inl (record {
+  number = refl;
+  options = refl;
+  used = refl;
+  covers = λ all. all.0;
+  answers = λ config number. c.roll.ensures.told config;
+  makes = c.roll.ensures.rolled;
+  wills =
+      refl;
+  word = refl;
+}))
 
 pub returns-in-BeginRoll-clause-ran : goal.returns-in-BeginRoll-clause-ran
-returns-in-BeginRoll-clause-ran g c = rw c.in-BeginRoll.is (inl (record { number = refl; options = refl; used = refl; covers = λ all. all.0; answers = λ config number. c.begin_roll.ensures.told config; makes = c.begin_roll.ensures.stepped; wills = refl; word = refl }))
+returns-in-BeginRoll-clause-ran g c = rw c.in-BeginRoll.is
+    (inl (record {
+      number = refl;
+      options = refl;
+      used = refl;
+      covers = λ all. all.0;
+      answers = λ config number. c.step.ensures.told config;
+      makes = c.step.ensures.stepped;
+      wills = refl;
+      word = refl;
+    }))
 
 pub returns-in-Compact-clause-ran : goal.returns-in-Compact-clause-ran
-returns-in-Compact-clause-ran g c = rw c.in-Compact.is (inl (record { number = refl; options = refl; used = refl; covers = λ all. all.0; answers = λ config number. c.compact.ensures.told config; makes = c.compact.ensures.stepped; wills = refl; word = refl }))
+returns-in-Compact-clause-ran g c = rw c.in-Compact.is
+    (inl (record {
+      number = refl;
+      options = refl;
+      used = refl;
+      covers = λ all. all.0;
+      answers = λ config number. c.step-in-Compact.ensures.told config;
+      makes = c.step-in-Compact.ensures.stepped;
+      wills =
+          refl;
+      word = refl;
+    }))
 
 pub returns-in-Push-clause-ran : goal.returns-in-Push-clause-ran
-returns-in-Push-clause-ran g c = rw c.in-Push.is (inl (record { number = refl; options = refl; used = refl; covers = λ all. all.0; answers = λ config number. c.push.ensures.told config; makes = c.push.ensures.stepped; wills = refl; word = refl }))
+returns-in-Push-clause-ran g c = rw c.in-Push.is (inl (record {
+  number = refl;
+  options = refl;
+  used = refl;
+  covers = λ all. all.0;
+  answers = λ config number. c.step-in-Push.ensures.told config;
+  makes =
+      c.step-in-Push.ensures.stepped;
+  wills = refl;
+  word = refl;
+}))
 
 pub returns-in-Log-clause-ran : goal.returns-in-Log-clause-ran
-returns-in-Log-clause-ran g c = rw c.in-Log.is (inl (record { number = refl; options = refl; used = refl; covers = λ all. all.0; answers = λ config number. c.log.ensures.told config; makes = (refl, c.log.ensures.shown); wills = refl; word = refl }))
+returns-in-Log-clause-ran g c = rw c.in-Log.is (inl (record {
+  number = refl;
+  options = refl;
+  used = refl;
+  covers = λ all. all.0;
+  answers = λ config number. c.log.ensures.told config;
+  makes = (refl, c.log.ensures.shown);
+  wills = refl;
+  word = refl;
+}))
 
 pub returns-in-Room-clause-ran : goal.returns-in-Room-clause-ran
-returns-in-Room-clause-ran g c = rw c.in-Room.is (inl (record { number = refl; options = refl; used = refl; covers = λ all. all.0; answers = λ config number. c.room.ensures.told config; makes = (refl, c.room.ensures.shown); wills = refl; word = refl }))
+returns-in-Room-clause-ran g c = rw c.in-Room.is (inl (record {
+  number = refl;
+  options = refl;
+  used = refl;
+  covers = λ all. all.0;
+  answers = λ config number. c.room.ensures.told config;
+  makes = (refl, c.room.ensures.shown);
+  wills = refl;
+  word = refl;
+}))
 
 pub returns-in-Holdings-clause-ran : goal.returns-in-Holdings-clause-ran
-returns-in-Holdings-clause-ran g c = rw c.in-Holdings.is (inl (record { number = refl; options = refl; used = refl; covers = λ all. all.0; answers = λ config number. c.holdings.ensures.told config; makes = (refl, c.holdings.ensures.shown); wills = refl; word = refl }))
+returns-in-Holdings-clause-ran g c = rw c.in-Holdings.is
+    (inl (record {
+      number = refl;
+      options = refl;
+      used = refl;
+      covers = λ all. all.0;
+      answers = λ config number. c.holdings.ensures.told config;
+      makes = (refl, c.holdings.ensures.shown);
+      wills =
+          refl;
+      word = refl;
+    }))
 
 pub returns-in-Copy-clause-ran : goal.returns-in-Copy-clause-ran
-returns-in-Copy-clause-ran g c = rw c.in-Copy.is (inl (record { number = refl; options = refl; used = refl; covers = λ all. all.0; answers = λ config number. c.copy.ensures.told config; makes = c.copy.ensures.stepped; wills = refl; word = refl }))
+returns-in-Copy-clause-ran g c = rw c.in-Copy.is (inl (record {
+  number = refl;
+  options = refl;
+  used = refl;
+  covers = λ all. all.0;
+  answers = λ config number. c.step-in-Copy.ensures.told config;
+  makes =
+      c.step-in-Copy.ensures.stepped;
+  wills = refl;
+  word = refl;
+}))
 
 pub returns-in-Seal-clause-ran : goal.returns-in-Seal-clause-ran
-returns-in-Seal-clause-ran g c = rw c.in-Seal.is (inl (record { number = refl; options = refl; used = refl; covers = λ all. all.0; answers = λ config number. c.seal.ensures.told config; makes = c.seal.ensures.stepped; wills = refl; word = refl }))
+returns-in-Seal-clause-ran g c = rw c.in-Seal.is (inl (record {
+  number = refl;
+  options = refl;
+  used = refl;
+  covers = λ all. all.0;
+  answers = λ config number. c.step-in-Seal.ensures.told config;
+  makes =
+      c.step-in-Seal.ensures.stepped;
+  wills = refl;
+  word = refl;
+}))
 
 pub returns-in-Free-clause-ran : goal.returns-in-Free-clause-ran
-returns-in-Free-clause-ran g c = rw c.in-Free.is (inl (record { number = refl; options = refl; used = refl; covers = λ all. all.0; answers = λ config number. c.free.ensures.told config; makes = c.free.ensures.stepped; wills = refl; word = refl }))
+returns-in-Free-clause-ran g c = rw c.in-Free.is (inl (record {
+  number = refl;
+  options = refl;
+  used = refl;
+  covers = λ all. all.0;
+  answers = λ config number. c.step-in-Free.ensures.told config;
+  makes =
+      c.step-in-Free.ensures.stepped;
+  wills = refl;
+  word = refl;
+}))
 
 pub returns-in-Will-clause-ran : goal.returns-in-Will-clause-ran
 returns-in-Will-clause-ran g c = rw c.in-Will.is (inl c.run_will.ensures)

@@ -1,9 +1,11 @@
 use Rattle.std.proofs.Common.{ℕ, inl, inr, refl, subst, arith}
-use Rattle.script.specs.Configuration.{config_of}
-use Rattle.script.specs.Numbers.{Renumbers}
-use Rattle.script.specs.Recoveries.{Ends, Recovers, asked_of}
-use Rattle.script.proofs.HowItEnds.{down_at, limit_made, want_ends}
-use Rattle.script.proofs.Standing.{not_up, unknown_at, want_at}
+use Rattle.next_master.specs.Configuration.{config_of}
+use Rattle.next_master.specs.Numbers.{Renumbers}
+use Rattle.next_master.specs.Recoveries.{Ends, Recovers}
+use Rattle.script.specs.Sessions.{asked_of}
+use Rattle.next_master.proofs.HowItEnds.{down_at, limit_made, want_ends}
+use Rattle.node.proofs.Standing.{not_up}
+use Rattle.script.proofs.Sessions.{unknown_at, want_at}
 use Rattle.script.proofs.session.Session.run_recover.Goals as goal
 
 pub returns-in_default-whole_will : goal.returns-in_default-whole_will
@@ -31,8 +33,9 @@ returns-in_default-whole_will g c =
 pub returns-else-recovery-self : goal.returns-else-recovery-self
 returns-else-recovery-self g c =
     let s = c.args.self.now in
-    let r = c.recover-recovery in
-    let ended : Ends s.node s.options (asked_of s c.args.order) r.result.used r.new.self r.result.answer r.result.master = r.ensures.ends in
+    let r = c.recover_node-recovery in
+    let ended : Ends s.node s.options (asked_of s c.args.order) r.result.used r.new.node r.result.answer
+    r.result.master = r.ensures.ends in
     record {
       order = c.args.order;
       asks = refl;
@@ -40,9 +43,15 @@ returns-else-recovery-self g c =
       known = refl;
       covers = λ all. all.0;
       numbers = subst (λ (n : ℕ). Renumbers s.master s.used n r.result.used) c.if-recovery-self.false r.ensures.numbers;
-      recovers = subst (λ (n : ℕ). Recovers s.node s.options s.master c.args.order r.new.self r.result.answer n) c.if-recovery-self.false r.ensures.recovers;
-      ends = inl (inr c.if-not-self.false, subst (λ (n : ℕ). Ends s.node s.options (asked_of s c.args.order) r.result.used r.new.self r.result.answer n) c.if-recovery-self.false ended);
-      limit = limit_made s.node r.new.self s.options (asked_of s c.args.order) r.result.used r.result.answer r.result.master ended;
+      recovers = subst (λ (n : ℕ). Recovers s.node s.options s.master c.args.order r.new.node r.result.answer n)
+          c.if-recovery-self.false r.ensures.recovers;
+      ends = inl (
+        inr c.if-not-self.false,
+        subst (λ (n : ℕ). Ends s.node s.options
+            (asked_of s c.args.order) r.result.used r.new.node r.result.answer n) c.if-recovery-self.false ended,
+      );
+      limit = limit_made s.node r.new.node s.options (asked_of s c.args.order) r.result.used r.result.answer
+          r.result.master ended;
       will = inl (refl, refl);
       least = r.ensures.least;
       spent = r.ensures.spent;
@@ -51,8 +60,9 @@ returns-else-recovery-self g c =
 pub returns-then-recovery-self : goal.returns-then-recovery-self
 returns-then-recovery-self g c =
     let s = c.args.self.now in
-    let r = c.recover-recovery in
-    let ended : Ends s.node s.options (asked_of s c.args.order) r.result.used r.new.self r.result.answer r.result.master = r.ensures.ends in
+    let r = c.recover_node-recovery in
+    let ended : Ends s.node s.options (asked_of s c.args.order) r.result.used r.new.node r.result.answer
+    r.result.master = r.ensures.ends in
     record {
       order = c.args.order;
       asks = refl;
@@ -62,7 +72,8 @@ returns-then-recovery-self g c =
       numbers = r.ensures.numbers;
       recovers = r.ensures.recovers;
       ends = inl (inr c.if-not-self.false, ended);
-      limit = limit_made s.node r.new.self s.options (asked_of s c.args.order) r.result.used r.result.answer r.result.master ended;
+      limit = limit_made s.node r.new.node s.options (asked_of s c.args.order) r.result.used r.result.answer
+          r.result.master ended;
       will = inr (c.if-recovery-self.true, c.in-Ok.ensures.whole);
       least = r.ensures.least;
       spent = r.ensures.spent;

@@ -1,5 +1,5 @@
 use Rattle.std.proofs.Common.{refl}
-use Rattle.script.proofs.Willed.{covered_anew}
+use Rattle.script.proofs.Sessions.{covered_anew}
 use Rattle.script.proofs.session.Session.run_will.Goals as goal
 
 pub returns : goal.returns

@@ -1,19 +1,20 @@
-use Rattle.std.proofs.Common.{◌≡◌, true, List, [], ◌++◌, length, refl, sym, ap, subst, ◌∙◌, arith}
+use Rattle.std.proofs.Common.{[], ◌≡◌, true, List, ◌++◌, length, refl, sym, ap, subst, ◌∙◌, arith}
 use Rattle.backup.specs.State.{fleet_state}
 use Rattle.log_head.specs.Head.{is_open}
 use Rattle.master.specs.World.{World, world}
-use Rattle.master_core.specs.declared.step.Refusal.TheVariants.{Nothing}
-use Rattle.master_core.specs.Data.{MasterData, fresh_data}
-use Rattle.script.specs.Configuration.{config_of}
+use Rattle.master_state.specs.declared.step.Refusal.TheVariants.{Nothing}
+use Rattle.master_state.specs.Data.{MasterData, fresh_data}
+use Rattle.next_master.specs.Configuration.{config_of}
 use Rattle.driving.specs.Rolls.{PushesUntil}
-use Rattle.script.specs.Served.{new_world}
+use Rattle.script.specs.Sessions.{new_world}
 use Rattle.versioned_map.specs.declared.command.Record.{Record}
-use Rattle.script.proofs.Standing.{ok_of_no_err}
+use Rattle.script.proofs.Sessions.{ok_of_no_err}
 use Rattle.replica.specs.Picture.{FleetState}
 use Rattle.script.proofs.session.Session.start.Goals as goal
 
 pub new-requires-2-clause-none : goal.new-requires-2-clause-none
-new-requires-2-clause-none c = λ b s. ap (λ (f : FleetState). f.picture b c.in_ok-config.config.master s) c.in_ok-fleet.ensures
+new-requires-2-clause-none c = λ b s. ap (λ (f : FleetState). f.picture b c.in_ok-config.config.master s)
+    c.in_ok-fleet.ensures
 
 pub returns : goal.returns
 returns c =
@@ -22,7 +23,8 @@ returns c =
     let on = c.push_all.ensures.goes_on in
     let config = c.in_ok-config.ensures.config in
     let open_now : is_open m.knows.head ≡ true =
-    ok_of_no_err c.push_all.result (is_open m.knows.head ≡ true) (sym c.is_err.ensures.value ∙ c.if-is_err.false) c.push_all.ensures.open in
+    ok_of_no_err c.push_all.result (is_open m.knows.head ≡ true)
+    (sym c.is_err.ensures.value ∙ c.if-is_err.false) c.push_all.ensures.open in
     let pushed : PushesUntil (world fleet_state c.in-Ok.master) Nothing (world fleet_state m) =
     ok_of_no_err c.push_all.result _ (sym c.is_err.ensures.value ∙ c.if-is_err.false) c.push_all.ensures.pushed in
     let first : world fleet_state c.in-Ok.master ≡ new_world (config_of c.args.options.now 1) = λ i. record {
@@ -41,7 +43,12 @@ returns c =
         open_now,
         on.origin ∙ ap (λ (d : MasterData). d.origin) new,
       );
-      begins = (world fleet_state m, refl, subst (λ (w : World). PushesUntil w Nothing (world fleet_state m)) first pushed);
+      begins = (
+        world fleet_state m,
+        refl,
+        subst (λ (w : World). PushesUntil w Nothing
+            (world fleet_state m)) first pushed,
+      );
       number = refl;
       used = refl;
       set = refl;

@@ -1,0 +1,9 @@
+use Rattle.std.proofs.Common.{rules}
+use Rattle.answers.specs.Texts.{spaced_text}
+use Rattle.answers.proofs.Printed.{one_printed}
+use Rattle.answers.proofs.answer.write_ids.Goals as goal
+
+pub loop-id-preserved : goal.loop-id-preserved
+loop-id-preserved g c =
+    one_printed spaced_text c.args.ids.now c.loop-id.id-index 0 _ _ _ c.loop-id-test.true
+    c.loop-id.invariant (search rules)

@@ -1,0 +1,181 @@
+-- What is printed. Each line ends with a line feed, byte 10; byte 32 is a space.
+use Rattle.std.specs.Prelude.{[], ℕ, ◌-◌, ◌*◌, ◌/◌, ◌%◌, List, ◌∷◌, ◌++◌, length, Bool, true, false, codes, Some}
+use Rattle.std.specs.Prelude.{None as nothing}
+use Rattle.std.specs.List.{flat_map}
+use Rattle.std.specs.Fmt.{decimal, digit_glyph}
+use Rattle.std.specs.Int.{w64, to_be_bytes}
+use Rattle.entry.specs.declared.entry.Object.{Object}
+use Rattle.replica.specs.declared.holding.Holding.{Holding}
+use Rattle.replica.specs.declared.op.TakeFault.{TakeFault}
+use Rattle.replica.specs.declared.op.TakeFault.TheVariants as take_fault
+use Rattle.claims.specs.declared.rebuilt.Rebuilt.{Rebuilt}
+use Rattle.recovery.specs.Texts.{recovery_fault_text}
+use Rattle.versioned_map.specs.declared.command.Reply.{Reply}
+use Rattle.versioned_map.specs.declared.command.Reply.TheVariants as reply
+use Rattle.lines.specs.Texts.{reason_text}
+use Rattle.master_state.specs.declared.config.Config.{Config}
+use Rattle.master_state.specs.declared.config.ConfigFault.{ConfigFault}
+use Rattle.master_state.specs.declared.config.ConfigFault.TheVariants.{BadBackups, BadSegment, BadBudget}
+use Rattle.master_state.specs.Names.{refusal_text, config_fault_name}
+use Rattle.tablet_will.specs.declared.part.Part.{Part}
+use Rattle.tablet_will.specs.Parts.{partitions_of}
+use Rattle.answers.specs.declared.answer.Answer.{Answer}
+use Rattle.answers.specs.declared.answer.Answer.TheVariants as answer
+use Rattle.answers.specs.declared.fault.ScriptFault.{ScriptFault}
+use Rattle.answers.specs.declared.fault.ScriptFault.TheVariants.{BadLine, ReadFailed, WriteFailed, NoMemory}
+
+-- ---- the parts of an answer
+
+abbrev pub reply_text : Reply → List ℕ
+reply_text (reply.Found version value) = decimal version ++ 32 ∷ value ++ 10 ∷ []
+reply_text reply.None = codes "none" ++ 10 ∷ []
+reply_text (reply.Ok version) = codes "ok " ++ decimal version ++ 10 ∷ []
+reply_text (reply.Mismatch nothing) = codes "mismatch none" ++ 10 ∷ []
+reply_text (reply.Mismatch (Some version)) = codes "mismatch " ++ decimal version ++ 10 ∷ []
+
+-- two lower case hexadecimal digits
+abbrev pub hex_digits : ℕ → List ℕ
+hex_digits byte = digit_glyph false (byte / 16) ∷ digit_glyph false (byte % 16) ∷ []
+
+abbrev pub hex_text : List ℕ → List ℕ
+hex_text bytes = flat_map hex_digits bytes ++ 10 ∷ []
+
+-- table, key, version and value
+abbrev pub object_text : Object → List ℕ
+object_text o = decimal o.key.table ++ 32 ∷ o.key.bytes ++ 32 ∷ decimal o.version ++ 32 ∷ o.value ++ 10 ∷ []
+
+-- a line for each object, in order, and a line with their number
+abbrev pub rebuilt_text : Rebuilt → List ℕ
+rebuilt_text r = flat_map object_text r.objects ++ codes "recovered " ++ decimal (length r.objects) ++ 10 ∷ []
+
+-- words and two numbers: those of an op's backup and segment, for example
+abbrev pub op_text : List ℕ → ℕ → ℕ → List ℕ
+op_text words first second = words ++ decimal first ++ 32 ∷ decimal second ++ 10 ∷ []
+
+-- a space and a number
+abbrev pub spaced_text : ℕ → List ℕ
+spaced_text n = 32 ∷ decimal n
+
+-- the ids of a digest
+abbrev pub log_text : List ℕ → List ℕ
+log_text ids = codes "log" ++ flat_map spaced_text ids ++ 10 ∷ []
+
+-- the seglets of memory that are counted, and those that are free
+abbrev pub room_text : ℕ → ℕ → List ℕ
+room_text used free = codes "used " ++ decimal used ++ 32 ∷ codes "free " ++ decimal free ++ 10 ∷ []
+
+abbrev pub state_text : Bool → List ℕ
+state_text true = codes " open\n"
+state_text false = codes " closed\n"
+
+-- backup, master, segment, length and state of a replica
+abbrev pub holding_text : Holding → List ℕ
+holding_text h =
+    decimal h.backup ++ 32 ∷ decimal h.master ++ 32 ∷ decimal h.segment ++ 32 ∷ decimal (length h.bytes)
+    ++ state_text h.is_open
+
+-- the name of a fault
+abbrev pub take_fault_text : TakeFault → List ℕ
+take_fault_text take_fault.NoMemory = codes "NoMemory"
+take_fault_text take_fault.Wrong = codes "Wrong"
+take_fault_text take_fault.Fault = codes "Fault"
+take_fault_text take_fault.Spent = codes "Spent"
+
+-- a place as 16 hexadecimal digits
+abbrev pub place_text : ℕ → List ℕ
+place_text place = flat_map hex_digits (to_be_bytes w64 place)
+
+-- table, first and last place, and partition
+abbrev pub part_text : Part → List ℕ
+part_text q =
+    decimal q.table ++ 32 ∷ place_text q.first ++ 32 ∷ place_text q.last ++ 32 ∷ decimal q.partition ++ 10 ∷ []
+
+-- a line for each part, in order, and a line with the number of partitions
+abbrev pub will_text : List Part → List ℕ
+will_text qs = flat_map part_text qs ++ codes "partitions " ++ decimal (partitions_of qs) ++ 10 ∷ []
+
+-- ---- answers
+
+abbrev pub answer_text : Answer → List ℕ
+answer_text answer.Silent = []
+answer_text (answer.Reply reply) = reply_text reply
+answer_text (answer.Refused refusal) = codes "refused " ++ refusal_text refusal ++ 10 ∷ []
+answer_text (answer.Hex bytes) = hex_text bytes
+answer_text (answer.NotInLog segment) = codes "refused NotInLog " ++ decimal segment ++ 10 ∷ []
+answer_text (answer.Stop takes) = codes "stop " ++ decimal takes ++ 10 ∷ []
+answer_text answer.Stopped = codes "stopped" ++ 10 ∷ []
+answer_text answer.Crashed = codes "crashed" ++ 10 ∷ []
+answer_text (answer.Lost backup) = codes "lost " ++ decimal backup ++ 10 ∷ []
+answer_text (answer.Recovered rebuilt) = rebuilt_text rebuilt
+answer_text (answer.NotRecovered fault) = codes "refused " ++ recovery_fault_text fault ++ 10 ∷ []
+answer_text (answer.Head id) = codes "head " ++ decimal id ++ 10 ∷ []
+answer_text (answer.Opening id) = codes "opening " ++ decimal id ++ 10 ∷ []
+answer_text (answer.Compacted segment len) = op_text (codes "compacted ") segment len
+answer_text (answer.Extended backup segment) = op_text (codes "extend ") backup segment
+answer_text (answer.Opened backup segment) = op_text (codes "open ") backup segment
+answer_text (answer.Closed backup segment) = op_text (codes "close ") backup segment
+answer_text (answer.Begun survivor) = codes "begun " ++ decimal survivor ++ 10 ∷ []
+answer_text answer.Moved = codes "moved" ++ 10 ∷ []
+answer_text answer.Carried = codes "carried" ++ 10 ∷ []
+answer_text answer.Dropped = codes "dropped" ++ 10 ∷ []
+answer_text (answer.Sealed backup) = codes "sealed " ++ decimal backup ++ 10 ∷ []
+answer_text (answer.Freed segment backup) = op_text (codes "freed ") segment backup
+answer_text (answer.Cleaned survivor head) = op_text (codes "cleaned ") survivor head
+answer_text (answer.Counted clients rounds calls) = codes "clients " ++ decimal clients ++ 32 ∷ op_text [] rounds calls
+answer_text (answer.Log ids) = log_text ids
+answer_text (answer.Room used free) = room_text used free
+answer_text (answer.Will parts limits) = will_text parts
+answer_text (answer.BadLimits limits) = codes "refused BadLimits" ++ 10 ∷ []
+answer_text (answer.Holdings hs) = flat_map holding_text hs
+answer_text answer.Down = codes "refused Down" ++ 10 ∷ []
+answer_text (answer.NotRetired fault) = codes "refused " ++ take_fault_text fault ++ 10 ∷ []
+answer_text answer.NumbersSpent = codes "refused NumbersSpent" ++ 10 ∷ []
+answer_text answer.Up = codes "refused Up" ++ 10 ∷ []
+answer_text answer.SeatUnknown = codes "refused SeatUnknown" ++ 10 ∷ []
+answer_text answer.CellRefused = codes "refused CellRefused" ++ 10 ∷ []
+
+-- ---- faults of a run
+
+abbrev pub script_fault_text : ScriptFault → List ℕ
+script_fault_text (BadLine number why) = codes "bad line " ++ decimal number
+script_fault_text ReadFailed = codes "cannot read"
+script_fault_text WriteFailed = codes "cannot write"
+script_fault_text NoMemory = codes "no memory"
+
+-- a line of the error output
+abbrev pub error_line : List ℕ → List ℕ
+error_line text = codes "ramlog: " ++ text ++ 10 ∷ []
+
+-- the second line of a fault, if faults are explained
+abbrev pub why_line : Bool → ScriptFault → List ℕ
+why_line true (BadLine number why) = error_line (reason_text why)
+why_line _ _ = []
+
+-- the lines of a fault
+abbrev pub fault_lines : Bool → ScriptFault → List ℕ
+fault_lines explains fault = error_line (script_fault_text fault) ++ why_line explains fault
+
+-- which options disagree, and by how much
+abbrev pub config_why : Config → ConfigFault → List ℕ
+config_why c BadBackups = codes "--replicas is more than --backups by " ++ decimal (c.replicas - c.backups)
+config_why c BadSegment = codes "--segment is more than a multiple of --seglet by " ++ decimal (c.segment % c.seglet)
+config_why c BadBudget =
+    codes "--seglets is less than those of four segments by " ++ decimal (4 * (c.segment / c.seglet) - c.seglets)
+config_why c _ = []
+
+-- the second line of a bad configuration, if faults are explained; options can't make it bad in another way
+abbrev pub config_why_line : Bool → Config → ConfigFault → List ℕ
+config_why_line true c BadBackups = error_line (config_why c BadBackups)
+config_why_line true c BadSegment = error_line (config_why c BadSegment)
+config_why_line true c BadBudget = error_line (config_why c BadBudget)
+config_why_line _ _ _ = []
+
+-- the lines of a bad configuration
+abbrev pub config_lines : Bool → Config → ConfigFault → List ℕ
+config_lines explains c fault =
+    error_line (codes "bad configuration " ++ config_fault_name fault) ++ config_why_line explains c fault
+
+-- the exit status of a fault
+abbrev pub exit_status : ScriptFault → ℕ
+exit_status (BadLine number why) = 2
+exit_status _ = 1

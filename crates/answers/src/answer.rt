@@ -1,0 +1,370 @@
+//! What a line answers, and its text.
+
+ghost use Rattle.std.specs.Prelude.{◌≡◌, ◌≤◌, ◌++◌, ◌∷◌, [], codes, length, OnOk};
+ghost use Rattle.std.specs.Fmt.{decimal};
+ghost use Rattle.std.specs.Io.KnownBytes.{Appends};
+ghost use Rattle.tablet_will.specs.Parts.{partitions_of};
+ghost use Rattle.answers.specs.Texts.{answer_text, hex_digits, hex_text, object_text, rebuilt_text, reply_text};
+ghost use Rattle.answers.specs.Texts.{part_text, place_text, will_text, take_fault_text};
+ghost use Rattle.answers.specs.Texts.{op_text, log_text, room_text, spaced_text, holding_text};
+ghost use Rattle.std.specs.List.{flat_map};
+
+use crate::limits::Limits;
+use entry::{Object, Row, Value, Version};
+use itoa::write_digits;
+use master::{Refusal, Reply};
+use recovery::{Rebuilt, RecoveryFault};
+use replica::{Bytes, Holding, Inventory, TakeFault};
+use std::io::{self, Write};
+use tablet_will::Part;
+
+/// What a line of a script answers.
+#[derive(Drop)]
+pub enum Answer {
+    /// Nothing is printed.
+    Silent,
+    Reply(Reply),
+    Refused(Refusal),
+    /// The image of a segment.
+    Hex(Bytes),
+    /// There is no image of this segment.
+    NotInLog(u64),
+    /// How many more ops the fleet takes.
+    Stop(u64),
+    /// The fleet had taken as many ops as it may, and the master was dropped.
+    Stopped,
+    Crashed,
+    /// The backup that lost all that it held.
+    Lost(u64),
+    Recovered(Rebuilt),
+    NotRecovered(RecoveryFault),
+    /// The table was adopted, but the replicas of other masters weren't all freed. The new master was dropped.
+    NotRetired(TakeFault),
+    /// Nothing was recovered: no master can have a greater number.
+    NumbersSpent,
+    /// The number of the head, which is open.
+    Head(u64),
+    /// The number of the next head: a roll to it began.
+    Opening(u64),
+    /// The segment that was compacted, and how many bytes its image has now.
+    Compacted(u64, u64),
+    /// The backup and the segment of a push that extended a replica.
+    Extended(u64, u64),
+    /// The backup and the segment of a push that opened a replica.
+    Opened(u64, u64),
+    /// The backup and the segment of a push that closed a replica.
+    Closed(u64, u64),
+    /// The survivor of the pass that began.
+    Begun(u64),
+    /// An object that is live was copied to the survivor.
+    Moved,
+    /// A tombstone that is kept was copied to the survivor.
+    Carried,
+    /// An entry that isn't kept was passed over.
+    Dropped,
+    /// The backup of a replica of the survivor that was sealed.
+    Sealed(u64),
+    /// The segment and the backup of a replica that was freed.
+    Freed(u64, u64),
+    /// The survivor of the cleaning that was made, and the head that it ended with.
+    Cleaned(u64, u64),
+    /// How many clients made how many rounds each, and how many calls were accepted.
+    Counted(u64, u64, u64),
+    /// The ids of the digest in force.
+    Log(Row<u64>),
+    /// How many seglets of memory are counted, and how many are free.
+    Room(u64, u64),
+    /// The parts of the will that was made and handed over, and the limits of its partitions.
+    Will(Row<Part>, Limits),
+    /// No will was made: a partition may have no byte, or no object.
+    BadLimits(Limits),
+    /// What the backups hold.
+    Holdings(Inventory),
+    /// The line was refused: there is no master.
+    Down,
+    /// The line was refused: there is a master.
+    Up,
+    /// A store of clients could not tell whose its records were. Tests alone show that this never comes.
+    SeatUnknown,
+    /// A cell of a store of clients did not take its record. Tests alone show that this never comes.
+    CellRefused,
+}
+
+// An `io::Result` is large. So each function that hands one on is inlined, up to the one that drops its error. Those of
+// long answers are not, since a reply would clear their results too.
+
+/// Writes the lines of an answer, each with its line feed.
+#[inline(always)]
+pub fn write_answer<W: Write>(writer: &mut W, answer: &Answer) -> io::Result<()>
+    ensures { OnOk result (Appends (W.contents writer.old) (W.contents writer.new) (answer_text answer.now)) }
+{
+    match answer {
+        Answer::Silent => Ok(()),
+        Answer::Reply(reply) => write_reply(writer, reply),
+        Answer::Refused(refusal) => writeln!(writer, "refused {refusal}"),
+        Answer::Hex(bytes) => write_hex(writer, bytes.as_slice()),
+        Answer::NotInLog(segment) => write_number(writer, b"refused NotInLog ", *segment, b'\n'),
+        Answer::Stop(takes) => write_number(writer, b"stop ", *takes, b'\n'),
+        Answer::Stopped => writer.write_all(b"stopped\n"),
+        Answer::Crashed => writer.write_all(b"crashed\n"),
+        Answer::Lost(backup) => write_number(writer, b"lost ", *backup, b'\n'),
+        Answer::Recovered(rebuilt) => write_rebuilt(writer, rebuilt),
+        Answer::NotRecovered(fault) => writeln!(writer, "refused {fault}"),
+        Answer::NotRetired(fault) => write_take_fault(writer, *fault),
+        Answer::NumbersSpent => writer.write_all(b"refused NumbersSpent\n"),
+        Answer::Head(id) => write_number(writer, b"head ", *id, b'\n'),
+        Answer::Opening(id) => write_number(writer, b"opening ", *id, b'\n'),
+        Answer::Compacted(segment, len) => write_op(writer, b"compacted ", *segment, *len),
+        Answer::Extended(backup, segment) => write_op(writer, b"extend ", *backup, *segment),
+        Answer::Opened(backup, segment) => write_op(writer, b"open ", *backup, *segment),
+        Answer::Closed(backup, segment) => write_op(writer, b"close ", *backup, *segment),
+        Answer::Begun(survivor) => write_number(writer, b"begun ", *survivor, b'\n'),
+        Answer::Moved => writer.write_all(b"moved\n"),
+        Answer::Carried => writer.write_all(b"carried\n"),
+        Answer::Dropped => writer.write_all(b"dropped\n"),
+        Answer::Sealed(backup) => write_number(writer, b"sealed ", *backup, b'\n'),
+        Answer::Freed(segment, backup) => write_op(writer, b"freed ", *segment, *backup),
+        Answer::Cleaned(survivor, head) => write_op(writer, b"cleaned ", *survivor, *head),
+        Answer::Counted(clients, rounds, calls) => {
+            write_counted(writer, *clients, *rounds, *calls)
+        }
+        Answer::Log(ids) => write_log(writer, ids.as_slice()),
+        Answer::Room(used, free) => write_room(writer, *used, *free),
+        Answer::Will(parts, _) => write_will(writer, parts.as_slice()),
+        Answer::BadLimits(_) => writer.write_all(b"refused BadLimits\n"),
+        Answer::Holdings(inventory) => write_holdings(writer, inventory.as_slice()),
+        Answer::Down => writer.write_all(b"refused Down\n"),
+        Answer::Up => writer.write_all(b"refused Up\n"),
+        Answer::SeatUnknown => writer.write_all(b"refused SeatUnknown\n"),
+        Answer::CellRefused => writer.write_all(b"refused CellRefused\n"),
+    }
+}
+
+#[inline(always)]
+fn write_reply<W: Write>(writer: &mut W, reply: &Reply) -> io::Result<()>
+    ensures { OnOk result (Appends (W.contents writer.old) (W.contents writer.new) (reply_text reply.now)) }
+{
+    match reply {
+        Reply::Found(version, value) => write_versioned(writer, *version, value),
+        Reply::None => writer.write_all(b"none\n"),
+        Reply::Ok(version) => write_number(writer, b"ok ", version.get(), b'\n'),
+        Reply::Mismatch(None) => writer.write_all(b"mismatch none\n"),
+        Reply::Mismatch(Some(version)) => write_number(writer, b"mismatch ", version.get(), b'\n'),
+    }
+}
+
+/// Writes the line of a take's fault.
+#[inline(always)]
+fn write_take_fault<W: Write>(writer: &mut W, fault: TakeFault) -> io::Result<()>
+    ensures { OnOk result (Appends (W.contents writer.old) (W.contents writer.new)
+        (codes "refused " ++ take_fault_text fault ++ 10 ∷ [])) }
+{
+    match fault {
+        TakeFault::NoMemory => writer.write_all(b"refused NoMemory\n"),
+        TakeFault::Wrong => writer.write_all(b"refused Wrong\n"),
+        TakeFault::Fault => writer.write_all(b"refused Fault\n"),
+        TakeFault::Spent => writer.write_all(b"refused Spent\n"),
+    }
+}
+
+/// Writes words, a number in decimal digits, and a last byte, in one write.
+#[inline(always)]
+fn write_number<W: Write>(writer: &mut W, words: &[u8], number: u64, last: u8) -> io::Result<()>
+    requires { length words.now ≤ 20 }
+    ensures { OnOk result (Appends (W.contents writer.old) (W.contents writer.new)
+        (words.now ++ decimal number ++ last ∷ [])) }
+{
+    let mut line = [last; 48];
+    let digits = write_digits(number, &mut line, 47);
+    let start = digits - words.len();
+    line[start..digits].copy_from_slice(words);
+    writer.write_all(&line[start..])
+}
+
+/// Writes the end of a line that shows a version and a value.
+#[inline(always)]
+fn write_versioned<W: Write>(writer: &mut W, version: Version, value: &Value) -> io::Result<()>
+    ensures { OnOk result (Appends (W.contents writer.old) (W.contents writer.new)
+        (decimal version ++ 32 ∷ value.now ++ 10 ∷ [])) }
+{
+    let value = value.as_slice();
+    if value.len() <= SHORT_VALUE_LEN {
+        return write_short(writer, version.get(), value);
+    }
+    write_number(writer, b"", version.get(), b' ')?;
+    writer.write_all(value)?;
+    writer.write_all(b"\n")
+}
+
+/// The most bytes of a value that is written together with its version.
+const SHORT_VALUE_LEN: usize = 128;
+
+/// Writes a number in decimal digits, a space, a short value and a line feed, in one write.
+#[inline(always)]
+fn write_short<W: Write>(writer: &mut W, number: u64, value: &[u8]) -> io::Result<()>
+    requires { length value.now ≤ 128 }
+    ensures { OnOk result (Appends (W.contents writer.old) (W.contents writer.new)
+        (decimal number ++ 32 ∷ value.now ++ 10 ∷ [])) }
+{
+    let mut line = [b'\n'; 160];
+    let end = 21 + value.len();
+    line[20] = b' ';
+    line[21..end].copy_from_slice(value);
+    let start = write_digits(number, &mut line, 20);
+    writer.write_all(&line[start..end + 1])
+}
+
+#[inline(never)]
+fn write_hex<W: Write>(writer: &mut W, bytes: &[u8]) -> io::Result<()>
+    ensures { OnOk result (Appends (W.contents writer.old) (W.contents writer.new) (hex_text bytes.now)) }
+{
+    write_hex_bytes(writer, bytes)?;
+    writer.write_all(b"\n")
+}
+
+/// Writes two digits for each byte.
+fn write_hex_bytes<W: Write>(writer: &mut W, bytes: &[u8]) -> io::Result<()>
+    ensures { OnOk result (Appends (W.contents writer.old) (W.contents writer.new) (flat_map hex_digits bytes.now)) }
+{
+    for byte in bytes {
+        write!(writer, "{byte:02x}")?;
+    }
+    Ok(())
+}
+
+/// Writes a place as 16 hexadecimal digits, and a space.
+fn write_place<W: Write>(writer: &mut W, place: u64) -> io::Result<()>
+    ensures { OnOk result (Appends (W.contents writer.old) (W.contents writer.new) (place_text place ++ 32 ∷ [])) }
+{
+    write_hex_bytes(writer, &place.to_be_bytes())?;
+    writer.write_all(b" ")
+}
+
+/// Writes the line of a part.
+fn write_part<W: Write>(writer: &mut W, part: &Part) -> io::Result<()>
+    ensures { OnOk result (Appends (W.contents writer.old) (W.contents writer.new) (part_text part.now)) }
+{
+    write_number(writer, b"", part.table, b' ')?;
+    write_place(writer, part.first)?;
+    write_place(writer, part.last)?;
+    write_number(writer, b"", part.partition as u64, b'\n')
+}
+
+/// Writes a line for each part of a will, in order, and a line with the number of partitions.
+#[inline(never)]
+fn write_will<W: Write>(writer: &mut W, parts: &[Part]) -> io::Result<()>
+    ensures { OnOk result (Appends (W.contents writer.old) (W.contents writer.new) (will_text parts.now)) }
+{
+    for part in parts {
+        write_part(writer, part)?;
+    }
+    write_number(writer, b"partitions ", count_partitions(parts), b'\n')
+}
+
+/// How many partitions the parts have.
+fn count_partitions(parts: &[Part]) -> u64
+    ensures { result ≡ partitions_of parts.now }
+{
+    match parts {
+        [] => 0,
+        [.., part] => part.partition as u64 + 1,
+    }
+}
+
+/// Writes a line of words and two numbers: those of an op's backup and segment, for example.
+#[inline(never)]
+fn write_op<W: Write>(writer: &mut W, words: &[u8], first: u64, second: u64) -> io::Result<()>
+    requires { length words.now ≤ 20 }
+    ensures { OnOk result (Appends (W.contents writer.old) (W.contents writer.new)
+        (op_text words.now first second)) }
+{
+    write_number(writer, words, first, b' ')?;
+    write_number(writer, b"", second, b'\n')
+}
+
+/// Writes the line of clients, the rounds of each, and the calls that were accepted.
+#[inline(never)]
+fn write_counted<W: Write>(writer: &mut W, clients: u64, rounds: u64, calls: u64) -> io::Result<()>
+    ensures { OnOk result (Appends (W.contents writer.old) (W.contents writer.new)
+        (codes "clients " ++ decimal clients ++ 32 ∷ op_text [] rounds calls)) }
+{
+    write_number(writer, b"clients ", clients, b' ')?;
+    write_op(writer, b"", rounds, calls)
+}
+
+/// Writes the line of the seglets that are counted, and free.
+#[inline(never)]
+fn write_room<W: Write>(writer: &mut W, used: u64, free: u64) -> io::Result<()>
+    ensures { OnOk result (Appends (W.contents writer.old) (W.contents writer.new) (room_text used free)) }
+{
+    write_number(writer, b"used ", used, b' ')?;
+    write_number(writer, b"free ", free, b'\n')
+}
+
+/// Writes the line of a digest.
+#[inline(never)]
+fn write_log<W: Write>(writer: &mut W, ids: &[u64]) -> io::Result<()>
+    ensures { OnOk result (Appends (W.contents writer.old) (W.contents writer.new) (log_text ids.now)) }
+{
+    writer.write_all(b"log")?;
+    write_ids(writer, ids)?;
+    writer.write_all(b"\n")
+}
+
+/// Writes numbers, each after a space.
+fn write_ids<W: Write>(writer: &mut W, ids: &[u64]) -> io::Result<()>
+    ensures { OnOk result (Appends (W.contents writer.old) (W.contents writer.new) (flat_map spaced_text ids.now)) }
+{
+    for id in ids {
+        write!(writer, " {id}")?;
+    }
+    Ok(())
+}
+
+/// Writes the line of a replica.
+fn write_holding<W: Write>(writer: &mut W, holding: &Holding) -> io::Result<()>
+    ensures { OnOk result (Appends (W.contents writer.old) (W.contents writer.new) (holding_text holding.now)) }
+{
+    write_number(writer, b"", holding.backup, b' ')?;
+    write_number(writer, b"", holding.master, b' ')?;
+    write_number(writer, b"", holding.segment, b' ')?;
+    let len = holding.bytes.as_slice().len();
+    if holding.is_open {
+        writeln!(writer, "{len} open")
+    } else {
+        writeln!(writer, "{len} closed")
+    }
+}
+
+/// Writes a line for each replica, in order.
+#[inline(never)]
+fn write_holdings<W: Write>(writer: &mut W, holdings: &[Holding]) -> io::Result<()>
+    ensures { OnOk result (Appends (W.contents writer.old) (W.contents writer.new)
+        (flat_map holding_text holdings.now)) }
+{
+    for holding in holdings {
+        write_holding(writer, holding)?;
+    }
+    Ok(())
+}
+
+/// Writes the line of an object.
+fn write_object<W: Write>(writer: &mut W, object: &Object) -> io::Result<()>
+    ensures { OnOk result (Appends (W.contents writer.old) (W.contents writer.new) (object_text object.now)) }
+{
+    write_number(writer, b"", object.key.table, b' ')?;
+    writer.write_all(object.key.bytes.as_slice())?;
+    writer.write_all(b" ")?;
+    write_versioned(writer, object.version, &object.value)
+}
+
+/// Writes a line for each object, in order, and a line with their number.
+#[inline(never)]
+fn write_rebuilt<W: Write>(writer: &mut W, rebuilt: &Rebuilt) -> io::Result<()>
+    ensures { OnOk result (Appends (W.contents writer.old) (W.contents writer.new) (rebuilt_text rebuilt.now)) }
+{
+    for object in rebuilt.objects.iter() {
+        write_object(writer, object)?;
+    }
+    write_number(writer, b"recovered ", rebuilt.objects.len() as u64, b'\n')
+}

@@ -1,0 +1,160 @@
+-- Recoveries, told of what is left of a master.
+use Rattle.std.proofs.Common.{◌≡◌, ◌⊎◌, ℕ, List, refl, sym, ap, subst, inl, inr, ◌∙◌, arith}
+use Rattle.std.specs.Prelude.{ℕ, Option, Some, ◌↔◌}
+use Rattle.backup.specs.State.{fleet_state, lost}
+use Rattle.backup.specs.declared.fleet.MemoryFleet.{MemoryFleet}
+use Rattle.lines.specs.Grammar.{Recover}
+use Rattle.lines.specs.declared.line.ReplayOrder.{ReplayOrder}
+use Rattle.lines.specs.declared.line.ReplayOrder.TheVariants.{Forward, Reverse, Threads}
+use Rattle.entry.specs.declared.entry.Entry.{Entry}
+use Rattle.entry.specs.Bag.{IsAmong}
+use Rattle.entry.specs.Meaning.{IsMeaning, among, contents_of}
+use Rattle.claims.specs.declared.rebuilt.Rebuilt.{Rebuilt}
+use Rattle.replica.specs.declared.holding.Holding.{Holding}
+use Rattle.replica.specs.Picture.{Picture, FleetState, left_on, shown_by, survivors, IsHeld, AreHeld}
+use Rattle.replica.specs.Choice.{IsShownChoice}
+use Rattle.replica.specs.Survival.{BothSurvive}
+use Rattle.recovery_plan.specs.declared.fault.PlanFault.TheVariants as plan_fault
+use Rattle.log_model.specs.Sound.{IsSound}
+use Rattle.master_state.specs.declared.config.Config.{Config}
+use Rattle.master_state.specs.Data.{MasterData}
+use Rattle.master_state.specs.Log.{log_of}
+use Rattle.recovery.specs.Orders.{Covers, NamesGroups}
+use Rattle.rebuilding.specs.declared.order.GroupOrder.{GroupOrder}
+use Rattle.tablet_will.specs.declared.part.Part.{Part}
+use Rattle.recovery.specs.Recovered.{Shows, IsRecovered, IsRebuiltFrom, IsRefusedFrom, IsLossOrMemory, IsSomeLoss}
+use Rattle.recovery.specs.Recovered.{IsSomePrefix, IsWant}
+use Rattle.recovery_plan.specs.Planned.{IsPlanFault, NamesLoss}
+use Rattle.recovery.specs.declared.recovery.RecoveryFault.{RecoveryFault}
+use Rattle.recovery.specs.declared.recovery.RecoveryFault.TheVariants as fault
+use Rattle.recovery.proofs.Choices.{bag-of-plan, surviving-choice}
+use Rattle.recovery.proofs.Counting.{orders_name}
+use Rattle.answers.specs.declared.answer.Answer.TheVariants as answer
+use Rattle.node.specs.declared.node.Node.{Node}
+use Rattle.node.specs.declared.node.Node.TheVariants.{Down}
+use Rattle.next_master.specs.Recoveries.{order_named}
+use Rattle.node.specs.Lives.{Left, is_left, IsHomeBy, Position}
+use Rattle.node.specs.Served.{IsLeftOf, IsNodeAt, life_of}
+use Rattle.node.specs.Told.{IsRecoveredAt, IsFoundAt, NamesLossOf, Tells}
+use Rattle.node.proofs.WhatIsLeft.{held_of_left, left_at}
+
+-- the inventory of what is left of a picture shows it
+pub shows_left : (hs : List Holding) (d : MasterData) (l : Left) (f : FleetState) (master : ℕ)
+    → d.config.master ≡ master
+    → IsLeftOf d l f → AreHeld hs f.picture → Shows hs (survivors (is_left l.lost) (shown_by l.picture)) master
+shows_left hs d l f master number of shown h of_master =
+    let at : d.config.master ≡ h.master = number ∙ sym of_master in
+    let eq : f.picture h.backup h.master h.segment ≡ left_on (is_left l.lost) l.picture h.backup h.master h.segment =
+    subst (λ (m : ℕ). f.picture h.backup m h.segment ≡ left_on (is_left l.lost) l.picture h.backup m h.segment) at
+    (of.shown h.backup h.segment) in
+    (λ among. sym eq ∙ (shown h).0 among, λ held. (shown h).1 (eq ∙ held))
+
+pub table_told : (d : MasterData) (node : Node) (config : Config) (at : Position) (r : Rebuilt)
+    → IsNodeAt node config d at
+    → ((count : ℕ) × IsRecovered (log_of d) count r) → IsRecoveredAt (life_of d) at r
+table_told d node config at r s found =
+    let kept = s.acknowledged in
+    let made = s.made in
+    let durable = found.1.durable in
+    let within = found.1.within in (
+      found.0,
+      omega arith,
+      omega arith,
+      record {
+        within = found.1.within;
+        exactly = found.1.exactly;
+        order = found.1.order;
+        safe = found.1.safe;
+      },
+    )
+
+-- a down node's recovery
+module _ (node : Node) (fleet : MemoryFleet) (config : Config) (d : MasterData) (at : Position)
+    (down : node ≡ Down fleet) (s : IsNodeAt node config d at) where
+  abbrev left : (l : Left) × (at.left ≡ Some l) × IsLeftOf d l (fleet_state fleet)
+  left = left_at node fleet config d at down s
+
+  module _ (hs : List Holding) (master : ℕ) (number : config.master ≡ master)
+      (shown : (h : Holding) → IsAmong h hs ↔ IsHeld (fleet_state fleet).picture h) where
+    of_master : d.config.master ≡ master
+    of_master = ap (λ (c : Config). c.master) s.configured ∙ number
+
+    shows : Shows hs (survivors (is_left left.0.lost) (shown_by left.0.picture)) master
+    shows = shows_left hs d left.0 (fleet_state fleet) master of_master left.2 shown
+
+    sound : IsSound (log_of d) left.0.picture
+    sound = subst (λ (p : Picture). IsSound (log_of d) p) (sym left.2.picture) left.2.valid.sound
+
+    -- a table of the choice that the plan has
+    pub table_found : (r : Rebuilt) → IsSomePrefix hs master r → (will : List Part) (order : GroupOrder)
+        → IsRebuiltFrom hs master will order r
+        → (l : Left) × (at.left ≡ Some l) × IsFoundAt config (life_of d) at l r
+    table_found r recovers will order from =
+        let found = recovers (log_of d) left.0.picture (is_left left.0.lost) sound of_master shows in
+        let c = from.planned.0 in
+        let choice = surviving-choice hs master (log_of d) left.0.picture
+        (is_left left.0.lost) of_master shows c from.planned.1.choice in
+        let bag = bag-of-plan hs master c from.plan from.planned.1 in (
+          left.0,
+          left.1,
+          (
+            table_told d node config at r s found,
+            (
+              c,
+              subst (λ (n : ℕ). IsShownChoice (survivors (is_left left.0.lost) (shown_by left.0.picture)) n c)
+                  (ap (λ (k : Config). k.master) s.configured) choice,
+              subst (λ (es : List Entry). IsMeaning (among es) (contents_of r.objects)) bag from.rebuilt.meaning,
+            ),
+          ),
+        )
+
+    -- what is named is lost to these backups
+    loss_named : (e : RecoveryFault) (will : List Part) (order : GroupOrder) → IsLossOrMemory e
+        → IsRefusedFrom hs master will order e
+        → IsWant e ⊎ NamesLossOf config left.0 e
+    loss_named (fault.Plan loss) will order is from = inr (
+      hs,
+      held_of_left config d left.0 (fleet_state fleet) hs s.configured left.2 shown,
+      subst (λ (n : ℕ). IsPlanFault hs n loss) (sym number) from.0,
+      subst (λ (n : ℕ). NamesLoss hs n loss) (sym number) from.1,
+    )
+    loss_named (fault.Replay refused) will order is from = inl is
+
+    pub loss_told : (e : RecoveryFault) (will : List Part) (order : GroupOrder) → IsSomeLoss hs master will order e
+        → IsRefusedFrom hs master will order e → Covers config.tablets will
+        → NamesGroups hs master will order → (asked : ReplayOrder)
+        → Tells config (life_of d) at (Recover asked) (answer.NotRecovered e) at
+    loss_told e will order refuses from covers names asked =
+        let here : Covers d.config.tablets will = subst (λ (k : Config). Covers k.tablets will)
+        (sym s.configured) covers in
+        let loss = refuses (log_of d) left.0.picture (is_left left.0.lost) sound of_master shows here names in (
+          (asked, refl),
+          left.0,
+          left.1,
+          (
+            loss.0,
+            loss_named e will order loss.0 from,
+            λ both. loss.1 (subst
+                (λ (o : Option ℕ). BothSurvive (IsHomeBy d.config) o (shown_by left.0.picture) d.config.master
+                (is_left left.0.lost))
+                left.2.opened (subst
+                (λ (k : Config). BothSurvive (IsHomeBy k) left.0.opened (shown_by left.0.picture) k.master
+                (is_left left.0.lost))
+                (sym s.configured) both)),
+          ),
+          refl,
+        )
+
+  -- a refusal for memory names no loss
+  pub want_told : (order : ReplayOrder) → Tells config (life_of d) at (Recover order)
+      (answer.NotRecovered (fault.Plan plan_fault.NoMemory)) at
+  want_told order = ((order, refl), left.0, left.1, (tt, inl tt, λ both. tt), refl)
+
+-- ---- orders
+
+-- the order that a line names has each group once
+pub names_groups : (order : ReplayOrder) (hs : List Holding) (master : ℕ) (will : List Part)
+    → NamesGroups hs master will (order_named order)
+names_groups Forward hs master will = (orders_name hs master will).0
+names_groups Reverse hs master will = (orders_name hs master will).1
+names_groups (Threads workers) hs master will = (orders_name hs master will).0

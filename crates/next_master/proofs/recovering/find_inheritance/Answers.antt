@@ -1,0 +1,104 @@
+use Rattle.std.proofs.Common.{◌≡◌, ℕ, suc, max, List, refl, sym, ap, subst, inl, inr, ◌∙◌, rules, arith}
+use Rattle.backup.specs.State.{fleet_state}
+use Rattle.lines.specs.Grammar.{Recover}
+use Rattle.master_state.specs.declared.config.Config.{Config}
+use Rattle.replica.specs.declared.holding.Holding.{Holding}
+use Rattle.answers.specs.declared.answer.Answer.{Answer}
+use Rattle.node.specs.declared.node.Node.TheVariants.{Down}
+use Rattle.next_master.specs.Configuration.{config_of}
+use Rattle.next_master.specs.Numbers.{greatest_of}
+use Rattle.next_master.specs.Recoveries.{FindsNothing, ask, order_named}
+use Rattle.node.specs.Served.{life_of}
+use Rattle.node.specs.Told.{Tells}
+use Rattle.next_master.proofs.NextLife.{next_unused}
+use Rattle.next_master.proofs.Recovered.{loss_told, names_groups, table_found, want_told}
+use Rattle.next_master.proofs.recovering.find_inheritance.Goals as goal
+
+pub returns-in-Err-clause-none : goal.returns-in-Err-clause-none
+returns-in-Err-clause-none g c = λ order d at s.
+    let old = config_of c.args.options.now c.args.master in
+    subst (λ (a : Answer). Tells old (life_of d) at (Recover order) a at) (sym c.want.ensures)
+    (want_told (Down c.args.fleet.now) c.args.fleet.now old d at refl s order)
+
+pub returns-in-Err-recover_by-clause-none : goal.returns-in-Err-recover_by-clause-none
+returns-in-Err-recover_by-clause-none g c = λ order d at s.
+    let e = c.in-Err-recover_by in
+    loss_told (Down c.args.fleet.now) c.args.fleet.now (config_of c.args.options.now c.args.master) d at refl s
+    c.in-Ok.inventory c.args.master refl
+    c.in-Ok.ensures.shown e.fault c.args.will.now (order_named c.args.order) e.ensures.refused e.ensures.fault
+    c.requires.covers (names_groups c.args.order c.in-Ok.inventory c.args.master c.args.will.now) order
+
+pub returns-in-Ok-configuration-clause-found : goal.returns-in-Ok-configuration-clause-found
+returns-in-Ok-configuration-clause-found g c =
+    let r = c.in-Ok-recover_by in
+    let is = c.in-Ok-configuration.ensures.config in
+    let number : c.in-Ok-configuration.config.master ≡ c.in-Some.number = ap (λ (k : Config). k.master) is in
+    let least : c.max-greatest.result ≡ max c.args.master c.args.used = search rules in
+    let next : c.in-Some.number ≡ suc (max c.max-greatest.result (greatest_of c.in-Ok.inventory)) =
+    subst (λ (hs : List Holding). c.in-Some.number ≡ suc (max c.max-greatest.result (greatest_of hs))) c.as_slice.ensures
+    c.in-Some.ensures.next in
+    record {
+      table = λ d at s. table_found (Down c.args.fleet.now) c.args.fleet.now
+          (config_of c.args.options.now c.args.master) d at refl s c.in-Ok.inventory
+          c.args.master refl c.in-Ok.ensures.shown r.rebuilt r.ensures.ok c.args.will.now
+          (order_named c.args.order) r.ensures.rebuilt;
+      configured = is ∙ ap (λ (n : ℕ). config_of c.args.options.now n) (sym number);
+      greater = omega arith;
+      unused = next_unused c.in-Ok.inventory (fleet_state c.args.fleet.now).picture c.max-greatest.result
+          c.in-Ok-configuration.config.master c.in-Ok.ensures.shown
+          (number ∙ next);
+    }
+
+pub returns-clause-none : goal.returns-clause-none
+returns-clause-none g c = λ order d at s.
+    let old = config_of c.args.options.now c.args.master in
+    subst (λ (a : Answer). Tells old (life_of d) at (Recover order) a at) (sym c.want-in-Err-configuration.ensures)
+    (want_told (Down c.args.fleet.now) c.args.fleet.now old d at refl s order)
+
+pub returns-in-Ok-configuration-clause-fresh : goal.returns-in-Ok-configuration-clause-fresh
+returns-in-Ok-configuration-clause-fresh g c =
+    let is = c.in-Ok-configuration.ensures.config in
+    let number : c.in-Ok-configuration.config.master ≡ c.in-Some.number = ap (λ (k : Config). k.master) is in
+    let least : c.max-greatest.result ≡ max c.args.master c.args.used = search rules in
+    let next = c.in-Some.ensures.next in
+    omega (arith, number, least, next)
+
+pub returns-in-Ok-configuration-clause-least : goal.returns-in-Ok-configuration-clause-least
+returns-in-Ok-configuration-clause-least g c =
+    let least : c.max-greatest.result ≡ max c.args.master c.args.used = search rules in
+    let is = c.in-Ok-configuration.ensures.config in
+    let hs = c.in-Ok.inventory in
+    let number : c.in-Ok-configuration.config.master ≡ c.in-Some.number = ap (λ (k : Config). k.master) is in
+    let next : c.in-Some.number ≡ suc (max c.max-greatest.result (greatest_of hs)) =
+    subst (λ (xs : List Holding). c.in-Some.number ≡ suc (max c.max-greatest.result (greatest_of xs))) c.as_slice.ensures
+    c.in-Some.ensures.next in
+    (hs, c.in-Ok.ensures.shown, number ∙ next ∙ ap (λ (m : ℕ). suc (max m (greatest_of hs))) least)
+
+pub returns-in-Err-clause-nothing : goal.returns-in-Err-clause-nothing
+returns-in-Err-clause-nothing g c =
+    subst (λ (a : Answer). FindsNothing (fleet_state c.args.fleet.now)
+    (ask c.args.master c.args.used c.args.will.now (order_named c.args.order)) a) (sym c.want.ensures) (inl tt)
+
+pub returns-in-Err-recover_by-clause-nothing : goal.returns-in-Err-recover_by-clause-nothing
+returns-in-Err-recover_by-clause-nothing g c = inr (
+  c.in-Ok.inventory,
+  c.in-Ok.ensures.shown,
+  c.in-Err-recover_by.ensures.fault,
+)
+
+pub returns-in_default-clause-nothing : goal.returns-in_default-clause-nothing
+returns-in_default-clause-nothing g c =
+    (c.in-Ok-recover_by.rebuilt, (c.in-Ok.inventory, c.in-Ok.ensures.shown, c.in-Ok-recover_by.ensures.rebuilt))
+
+pub returns-in-Ok-configuration-clause-rebuilt : goal.returns-in-Ok-configuration-clause-rebuilt
+returns-in-Ok-configuration-clause-rebuilt g c = (
+  c.in-Ok.inventory,
+  c.in-Ok.ensures.shown,
+  c.in-Ok-recover_by.ensures.rebuilt,
+)
+
+pub returns-clause-nothing : goal.returns-clause-nothing
+returns-clause-nothing g c =
+    subst (λ (a : Answer). FindsNothing (fleet_state c.args.fleet.now)
+    (ask c.args.master c.args.used c.args.will.now (order_named c.args.order)) a)
+    (sym c.want-in-Err-configuration.ensures) (inl tt)

@@ -1,0 +1,197 @@
+use Rattle.std.proofs.Common.{inl, inr, refl, sym, ap, subst, max, ◌∙◌, arith}
+use Rattle.std.specs.Prelude.{None, IfSome}
+use Rattle.backup.specs.State.{fleet_state}
+use Rattle.lines.specs.Grammar.{Recover}
+use Rattle.lines.specs.declared.line.ReplayOrder.TheVariants.{Forward}
+use Rattle.master_state.specs.declared.config.Config.{Config}
+use Rattle.replica.specs.Picture.{FleetState}
+use Rattle.answers.specs.declared.answer.Answer.TheVariants as answer
+use Rattle.node.specs.declared.node.Node.{Node}
+use Rattle.node.specs.declared.node.Node.TheVariants.{Down}
+use Rattle.next_master.specs.Configuration.{config_of}
+use Rattle.next_master.specs.Numbers.{AreSpent, IsNextNumber}
+use Rattle.next_master.specs.Recoveries.{IsDeclined, IsTakenOver}
+use Rattle.node.specs.Served.{AnswersLine, IsOf, fleet_of, world_of}
+use Rattle.next_master.proofs.NextLife.{cut_told, declined_told, has_backups, not_of_cut, not_of_refusal}
+use Rattle.next_master.proofs.NextLife.{recovered_told}
+use Rattle.next_master.proofs.HowItEnds.{cut_over, down_on, taken_over}
+use Rattle.node.proofs.Standing.{stays_told}
+use Rattle.next_master.proofs.recovering.recover_node.Goals as goal
+
+pub returns-in-Err-clause-recovers : goal.returns-in-Err-clause-recovers
+returns-in-Err-clause-recovers g c =
+    let order = c.args.order in
+    let old = config_of c.args.options.now c.args.master in
+    inl (
+      refl,
+      subst (λ (n : Node). AnswersLine n old (Recover order) (Down c.in-Down.fleet) c.in-Err.answer) (sym c.in-Down.is)
+          (stays_told (Down c.in-Down.fleet) old (Recover order) c.in-Err.answer (c.in-Err.ensures.none order)),
+    )
+
+pub adopt-requires-clause-fleet : goal.adopt-requires-clause-fleet
+adopt-requires-clause-fleet g c =
+    let s = c.requires.stands in
+    let found = c.in-Ok.ensures.found in (
+      c.in-Down.fleet,
+      refl,
+      has_backups c.in-Down.fleet c.args.options.now c.args.master c.in-Ok.found.rebuilt c.in-Ok.found.config
+          found c.args.node.now
+          c.in-Down.is Forward s.0 s.1 s.2,
+      found.unused,
+    )
+
+pub returns-in-Some-clause-recovers : goal.returns-in-Some-clause-recovers
+returns-in-Some-clause-recovers g c =
+    let order = c.args.order in
+    inl (
+      refl,
+      declined_told c.in-Down.fleet c.args.options.now c.args.master c.in-Ok.found.rebuilt c.in-Ok.found.config
+          c.in-Ok.ensures.found
+          c.args.node.now c.in-Down.is order c.adopt.new.node c.in-Some.answer (c.in-Some.ensures c.in-Down.fleet refl),
+    )
+
+pub returns-in-None-clause-recovers : goal.returns-in-None-clause-recovers
+returns-in-None-clause-recovers g c =
+    let order = c.args.order in
+    let a = c.in_default-adopt.ensures c.in-Down.fleet refl in
+    inr (recovered_told c.in-Down.fleet c.args.options.now c.args.master c.in-Ok.found.rebuilt c.in-Ok.found.config
+    c.in-Ok.ensures.found
+    c.args.node.now c.in-Down.is order a.0.knows a.2 c.retire.new.node
+    (c.in-None.ensures.others a.0.knows (subst (λ (n : Node). IsOf n None a.0.knows) (sym a.1) (refl, refl, a.3))))
+
+pub returns-in-Some-retire-clause-recovers : goal.returns-in-Some-retire-clause-recovers
+returns-in-Some-retire-clause-recovers g c =
+    let order = c.args.order in
+    let a = c.in_default-adopt.ensures c.in-Down.fleet refl in
+    inr (cut_told c.in-Down.fleet c.args.options.now c.args.master c.in-Ok.found.rebuilt c.in-Ok.found.config
+    c.in-Ok.ensures.found
+    c.args.node.now c.in-Down.is order a.0.knows a.2 c.retire.new.node c.in-Some-retire.answer
+    (c.in-Some-retire.ensures.others a.0.knows (subst (λ (n : Node). IsOf n None a.0.knows) (sym a.1)
+    (refl, refl, a.3))))
+
+pub returns-in-Err-clause-numbers : goal.returns-in-Err-clause-numbers
+returns-in-Err-clause-numbers g c = record { rises = omega arith; fresh = inl refl }
+
+pub returns-in-Some-clause-numbers : goal.returns-in-Some-clause-numbers
+returns-in-Some-clause-numbers g c = let above = c.in-Ok.ensures.fresh in
+    record { rises = omega arith; fresh = inl refl }
+
+pub returns-in-None-clause-numbers : goal.returns-in-None-clause-numbers
+returns-in-None-clause-numbers g c = let above = c.in-Ok.ensures.fresh in
+    record { rises = omega arith; fresh = inr (above, refl) }
+
+pub returns-in-Some-retire-clause-numbers : goal.returns-in-Some-retire-clause-numbers
+returns-in-Some-retire-clause-numbers g c = let above = c.in-Ok.ensures.fresh in
+    record { rises = omega arith; fresh = inr (above, refl) }
+
+pub returns-in-Err-clause-spent : goal.returns-in-Err-clause-spent
+returns-in-Err-clause-spent g c = λ is.
+    subst (λ (n : Node). IfSome (fleet_of n) (λ (f : FleetState). AreSpent (max c.args.master c.args.used) f.picture))
+    (sym c.in-Down.is)
+    (c.in-Err.ensures.spent is)
+
+pub returns-in-Some-clause-spent : goal.returns-in-Some-clause-spent
+returns-in-Some-clause-spent g c = λ is.
+    let refused = c.in-Some.ensures c.in-Down.fleet refl in
+    absurd (not_of_refusal refused.why (sym refused.told ∙ is))
+
+pub returns-in-None-clause-spent : goal.returns-in-None-clause-spent
+returns-in-None-clause-spent g c = λ is. absurd (cc)
+
+pub returns-in-Some-retire-clause-spent : goal.returns-in-Some-retire-clause-spent
+returns-in-Some-retire-clause-spent g c = λ is.
+    let a = c.in_default-adopt.ensures c.in-Down.fleet refl in
+    absurd (not_of_cut a.0.knows c.retire.new.node c.in-Some-retire.answer
+    (c.in-Some-retire.ensures.others a.0.knows (subst (λ (n : Node). IsOf n None a.0.knows) (sym a.1)
+    (refl, refl, a.3))) is)
+
+pub returns-in-Err-clause-least : goal.returns-in-Err-clause-least
+returns-in-Err-clause-least g c = inl refl
+
+pub returns-in-Some-clause-least : goal.returns-in-Some-clause-least
+returns-in-Some-clause-least g c = inr
+    (subst (λ (n : Node). IfSome (fleet_of n) (λ (f : FleetState). IsNextNumber
+    (max c.args.master c.args.used) f.picture c.in-Ok.found.config.master))
+    (sym c.in-Down.is) c.in-Ok.ensures.least)
+
+pub returns-in-None-clause-least : goal.returns-in-None-clause-least
+returns-in-None-clause-least g c = inr
+    (subst (λ (n : Node). IfSome (fleet_of n) (λ (f : FleetState). IsNextNumber
+    (max c.args.master c.args.used) f.picture c.in-Ok.found.config.master))
+    (sym c.in-Down.is) c.in-Ok.ensures.least)
+
+pub returns-in-Some-retire-clause-least : goal.returns-in-Some-retire-clause-least
+returns-in-Some-retire-clause-least g c = inr
+    (subst (λ (n : Node). IfSome (fleet_of n) (λ (f : FleetState). IsNextNumber
+    (max c.args.master c.args.used) f.picture c.in-Ok.found.config.master))
+    (sym c.in-Down.is) c.in-Ok.ensures.least)
+
+pub returns-in-Err-clause-ends : goal.returns-in-Err-clause-ends
+returns-in-Err-clause-ends g c = inr (
+  fleet_state c.in-Down.fleet,
+  down_on c.args.node.now c.in-Down.fleet c.in-Down.is,
+  inl (c.in-Err.ensures.nothing, sym c.in-Down.is, refl, refl),
+)
+
+pub returns-in-Some-clause-ends : goal.returns-in-Some-clause-ends
+returns-in-Some-clause-ends g c =
+    let f = fleet_state c.in-Down.fleet in
+    let r = c.in-Ok.found.rebuilt in
+    inr (
+      f,
+      down_on c.args.node.now c.in-Down.fleet c.in-Down.is,
+      inr (
+        r,
+        c.in-Ok.ensures.rebuilt,
+        c.in-Ok.ensures.least,
+        inl (
+          subst (λ (k : Config). IsDeclined f r k c.adopt.new.node c.in-Some.answer) c.in-Ok.ensures.found.configured
+              (c.in-Some.ensures c.in-Down.fleet refl),
+          refl,
+        ),
+      ),
+    )
+
+pub returns-in-None-clause-ends : goal.returns-in-None-clause-ends
+returns-in-None-clause-ends g c =
+    let f = fleet_state c.in-Down.fleet in
+    let r = c.in-Ok.found.rebuilt in
+    let a = c.in_default-adopt.ensures c.in-Down.fleet refl in
+    inr (
+      f,
+      down_on c.args.node.now c.in-Down.fleet c.in-Down.is,
+      inr (
+        r,
+        c.in-Ok.ensures.rebuilt,
+        c.in-Ok.ensures.least,
+        inr (
+          subst (λ (k : Config). IsTakenOver f r k c.retire.new.node (answer.Recovered r))
+              c.in-Ok.ensures.found.configured
+              (taken_over f r c.in-Ok.found.config a.0 a.2 a.4 c.retire.new.node
+              (c.in-None.ensures.frees _ (ap world_of a.1))),
+          refl,
+        ),
+      ),
+    )
+
+pub returns-in-Some-retire-clause-ends : goal.returns-in-Some-retire-clause-ends
+returns-in-Some-retire-clause-ends g c =
+    let f = fleet_state c.in-Down.fleet in
+    let r = c.in-Ok.found.rebuilt in
+    let a = c.in_default-adopt.ensures c.in-Down.fleet refl in
+    let told = c.in-Some-retire.answer in
+    inr (
+      f,
+      down_on c.args.node.now c.in-Down.fleet c.in-Down.is,
+      inr (
+        r,
+        c.in-Ok.ensures.rebuilt,
+        c.in-Ok.ensures.least,
+        inr (
+          subst (λ (k : Config). IsTakenOver f r k c.retire.new.node told) c.in-Ok.ensures.found.configured
+              (cut_over f r c.in-Ok.found.config a.0 a.2 a.4 c.retire.new.node told
+              (c.in-Some-retire.ensures.frees _ (ap world_of a.1))),
+          refl,
+        ),
+      ),
+    )

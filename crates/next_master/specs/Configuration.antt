@@ -1,0 +1,33 @@
+-- The configuration that the command line stands for.
+use Rattle.std.specs.Prelude.{[], ℕ, zero, suc, ◌-◌, ◌^◌, List, ◌∷◌, ◌++◌, map}
+use Rattle.entry.specs.declared.tablet.Tablet.{Tablet}
+use Rattle.tablet_will.specs.declared.part.Part.{Part}
+use Rattle.command_line.specs.declared.settings.Options.{Options}
+use Rattle.master_state.specs.declared.config.Config.{Config}
+
+-- a table as one tablet
+abbrev pub whole_table : ℕ → Tablet
+whole_table table = record { table = table; first = 0; last = 2 ^ 64 - 1 }
+
+-- the tables from 1 to n
+abbrev pub tables_to : ℕ → List Tablet
+tables_to zero = []
+tables_to (suc n) = tables_to n ++ whole_table (suc n) ∷ []
+
+abbrev pub config_of : Options → ℕ → Config
+config_of o master = record {
+  master = master;
+  backups = o.backups;
+  replicas = o.replicas;
+  step = o.step;
+  segment = o.segment;
+  seglet = o.seglet;
+  seglets = o.seglets;
+  tablets = tables_to o.tables;
+  history = o.history;
+}
+
+-- the will that is one partition over all tablets
+abbrev pub one_partition : List Tablet → List Part
+one_partition tablets =
+    map (λ (t : Tablet). record { table = t.table; first = t.first; last = t.last; partition = 0 }) tablets

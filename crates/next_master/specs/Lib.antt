@@ -1,0 +1,4 @@
+pub mod Configuration
+pub mod Numbers
+pub mod Succession
+pub mod Recoveries

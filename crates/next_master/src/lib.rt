@@ -1,0 +1,14 @@
+//! From one master of a node to the next.
+//!
+//! `recover_node` recovers what a master left, by a will, has the next master adopt the table, and frees the replicas
+//! of all others. `specs/Recoveries.antt` says each way in which it ends, and `specs/Succession.antt` that one life
+//! ends and the next begins with the table that was found. The next master has the least number above all that were
+//! used and all that the backups show (`specs/Numbers.antt`). `configuration` and `whole_will` make the configuration
+//! of a master and its first will from the options of the command line. The crate stands on `node` and `recovery`.
+#![tactic(auto)]
+
+mod recovering;
+mod setup;
+
+pub use recovering::{Recovery, recover_node};
+pub use setup::{configuration, whole_will};

@@ -1,0 +1,295 @@
+//! What a master left is recovered into a new master.
+
+ghost use Rattle.std.specs.Prelude.{◌≡◌, ◌⊎◌, ◌≤◌, ◌<◌, ℕ, List, suc, max, false, true, None, Some, Ok, IfOk, IfErr};
+ghost use Rattle.std.specs.Prelude.{IfSome, ◌^◌, ◌-◌};
+ghost use Rattle.backup.specs.State.{fleet_state};
+ghost use Rattle.backup.specs.declared.fleet.MemoryFleet.{MemoryFleet as FleetValue};
+ghost use Rattle.master.specs.World.{World};
+ghost use Rattle.master_state.specs.Config.{config_fault};
+ghost use Rattle.master_state.specs.Data.{MasterData};
+ghost use Rattle.node.specs.declared.node.Node.TheVariants.{Up, Down};
+ghost use Rattle.recovery.specs.Orders.{Covers};
+ghost use Rattle.recovery.specs.Recovered.{IsRebuiltFrom, IsRefusedFrom, IsSomeLoss, IsSomePrefix};
+ghost use Rattle.lines.specs.Grammar.{IsOrder};
+ghost use Rattle.next_master.specs.Configuration.{config_of, tables_to};
+ghost use Rattle.next_master.specs.Numbers.{greatest_of, AreSpent, IsNextNumber, Renumbers};
+ghost use Rattle.next_master.specs.Recoveries.{Adopts, Ends, EndsFreeing, FindsNone, FindsNothing, IsFoundIn};
+ghost use Rattle.next_master.specs.Recoveries.{Rebuilds, Recovers, RetiresOthers, ask, order_named};
+ghost use Rattle.node.specs.Served.{IsNodeAt, IsOf, world_of};
+ghost use Rattle.node.specs.Served.{fleet_of, is_up};
+ghost use Rattle.node.specs.Lives.{Position};
+
+use crate::setup::configuration;
+use answers::Answer;
+use backup::MemoryFleet;
+use command_line::Options;
+use entry::NoMemory;
+use gate::NoGate;
+use lines::ReplayOrder;
+use master::{Config, Refusal};
+use node::Node;
+use recovery::{GroupOrder, PlanFault, Rebuilt, RecoveryFault, recover, recover_threads};
+use replay::adopt_list;
+use replica::{Bench, Holding, Inventory, TakeFault};
+use std::alloc::Global;
+use std::mem::replace;
+use std::sync::Wait;
+use std::thread::Threads;
+use tablet_will::Will;
+
+/// What came of a recovery.
+#[derive(Drop)]
+pub struct Recovery {
+    pub answer: Answer,
+    /// The number of the master that a later recovery is for.
+    pub master: u64,
+    /// The greatest number that a master had, or was to have.
+    pub used: u64,
+}
+
+/// The table of a master, and the configuration of the one that is to adopt it.
+#[derive(Drop)]
+struct Inheritance {
+    rebuilt: Rebuilt,
+    config: Config,
+}
+
+/// The least number above this one and above those of all masters in the inventory. None if there is none.
+fn next_number(inventory: &[Holding], master: u64) -> Option<u64>
+    ensures next { IfSome result (λ n. n ≡ suc (max master (greatest_of inventory.now))) }
+    ensures spent { result ≡ None → max master (greatest_of inventory.now) ≡ 2 ^ 64 - 1 }
+{
+    let mut greatest = master;
+    for holding in inventory {
+        greatest = greatest.max(holding.master);
+    }
+    if greatest == u64::MAX {
+        return None;
+    }
+    Some(greatest + 1)
+}
+
+/// The answer if a recovery lacks memory before it begins.
+fn want() -> Answer
+    ensures { result ≡ Answer.NotRecovered (RecoveryFault.Plan PlanFault.NoMemory) }
+{
+    Answer::NotRecovered(RecoveryFault::Plan(PlanFault::NoMemory))
+}
+
+/// The order of the groups that a line asks for. Several workers take them as one does.
+fn groups_in(order: ReplayOrder) -> GroupOrder
+    ensures { result ≡ order_named order }
+{
+    match order {
+        ReplayOrder::Forward => GroupOrder::Forward,
+        ReplayOrder::Reverse => GroupOrder::Reverse,
+        ReplayOrder::Threads(_) => GroupOrder::Forward,
+    }
+}
+
+/// What a recovery gives that is asked for by a line: by this thread, or by so many workers in threads of their own.
+fn recover_by<H: Threads + Wait + Sync>(
+    rt: &H,
+    alloc: Global,
+    inventory: &Inventory,
+    master: u64,
+    will: &Will,
+    order: ReplayOrder,
+) -> Result<Rebuilt, RecoveryFault>
+    requires order { IsOrder order }
+    ensures ok { IfOk result (IsSomePrefix inventory.now master) }
+    ensures refused { IfErr result (IsSomeLoss inventory.now master will.now (order_named order)) }
+    ensures rebuilt { IfOk result (IsRebuiltFrom inventory.now master will.now (order_named order)) }
+    ensures fault { IfErr result (IsRefusedFrom inventory.now master will.now (order_named order)) }
+{
+    let groups = groups_in(order);
+    match order {
+        ReplayOrder::Threads(workers) => recover_threads(
+            rt,
+            alloc,
+            inventory,
+            master,
+            will,
+            &groups,
+            workers as usize,
+            &NoGate,
+        ),
+        _ => recover(alloc, inventory, master, will, &groups),
+    }
+}
+
+/// Recovers the table of the master with this number, and chooses the number of the next master, above all that were
+/// used.
+fn find_inheritance<H: Threads + Wait + Sync>(
+    rt: &H,
+    alloc: Global,
+    fleet: &MemoryFleet,
+    options: &Options,
+    master: u64,
+    used: u64,
+    will: &Will,
+    order: ReplayOrder,
+) -> Result<Inheritance, Answer>
+    requires covers { Covers (tables_to options.now.tables) will.now }
+    requires order { IsOrder order }
+    ensures found { IfOk result (λ found. IsFoundIn fleet.now options.now master found.rebuilt found.config) }
+    ensures fresh { IfOk result (λ found. used < found.config.master) }
+    ensures least { IfOk result (λ found.
+        IsNextNumber (max master used) (fleet_state fleet.now).picture found.config.master) }
+    ensures none { IfErr result (FindsNone fleet.now (config_of options.now master)) }
+    ensures rebuilt { IfOk result (λ found.
+        Rebuilds (fleet_state fleet.now) (ask master used will.now (order_named order)) (Ok found.rebuilt)) }
+    ensures nothing { IfErr result
+        (FindsNothing (fleet_state fleet.now) (ask master used will.now (order_named order))) }
+    ensures spent { IfErr result (λ a.
+        a ≡ Answer.NumbersSpent → AreSpent (max master used) (fleet_state fleet.now).picture) }
+{
+    let inventory = match fleet.inventory(alloc) {
+        Ok(inventory) => inventory,
+        Err(NoMemory) => return Err(want()),
+    };
+    let rebuilt = match recover_by(rt, alloc, &inventory, master, will, order) {
+        Ok(rebuilt) => rebuilt,
+        Err(fault) => return Err(Answer::NotRecovered(fault)),
+    };
+    let greatest = master.max(used);
+    let Some(number) = next_number(inventory.as_slice(), greatest) else {
+        return Err(Answer::NumbersSpent);
+    };
+    match configuration(alloc, options, number) {
+        Ok(config) => Ok(Inheritance { rebuilt, config }),
+        Err(NoMemory) => Err(want()),
+    }
+}
+
+/// Recovers the table of the master with this number, has the next master adopt it, and frees the replicas of all
+/// others. The will covers the tablets of the options.
+pub fn recover_node<H: Threads + Wait + Sync>(
+    rt: &H,
+    alloc: Global,
+    node: &mut Node,
+    options: &Options,
+    master: u64,
+    used: u64,
+    will: &Will,
+    order: ReplayOrder,
+) -> Recovery
+    requires covers { Covers (tables_to options.now.tables) will.now }
+    requires order { IsOrder order }
+    requires stands { (d : MasterData) × (at : Position) × IsNodeAt node.old (config_of options.now master) d at }
+    ensures recovers { Recovers node.old options.now master order node.new result.answer result.master }
+    ensures ends { Ends node.old options.now (ask master used will.now (order_named order)) result.used node.new
+        result.answer result.master }
+    ensures numbers { Renumbers master used result.master result.used }
+    ensures least { (result.used ≡ used)
+        ⊎ IfSome (fleet_of node.old) (λ f. IsNextNumber (max master used) f.picture result.used) }
+    ensures spent { result.answer ≡ Answer.NumbersSpent →
+        IfSome (fleet_of node.old) (λ f. AreSpent (max master used) f.picture) }
+{
+    let Node::Down(fleet) = node else {
+        return Recovery {
+            answer: Answer::Up,
+            master,
+            used,
+        };
+    };
+    let Inheritance { rebuilt, config } = match find_inheritance(
+        rt, alloc, fleet, options, master, used, will, order,
+    ) {
+        Ok(found) => found,
+        Err(answer) => {
+            return Recovery {
+                answer,
+                master,
+                used,
+            };
+        }
+    };
+    let number = config.master;
+    if let Some(answer) = adopt(alloc, node, &rebuilt, config) {
+        return Recovery {
+            answer,
+            master,
+            used: number,
+        };
+    }
+    match retire(node) {
+        None => Recovery {
+            answer: Answer::Recovered(rebuilt),
+            master: number,
+            used: number,
+        },
+        Some(answer) => Recovery {
+            answer,
+            master: number,
+            used: number,
+        },
+    }
+}
+
+/// Makes a master of this configuration that begins with the table. If it can't, it answers why; if the fleet took
+/// no more ops, it lifts the limit.
+fn adopt(alloc: Global, node: &mut Node, rebuilt: &Rebuilt, config: Config) -> Option<Answer>
+    requires config { config_fault config ≡ None }
+    requires fleet { (fleet : FleetValue) × (node.old ≡ Down fleet)
+        × (config.backups ≤ (fleet_state fleet).backups)
+        × ((b s : ℕ) → (fleet_state fleet).picture b config.master s ≡ None) }
+    ensures { (fleet : FleetValue) → node.old ≡ Down fleet →
+        Adopts (fleet_state fleet) rebuilt.now config node.new result }
+{
+    let Node::Down(fleet) = replace(node, Node::Changing) else {
+        unreachable!();
+    };
+    let (next, answer) = adopted(alloc, rebuilt, config, fleet);
+    node.set(next);
+    answer
+}
+
+/// Frees the replicas of all other masters. If that is cut short, it drops the master and answers why.
+fn retire(node: &mut Node) -> Option<Answer>
+    requires { is_up node.old ≡ true }
+    ensures others { (d : MasterData) → IsOf node.old None d → RetiresOthers d node.new result }
+    ensures frees { (w : World) → world_of node.old ≡ Some w → EndsFreeing w node.new result }
+{
+    let Node::Up(up) = node else {
+        unreachable!();
+    };
+    match up.retire() {
+        Ok(()) => None,
+        Err(fault) => match fault {
+            TakeFault::Spent => Some(node.refuse(Refusal::Spent)),
+            _ => {
+                node.drop_master();
+                Some(Answer::NotRetired(fault))
+            }
+        },
+    }
+}
+
+/// The node that an adoption leaves, and why it has no master if it has none. If the fleet took no more ops, the limit
+/// is lifted.
+fn adopted(
+    alloc: Global,
+    rebuilt: &Rebuilt,
+    config: Config,
+    fleet: MemoryFleet,
+) -> (Node, Option<Answer>)
+    requires config { config_fault config ≡ None }
+    requires backups { config.backups ≤ (fleet_state fleet).backups }
+    requires none { (b s : ℕ) → (fleet_state fleet).picture b config.master s ≡ None }
+    ensures { Adopts (fleet_state fleet) rebuilt.now config result.0 result.1 }
+{
+    match adopt_list(alloc, rebuilt, config, fleet) {
+        Ok(master) => (Node::Up(master), None),
+        Err((refusal, left)) => {
+            let mut left = left;
+            match refusal {
+                Refusal::Spent => {
+                    left.limit(u64::MAX);
+                    (Node::Down(left), Some(Answer::Stopped))
+                }
+                _ => (Node::Down(left), Some(Answer::Refused(refusal))),
+            }
+        }
+    }
+}

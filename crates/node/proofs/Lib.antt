@@ -1,0 +1,9 @@
+pub mod Standing
+pub mod Commands
+pub mod Rolls
+pub mod WhatIsLeft
+pub mod Willed
+pub mod Steps
+pub mod Tries
+pub mod ByHand
+pub mod ClientLines

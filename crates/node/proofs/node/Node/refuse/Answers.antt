@@ -1,0 +1,38 @@
+use Rattle.std.proofs.Common.{[], ◌≡◌, ◌∙◌, ap, inr, refl, sym, subst}
+use Rattle.std.specs.Prelude.{None, Some, Option, unwrap_or}
+use Rattle.std.specs.Option.{option_map}
+use Rattle.backup.specs.State.{fleet_state}
+use Rattle.master.specs.Valid.{IsValid}
+use Rattle.master.specs.World.{World}
+use Rattle.log_model.specs.Data.{newest_opened}
+use Rattle.master_state.specs.Data.{MasterData}
+use Rattle.master_state.specs.Log.{log_of}
+use Rattle.replica.specs.Picture.{FleetState, Picture}
+use Rattle.replica.specs.Take.{limited, no_limit}
+use Rattle.node.specs.declared.node.Node.{Node}
+use Rattle.node.specs.declared.node.Node.TheVariants.{Up}
+use Rattle.node.specs.Served.{IsOf, fleet_of}
+use Rattle.node.proofs.node.Node.refuse.Goals as goal
+
+pub returns-in-Up : goal.returns-in-Up
+returns-in-Up c = inr (
+  refl,
+  c.in-Spent.is,
+  λ d f of fleet.
+      let limited = c.limit.new.self in
+      let was : IsOf (Up c.in-Up.up) None d = subst (λ (n : Node). IsOf n None d) c.in-Up.is of in
+      let held = sym (ap fleet_of c.in-Up.is) ∙ fleet in
+      let same : limited.knows ≡ d = ap (λ (w : World). w.knows) c.limit.ensures.limited ∙ was.1 in
+      let picture : (fleet_state limited.fleet).picture ≡ f.picture =
+      ap (λ (w : World). w.fleet.picture) c.limit.ensures.limited
+      ∙ ap (λ (o : Option FleetState). (unwrap_or o f).picture) held in
+      let valid = subst (λ (x : MasterData). IsValid x (fleet_state limited.fleet)) same c.limit.ensures.valid in
+      subst (λ (p : Picture). IsOf c.drop_master.new.self (Some
+      (record { picture = p; opened = newest_opened (log_of d); lost = [] })) d) picture
+      (c.drop_master.ensures.left d (fleet_state limited.fleet) (refl, same, valid) refl),
+  (
+    c.drop_master.ensures.down,
+    c.drop_master.ensures.fleet ∙ ap (λ (w : World). Some w.fleet) c.limit.ensures.limited
+        ∙ ap (λ (n : Node). option_map (λ (f : FleetState). limited f no_limit) (fleet_of n)) (sym c.in-Up.is),
+  ),
+)

@@ -1,0 +1,316 @@
+-- What a node stands for, and what its lines do to it.
+use Rattle.std.specs.Prelude.{◌≡◌, ◌⊎◌, ℕ, ◌≤◌, List, ◌++◌, Bool, true, false, Option, Some, None, length, Result, Ok}
+use Rattle.std.specs.Prelude.{Err, IfSome, OnOk, IsTrue}
+use Rattle.backup.specs.State.{fleet_state, lost}
+use Rattle.backup.specs.declared.fleet.MemoryFleet.{MemoryFleet}
+use Rattle.lines.specs.Grammar.{LineValue, Idle, Roll, BeginRoll, Compact, Push, Clean, Begin, Copy, Seal, Free, Will}
+use Rattle.lines.specs.Grammar.{Recover, Hex, Log, Room, Stop, Crash, Lose, Holdings as HoldingsLine, Clients}
+use Rattle.store_seat.specs.declared.fault.CallFault.{CallFault}
+use Rattle.store_seat.specs.declared.fault.CallFault.TheVariants as call_fault
+use Rattle.std.specs.Option.{option_map}
+use Rattle.std.specs.declared.alloc.AllocError.{AllocError}
+use Rattle.replica.specs.declared.holding.Holding.{Holding}
+use Rattle.replica.specs.Picture.{FleetState, AreHeld, left_on}
+use Rattle.replica.specs.Take.{limited, no_limit}
+use Rattle.versioned_map.specs.declared.command.Command.{Command}
+use Rattle.versioned_map.specs.declared.command.Record.{Record}
+use Rattle.versioned_map.specs.declared.command.Reply.{Reply}
+use Rattle.log_model.specs.Data.{durable_of, newest_opened}
+use Rattle.master_state.specs.declared.config.Config.{Config}
+use Rattle.master_state.specs.declared.step.Refusal.{Refusal}
+use Rattle.master_state.specs.declared.step.Refusal.TheVariants.{NoMemory, Spent}
+use Rattle.master_state.specs.declared.step.Step.{Step}
+use Rattle.master_state.specs.declared.step.Step.TheVariants as step
+use Rattle.master_state.specs.declared.step.StepAnswer.{StepAnswer}
+use Rattle.master_state.specs.declared.step.StepAnswer.TheVariants as step_answer
+use Rattle.master_state.specs.Data.{MasterData}
+use Rattle.master_state.specs.Log.{opening_of, log_of}
+use Rattle.master.specs.Steps.{Steps}
+use Rattle.master.specs.Valid.{IsValid}
+use Rattle.master.specs.World.{MasterValue, World, limited_world, world}
+use Rattle.answers.specs.declared.answer.Answer.{Answer}
+use Rattle.answers.specs.declared.answer.Answer.TheVariants.{Refused, Stopped, Holdings, Reply as Replied, Head}
+use Rattle.answers.specs.declared.answer.Answer.TheVariants.{Opening, Compacted, Extended, Opened, Closed, Begun}
+use Rattle.answers.specs.declared.answer.Answer.TheVariants.{Moved, Carried, Dropped, Sealed, Freed, Cleaned, Counted}
+use Rattle.answers.specs.declared.answer.Answer.TheVariants as answers
+use Rattle.node.specs.declared.node.Node.{Node}
+use Rattle.node.specs.declared.node.Node.TheVariants.{Up, Down, Changing}
+use Rattle.node.specs.Lives.{Life, Left, left_now, is_left, Position}
+use Rattle.driving.specs.Cleans.{Cleans}
+use Rattle.driving.specs.Commands.{RunsCommand}
+use Rattle.node.specs.Counted.{RunsClients}
+use Rattle.driving.specs.Rolls.{Rolls}
+use Rattle.node.specs.Shows.{ShowsDigest, ShowsRoom, ShowsImage}
+use Rattle.driving.specs.Served.{IsSpent}
+use Rattle.node.specs.Told.{command_of, Tells}
+use Rattle.tablet_will.specs.declared.part.Part.{Part}
+use Rattle.tablet_will.specs.Parts.{Divides}
+
+-- Of a master that is gone the fleet holds what its crash left, without the backups that were lost since.
+pub record IsLeftOf (d : MasterData) (l : Left) (f : FleetState) : Type 0 where
+  pub crashed : FleetState
+  pub valid : IsValid d crashed
+  pub picture : l.picture ≡ crashed.picture
+  pub opened : l.opened ≡ newest_opened (log_of d)
+  pub shown : (b s : ℕ) → f.picture b d.config.master s ≡ left_on (is_left l.lost) l.picture b d.config.master s
+  pub backups : d.config.backups ≤ f.backups
+
+-- a master that is up knows `d`; one that is down knew `d`, and `left` is left of it
+abbrev pub IsOf : Node → Option Left → MasterData → Type 0
+IsOf (Up m) left d = (left ≡ None) × (m.knows ≡ d) × IsValid d (fleet_state m.fleet)
+IsOf (Down fleet) left d = (l : Left) × (left ≡ Some l) × IsLeftOf d l (fleet_state fleet)
+IsOf Changing left d = ⊥
+
+-- the fleet of a node; none while its master is being dropped
+abbrev pub fleet_of : Node → Option FleetState
+fleet_of (Up m) = Some (fleet_state m.fleet)
+fleet_of (Down fleet) = Some (fleet_state fleet)
+fleet_of Changing = None
+
+abbrev pub is_up : Node → Bool
+is_up (Up m) = true
+is_up (Down fleet) = false
+is_up Changing = false
+
+-- a master was dropped, and its fleet is what is left
+abbrev pub IsDropped : Node → Node → Type 0
+IsDropped old new = (d : MasterData) (f : FleetState) → IsOf old None d → fleet_of old ≡ Some f →
+    IsOf new (Some (left_now d f)) d
+
+-- the node has no master, and its fleet is the same, without a limit
+abbrev pub IsUnlimited : Node → Node → Type 0
+IsUnlimited old new =
+    (is_up new ≡ false) × (fleet_of new ≡ option_map (λ (f : FleetState). limited f no_limit) (fleet_of old))
+
+-- The refusal is the answer, and nothing changed. Or the fleet takes no more ops: then the master was dropped, and the
+-- limit was lifted.
+abbrev pub Refuses : Node → Refusal → Node → Answer → Type 0
+Refuses old r new answer =
+    ((answer ≡ Refused r) × (r ≡ Spent → ⊥) × (new ≡ old))
+    ⊎ ((answer ≡ Stopped) × (r ≡ Spent) × IsDropped old new × IsUnlimited old new)
+
+-- The node stands at this position for a master of this configuration that knows `d` or knew it. What was acknowledged
+-- is durable.
+pub record IsNodeAt (node : Node) (config : Config) (d : MasterData) (at : Position) : Type 0 where
+  pub node_of : IsOf node at.left d
+  pub configured : d.config ≡ config
+  pub made : at.made ≡ length d.history
+  pub acknowledged : at.acknowledged ≤ durable_of (log_of d)
+
+abbrev pub life_of : MasterData → Life
+life_of d = record { opening = opening_of d; history = d.history }
+
+-- ---- steps by hand
+
+-- the master of a node, with its fleet
+abbrev pub world_of : Node → Option World
+world_of (Up m) = Some (world fleet_state m)
+world_of (Down fleet) = None
+world_of Changing = None
+
+-- the node has the master of this world still; or it answered Stopped, and has the fleet alone, without a limit
+abbrev pub IsLeftIn : World → Answer → Node → Type 0
+IsLeftIn w Stopped new = (is_up new ≡ false) × (fleet_of new ≡ Some (limited w.fleet no_limit))
+IsLeftIn w answer new = world_of new ≡ Some w
+
+abbrev pub refusal_answer : Refusal → Answer
+refusal_answer Spent = Stopped
+refusal_answer r = Refused r
+
+-- what is answered to a step
+abbrev pub step_told : Result StepAnswer Refusal → Answer
+step_told (Ok (step_answer.Applied place reply)) = Replied reply
+step_told (Ok (step_answer.Rolling id)) = Opening id
+step_told (Ok (step_answer.Compacted segment len)) = Compacted segment len
+step_told (Ok (step_answer.Extended backup segment)) = Extended backup segment
+step_told (Ok (step_answer.Opened backup segment)) = Opened backup segment
+step_told (Ok (step_answer.Closed backup segment)) = Closed backup segment
+step_told (Ok (step_answer.Begun survivor)) = Begun survivor
+step_told (Ok step_answer.Moved) = Moved
+step_told (Ok step_answer.Carried) = Carried
+step_told (Ok step_answer.Dropped) = Dropped
+step_told (Ok (step_answer.Sealed backup)) = Sealed backup
+step_told (Ok (step_answer.Freed segment backup)) = Freed segment backup
+step_told (Err r) = refusal_answer r
+
+-- what is answered to a roll
+abbrev pub roll_told : Result ℕ Refusal → Answer
+roll_told (Ok id) = Head id
+roll_told (Err r) = refusal_answer r
+
+-- what is answered to a command
+abbrev pub reply_told : Result Reply Refusal → Answer
+reply_told (Ok reply) = Replied reply
+reply_told (Err r) = refusal_answer r
+
+-- what is answered to a whole cleaning
+abbrev pub clean_told : Result (ℕ × ℕ) Refusal → Answer
+clean_told (Ok (survivor, head)) = Cleaned survivor head
+clean_told (Err r) = refusal_answer r
+
+-- A node that is up makes just this step, and answers what comes of it. Any other does nothing.
+abbrev pub MakesStep : Node → Step → Node → Answer → Type 0
+MakesStep (Up m) step new answer = (result : Result StepAnswer Refusal) × (w : World)
+    × Steps (world fleet_state m) step result w × (answer ≡ step_told result) × IsLeftIn w answer new
+MakesStep old step new answer = (new ≡ old) × (answer ≡ answers.Down)
+
+-- A node that is up makes just this roll, and answers what comes of it. Any other does nothing.
+abbrev pub MakesRoll : Node → Node → Answer → Type 0
+MakesRoll (Up m) new answer = (result : Result ℕ Refusal) × (w : World)
+    × Rolls (world fleet_state m) result w × (answer ≡ roll_told result) × IsLeftIn w answer new
+MakesRoll old new answer = (new ≡ old) × (answer ≡ answers.Down)
+
+-- A node that is up makes just this cleaning, and answers what comes of it. Any other does nothing.
+abbrev pub MakesClean : Node → List ℕ → Node → Answer → Type 0
+MakesClean (Up m) victims new answer = (result : Result (ℕ × ℕ) Refusal) × (w : World)
+    × Cleans (world fleet_state m) victims result w × (answer ≡ clean_told result) × IsLeftIn w answer new
+MakesClean old victims new answer = (new ≡ old) × (answer ≡ answers.Down)
+
+-- A node that is up makes just the steps of this command's line, and answers what comes of them. Any other does
+-- nothing.
+abbrev pub MakesCommand : Node → Command → Node → Answer → Type 0
+MakesCommand (Up m) command new answer = (result : Result Reply Refusal) × (w : World)
+    × RunsCommand (world fleet_state m) command result w × (answer ≡ reply_told result) × IsLeftIn w answer new
+MakesCommand old command new answer = (new ≡ old) × (answer ≡ answers.Down)
+
+-- ---- clients
+
+-- what is answered to a refusal of clients over this fleet, if it is Spent: that they were stopped, if the fleet is so
+abbrev pub IsClientsRefusal : FleetState → Refusal → Answer → Type 0
+IsClientsRefusal f Spent answer =
+    ((answer ≡ Stopped) × IsSpent f) ⊎ ((answer ≡ answers.SeatUnknown) × (IsSpent f → ⊥))
+IsClientsRefusal f r answer = answer ≡ Refused r
+
+-- what is answered to clients over this fleet: the count of their calls, or the first refusal
+abbrev pub IsClientsAnswer : FleetState → ℕ → ℕ → Result ℕ CallFault → Answer → Type 0
+IsClientsAnswer f clients rounds (Ok calls) answer = answer ≡ Counted clients rounds calls
+IsClientsAnswer f clients rounds (Err (call_fault.Refused r)) answer = IsClientsRefusal f r answer
+IsClientsAnswer f clients rounds (Err (call_fault.Unsure place r)) answer = IsClientsRefusal f r answer
+IsClientsAnswer f clients rounds (Err call_fault.SeatUnknown) answer = answer ≡ answers.SeatUnknown
+IsClientsAnswer f clients rounds (Err call_fault.CellRefused) answer = answer ≡ answers.CellRefused
+
+-- Clients made their rounds over a master, and the node has it again. The store could tell whose its records were, if
+-- no call was refused.
+pub record Lends (m : MasterValue MemoryFleet) (clients rounds : ℕ) (calls : Result ℕ CallFault) (known : Bool)
+    (new : Node) : Type 0 where
+  pub back : MasterValue MemoryFleet
+  pub is : new ≡ Up back
+  pub runs : RunsClients clients rounds m.knows calls (world fleet_state back)
+  pub tells : OnOk calls (IsTrue known)
+
+-- A refusal of clients is answered as any other. But a fleet that refused an op as spent, and isn't, is told as
+-- SeatUnknown, and nothing changed.
+abbrev pub RefusesWork : Node → Refusal → Node → Answer → Type 0
+RefusesWork old Spent new answer = (Refuses old Spent new answer × IfSome (fleet_of old) IsSpent)
+    ⊎ ((answer ≡ answers.SeatUnknown) × (new ≡ old) × (IfSome (fleet_of old) IsSpent → ⊥))
+RefusesWork old r new answer = Refuses old r new answer
+
+-- the first refusal of clients is answered
+abbrev pub RefusesCall : Node → CallFault → Node → Answer → Type 0
+RefusesCall old (call_fault.Refused r) new answer = RefusesWork old r new answer
+RefusesCall old (call_fault.Unsure place r) new answer = RefusesWork old r new answer
+RefusesCall old call_fault.SeatUnknown new answer = (answer ≡ answers.SeatUnknown) × (new ≡ old)
+RefusesCall old call_fault.CellRefused new answer = (answer ≡ answers.CellRefused) × (new ≡ old)
+
+-- Over the master of a node that is up just these clients make their rounds, and what comes of them is answered. Any
+-- other node does nothing.
+abbrev pub MakesClients : Node → ℕ → ℕ → Node → Answer → Type 0
+MakesClients (Up m) clients rounds new answer = (calls : Result ℕ CallFault) × (w : World)
+    × RunsClients clients rounds m.knows calls w × IsClientsAnswer w.fleet clients rounds calls answer
+    × IsLeftIn w answer new
+MakesClients old clients rounds new answer = (new ≡ old) × (answer ≡ answers.Down)
+
+-- ---- lines
+
+-- the same life, with more records or as many
+abbrev pub LivesLonger : MasterData → MasterData → Type 0
+LivesLonger d e = (more : List Record) × (e.origin ≡ d.origin) × (e.history ≡ d.history ++ more)
+
+-- Whatever the node stood for, the new one goes on with its life, and the answer is one that the line tells of that
+-- life.
+abbrev pub AnswersLine : Node → Config → LineValue → Node → Answer → Type 0
+AnswersLine old config line new answer = (d : MasterData) (at : Position) → IsNodeAt old config d at →
+    (e : MasterData) × (next : Position) × IsNodeAt new config e next
+    × LivesLonger d e × Tells config (life_of e) at line answer next
+
+-- the line that asks for a step by hand; a command that is applied and not pushed has none
+abbrev pub line_of : Step → Option LineValue
+line_of (step.Apply seat command) = None
+line_of step.Push = Some Push
+line_of step.BeginRoll = Some BeginRoll
+line_of (step.Compact segment) = Some (Compact segment)
+line_of (step.BeginClean victims) = Some (Begin victims)
+line_of step.Copy = Some Copy
+line_of step.Seal = Some Seal
+line_of step.Free = Some Free
+
+-- the same of the line that asks for this step, if there is one
+abbrev pub AnswersStep : Node → Config → Step → Node → Answer → Type 0
+AnswersStep old config step new answer = IfSome (line_of step)
+    (λ (line : LineValue). AnswersLine old config line new answer)
+
+-- the fleet is to take this many more ops, and nothing else changed; what a master knows is the same
+abbrev pub LimitsFleet : Node → ℕ → Node → Type 0
+LimitsFleet old takes new =
+    (world_of new ≡ option_map (λ (w : World). limited_world w takes) (world_of old))
+    × (fleet_of new ≡ option_map (λ (f : FleetState). limited f takes) (fleet_of old))
+
+-- there is no master any more, and the fleet is the same
+abbrev pub LosesMaster : Node → Node → Type 0
+LosesMaster old new = (is_up new ≡ false) × (fleet_of new ≡ fleet_of old)
+
+-- the backup of a node without a master loses all that it holds, and no other does; a node with a master stays
+abbrev pub LosesOne : Node → ℕ → Node → Type 0
+LosesOne (Up m) backup new = new ≡ Up m
+LosesOne old backup new =
+    (is_up new ≡ false) × (fleet_of new ≡ option_map (λ (f : FleetState). lost f backup) (fleet_of old))
+
+-- what is shown is what the node's backups hold, of all masters
+abbrev pub ShowsFleet : Node → Answer → Type 0
+ShowsFleet node (Holdings hs) = IfSome (fleet_of node) (λ (f : FleetState). AreHeld hs f.picture)
+ShowsFleet node answer = Unit {0}
+
+-- What a line makes of the node: just the steps of its command, its step, its roll, its cleaning, or the rounds of its
+-- clients. A line that shows something changes nothing, and shows what this node has. A stop sets just the limit that
+-- it names, and a crash leaves just the fleet. What a recovery makes is said of the session.
+abbrev pub MakesLine : Node → LineValue → Node → Answer → Type 0
+MakesLine old Roll new answer = MakesRoll old new answer
+MakesLine old BeginRoll new answer = MakesStep old step.BeginRoll new answer
+MakesLine old (Compact segment) new answer = MakesStep old (step.Compact segment) new answer
+MakesLine old Push new answer = MakesStep old step.Push new answer
+MakesLine old (Clean victims) new answer = MakesClean old victims new answer
+MakesLine old (Begin victims) new answer = MakesStep old (step.BeginClean victims) new answer
+MakesLine old Copy new answer = MakesStep old step.Copy new answer
+MakesLine old Seal new answer = MakesStep old step.Seal new answer
+MakesLine old Free new answer = MakesStep old step.Free new answer
+MakesLine old Idle new answer = new ≡ old
+MakesLine old (Hex segment) new answer = (new ≡ old) × ShowsImage old segment answer
+MakesLine old Log new answer = (new ≡ old) × ShowsDigest old answer
+MakesLine old Room new answer = (new ≡ old) × ShowsRoom old answer
+MakesLine old HoldingsLine new answer = (new ≡ old) × ShowsFleet old answer
+MakesLine old Will new answer = new ≡ old
+MakesLine old (Stop takes) new answer = LimitsFleet old takes new
+MakesLine old Crash new answer = LosesMaster old new
+MakesLine old (Lose backup) new answer = LosesOne old backup new
+MakesLine old (Recover order) new answer = ⊥
+MakesLine old (Clients clients rounds passes) new answer = MakesClients old clients rounds new answer
+MakesLine old line new answer = IfSome (command_of line) (λ (c : Command). MakesCommand old c new answer)
+
+-- ---- wills
+
+-- A will that was made is handed over. After any other answer the will is the same.
+abbrev pub HandsOver : List Part → Answer → List Part → Type 0
+HandsOver old (answers.Will parts limits) new = new ≡ parts
+HandsOver old answer new = new ≡ old
+
+-- the will is the same, or it divides the tablets of the node's master
+abbrev pub DividesAnew : Node → List Part → List Part → Type 0
+DividesAnew node old new = (config : Config) (d : MasterData) (at : Position) → IsNodeAt node config d at →
+    (new ≡ old) ⊎ Divides config.tablets new
+
+-- ---- sessions
+
+-- the answer that shows what backups hold
+abbrev pub held_answer : Result (List Holding) AllocError → Answer
+held_answer (Ok hs) = Holdings hs
+held_answer (Err fault) = Refused NoMemory

@@ -1,0 +1,141 @@
+//! Clients over the master of a node, beside a cleaner.
+
+ghost use Rattle.std.specs.Prelude.{◌≡◌, ◌≤◌, ◌<◌, ◌^◌, ◌↔◌, ℕ, true, IfSome, IsTrue};
+ghost use Rattle.backup.specs.declared.fleet.MemoryFleet.{MemoryFleet as FleetValue};
+ghost use Rattle.master.specs.World.{MasterValue};
+ghost use Rattle.master_state.specs.declared.config.Config.{Config};
+ghost use Rattle.driving.specs.Served.{IsSpent};
+ghost use Rattle.node.specs.Served.{AnswersLine, Lends, MakesClients, RefusesCall, RefusesWork, fleet_of, is_up};
+ghost use Rattle.node.specs.declared.node.Node.TheVariants.{Up as UpValue};
+
+use crate::node::Node;
+use answers::Answer;
+use gate::NoGate;
+use locked_log::CallFault;
+use master::Refusal;
+use replica::Fleet;
+use std::alloc::Global;
+use std::mem::replace;
+use std::sync::Wait;
+use std::thread::Threads;
+use store_clients::{Outcome, Workload, clients_over};
+
+/// What came of the clients of a line.
+#[derive(Drop)]
+pub struct Served {
+    pub answer: Answer,
+    /// Whether their store could tell whose its records were.
+    pub is_known: bool,
+}
+
+impl Node {
+    ghost use Rattle.lines.specs.Grammar.{Clients};
+
+    /// Has clients make their rounds beside a cleaner. The history of the master may have just so many records. What
+    /// was done stays done.
+    pub fn serve_clients<H: Threads + Wait + Sync>(
+        &mut self,
+        rt: &H,
+        alloc: Global,
+        records: u64,
+        work: Workload,
+    ) -> Served
+        requires records { (m : MasterValue FleetValue) → self.old ≡ UpValue m → m.knows.config.history ≡ records }
+        requires clients { work.clients ≤ 63 }
+        requires rounds { work.rounds < 2 ^ 40 }
+        ensures told { (config : Config) →
+            AnswersLine self.old config (Clients work.clients work.rounds work.passes) self.new result.answer }
+        ensures made { MakesClients self.old work.clients work.rounds self.new result.answer }
+        ensures known { (calls : ℕ) →
+            result.answer ≡ Answer.Counted work.clients work.rounds calls → result.is_known ≡ true }
+    {
+        let Node::Up(_) = self else {
+            return Served {
+                answer: Answer::Down,
+                is_known: true,
+            };
+        };
+        let (calls, is_known) = self.lend(rt, alloc, records, work);
+        match calls {
+            Ok(calls) => Served {
+                answer: Answer::Counted(work.clients, work.rounds, calls),
+                is_known,
+            },
+            Err(fault) => Served {
+                answer: self.refuse_call(fault),
+                is_known,
+            },
+        }
+    }
+
+    /// Hands the master to clients, and takes it back. It tells how many of their calls were accepted, or the first
+    /// refusal, and whether the store could tell whose its records were.
+    fn lend<H: Threads + Wait + Sync>(
+        &mut self,
+        rt: &H,
+        alloc: Global,
+        records: u64,
+        work: Workload,
+    ) -> (Result<u64, CallFault>, bool)
+        requires up { is_up self.old ≡ true }
+        requires records { (m : MasterValue FleetValue) → self.old ≡ UpValue m → m.knows.config.history ≡ records }
+        requires clients { work.clients ≤ 63 }
+        requires rounds { work.rounds < 2 ^ 40 }
+        ensures { (m : MasterValue FleetValue) → self.old ≡ UpValue m →
+            Lends m work.clients work.rounds result.0 result.1 self.new }
+    {
+        let Node::Up(up) = replace(self, Node::Changing) else {
+            unreachable!();
+        };
+        let Outcome {
+            master,
+            calls,
+            is_known,
+        } = clients_over(rt, alloc, up, records, work, &NoGate);
+        self.set(Node::Up(master));
+        (calls, is_known)
+    }
+
+    /// Answers the first refusal of clients.
+    fn refuse_call(&mut self, fault: CallFault) -> Answer
+        requires { is_up self.old ≡ true }
+        ensures { RefusesCall self.old fault self.new result }
+    {
+        match fault {
+            CallFault::Refused(refusal) => self.refuse_work(refusal),
+            CallFault::Unsure(_, refusal) => self.refuse_work(refusal),
+            CallFault::SeatUnknown => Answer::SeatUnknown,
+            CallFault::CellRefused => Answer::CellRefused,
+        }
+    }
+
+    /// Answers a refusal of clients. What a fleet was under the lock isn't known. So if it refused an op as spent, it
+    /// is asked whether it is. Tests alone show that it always is.
+    fn refuse_work(&mut self, refusal: Refusal) -> Answer
+        requires { is_up self.old ≡ true }
+        ensures { RefusesWork self.old refusal self.new result }
+    {
+        match refusal {
+            Refusal::Spent => {
+                if self.is_spent() {
+                    self.refuse(Refusal::Spent)
+                } else {
+                    Answer::SeatUnknown
+                }
+            }
+            _ => self.refuse(refusal),
+        }
+    }
+
+    /// Whether the fleet of a node that is up takes no more ops.
+    fn is_spent(&self) -> bool
+        requires { is_up self.now ≡ true }
+        ensures { IsTrue result ↔ IfSome (fleet_of self.now) IsSpent }
+    {
+        let Node::Up(up) = self else {
+            unreachable!();
+        };
+        let fleet = up.fleet();
+        fleet.takes() == fleet.end()
+    }
+}

@@ -1,0 +1,288 @@
+//! A fleet, and the master over it if there is one.
+
+ghost use Rattle.std.specs.Prelude.{◌≡◌, true, false, None, Some, Ok};
+ghost use Rattle.master_state.specs.declared.config.Config.{Config};
+ghost use Rattle.node.specs.Served.{IsDropped, fleet_of, is_up};
+ghost use Rattle.node.specs.Served.{AnswersLine, LimitsFleet, LosesMaster, LosesOne, MakesStep, MakesRoll, Refuses};
+ghost use Rattle.node.specs.Served.{AnswersStep, MakesClean, ShowsFleet, held_answer, step_told};
+ghost use Rattle.node.specs.Shows.{ShowsDigest, ShowsImage, ShowsRoom};
+ghost use Rattle.node.specs.Waits.{Serves, MakesRoom, MakesOpen, MakesTry};
+
+use answers::Answer;
+use backup::MemoryFleet;
+use driving::{clean_all, roll_all, serve};
+use entry::{NoMemory, Row};
+use master::{Command, Look, Master, Refusal, Shown, Step, StepAnswer};
+use replica::{Bench, Fleet, Inventory};
+use std::alloc::Global;
+use std::mem::replace;
+
+/// A fleet, and the master over it if there is one.
+#[derive(Drop)]
+pub enum Node {
+    Up(Master<MemoryFleet>),
+    Down(MemoryFleet),
+    /// A node is this only while its master is being dropped.
+    Changing,
+}
+
+/// The answer that shows what backups hold.
+fn held(inventory: Result<Inventory, NoMemory>) -> Answer
+    ensures { result ≡ held_answer inventory }
+{
+    match inventory {
+        Ok(inventory) => Answer::Holdings(inventory),
+        Err(NoMemory) => Answer::Refused(Refusal::NoMemory),
+    }
+}
+
+/// The answer to a step that was made.
+fn answer_of(made: StepAnswer) -> Answer
+    ensures { result ≡ step_told (Ok made) }
+{
+    match made {
+        StepAnswer::Applied(_, reply) => Answer::Reply(reply),
+        StepAnswer::Extended(backup, segment) => Answer::Extended(backup, segment),
+        StepAnswer::Opened(backup, segment) => Answer::Opened(backup, segment),
+        StepAnswer::Closed(backup, segment) => Answer::Closed(backup, segment),
+        StepAnswer::Rolling(id) => Answer::Opening(id),
+        StepAnswer::Compacted(segment, len) => Answer::Compacted(segment, len),
+        StepAnswer::Begun(survivor) => Answer::Begun(survivor),
+        StepAnswer::Moved => Answer::Moved,
+        StepAnswer::Carried => Answer::Carried,
+        StepAnswer::Dropped => Answer::Dropped,
+        StepAnswer::Sealed(backup) => Answer::Sealed(backup),
+        StepAnswer::Freed(segment, backup) => Answer::Freed(segment, backup),
+    }
+}
+
+impl Node {
+    ghost use Rattle.lines.specs.Grammar.{Roll, Clean, Log, Room, Hex, Stop, Crash, Lose, Holdings};
+
+    /// Applies a command, and pushes until its record is durable. It answers `None`, and does nothing, if the command
+    /// has to wait for a roll.
+    #[inline(always)]
+    pub fn serve(&mut self, command: Command) -> Option<Answer>
+        ensures told { Serves self.old command self.new result }
+        ensures tried { MakesTry self.old command self.new result }
+    {
+        let Node::Up(up) = self else {
+            return Some(Answer::Down);
+        };
+        let outcome = serve(up, command);
+        up.show_valid();
+        match outcome {
+            Ok(reply) => Some(Answer::Reply(reply)),
+            Err(refusal) => match refusal {
+                Refusal::Rolling => None,
+                _ => Some(self.refuse(refusal)),
+            },
+        }
+    }
+
+    /// Begins a roll if none is under way, and pushes until nothing waits. It answers `None` if the head is open then.
+    pub fn make_room(&mut self) -> Option<Answer>
+        ensures told { (config : Config) → MakesRoom self.old config self.new result }
+        ensures rolled { MakesOpen self.old self.new result }
+    {
+        let Node::Up(up) = self else {
+            return Some(Answer::Down);
+        };
+        let outcome = roll_all(up);
+        up.show_valid();
+        match outcome {
+            Ok(()) => None,
+            Err(refusal) => Some(self.refuse(refusal)),
+        }
+    }
+
+    /// Answers a refusal. If the fleet takes no more ops, this drops the master and lifts the limit.
+    pub fn refuse(&mut self, refusal: Refusal) -> Answer
+        requires { is_up self.old ≡ true }
+        ensures { Refuses self.old refusal self.new result }
+    {
+        match refusal {
+            Refusal::Spent => {
+                let Node::Up(up) = self else {
+                    unreachable!();
+                };
+                up.limit(u64::MAX);
+                self.drop_master();
+                Answer::Stopped
+            }
+            _ => Answer::Refused(refusal),
+        }
+    }
+
+    /// Drops the master of a node that is up. The fleet stays as it is.
+    pub fn drop_master(&mut self)
+        requires { is_up self.old ≡ true }
+        ensures left { IsDropped self.old self.new }
+        ensures fleet { fleet_of self.new ≡ fleet_of self.old }
+        ensures down { is_up self.new ≡ false }
+    {
+        let Node::Up(up) = replace(self, Node::Changing) else {
+            unreachable!();
+        };
+        *self = Node::Down(up.crash());
+    }
+
+    /// Puts a node in the place of this one.
+    pub fn set(&mut self, node: Node)
+        ensures { self.new ≡ node }
+    {
+        *self = node;
+    }
+
+    /// Begins a roll if none is under way, and pushes until the head is open.
+    pub fn roll(&mut self) -> Answer
+        ensures told { (config : Config) → AnswersLine self.old config Roll self.new result }
+        ensures rolled { MakesRoll self.old self.new result }
+    {
+        let Node::Up(up) = self else {
+            return Answer::Down;
+        };
+        up.show_valid();
+        let outcome = roll_all(up);
+        up.show_valid();
+        let head = up.head();
+        match outcome {
+            Ok(()) => Answer::Head(head),
+            Err(refusal) => self.refuse(refusal),
+        }
+    }
+
+    /// Cleans these segments, from the begin of a pass to the last free.
+    pub fn clean(&mut self, victims: Row<u64>) -> Answer
+        ensures told { (config : Config) → AnswersLine self.old config (Clean victims) self.new result }
+        ensures cleaned { MakesClean self.old victims self.new result }
+    {
+        let Node::Up(up) = self else {
+            return Answer::Down;
+        };
+        up.show_valid();
+        let outcome = clean_all(up, victims);
+        up.show_valid();
+        match outcome {
+            Ok((survivor, head)) => Answer::Cleaned(survivor, head),
+            Err(refusal) => self.refuse(refusal),
+        }
+    }
+
+    /// Makes a step by hand, and answers what comes of it.
+    pub fn step(&mut self, step: Step) -> Answer
+        ensures told { (config : Config) → AnswersStep self.old config step self.new result }
+        ensures stepped { MakesStep self.old step self.new result }
+    {
+        let Node::Up(up) = self else {
+            return Answer::Down;
+        };
+        up.show_valid();
+        match up.step(step) {
+            Ok(made) => answer_of(made),
+            Err(refusal) => self.refuse(refusal),
+        }
+    }
+
+    /// The ids of the digest in force.
+    pub fn log(&self) -> Answer
+        ensures told { (config : Config) → AnswersLine self.now config Log self.now result }
+        ensures shown { ShowsDigest self.now result }
+    {
+        let Node::Up(up) = self else {
+            return Answer::Down;
+        };
+        up.show_valid();
+        match up.look(Look::Digest) {
+            Ok(Shown::Digest(ids)) => Answer::Log(ids),
+            Ok(_) => unreachable!(),
+            Err(NoMemory) => Answer::Refused(Refusal::NoMemory),
+        }
+    }
+
+    /// What the backups hold.
+    pub fn holdings(&self, alloc: Global) -> Answer
+        ensures told { (config : Config) → AnswersLine self.now config Holdings self.now result }
+        ensures shown { ShowsFleet self.now result }
+    {
+        match self {
+            Node::Up(up) => {
+                up.show_valid();
+                held(up.fleet().inventory(alloc))
+            }
+            Node::Down(fleet) => held(fleet.inventory(alloc)),
+            Node::Changing => Answer::Down,
+        }
+    }
+
+    /// The image of a segment.
+    pub fn hex(&self, segment: u64) -> Answer
+        ensures told { (config : Config) → AnswersLine self.now config (Hex segment) self.now result }
+        ensures shown { ShowsImage self.now segment result }
+    {
+        let Node::Up(up) = self else {
+            return Answer::Down;
+        };
+        up.show_valid();
+        match up.look(Look::Image(segment)) {
+            Ok(Shown::Image(Some(bytes))) => Answer::Hex(bytes),
+            Ok(Shown::Image(None)) => Answer::NotInLog(segment),
+            Ok(_) => unreachable!(),
+            Err(NoMemory) => Answer::Refused(Refusal::NoMemory),
+        }
+    }
+
+    /// How many seglets of memory are counted, and how many are free.
+    pub fn room(&self) -> Answer
+        ensures told { (config : Config) → AnswersLine self.now config Room self.now result }
+        ensures shown { ShowsRoom self.now result }
+    {
+        let Node::Up(up) = self else {
+            return Answer::Down;
+        };
+        up.show_valid();
+        match up.look(Look::Room) {
+            Ok(Shown::Room(used, free)) => Answer::Room(used, free),
+            Ok(_) => unreachable!(),
+            Err(NoMemory) => unreachable!(),
+        }
+    }
+
+    /// Lets the fleet take this many more ops.
+    pub fn stop(&mut self, takes: u64) -> Answer
+        ensures told { (config : Config) → AnswersLine self.old config (Stop takes) self.new result }
+        ensures limited { LimitsFleet self.old takes self.new }
+    {
+        match self {
+            Node::Up(up) => up.limit(takes),
+            Node::Down(fleet) => fleet.limit(takes),
+            Node::Changing => {}
+        }
+        Answer::Stop(takes)
+    }
+
+    /// Drops the master. The fleet stays as it is.
+    pub fn crash(&mut self) -> Answer
+        ensures told { (config : Config) → AnswersLine self.old config Crash self.new result }
+        ensures dropped { LosesMaster self.old self.new }
+    {
+        if let Node::Up(_) = self {
+            self.drop_master();
+            Answer::Crashed
+        } else {
+            Answer::Down
+        }
+    }
+
+    /// Has a backup lose all that it holds.
+    pub fn lose(&mut self, backup: u64) -> Answer
+        ensures told { (config : Config) → AnswersLine self.old config (Lose backup) self.new result }
+        ensures lost { LosesOne self.old backup self.new }
+    {
+        let Node::Down(fleet) = self else {
+            return Answer::Up;
+        };
+        fleet.lose(backup);
+        Answer::Lost(backup)
+    }
+}

@@ -1,9 +1,0 @@
-use Rattle.std.proofs.Common.{false, rules}
-use Rattle.std.proofs.lemmas.Fmt.{hex_byte}
-use Rattle.script.specs.Texts.{hex_digits}
-use Rattle.script.proofs.Printed.{one_printed}
-use Rattle.script.proofs.answer.write_hex_bytes.Goals as goal
-
-pub loop-byte-preserved : goal.loop-byte-preserved
-loop-byte-preserved g c =
-    one_printed hex_digits c.args.bytes.now c.loop-byte.byte-index 0 _ _ _ c.loop-byte-test.true c.loop-byte.invariant (search (rules, hex_byte false))

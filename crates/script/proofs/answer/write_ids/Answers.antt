@@ -1,8 +1,0 @@
-use Rattle.std.proofs.Common.{rules}
-use Rattle.script.specs.Texts.{spaced_text}
-use Rattle.script.proofs.Printed.{one_printed}
-use Rattle.script.proofs.answer.write_ids.Goals as goal
-
-pub loop-id-preserved : goal.loop-id-preserved
-loop-id-preserved g c =
-    one_printed spaced_text c.args.ids.now c.loop-id.id-index 0 _ _ _ c.loop-id-test.true c.loop-id.invariant (search rules)

@@ -1,5 +1,0 @@
-use Rattle.script.proofs.Fronts.{Wrote}
-use Rattle.script.proofs.errors.fails_to_write.Given as goal
-
-abbrev pub invariant-loop : goal.invariant-loop
-invariant-loop g l = Wrote (g.W.Write.contents l.fn.writer) (g.W.Write.contents l.writer) l.fn.bytes l.rest

@@ -1,0 +1,143 @@
+-- What a session stands for, and what its lines do to it.
+use Rattle.std.specs.Prelude.{◌≡◌, ◌⊎◌, ℕ, true, false, Some, IfSome, max}
+use Rattle.backup.specs.State.{new_fleet}
+use Rattle.command_line.specs.declared.settings.Options.{Options}
+use Rattle.lines.specs.Grammar.{LineValue, Will, Recover, Clients}
+use Rattle.replica.specs.Picture.{FleetState}
+use Rattle.versioned_map.specs.declared.command.Command.{Command}
+use Rattle.log_head.specs.Head.{is_open}
+use Rattle.master_state.specs.declared.config.Config.{Config}
+use Rattle.master_state.specs.declared.step.Refusal.TheVariants.{Nothing}
+use Rattle.master_state.specs.Data.{MasterData, fresh_data, no_origin}
+use Rattle.master.specs.World.{World}
+use Rattle.answers.specs.declared.answer.Answer.{Answer}
+use Rattle.answers.specs.declared.answer.Answer.TheVariants.{Counted, NumbersSpent}
+use Rattle.answers.specs.declared.answer.Answer.TheVariants as answers
+use Rattle.node.specs.declared.node.Node.{Node}
+use Rattle.script.specs.declared.session.Session.{Session}
+use Rattle.next_master.specs.Configuration.{config_of, tables_to, one_partition}
+use Rattle.node.specs.Lives.{Position, at_start}
+use Rattle.recovery.specs.Orders.{Covers}
+use Rattle.driving.specs.Rolls.{PushesUntil}
+use Rattle.node.specs.Told.{command_of, HasLimits}
+use Rattle.answers.specs.declared.limits.Limits.{Limits}
+use Rattle.node.specs.Served.{AnswersLine, IsNodeAt, world_of, fleet_of, is_up, HandsOver, MakesLine}
+use Rattle.lines.specs.declared.line.ReplayOrder.{ReplayOrder}
+use Rattle.next_master.specs.Numbers.{AreSpent, IsNextNumber, Renumbers}
+use Rattle.node.specs.Waits.{MakesTryAfterRoll, WaitsForRoll}
+use Rattle.next_master.specs.Recoveries.{Asked, Ends, MakesLimit, Recovers, ask, order_named}
+
+-- ---- where a session stands
+
+-- the session's will has a partition for each place of the tablets
+abbrev pub IsCovered : Session → Type 0
+IsCovered s = Covers (tables_to s.options.tables) s.will
+
+-- the session stands for some master, at some position
+abbrev pub Stands : Session → Type 0
+Stands s = IsCovered s
+    × ((d : MasterData) × (at : Position) × IsNodeAt s.node (config_of s.options s.master) d at)
+
+-- a new master of this configuration, over a fleet of so many backups that holds nothing
+abbrev pub new_world : Config → World
+new_world config = record { knows = fresh_data config; fleet = new_fleet config.backups }
+
+-- A session at its start: master 1 has this configuration, an open head and no keys, and nothing is told of it yet.
+pub record BeginsSession (options : Options) (s : Session) : Type 0 where
+  pub stands : (d : MasterData) × IsNodeAt s.node (config_of options 1) d at_start × (is_open d.head ≡ true)
+      × (d.origin ≡ no_origin)
+  -- a new master was pushed until nothing waited, and made no other step
+  pub begins : (w : World) × (world_of s.node ≡ Some w) × PushesUntil (new_world (config_of options 1)) Nothing w
+  pub number : s.master ≡ 1
+  pub used : s.used ≡ 1
+  pub set : s.options ≡ options
+  pub covers : IsCovered s
+  pub will : s.will ≡ one_partition (tables_to options.tables)
+  pub known : s.is_known ≡ true
+
+-- ---- wills
+
+-- the limits of the wills that these options ask for
+abbrev pub limits_of : Options → Limits
+limits_of options = record { bytes = options.bytes; objects = options.objects }
+
+-- what a line makes of the coordinator's will: the line `will` makes it anew, and no other line changes it
+abbrev pub MakesWill : Session → LineValue → Session → Answer → Type 0
+MakesWill old Will new answer = HandsOver old.will answer new.will × HasLimits (limits_of old.options) answer
+MakesWill old line new answer = new.will ≡ old.will
+
+-- ---- lines
+
+-- What a line makes of the session's word that each store of clients could tell whose its records were. That is given
+-- up by clients alone, not by those of whom a call count is answered, and never taken up again.
+abbrev pub KeepsWord : Session → LineValue → Session → Answer → Type 0
+KeepsWord old (Clients clients rounds passes) new answer = (old.is_known ≡ false → new.is_known ≡ false)
+    × ((calls : ℕ) → answer ≡ Counted clients rounds calls → new.is_known ≡ old.is_known)
+KeepsWord old line new answer = new.is_known ≡ old.is_known
+
+-- What a line makes of a session that goes on with the life of its master.
+pub record SessionAnswers (old : Session) (line : LineValue) (new : Session) (answer : Answer) : Type 0 where
+  pub number : new.master ≡ old.master
+  pub options : new.options ≡ old.options
+  pub used : new.used ≡ old.used
+  pub covers : Stands old → IsCovered new
+  pub answers : (config : Config) → config.master ≡ old.master → AnswersLine old.node config line new.node answer
+  pub makes : MakesLine old.node line new.node answer
+  pub wills : MakesWill old line new answer
+  pub word : KeepsWord old line new answer
+
+-- The answer of a line whose command waited for a roll. It is told of what the node stood for before the command had to
+-- wait.
+pub record AnswersAfterRoll (mid : Session) (line : LineValue) (new : Session) (answer : Answer) : Type 0 where
+  pub number : new.master ≡ mid.master
+  pub options : new.options ≡ mid.options
+  pub used : new.used ≡ mid.used
+  pub covers : IsCovered mid → IsCovered new
+  pub answers : (old : Node) (config : Config) (command : Command) → command_of line ≡ Some command
+      → WaitsForRoll old config command mid.node → AnswersLine old config line new.node answer
+  pub makes : (command : Command) → command_of line ≡ Some command → MakesTryAfterRoll mid.node command new.node answer
+  pub will : new.will ≡ mid.will
+  pub known : new.is_known ≡ mid.is_known
+
+-- ---- recoveries
+
+-- the line's recovery is of the session's master, by the session's will, in the order that the line names
+abbrev pub asked_of : Session → ReplayOrder → Asked
+asked_of s order = ask s.master s.used s.will (order_named order)
+
+-- A recovery of a session ended. It has a master, or each store of clients could tell whose its records were: then it
+-- ended as one of its node does. Or there is no master, and a store couldn't: then nothing is recovered any more.
+abbrev pub EndsFor : Session → ReplayOrder → Session → Answer → Type 0
+EndsFor old order new answer =
+    (((is_up old.node ≡ true) ⊎ (old.is_known ≡ true))
+    × Ends old.node old.options (asked_of old order) new.used new.node answer new.master)
+    ⊎ ((is_up old.node ≡ false) × (old.is_known ≡ false) × (answer ≡ answers.SeatUnknown) × (new ≡ old))
+
+-- The coordinator's will stays. But once a master has adopted the table, so that a later recovery is for that one, the
+-- will is one partition over all tablets.
+abbrev pub RenewsWill : Session → Session → Type 0
+RenewsWill old new = ((new.master ≡ old.master) × (new.will ≡ old.will))
+    ⊎ ((new.master ≡ old.master → ⊥) × (new.will ≡ one_partition (tables_to old.options.tables)))
+
+-- what a recovery makes of a session
+pub record SessionRecovers (old : Session) (line : LineValue) (new : Session) (answer : Answer) : Type 0 where
+  pub order : ReplayOrder
+  pub asks : line ≡ Recover order
+  pub options : new.options ≡ old.options
+  pub known : new.is_known ≡ old.is_known
+  pub covers : Stands old → IsCovered new
+  pub numbers : Renumbers old.master old.used new.master new.used
+  pub recovers : Recovers old.node old.options old.master order new.node answer new.master
+  pub ends : EndsFor old order new answer
+  pub limit : MakesLimit old.node new.node answer
+  pub will : RenewsWill old new
+  pub least : (new.used ≡ old.used)
+      ⊎ IfSome (fleet_of old.node) (λ (f : FleetState). IsNextNumber (max old.master old.used) f.picture new.used)
+  pub spent : answer ≡ NumbersSpent
+      → IfSome (fleet_of old.node) (λ (f : FleetState). AreSpent (max old.master old.used) f.picture)
+
+-- ---- any line
+
+-- what a line makes of a session
+abbrev pub RunsLine : Session → LineValue → Session → Answer → Type 0
+RunsLine old line new answer = SessionAnswers old line new answer ⊎ SessionRecovers old line new answer

@@ -1,0 +1,42 @@
+-- What the lines of a script tell of one life after another.
+use Rattle.std.specs.Prelude.{[], ◌≡◌, ◌⊎◌, ℕ, List, ◌∷◌}
+use Rattle.lines.specs.Grammar.{LineValue}
+use Rattle.master_state.specs.declared.config.Config.{Config}
+use Rattle.answers.specs.declared.answer.Answer.{Answer}
+use Rattle.answers.specs.declared.answer.Answer.TheVariants as answer
+use Rattle.node.specs.Lives.{Life, at_start}
+use Rattle.versioned_map.specs.Represents.{empty_state}
+use Rattle.node.specs.Told.{Tells}
+use Rattle.next_master.specs.Succession.{Standing, IsTold, Succeeds}
+
+-- a line that was run: its text without the line feed, what it says, and what it answered
+pub record Told : Type 0 where
+  pub text : List ℕ
+  pub line : LineValue
+  pub answer : Answer
+
+-- at the start nothing is told of the life
+abbrev pub at_first : Config → Life → Standing
+at_first config life = record { config = config; life = life; at = at_start }
+
+-- the line goes on with the life
+pub record GoesOn (from : Standing) (line : LineValue) (answer : Answer) (to : Standing) : Type 0 where
+  pub config : to.config ≡ from.config
+  pub life : to.life ≡ from.life
+  pub tells : Tells from.config from.life from.at line answer to.at
+
+-- What the answer of a line tells: it goes on with a life, or begins the next.
+abbrev pub Moves : Standing → LineValue → Answer → Standing → Type 0
+Moves from line answer to = GoesOn from line answer to ⊎ Succeeds from line answer to
+
+-- the lines, in order, tell of lives that lead from one standing to another
+abbrev pub AreTelling : Standing → List Told → Standing → Type 0
+AreTelling from [] last = last ≡ from
+AreTelling from (t ∷ ts) last = (next : Standing) × Moves from t.line t.answer next × AreTelling next ts last
+
+-- The lines tell of one life after another. The first is of a master of this configuration and begins with no keys, and
+-- each next begins with what was recovered of the one before it. Their replies are the versioned map's, and they have
+-- no records but those of the lines.
+abbrev pub TellLives : Config → List Told → Type 0
+TellLives config told = (life : Life) × (life.opening ≡ empty_state)
+    × (last : Standing) × AreTelling (at_first config life) told last × IsTold last
