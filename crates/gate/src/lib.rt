@@ -1,4 +1,5 @@
-//! Who is told when workers begin and end. Whoever starts threads takes a gate; a test's gate can hold a worker for a while.
+//! Who is told when workers begin and end. Whoever starts threads takes a gate; a test's gate can hold a worker for a
+//! while.
 #![tactic(auto)]
 
 /// Is told by each worker, in the worker's thread. The calls return, and change nothing that a worker sees.

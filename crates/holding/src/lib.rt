@@ -1,5 +1,5 @@
-//! A gate that holds one worker until another has begun. Tests show by it that two threads are there at one time: a body that
-//! works on one thread reaches the limit of the turns.
+//! A gate that holds one worker until another has begun. Tests show by it that two threads are there at one time: a
+//! body that works on one thread reaches the limit of the turns.
 #![tactic(auto)]
 
 use gate::Gate;
