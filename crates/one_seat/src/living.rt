@@ -15,7 +15,7 @@ use std::alloc::Global;
 use std::io::{BufRead, Write};
 use std::marker::Brand;
 use std::sync::Wait;
-use store_lines::{Dialogue, Part, take_all, tell};
+use store_lines::{Dialogue, Phase, take_all, tell};
 use tablet_will::Will;
 
 /// Runs lines through a store over this master, until the master is dropped or no line follows.
@@ -79,7 +79,7 @@ fn run_lines<B: Naming, R: Wait, I: BufRead + Drop, O: Write + Drop>(
     life: &mut Life<B>,
 ) {
     // Nothing refuses these pushes but want of memory.
-    if take_all(rt, &life.store, Part::Pushes).is_err() {
+    if take_all(rt, &life.store, Phase::Pushes).is_err() {
         dialogue.fail(ScriptFault::NoMemory);
     }
     for _ in rt.forever() {
