@@ -76,7 +76,7 @@ fn insert(index: &mut Index, plain: &mut PlainIndex, held: Held) -> bool {
     }
     index.insert(held);
     if held.place.segment % 4 != 0 {
-        index.settle();
+        index.grow();
     }
     plain.insert(held);
     true
@@ -253,7 +253,7 @@ fn is_inserted(index: &mut Index, held: Held) -> bool {
         return false;
     }
     index.insert(held);
-    index.settle();
+    index.grow();
     true
 }
 

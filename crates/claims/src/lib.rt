@@ -1,8 +1,8 @@
 //! What the objects and tombstones of a log claim of their keys, and what claims come to.
 //!
-//! A claim is a key's value as of a version, or its end. `rebuilt_from` gives what a log with these claims is rebuilt to,
-//! whatever their order: with Ok the objects are what the log means, each key once. `specs/Rebuilt.antt` says what that
-//! is. Whoever rebuilds a log or a part of it gathers claims, and stands on this.
+//! A claim is a key's value as of a version, or its end. `rebuilt_from` gives what a log with these claims is rebuilt
+//! to, whatever their order: with Ok the objects are what the log means, each key once. `specs/Rebuilt.antt` says what
+//! that is. Whoever rebuilds a log or a part of it gathers claims, and stands on this.
 #![tactic(auto)]
 
 mod claim;

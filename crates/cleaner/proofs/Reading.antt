@@ -5,6 +5,7 @@ use Rattle.std.specs.Prelude.{Some, IfSome, sum_by, slice_get}
 use Rattle.std.specs.List.{AllByRecursion}
 use Rattle.std.proofs.lemmas.List.{length-append, drop_more}
 use Rattle.std.proofs.lemmas.List.Sums.{sum_by-cons}
+use Rattle.std.proofs.lemmas.Option.{same_Some}
 use Rattle.entry.specs.declared.entry.Entry.{Entry}
 use Rattle.entry.specs.declared.entry.Entry.TheVariants as entry
 use Rattle.entry.specs.Format.{spelling, IsEntry}
@@ -21,9 +22,6 @@ use Rattle.cleaner.proofs.Cursors.{cut_of, between_behind}
 
 -- ---- what is remembered of an entry
 
-some_is : {X : Type 0} (x y : X) → Some x ≡ Some y → x ≡ y
-some_is x y is = cc
-
 pub shows_data : (e : Entry) (x : Seen) → seen_of e ≡ Some x → is_data e ≡ true
 shows_data (entry.Header h) x is = absurd (cc)
 shows_data (entry.Digest ids) x is = absurd (cc)
@@ -35,8 +33,8 @@ pub shows_len : (e : Entry) (x : Seen) → seen_of e ≡ Some x → seen_len x �
 shows_len (entry.Header h) x is = absurd (cc)
 shows_len (entry.Digest ids) x is = absurd (cc)
 shows_len (entry.Safe version) x is = absurd (cc)
-shows_len (entry.Object o) x is = ap seen_len (sym (some_is _ x is))
-shows_len (entry.Tombstone t) x is = ap seen_len (sym (some_is _ x is))
+shows_len (entry.Object o) x is = ap seen_len (sym (same_Some _ x is))
+shows_len (entry.Tombstone t) x is = ap seen_len (sym (same_Some _ x is))
 
 -- ---- the first of some
 

@@ -69,20 +69,22 @@ module _ (keys : Place → Option Key) where
       finds q = ap (λ (b : Bool). if b then Some h.place else found keys q after) (tells_of keys q k h.place is)
 
   -- a place is cut out
-  pub cut : (before after : List Held) (h : Held) (k : Key) → AreKept keys (before ++ h ∷ after) → keys h.place ≡ Some k
+  pub cuts_out : (before after : List Held) (h : Held) (k : Key) → AreKept keys (before ++ h ∷ after)
+      → keys h.place ≡ Some k
       → IsSet keys (before ++ h ∷ after) k None (before ++ after)
-  cut [] after h k all is = cut_here h after k all is
-  cut (x ∷ before) after h k all is =
+  cuts_out [] after h k all is = cut_here h after k all is
+  cuts_out (x ∷ before) after h k all is =
       set_behind x (before ++ h ∷ after) (before ++ after) k None all (not_first keys k x before after h all is)
-      (cut before after h k (kept_tail keys x _ all) is)
+      (cuts_out before after h k (kept_tail keys x _ all) is)
 
   -- a place of a key that has none is put among others
-  pub put : (before after : List Held) (h : Held) (k : Key) → AreKept keys (before ++ after) → keys h.place ≡ Some k
+  pub puts_among : (before after : List Held) (h : Held) (k : Key) → AreKept keys (before ++ after)
+      → keys h.place ≡ Some k
       → h.hash ≡ hash_of k → found keys k (before ++ after) ≡ None
       → IsSet keys (before ++ after) k (Some h.place) (before ++ h ∷ after)
-  put [] after h k all is hash none = put_here h after k all is hash none
-  put (x ∷ before) after h k all is hash none =
-      go (tells keys k x.place) refl (put before after h k (kept_tail keys x _ all) is hash)
+  puts_among [] after h k all is hash none = put_here h after k all is hash none
+  puts_among (x ∷ before) after h k all is hash none =
+      go (tells keys k x.place) refl (puts_among before after h k (kept_tail keys x _ all) is hash)
     where
       go : (t : Bool) → tells keys k x.place ≡ t
           → (found keys k (before ++ after) ≡ None → IsSet keys (before ++ after) k (Some h.place)
@@ -113,11 +115,11 @@ module _ (keys : Place → Option Key) where
   cut_none old new k s = s.finds k ∙ ap (λ (b : Bool). if b then None else found keys k old) (key_itself k)
 
   -- a place is put in place of another
-  pub swap : (before after : List Held) (h x : Held) (k : Key) → AreKept keys (before ++ h ∷ after)
+  pub puts_in_place : (before after : List Held) (h x : Held) (k : Key) → AreKept keys (before ++ h ∷ after)
       → keys h.place ≡ Some k → keys x.place ≡ Some k → x.hash ≡ hash_of k
       → IsSet keys (before ++ h ∷ after) k (Some x.place) (before ++ x ∷ after)
-  swap before after h x k all is at hash =
-      let out = cut before after h k all is in
+  puts_in_place before after h x k all is at hash =
+      let out = cuts_out before after h k all is in
       let none = cut_none (before ++ h ∷ after) (before ++ after) k out in
       set_then (before ++ h ∷ after) (before ++ after) (before ++ x ∷ after) k None (Some x.place) out
-      (put before after x k out.kept at hash none)
+      (puts_among before after x k out.kept at hash none)

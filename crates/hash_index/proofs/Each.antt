@@ -27,9 +27,9 @@ each_found keys (h ∷ hs) apart = (λ k is. first k is, later hs (each_found ke
       go true here = (let never = sym (apart.0 k (tells_is keys k h.place here)) ∙ there in absurd (cc))
       go false other = rw other there
 
--- a place that was set is there once the index is settled
-pub set_settled : (keys : Place → Option Key) (old mid new : List Held) (k : Key) (x : Option Place)
+-- a place that was set is there once the index is grown
+pub set_grown : (keys : Place → Option Key) (old mid new : List Held) (k : Key) (x : Option Place)
     → IsSet keys old k x mid
     → (AreKept keys mid → IsSameMap keys mid new) → IsSet keys old k x new
-set_settled keys old mid new k x set settled =
-    let same = settled set.kept in record { kept = same.kept; finds = λ q. same.finds q ∙ set.finds q }
+set_grown keys old mid new k x set grown =
+    let same = grown set.kept in record { kept = same.kept; finds = λ q. same.finds q ∙ set.finds q }

@@ -13,7 +13,7 @@ use Rattle.hash_index.specs.Map.{hash_of, tells, found, AreKept, IsSet}
 use Rattle.hash_index.specs.Relocation.{is_same_place, is_same, relocated, without}
 use Rattle.hash_index.specs.Steps.{IsShuffled}
 use Rattle.hash_index.proofs.Finding.{tells_is, tells_from, found_is, found_here, found_later, kept_tail}
-use Rattle.hash_index.proofs.Changing.{set_behind, cut, put, swap}
+use Rattle.hash_index.proofs.Changing.{set_behind, cuts_out, puts_among, puts_in_place}
 
 -- ---- the same place under the same hash
 
@@ -73,7 +73,7 @@ module _ (keys : Place → Option Key) (k : Key) where
           ap (λ (b : Bool). if b then record g { place = to } ∷ gs else g ∷ relocated h to gs) same in
           let hash : g.hash ≡ hash_of k = ap (λ (x : Held). x.hash) (same_true h g same) ∙ of in
           subst (λ (xs : List Held). IsSet keys (g ∷ gs) k (Some to) xs) (sym moved)
-          (swap keys [] gs g (record g { place = to }) k all (tells_is keys k g.place so) there hash)
+          (puts_in_place keys [] gs g (record g { place = to }) k all (tells_is keys k g.place so) there hash)
       go false isnt rest =
           let moved : relocated h to (g ∷ gs) ≡ g ∷ relocated h to gs =
           ap (λ (b : Bool). if b then record g { place = to } ∷ gs else g ∷ relocated h to gs)
@@ -96,7 +96,7 @@ module _ (keys : Place → Option Key) (k : Key) where
           let out : without h (g ∷ gs) ≡ gs =
           ap (λ (b : Bool). if b then gs else g ∷ without h gs) (found_same h g gs all is of so) in
           subst (λ (xs : List Held). IsSet keys (g ∷ gs) k None xs) (sym out)
-          (cut keys [] gs g k all (tells_is keys k g.place so))
+          (cuts_out keys [] gs g k all (tells_is keys k g.place so))
       go false isnt rest =
           let out : without h (g ∷ gs) ≡ g ∷ without h gs =
           ap (λ (b : Bool). if b then gs else g ∷ without h gs) (other_same h g gs is isnt) in
@@ -111,7 +111,7 @@ module _ (keys : Place → Option Key) (k : Key) where
   last_set hs h all none there of =
       let same = append-nil hs in
       subst (λ (xs : List Held). IsSet keys xs k (Some h.place) (hs ++ h ∷ [])) same
-      (put keys hs [] h k (subst (λ (xs : List Held). AreKept keys xs) (sym same) all) there of
+      (puts_among keys hs [] h k (subst (λ (xs : List Held). AreKept keys xs) (sym same) all) there of
       (ap (λ (xs : List Held). found keys k xs) same ∙ none))
 
   -- a place more, wherever it goes

@@ -18,17 +18,19 @@ use std::marker::Model;
 /// How many keys there may be for each chain before the table grows.
 const KEYS_PER_CHAIN: usize = 3;
 
-/// A map from keys to places of a log. It holds no keys: whoever owns the log tells which key stands at a place (`Resolve`).
+/// A map from keys to places of a log. It holds no keys: whoever owns the log tells which key stands at a place
+/// (`Resolve`).
 ///
-/// `get`, `set`, `remove` and `move_to` are the map's calls by key. Each hashes its key, and reads the keys at the places that are
-/// held under the same hash, mostly one. Whoever has looked a key up knows its hash and its place: `insert`, `relocate` and
-/// `take_out` take these two, hash nothing and read no key.
+/// `get`, `set`, `remove` and `move_to` are the map's calls by key. Each hashes its key, and reads the keys at the
+/// places that are held under the same hash, mostly one. Whoever has looked a key up knows its hash and its place:
+/// `insert`, `relocate` and `take_out` take these two, hash nothing and read no key.
 ///
-/// - What holds: of each key that stands at a place that is held, the map has that place (*found*). This needs a resolver that tells a
-///   key at each place held, and each key once (*AreKept*).
-/// - Refusals: `reserve` is refused if memory runs out. After `reserve(k)` the next k new keys can't fail; no other call can.
-/// - Cost: a look-up walks one chain of three places on average. A place takes 24 bytes, hash and all; `settle` makes twice as many
-///   chains now and then, and moves each place once.
+/// - What holds: of each key that stands at a place that is held, it has that place (*found*). This needs a
+///   resolver that tells a key at each place held, and each key once (*AreKept*).
+/// - Refusals: `reserve` is refused if memory runs out. After `reserve(k)` the next k new keys can't fail; no other
+///   call can.
+/// - Cost: a look-up walks one chain of three places on average. A place takes 24 bytes, hash and all; `grow` makes
+///   twice as many chains now and then, and moves each place once.
 ///
 /// ```text
 /// index.reserve(1)?;
@@ -140,7 +142,7 @@ impl Index {
 
     /// Makes more chains before they are crowded, and puts the places that wait into theirs. The map stays. It never
     /// fails: places for which no memory is given wait on in a list.
-    pub fn settle(&mut self)
+    pub fn grow(&mut self)
         ensures same { (keys : PlaceValue → Option Key) → AreKept keys self.old.held
             → IsSameMap keys self.old.held self.new.held }
         ensures room { self.new.room ≡ self.old.room }

@@ -6,7 +6,7 @@
 //! average at most, and the few places that wait for their chain. A key is read only if the hash agrees.
 //!
 //! `insert` puts a place into its chain. If the chain gets no memory, the place waits in a list, in memory that
-//! `reserve` took for it, so `insert` can't fail. `settle` makes twice as many chains or more once there are more than
+//! `reserve` took for it, so `insert` can't fail. `grow` makes twice as many chains or more once there are more than
 //! three keys for each, and puts what waits into its chain. It puts each place anew by the hash that is held, so that
 //! no key is read. If it is given no memory, keys wait on, and each look-up walks them.
 //!

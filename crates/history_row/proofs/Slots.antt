@@ -31,9 +31,6 @@ shown_agree (Some x) None r q h e f = cc
 shown_agree None (Some y) r q h e f = cc
 shown_agree (Some x) (Some y) r q h e f = let same : x.what ≡ y.what = ap (λ (k : Kept). k.what) h in cc
 
-pub some_is : {X : Type 0} → {x y : X} → Some x ≡ Some y → x ≡ y
-some_is e = cc
-
 -- a record is put at a place, or nothing changes
 pub put_slot : (b : Bool) (xs : List Slot) (i : ℕ) (s t : Slot) (k : Kept) → s ≡ get_or xs i s
     → MatchBool b (t.note.known ≡ Some k) (t.note.known ≡ s.note.known)

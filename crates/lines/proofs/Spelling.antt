@@ -41,9 +41,10 @@ is_lose : IsWord (codes "lose")
 is_lose = record { some = search (arith); visible = λ k d below. search (arith) }
 
 -- what is behind `del`
-pub del : (words : List (List ℕ)) (table : ℕ) (key : List ℕ) (behind : List (List ℕ)) → words ≡ decimal table ∷ behind
+pub del_words : (words : List (List ℕ)) (table : ℕ) (key : List ℕ) (behind : List (List ℕ))
+    → words ≡ decimal table ∷ behind
     → table < 2 ^ 64 → (behind ≡ key ∷ []) × IsKeyWord key → AreWordsOf (codes "del" ∷ words) (Del table key)
-del words table key behind cut small key_is = record {
+del_words words table key behind cut small key_is = record {
   spelled = ap (λ ws. codes "del" ∷ ws) (cut ∙ ap (λ ws. decimal table ∷ ws) key_is.0);
   each = All-cons IsWord (codes "del") (decimal table ∷ key ∷ []) is_del
       (All-cons IsWord (decimal table) (key ∷ []) (decimal_is_word table small)
@@ -52,9 +53,9 @@ del words table key behind cut small key_is = record {
 }
 
 -- what is behind `lose`
-pub lose : (words : List (List ℕ)) (backup : ℕ) → AreNumber words backup
+pub lose_words : (words : List (List ℕ)) (backup : ℕ) → AreNumber words backup
     → AreWordsOf (codes "lose" ∷ words) (Lose backup)
-lose words backup number = record {
+lose_words words backup number = record {
   spelled = ap (λ ws. codes "lose" ∷ ws) number.spelled;
   each = All-cons IsWord (codes "lose") (decimal backup ∷ []) is_lose
       (All-cons IsWord (decimal backup) [] (decimal_is_word backup number.small) (All-nil IsWord));
@@ -81,9 +82,9 @@ split_joined word (next ∷ rest) each =
     ∙ ap (λ l. word ∷ l) (split_joined next rest (λ k d below. each (suc k) d (omega arith)))
 
 -- a text that is cut into the words of a line is that of the line
-said : (text : List ℕ) (line : LineValue) → AreWordsOf (slice_split is_space text) line → Says text line
-said text Idle are = absurd are
-said text line are = record {
+said_of_words : (text : List ℕ) (line : LineValue) → AreWordsOf (slice_split is_space text) line → Says text line
+said_of_words text Idle are = absurd are
+said_of_words text line are = record {
   spaced = sym (join_with_byte-slice_split 32 text) ∙ ap (join_with_byte 32) are.spelled;
   words = are.each;
   limits = are.limits;
@@ -102,7 +103,7 @@ cut_or_idle text line says = inr (record {
 -- the line that is read of the words is that of the text
 pub read_is_said : (text : List ℕ) (words : List (List ℕ)) (line : Line) → words ≡ slice_split is_space text
     → ReadsWords words (Some line) → Says text (shown_line line)
-read_is_said text words line split reads = said text (shown_line line)
+read_is_said text words line split reads = said_of_words text (shown_line line)
     (subst (λ ws. AreWordsOf ws (shown_line line)) split reads)
 
 pub unread_is_unsaid : (text : List ℕ) (words : List (List ℕ)) → words ≡ slice_split is_space text → (IsIdle text → ⊥)

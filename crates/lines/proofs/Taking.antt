@@ -13,12 +13,12 @@ use Rattle.lines.specs.declared.reading.Took.TheVariants as took_as
 use Rattle.lines.specs.declared.reading.Taken.TheVariants.{Last}
 
 -- the line at the reader's end, which showed nothing more and gave no byte
-pub last : (old middle kept new : Option (List ℕ)) (line after : List ℕ) (took : Took) (byte : Option ℕ)
+pub last_line : (old middle kept new : Option (List ℕ)) (line after : List ℕ) (took : Took) (byte : Option ℕ)
     → Consumes old middle line
     → IsUnbroken line → took ≡ took_as.Nothing → TakesShown middle kept line after (Ok took) → byte ≡ None
     → TakesByte kept new byte
     → 0 < length after → length after ≤ 4096 → TakesLine old new after Last
-last old middle kept new line after took byte taken unbroken is there none next some short =
+last_line old middle kept new line after took byte taken unbroken is there none next some short =
     let same = subst (λ s. TakesShown middle kept line after (Ok s)) is there in
     let end : TakesByte kept new None = subst (TakesByte kept new) none next in
     let before = Consumes-kept old middle kept line taken same.0 in

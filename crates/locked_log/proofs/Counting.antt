@@ -7,7 +7,7 @@ use Rattle.std.proofs.lemmas.List.Elements.{All-append}
 use Rattle.std.proofs.lemmas.List.Sums.{sum_by-append}
 use Rattle.versioned_map.specs.declared.command.Record.{Record}
 use Rattle.store_seat.specs.declared.account.Account.{Account}
-use Rattle.store_seat.proofs.Places.{some_is}
+use Rattle.std.proofs.lemmas.Option.{same_Some}
 use Rattle.locked_log.specs.States.{count_of}
 
 -- ---- rows of accounts
@@ -16,7 +16,7 @@ use Rattle.locked_log.specs.States.{count_of}
 pub get_set : {X : Type 0} (xs : List X) (i j : ℕ) (a b : X) → slice_get (set xs i a) j ≡ Some b
     → ((j ≡ i) × (a ≡ b)) ⊎ ((j ≢ i) × (slice_get xs j ≡ Some b))
 get_set [] i j a b e = absurd (cc)
-get_set (x ∷ xs) zero zero a b e = inl (refl, some_is e)
+get_set (x ∷ xs) zero zero a b e = inl (refl, same_Some _ _ e)
 get_set (x ∷ xs) zero (suc j) a b e = inr ((λ h. omega arith), e)
 get_set (x ∷ xs) (suc i) zero a b e = inr ((λ h. omega arith), e)
 get_set (x ∷ xs) (suc i) (suc j) a b e =

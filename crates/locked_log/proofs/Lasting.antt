@@ -10,7 +10,7 @@ use Rattle.locked_log.specs.Held.{Held}
 use Rattle.store_seat.specs.Made.{Made}
 use Rattle.locked_log.specs.Made.{IsMade, made_now}
 use Rattle.locked_log.specs.States.{Lasts, RaisesFirsts}
-use Rattle.store_seat.proofs.Places.{some_is}
+use Rattle.std.proofs.lemmas.Option.{same_Some}
 use Rattle.locked_log.proofs.Counting.{get_set}
 
 pub keeps_same : (most : ℕ) (w : World) → Keeps most w w
@@ -24,14 +24,15 @@ keeps_same most w = record {
 }
 
 pub firsts_same : (book : List Account) → RaisesFirsts book book
-firsts_same book k a b e f = let same : a ≡ b = some_is (sym e ∙ f) in omega (arith, ap (λ (x : Account). x.first) same)
+firsts_same book k a b e f =
+    let same : a ≡ b = same_Some _ _ (sym e ∙ f) in omega (arith, ap (λ (x : Account). x.first) same)
 
 -- one account is set, to a first number that is no lower
 pub firsts_set : (book : List Account) (i : ℕ) (c d : Account) → slice_get book i ≡ Some c → c.first ≤ d.first
     → RaisesFirsts book (slice_set book i d)
 firsts_set book i c d at up k a b e f =
     ⊎_elim
-    (λ (x : (k ≡ i) × (d ≡ b)). let same : a ≡ c = some_is (sym e ∙ ap (λ n. slice_get book n) x.0 ∙ at) in
+    (λ (x : (k ≡ i) × (d ≡ b)). let same : a ≡ c = same_Some _ _ (sym e ∙ ap (λ n. slice_get book n) x.0 ∙ at) in
     omega (arith, ap (λ (y : Account). y.first) same, ap (λ (y : Account). y.first) x.1, up))
     (λ x. firsts_same book k a b e x.1)
     (get_set book i k d b f)

@@ -18,7 +18,7 @@ use Rattle.store_seat.specs.Seats.{SeatValue, fresh_seats, fresh_seat, told, not
 use Rattle.locked_log.specs.Sharing.{seat_after, AreFiled}
 use Rattle.store_seat.specs.Accounts.{account, Knows}
 use Rattle.locked_log.specs.States.{count_of, IsState}
-use Rattle.store_seat.proofs.Places.{some_is}
+use Rattle.std.proofs.lemmas.Option.{same_Some}
 use Rattle.locked_log.proofs.Counting.{in_book, count_mine, count_other, all_push}
 use Rattle.store_seat.proofs.Places.{get_there, set_there}
 use Rattle.locked_log.proofs.Writing.{row_push, empty_row}
@@ -46,7 +46,7 @@ same_or (suc k) (suc i) = ⊎_elim (λ e. inl (ap suc e)) (λ n. inr (λ h. n (o
 pub take_next : {X : Type 0} (xs : List X) (i : ℕ) (x : X) → slice_get xs i ≡ Some x
     → take (i + 1) xs ≡ take i xs ++ x ∷ []
 take_next [] i x e = absurd (cc)
-take_next (y ∷ ys) zero x e = ap (λ z. z ∷ []) (some_is e)
+take_next (y ∷ ys) zero x e = ap (λ z. z ∷ []) (same_Some _ _ e)
 take_next (y ∷ ys) (suc i) x e =
     let s : suc i + 1 ≡ suc (i + 1) = omega arith in
     rw s (ap (λ l. y ∷ l) (take_next ys i x e))
@@ -218,7 +218,7 @@ shares s made seats is valid f off = record {
 }
   where
     at : (k : ℕ) (a : Account) → slice_get s.book k ≡ Some a → a ≡ account 0 (count_of k (history s))
-    at k a e = some_is (sym e ∙ f.counts k (omega (arith, in_book s.book k a e, f.accounts)))
+    at k a e = same_Some _ _ (sym e ∙ f.counts k (omega (arith, in_book s.book k a e, f.accounts)))
 
 pub when_true : {X : Type 0} (x y z : X) (b : Bool) → b ≡ true → MatchBool b (x ≡ y) (x ≡ z) → x ≡ y
 when_true x y z b e m = subst (λ (c : Bool). MatchBool c (x ≡ y) (x ≡ z)) e m

@@ -118,7 +118,7 @@ pub fn move_object(index: &mut Index, change: &Change, held: Held, place: Place)
         Change::Create(_) => {
             let hash = held.hash;
             index.insert(Held { hash, place });
-            index.settle();
+            index.grow();
         }
         Change::Replace(_, _) => {
             index.relocate(held, place);

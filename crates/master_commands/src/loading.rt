@@ -156,6 +156,6 @@ fn append_object(
     }
     let hash = hash_key(&object.key.view());
     index.insert(Held { hash, place });
-    index.settle();
+    index.grow();
     Ok(())
 }

@@ -10,5 +10,5 @@
 mod recovering;
 mod setup;
 
-pub use recovering::{Recovery, recover_node};
+pub use recovering::{Recovery, next_number, recover_node};
 pub use setup::{configuration, whole_will};

@@ -55,7 +55,8 @@ struct Inheritance {
 }
 
 /// The least number above this one and above those of all masters in the inventory. None if there is none.
-fn next_number(inventory: &[Holding], master: u64) -> Option<u64>
+/// It reads each replica's label once.
+pub fn next_number(inventory: &[Holding], master: u64) -> Option<u64>
     ensures next { IfSome result (λ n. n ≡ suc (max master (greatest_of inventory.now))) }
     ensures spent { result ≡ None → max master (greatest_of inventory.now) ≡ 2 ^ 64 - 1 }
 {

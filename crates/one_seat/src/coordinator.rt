@@ -10,6 +10,7 @@ use backup::MemoryFleet;
 use entry::NoMemory;
 use lines::ReplayOrder;
 use master::Config;
+use next_master::next_number;
 use recovery::{GroupOrder, PlanFault, Rebuilt, RecoveryFault, Will, make_will, recover};
 use replica::{Holding, Inventory};
 use script::{Answer, Options, configuration};
@@ -143,15 +144,4 @@ fn fitting(options: &Options, fleet: &MemoryFleet, config: Config) -> Result<Con
 /// The answer if a recovery lacks memory.
 fn want() -> Answer {
     Answer::NotRecovered(RecoveryFault::Plan(PlanFault::NoMemory))
-}
-
-/// The least number above this one and above those of all masters in the inventory. None if there is none.
-fn next_number(inventory: &[Holding], master: u64) -> Option<u64>
-    ensures { IfSome result (λ n. n ≡ suc (max master (greatest_of inventory.now))) }
-{
-    let mut greatest = master;
-    for holding in inventory {
-        greatest = greatest.max(holding.master);
-    }
-    greatest.checked_add(1)
 }

@@ -9,7 +9,7 @@ use Rattle.std.specs.Option.{option_or}
 use Rattle.std.proofs.lemmas.Map.{lookup-none}
 use Rattle.std.proofs.lemmas.Map.Entries.{place_from_lookup, none_past_head}
 use Rattle.std.proofs.lemmas.Map.Keys.{IsDistinct-tail}
-use Rattle.std.proofs.lemmas.Option.{same_Some}
+use Rattle.std.proofs.lemmas.Option.{same_Some, none-some}
 use Rattle.entry.specs.declared.key.Key.{Key}
 use Rattle.entry.specs.Bag.{IsAmong}
 use Rattle.entry.specs.Order.{key_eq}
@@ -32,9 +32,6 @@ Entries = List (PlacedKey × Kept)
 
 yes_at : (k : Key) → key_eq k k ≡ true
 yes_at k = (key_eq_decides k k).1 refl
-
-none_some : {X : Type 0} (x : X) → None ≡ Some x → ⊥
-none_some x h = cc
 
 -- what is found stands beside a key in the program's memory
 key_found : (es : Entries) (k : Key) (x : Kept) → kept_at es k ≡ Some x → (p : PlacedKey) × (k ≡ placed_key p)
@@ -83,12 +80,12 @@ kept_from_among (e ∷ es) unique c (inl is) =
 kept_from_among (e ∷ es) unique c (inr m) =
     let later = kept_from_among es (IsDistinct-tail same_key e.0 (keys_of es) unique) c m in
     elim (key_eq_tells c.key (placed_key e.0)) as (λ _. IsKept (kept_at (e ∷ es)) c) [
-      | inl both ↦ absurd (none_some later.0 (sym (ap (kept_at es) both.1 ∙ none_later e es unique) ∙ later.1))
+      | inl both ↦ absurd (none-some later.0 (sym (ap (kept_at es) both.1 ∙ none_later e es unique) ∙ later.1))
       | inr both ↦ (later.0, kept_tail e es c.key both.0 ∙ later.1, later.2)
     ]
 
 pub among_from_kept : (es : Entries) (c : Claimed) → IsKept (kept_at es) c → IsAmong c (claims_kept es)
-among_from_kept [] c h = absurd (none_some h.0 h.1)
+among_from_kept [] c h = absurd (none-some h.0 h.1)
 among_from_kept (e ∷ es) c h =
     elim (key_eq_tells c.key (placed_key e.0)) as (λ _. IsAmong c (claims_kept (e ∷ es))) [
       | inl both ↦

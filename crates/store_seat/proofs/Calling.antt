@@ -7,7 +7,7 @@ use Rattle.store_seat.specs.declared.fault.CallFault.{CallFault}
 use Rattle.store_seat.specs.declared.fault.CallFault.TheVariants.{Refused, Unsure, SeatUnknown, CellRefused}
 use Rattle.store_seat.specs.Calls.{AppliesSeat, Answers, Calls, IsLeft, LeavesRefused}
 use Rattle.store_seat.specs.Seats.{SeatValue, record_by, told, noted, unnoted, answered}
-use Rattle.store_seat.proofs.Places.{some_is}
+use Rattle.std.proofs.lemmas.Option.{same_Some}
 
 left_same : (m n : SeatValue) → n ≡ m → LeavesRefused m n
 left_same m n e = record {
@@ -67,7 +67,7 @@ pub answered_call : (m n k v : SeatValue) (command : Command) (reply : Reply) (p
 answered_call m n k v command reply place t q r first is done same last kept given =
     let w = told place (record_by m.number command reply) in
     let whole : v ≡ answered (noted m w) place = same ∙ done ∙ ap (λ (x : SeatValue). answered x place) is in
-    let note : t ≡ w = some_is (sym last ∙ ap (λ (x : SeatValue). x.last) whole) in
+    let note : t ≡ w = same_Some _ _ (sym last ∙ ap (λ (x : SeatValue). x.last) whole) in
     let q_is : q ≡ w = kept ∙ note in
     let r_is : r ≡ w = given ∙ note in
     record {

@@ -6,6 +6,7 @@ use Rattle.std.specs.Prelude.{is_some}
 use Rattle.std.specs.Bool.{MatchBool}
 use Rattle.std.specs.List.{AllWithin, HoldsAt}
 use Rattle.std.proofs.lemmas.List.{take_more}
+use Rattle.std.proofs.lemmas.Option.{none-some}
 use Rattle.entry.specs.declared.key.Key.{Key}
 use Rattle.entry.specs.declared.entry.Object.{Object}
 use Rattle.entry.specs.declared.entry.Entry.{Entry}
@@ -84,14 +85,11 @@ pub record IsListing (bag : List Entry) (count : ℕ) (os : List Object) : Type 
 
 pub listing_none : (bag : List Entry) → IsListing bag 0 []
 listing_none bag = record {
-  tops = λ k x e. absurd (none_some x e);
+  tops = λ k x e. absurd (none-some x e);
   listed = λ k x m top. absurd (none_first bag (object_at k x) m);
   differ = λ i j d lt within. omega arith;
 }
   where
-    none_some : (x : Versioned) → None ≡ Some x → ⊥
-    none_some x e = cc
-
     none_first : (es : List Entry) (e : Entry) → among (take 0 es) e → ⊥
     none_first [] e m = m
     none_first (f ∷ es) e m = m

@@ -32,4 +32,5 @@ returns-clause-place c = rw (← c.core.view_is) (finds_place (images_of (d c)) 
 
 pub returns-clause-object : goal.returns-clause-object
 returns-clause-object c =
-    rw (← c.core.view_is) (finds_held (d c) c.core.invariant.2 (command_key c.args.command.now) c.find_object.result (found c))
+    rw (← c.core.view_is)
+    (finds_held (d c) c.core.invariant.2 (command_key c.args.command.now) c.find_object.result (found c))

@@ -1,11 +1,11 @@
-use Rattle.hash_index.proofs.Each.{set_settled}
+use Rattle.hash_index.proofs.Each.{set_grown}
 use Rattle.hash_index.proofs.FoundPlaces.{relocated_set}
 use Rattle.master_commands.proofs.index.move_object.Goals as goal
 
 pub returns-in-Create : goal.returns-in-Create
 returns-in-Create c = λ k of. rw c.in-Create.is
-    (λ keys kept none tells. set_settled keys c.args.index.now.held c.insert.new.self.held c.settle.new.self.held k _
-    (c.insert.ensures.set keys k kept none tells of) (c.settle.ensures.same keys))
+    (λ keys kept none tells. set_grown keys c.args.index.now.held c.insert.new.self.held c.grow.new.self.held k _
+    (c.insert.ensures.set keys k kept none tells of) (c.grow.ensures.same keys))
 
 pub returns-in-Replace : goal.returns-in-Replace
 returns-in-Replace c = λ k of. rw (c.in-Replace.is, c.relocate.ensures.moved)

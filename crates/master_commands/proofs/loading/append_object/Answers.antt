@@ -3,14 +3,14 @@ use Rattle.entry.specs.declared.entry.Entry.{Entry}
 use Rattle.entry.specs.Text.{text_of}
 use Rattle.hash_index.specs.declared.place.Held.{Held}
 use Rattle.hash_index.specs.Map.{hash_of}
-use Rattle.hash_index.proofs.Each.{set_settled}
+use Rattle.hash_index.proofs.Each.{set_grown}
 use Rattle.master_commands.specs.Index.{IsAdded}
 use Rattle.master_commands.proofs.loading.append_object.Goals as goal
 
 pub returns-clause-index : goal.returns-clause-index
 returns-clause-index c =
     let k = c.args.object.now.key in
-    let new = c.settle.new.self.held in
+    let new = c.grow.new.self.held in
     let at : length c.bytes.result.now ≡ length (text_of c.args.head.now.image) =
     ap length c.bytes.ensures.text ∙ ap (λ (es : List Entry). length (text_of es)) c.image.ensures.image in
     subst (λ (n : ℕ). IsAdded c.args.index.now.held k (record { segment = c.args.head.now.id; at = n }) new) at
@@ -18,6 +18,6 @@ returns-clause-index c =
     new) c.id.ensures.id
     (subst (λ (hs : List Held). IsAdded hs k (record { segment = c.id.result; at = length c.bytes.result.now }) new)
     c.reserve.ensures.same
-    (λ keys kept none tells. set_settled keys c.reserve.new.self.held c.insert.new.self.held new k _
+    (λ keys kept none tells. set_grown keys c.reserve.new.self.held c.insert.new.self.held new k _
     (c.insert.ensures.set keys k kept none tells (c.hash_key-hash.ensures ∙ ap hash_of c.view.ensures))
-    (c.settle.ensures.same keys))))
+    (c.grow.ensures.same keys))))

@@ -35,7 +35,8 @@ returns-in-Ok-configuration-clause-found g c =
     let number : c.in-Ok-configuration.config.master ≡ c.in-Some.number = ap (λ (k : Config). k.master) is in
     let least : c.max-greatest.result ≡ max c.args.master c.args.used = search rules in
     let next : c.in-Some.number ≡ suc (max c.max-greatest.result (greatest_of c.in-Ok.inventory)) =
-    subst (λ (hs : List Holding). c.in-Some.number ≡ suc (max c.max-greatest.result (greatest_of hs))) c.as_slice.ensures
+    subst (λ (hs : List Holding). c.in-Some.number ≡ suc (max c.max-greatest.result (greatest_of hs)))
+    c.as_slice.ensures
     c.in-Some.ensures.next in
     record {
       table = λ d at s. table_found (Down c.args.fleet.now) c.args.fleet.now
@@ -70,7 +71,8 @@ returns-in-Ok-configuration-clause-least g c =
     let hs = c.in-Ok.inventory in
     let number : c.in-Ok-configuration.config.master ≡ c.in-Some.number = ap (λ (k : Config). k.master) is in
     let next : c.in-Some.number ≡ suc (max c.max-greatest.result (greatest_of hs)) =
-    subst (λ (xs : List Holding). c.in-Some.number ≡ suc (max c.max-greatest.result (greatest_of xs))) c.as_slice.ensures
+    subst (λ (xs : List Holding). c.in-Some.number ≡ suc (max c.max-greatest.result (greatest_of xs)))
+    c.as_slice.ensures
     c.in-Some.ensures.next in
     (hs, c.in-Ok.ensures.shown, number ∙ next ∙ ap (λ (m : ℕ). suc (max m (greatest_of hs))) least)
 

@@ -10,7 +10,8 @@ use Rattle.rebuilding.proofs.plain.rebuild_plain.Goals.{After-rebuilt_from}
 use Rattle.rebuilding.proofs.plain.rebuild_plain.Goals as goal
 
 -- the claims are those of the log
-found : (c : After-rebuilt_from) → AreOf (segments_bag c.args.plan.now.segments) (map claimed c.in_ok-claims.claims.items)
+found : (c : After-rebuilt_from)
+    → AreOf (segments_bag c.args.plan.now.segments) (map claimed c.in_ok-claims.claims.items)
 found c =
     claims-of (segments_bag c.args.plan.now.segments) (map claimed c.in_ok-claims.claims.items)
     (c.in_ok-claims.ensures ∙ ap (λ (ss : List (List Entry)). claims_of (segments_bag ss)) c.as_slice.ensures)

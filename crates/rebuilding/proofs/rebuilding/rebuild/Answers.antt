@@ -37,7 +37,8 @@ returns-in_err-claims-clause-whole c =
     (refused_early (goal.at.returns-in_err-claims-clause-whole c).After-from_residual)
 
 -- the claims are those of the log
-found : (c : After-rebuilt_from) → AreOf (segments_bag c.args.plan.now.segments) (map claimed c.in_ok-claims.claims.items)
+found : (c : After-rebuilt_from)
+    → AreOf (segments_bag c.args.plan.now.segments) (map claimed c.in_ok-claims.claims.items)
 found c =
     subst (λ (ss : List (List Entry)). AreOf (segments_bag ss) (map claimed c.in_ok-claims.claims.items))
     c.as_slice.ensures c.in_ok-claims.ensures.ok
@@ -84,4 +85,5 @@ returns-clause-whole c =
     let qs = c.args.will.now in
     let order = c.args.order.now in
     if_err (IsRebuildFault segments qs order) (λ f. CanBeRebuilt segments qs order → f ≡ fault.NoMemory) _
-    (λ f h can. only_memory segments qs order can f h) (refused_late (goal.at.returns-clause-whole c).After-rebuilt_from)
+    (λ f h can. only_memory segments qs order can f h)
+    (refused_late (goal.at.returns-clause-whole c).After-rebuilt_from)

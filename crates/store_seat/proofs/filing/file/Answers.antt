@@ -5,7 +5,8 @@ use Rattle.history_row.specs.Receipts.{Told}
 use Rattle.store_seat.specs.declared.account.Account.{Account}
 use Rattle.store_seat.specs.Seats.{SeatValue, told, noted}
 use Rattle.store_seat.specs.Accounts.{account, Knows}
-use Rattle.store_seat.proofs.Places.{some_is, get_there, set_there}
+use Rattle.std.proofs.lemmas.Option.{same_Some}
+use Rattle.store_seat.proofs.Places.{get_there, set_there}
 use Rattle.store_seat.proofs.filing.file.Goals as goal
 
 -- the account of a seat that the book knows, with one record more
@@ -22,7 +23,7 @@ told_is : (row new : List (Option Record)) (place : ℕ) (what : Record) (t : To
 told_is row new place what t within is at there =
     let cell : slice_get new place ≡ Some (Some what) = ap (λ (r : List (Option Record)). slice_get r place) is
     ∙ set_there row place (Some what) within in
-    let kept : t.what ≡ Some what = some_is (sym there ∙ cell) in
+    let kept : t.what ≡ Some what = same_Some _ _ (sym there ∙ cell) in
     λ i. record { place = at i; what = kept i }
 
 pub returns-then-took-clause-seat : goal.returns-then-took-clause-seat

@@ -4,7 +4,8 @@ use Rattle.std.proofs.Math.Seq.{map-set_same}
 use Rattle.std.proofs.lemmas.List.{length-map}
 use Rattle.history_row.specs.Receipts.{Told}
 use Rattle.history_row.specs.Rows.{known_of}
-use Rattle.history_row.proofs.Slots.{at_slot, at_name, shown_agree, some_is, row_has}
+use Rattle.std.proofs.lemmas.Option.{same_Some}
+use Rattle.history_row.proofs.Slots.{at_slot, at_name, shown_agree, row_has}
 use Rattle.history_row.proofs.row.Row.tell.Goals as goal
 
 pub compare-requires : goal.compare-requires
@@ -18,7 +19,7 @@ compare-requires g c =
       ap (λ (t : Told). t.place) c.receipt.view_is,
       c.requires,
     ) in
-    some_is (ap (λ n. Some n.cell) c.again.ensures.1 ∙ sym c.receipt.invariant
+    same_Some _ _ (ap (λ n. Some n.cell) c.again.ensures.1 ∙ sym c.receipt.invariant
     ∙ ap (λ l. slice_get l place) (sym c.self.invariant)
     ∙ at_name xs place c.index_mut-slot.result.now here c.index_mut-slot.ensures.value)
 
@@ -51,7 +52,7 @@ told_lem g c r q mine its =
     ) in
     let held = at_slot xs place c.index_mut-slot.result.now here c.index_mut-slot.ensures.value in
     let known : known_of c.index_mut-slot.result.now.note.known ≡ Some q =
-    some_is (sym held ∙ ap (λ l. slice_get l place) c.self.view_is
+    same_Some _ _ (sym held ∙ ap (λ l. slice_get l place) c.self.view_is
     ∙ ap (λ n. slice_get c.args.self.now n) at ∙ its) in
     let told : known_of c.again.result.known ≡ Some r = ap (λ n. known_of n.known) c.again.ensures.1
     ∙ ap (λ (t : Told). t.what) c.receipt.view_is ∙ mine in

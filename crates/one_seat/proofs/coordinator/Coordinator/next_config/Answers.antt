@@ -11,6 +11,6 @@ fitting-requires-clause-unused c =
     let number = ap (λ (k : Config). k.master) c.in-Ok.ensures.config in
     let next : c.in-Some.number ≡ suc (max c.max-greatest.result (greatest_of c.args.inventory.now)) =
     subst (λ (hs : List Holding). c.in-Some.number ≡ suc (max c.max-greatest.result (greatest_of hs)))
-    c.as_slice.ensures c.in-Some.ensures in
+    c.as_slice.ensures c.in-Some.ensures.next in
     next_unused c.args.inventory.now (fleet_state c.args.fleet.now).picture c.max-greatest.result c.in-Ok.config.master
     c.requires (number ∙ next)

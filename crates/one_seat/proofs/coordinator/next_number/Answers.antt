@@ -1,5 +1,0 @@
-use Rattle.std.proofs.Common.{refl}
-use Rattle.one_seat.proofs.coordinator.next_number.Goals as goal
-
-pub loop-holding-init : goal.loop-holding-init
-loop-holding-init c = refl
