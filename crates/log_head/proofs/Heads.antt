@@ -2,7 +2,7 @@
 use Rattle.std.proofs.Common.{◌≡◌, ℕ, zero, suc, ◌+◌, ◌-◌, ◌<◌, ◌≤◌, true, false, List, [], ◌∷◌, ◌++◌, length, take}
 use Rattle.std.proofs.Common.{drop, get_or, Some, None, refl}
 use Rattle.std.proofs.Common.{sym, ◌∙◌, add-one, arith}
-use Rattle.std.specs.Prelude.{slice_get, slice_set, unwrap_or, nat_lt}
+use Rattle.std.specs.Prelude.{slice_get, slice_set, nat_lt}
 use Rattle.std.specs.List.{AllByRecursion}
 use Rattle.std.proofs.Common.{sub-one}
 use Rattle.std.proofs.lemmas.Bool.Decides.{nat_tests}
@@ -25,14 +25,10 @@ end_of_le us from len zero e = EndAt_le us from len e
 end_of_le [] from len (suc n) e = omega arith
 end_of_le (u ∷ us) from len (suc n) e = end_of_le us u.end len n e.1
 
-end_of_suc : (us : List UnitEnd) (from len n : ℕ) → EndAt from us len → end_of from us n ≤ end_of from us (suc n)
-end_of_suc [] from len zero e = omega arith
-end_of_suc [] from len (suc n) e = omega arith
-end_of_suc (u ∷ us) from len zero e = e.0
-end_of_suc (u ∷ us) from len (suc n) e = end_of_suc us u.end len n e.1
-
-pub end_of_next : (us : List UnitEnd) (from len n : ℕ) → EndAt from us len → end_of from us n ≤ end_of from us (n + 1)
-end_of_next us from len n e = rw add-one (end_of_suc us from len n e)
+-- the last unit ends where the image ends
+pub end_of_all : (us : List UnitEnd) (from len : ℕ) → EndAt from us len → end_of from us (length us) ≡ len
+end_of_all [] from len e = e
+end_of_all (u ∷ us) from len e = end_of_all us u.end len e.1
 
 -- where units end, by the last of them
 pub end_of_last : (us : List UnitEnd) (from last : ℕ) (d : UnitEnd) → last < length us
@@ -146,12 +142,6 @@ fewest_at units n j ns e lt all =
     omega arith
 
 -- ---- what every replica has
-
-pub fewest_taken : (units : ℕ) (ns : List ℕ) (j : ℕ) → fewest units ns
-    ≤ fewest units (slice_set ns j (unwrap_or (slice_get ns j) 0 + 1))
-fewest_taken units [] j = omega arith
-fewest_taken units (n ∷ ns) zero = omega arith
-fewest_taken units (n ∷ ns) (suc j) = let later = fewest_taken units ns j in omega arith
 
 -- whether each replica was opened
 module _ (h : HeadValue) where

@@ -56,7 +56,7 @@ new_bytes h = option_map_or (λ (r : Roll). text_of r.image) h.roll []
 abbrev pub act_of : HeadValue → Next → ActValue
 act_of h (next.OpenFirst j) = Open (take h.base (text_of h.image))
 act_of h (next.Extend j) =
-    Extend (end_of h.base h.units (units_of h j)) (bytes_between h (units_of h j) (units_of h j + 1))
+    Extend (end_of h.base h.units (units_of h j)) (bytes_between h (units_of h j) (length h.units))
 act_of h (next.OpenNew j) = Open (new_bytes h)
 act_of h (next.CloseOld j) = Close
 

@@ -1,6 +1,5 @@
 -- What a head becomes.
-use Rattle.std.specs.Prelude.{ℕ, suc, ◌+◌, ◌==◌, List, [], ◌∷◌, ◌++◌, length, Option, Some, None, slice_get, slice_set}
-use Rattle.std.specs.Prelude.{unwrap_or}
+use Rattle.std.specs.Prelude.{ℕ, suc, ◌+◌, ◌==◌, List, [], ◌∷◌, ◌++◌, length, Option, Some, None, slice_set}
 use Rattle.std.specs.Prelude.{if◌then◌else◌}
 use Rattle.std.specs.Option.{option_to_list}
 use Rattle.entry.specs.declared.entry.Entry.{Entry}
@@ -39,9 +38,9 @@ with_unit_end h number unit = record h {
 abbrev pub with_opened_replica : HeadValue → HeadValue
 with_opened_replica h = record h { taken = h.taken ++ 0 ∷ [] }
 
--- one more unit on a replica
-abbrev pub with_one_taken : HeadValue → ℕ → HeadValue
-with_one_taken h j = record h { taken = slice_set h.taken j (unwrap_or (slice_get h.taken j) 0 + 1) }
+-- all units on a replica
+abbrev pub with_all_taken : HeadValue → ℕ → HeadValue
+with_all_taken h j = record h { taken = slice_set h.taken j (length h.units) }
 
 -- all that the head holds was loaded: it has no units, and so each open replica has none
 abbrev pub settled : HeadValue → HeadValue

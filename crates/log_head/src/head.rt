@@ -83,8 +83,9 @@ impl Head {
     ghost use Rattle.log_head.specs.declared.head.UnitEnd.{UnitEnd as UnitValue};
     ghost use Rattle.log_head.specs.Head.{HeadValue, IsHeadValue, end_of, record_at, len_with, everywhere, is_open};
     ghost use Rattle.log_head.specs.Head.{IsLagging};
-    ghost use Rattle.log_head.specs.Steps.{lone_start, fresh_head, with_unit_end, with_opened_replica, with_one_taken};
+    ghost use Rattle.log_head.specs.Steps.{lone_start, fresh_head, with_unit_end, with_opened_replica, with_all_taken};
     ghost use Rattle.log_head.specs.Steps.{settled};
+    ghost use Rattle.log_head.specs.Next.{bytes_between};
     ghost use Rattle.log_model.specs.Data.{Start};
 
     /// The first head of a master. Its image holds the opening alone, and has room for `room` bytes more. No replica is
@@ -198,18 +199,14 @@ impl Head {
         }
     }
 
-    /// The bytes of the unit that comes after the first `units`.
-    #[tactic(auto, using(crate::proofs::Heads::end_of_next, crate::proofs::Heads::end_of_last, crate::proofs::Heads::unit_end_le))]
-    pub fn unit_behind(&self, units: usize) -> &[u8]
-        requires { units < length self.now.units }
-        ensures { let start = end_of self.entry.now.base self.entry.now.units units in
-            let end = end_of self.entry.now.base self.entry.now.units (units + 1) in
-            result.now ≡ take (end - start) (drop start (text_of self.entry.now.image)) }
+    /// The bytes of all units behind the first `units`: what a replica with just these units lacks.
+    #[tactic(auto, using(crate::proofs::Heads::end_of_all))]
+    pub fn bytes_behind(&self, units: usize) -> &[u8]
+        requires { units ≤ length self.now.units }
+        ensures { result.now ≡ bytes_between self.entry.now units (length self.entry.now.units) }
     {
         let start = self.end_of(units);
-        let end = self.units[units].end;
-        let bytes = self.image.bytes();
-        &bytes[start..end]
+        &self.image.bytes()[start..]
     }
 
     /// The replica that has the fewest units, and of several the first. `None` if each replica has all units.
@@ -252,14 +249,13 @@ impl Head {
         self.taken.push_reserved(0)
     }
 
-    /// Counts a unit that a replica took.
+    /// Counts the units that a replica took: all that it lacked.
     pub fn extend(&mut self, replica: usize)
-        requires lags { IfSome (slice_get self.old.taken replica) (λ n. n < length self.old.units) }
-        requires opened { replica < length self.old.taken }
-        ensures extended { self.new ≡ with_one_taken self.old replica }
+        requires { replica < length self.old.taken }
+        ensures extended { self.new ≡ with_all_taken self.old replica }
         ensures valid { IsHeadValue self.new }
     {
-        self.taken[replica] += 1;
+        self.taken[replica] = self.units.len();
     }
 
     /// Appends a unit: the objects and tombstones of the record with this number. A refusal changes nothing.

@@ -8,7 +8,7 @@ ghost use Rattle.log_head.specs.Next.{replica_of};
 pub enum Next {
     /// A replica of a master's first head is opened.
     OpenFirst(usize),
-    /// A replica of the head is handed its next unit.
+    /// A replica of the head is handed all units that it lacks.
     Extend(usize),
     /// A replica of the new head is opened.
     OpenNew(usize),

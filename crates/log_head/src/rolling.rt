@@ -67,7 +67,7 @@ impl Head {
                     segment: self.id,
                     act: Act::Extend {
                         at: self.end_of(units),
-                        bytes: self.unit_behind(units),
+                        bytes: self.bytes_behind(units),
                     },
                 }
             }

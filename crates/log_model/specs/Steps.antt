@@ -1,6 +1,6 @@
 -- What a master becomes: a command is applied, a roll begins, an id is taken, an op is taken.
 use Rattle.std.specs.Prelude.{◌≡◌, ℕ, zero, suc, ◌<◌, ◌≤◌, ◌⊎◌, ◌==◌, List, [], ◌∷◌, ◌++◌, length, take, drop}
-use Rattle.std.specs.Prelude.{true, Some, None, IsSome, slice_get, slice_set, get_or, if◌then◌else◌}
+use Rattle.std.specs.Prelude.{true, Some, None, IsSome, slice_get, slice_set, if◌then◌else◌}
 use Rattle.entry.specs.declared.entry.Entry.{Entry}
 use Rattle.entry.specs.Bag.{IsAmong}
 use Rattle.entry.specs.Tablet.{have_key}
@@ -148,10 +148,6 @@ units_between us from to = drop from (take to us)
 abbrev pub extend_act : ℕ → Head → ℕ → ℕ → ActValue
 extend_act master h from to =
     Extend (length (text_of (head_entries master h from))) (text_of (entries_of (units_between h.units from to)))
-
--- how many units the head's replica of this number has after its next Extend: one more
-abbrev pub reach : LogData → ℕ → ℕ
-reach d j = suc (get_or d.head.taken j 0)
 
 -- A replica of the head takes its next units.
 pub record Extends (d : LogData) (o : LogOp) (e : LogData) : Type 0 where

@@ -1,7 +1,7 @@
 -- The op of a push is the one that comes next in the log.
 use Rattle.std.proofs.Common.{◌≡◌, ℕ, zero, suc, [], ◌∷◌, ◌+◌, ◌<◌, ◌≤◌, Bool, true, false, inl, inr, List, length}
 use Rattle.std.proofs.Common.{Some, refl, sym, ap, subst, ◌∙◌, arith}
-use Rattle.std.specs.Prelude.{Option, None, slice_get, unwrap_or, ◌==◌, if◌then◌else◌}
+use Rattle.std.specs.Prelude.{Option, None, slice_get, slice_set, unwrap_or, ◌==◌, if◌then◌else◌}
 use Rattle.std.specs.List.{AllByRecursion}
 use Rattle.std.specs.Option.{option_map_or}
 use Rattle.std.proofs.lemmas.Option.{same_Some, slice_get_within}
@@ -19,8 +19,8 @@ use Rattle.log_head.proofs.HeadLog.{end_is, front_is, part_is, count_is}
 use Rattle.log_head.proofs.RollLog.{phase_opened, phase_opening, phase_closing, head_in_force}
 use Rattle.log_model.specs.Data.{Ready, IsHomeAt, entries_of, head_entries}
 use Rattle.log_model.specs.Ops.{LogOp}
-use Rattle.log_model.specs.Steps.{OpensFirst, OpensNew, ClosesOld, IsNext, units_between, one_opened, one_closed}
-use Rattle.log_model.specs.Steps.{new_head}
+use Rattle.log_model.specs.Steps.{OpensFirst, OpensNew, ClosesOld, IsNext, with_counts, units_between}
+use Rattle.log_model.specs.Steps.{one_opened, one_closed, new_head}
 use Rattle.master_state.specs.Data.{MasterData}
 use Rattle.master_state.specs.Images.{with_closed}
 use Rattle.master_state.specs.Invariant.{IsCore}
@@ -28,7 +28,7 @@ use Rattle.master_state.specs.Log.{home, log_of}
 use Rattle.master_state.specs.Steps.{pass_ended, roll_ended, closed_data, taken_data}
 use Rattle.master_space.proofs.Digests.{id_is}
 use Rattle.master_space.proofs.RollEnds.{rolls_of, values}
-use Rattle.master.specs.Pushes.{reach, ExtendsNext, IsNextOp, answer_of}
+use Rattle.master.specs.Pushes.{ExtendsNext, IsNextOp, answer_of}
 use Rattle.master.proofs.Placing.{home_of}
 
 -- the op of a push as the log sees it
@@ -75,24 +75,25 @@ module _ (d : MasterData) (core : IsCore d) where
       extends = record {
         j = j;
         from = units;
-        to = reach (log_of d) j;
+        to = length (head_of d.head).units;
         has = is.1.1;
-        lags = (let to = units_are in omega arith);
-        within = (let to = units_are in let lt = is.1.2 in let same = counts in omega arith);
+        lags = (let lt = is.1.2 in let same = counts in omega arith);
+        within = omega arith;
         home = subst (λ (s : ℕ). IsHomeAt (log_of d) s j (home d.config d.head.id j)) (sym core.image.id)
             (home_at d.head.id j (let lt = slice_get_within d.head.taken j units is.1.1 in
             let few = core.head.opened in omega arith));
         segment = sym core.image.id;
-        act = ap (λ (n : ℕ). Extend (end_of d.head.base d.head.units n) (bytes_between d.head n (n + 1))) units_are
+        act = ap (λ (n : ℕ). Extend (end_of d.head.base d.head.units n)
+            (bytes_between d.head n (length d.head.units))) units_are
             ∙ (λ i. Extend (end_is d.config.master d.head (head_of d.head) core.image units i)
-            (part_is d.config.master d.head (head_of d.head) core.image units (units + 1) (omega arith) i))
+            (part_is d.config.master d.head (head_of d.head) core.image units (length d.head.units)
+            (let lt = is.1.2 in omega arith) i))
             ∙ ap (λ (to : ℕ). Extend (length (text_of (head_entries d.config.master (head_of d.head) units)))
-            (text_of (entries_of (units_between (head_of d.head).units units to))))
-            (ap (λ (n : ℕ). n + 1) (sym units_are));
-        gives = refl;
+            (text_of (entries_of (units_between (head_of d.head).units units to)))) counts;
+        gives = ap (λ (n : ℕ). with_counts (log_of d) (slice_set d.head.taken j n)) counts;
       };
       lagging = subst (λ (n : ℕ). IsLagging n d.head.taken (Some j)) counts is.1;
-      reached = refl;
+      whole = refl;
     }
 
   -- ---- a roll

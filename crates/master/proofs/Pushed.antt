@@ -1,7 +1,7 @@
 -- The op that comes next, taken or not, keeps what holds of a master.
 use Rattle.std.proofs.Common.{◌≡◌, ℕ, ◌<◌, inl, inr, suc, ◌+◌, Bool, true, false, List, [], ◌∷◌, ◌++◌, refl, sym, ap}
-use Rattle.std.proofs.Common.{subst, ◌∙◌, arith}
-use Rattle.std.specs.Prelude.{Option, Some, None, ◌==◌, slice_get, slice_set, unwrap_or, if◌then◌else◌}
+use Rattle.std.proofs.Common.{length, subst, ◌∙◌, arith}
+use Rattle.std.specs.Prelude.{Option, Some, None, ◌==◌, slice_set, if◌then◌else◌}
 use Rattle.std.specs.Option.{option_map_or}
 use Rattle.cleaner.specs.declared.pass.Pass.{Pass as OpenPass}
 use Rattle.replica.specs.Picture.{Picture, FleetState}
@@ -194,8 +194,7 @@ module _ {Holds : LogData → Memory → Picture → Type 0} (d : MasterData) (f
 
   is_taken : (push : Next) → IsNextPush d.head (Some push) → IsCore (taken_data d push) → IsTaken d (taken_data d push)
   is_taken (next.OpenFirst j) waits core = head_taken (d.head.taken ++ 0 ∷ []) core
-  is_taken (next.Extend j) waits core = head_taken (slice_set d.head.taken j
-      (unwrap_or (slice_get d.head.taken j) 0 + 1)) core
+  is_taken (next.Extend j) waits core = head_taken (slice_set d.head.taken j (length d.head.units)) core
   is_taken (next.OpenNew j) waits core =
       let r = waits.1 in
       let is = ap (λ (o : Option Roll). option_map_or (λ (q : Roll). record d

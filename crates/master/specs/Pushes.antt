@@ -1,5 +1,5 @@
 -- The op that a push hands to a backup.
-use Rattle.std.specs.Prelude.{◌≡◌, ◌⊎◌, ℕ, ◌+◌, length, true, false, None, Some, slice_get, unwrap_or}
+use Rattle.std.specs.Prelude.{◌≡◌, ◌⊎◌, ℕ, length, true, false, None, Some}
 use Rattle.log_head.specs.declared.next.Next.{Next}
 use Rattle.log_head.specs.declared.next.Next.TheVariants as next
 use Rattle.log_head.specs.Head.{IsLagging}
@@ -16,21 +16,14 @@ use Rattle.master_state.specs.Log.{log_of, image_of}
 use Rattle.master_state.specs.Steps.{taken_data}
 use Rattle.master.specs.World.{World}
 
--- how many units of the head a replica has, and how many it has after its next Extend
-abbrev pub units_on : LogData → ℕ → ℕ
-units_on d j = unwrap_or (slice_get d.head.taken j) 0
-
-abbrev pub reach : LogData → ℕ → ℕ
-reach d j = units_on d j + 1
-
--- the replica that has the fewest units, and of several the first, takes its next unit
+-- the replica that has the fewest units, and of several the first, takes all that it lacks
 pub record ExtendsNext (d : LogData) (o : LogOp) (e : LogData) : Type 0 where
   pub extends : Extends d o e
   pub lagging : IsLagging (length d.head.units) d.head.taken (Some extends.j)
-  pub reached : extends.to ≡ reach d extends.j
+  pub whole : extends.to ≡ length d.head.units
 
 -- What the answer of a push says of its op. Opened: the first head or a new head is opened on its next backup.
--- Extended: a replica takes its next unit. Closed: the old head is closed on its next backup.
+-- Extended: a replica takes all units that it lacks. Closed: the old head is closed on its next backup.
 abbrev pub IsNextOp : LogData → LogOp → StepAnswer → LogData → Type 0
 IsNextOp d o (Opened backup segment) e =
     (OpensFirst d o e ⊎ OpensNew d o e) × (backup ≡ o.backup) × (segment ≡ o.segment)

@@ -21,7 +21,7 @@ use Rattle.log_head.specs.declared.head.Roll.{Roll}
 use Rattle.log_head.specs.declared.next.Next.{Next}
 use Rattle.log_head.specs.declared.next.Next.TheVariants as next
 use Rattle.log_head.specs.Head.{HeadValue}
-use Rattle.log_head.specs.Steps.{with_unit_end, with_opened_replica, with_one_taken, with_roll, with_new_replica}
+use Rattle.log_head.specs.Steps.{with_unit_end, with_opened_replica, with_all_taken, with_roll, with_new_replica}
 use Rattle.log_head.specs.Steps.{with_closed_replica}
 use Rattle.log_head.specs.Steps.{old_image, start_after}
 use Rattle.log_model.specs.Data.{Start}
@@ -217,7 +217,7 @@ closed_data d r =
 -- what a core becomes when the op of a push was taken
 abbrev pub taken_data : MasterData → Next → MasterData
 taken_data d (next.OpenFirst j) = record d { head = with_opened_replica d.head }
-taken_data d (next.Extend j) = record d { head = with_one_taken d.head j }
+taken_data d (next.Extend j) = record d { head = with_all_taken d.head j }
 taken_data d (next.OpenNew j) =
     option_map_or (λ (r : Roll). record d { head = with_new_replica d.head r }) d.head.roll d
 taken_data d (next.CloseOld j) = option_map_or (closed_data d) d.head.roll d

@@ -16,7 +16,7 @@ use versioned_map::{Command, Reply};
 pub enum Step {
     /// One command of a seat. It takes nothing from the fleet.
     Apply(u64, Command),
-    /// One op goes to one backup: the next unit if a replica lags, and else the next Open or Close of a roll.
+    /// One op goes to one backup: all units that it lacks if a replica lags, and else the next Open or Close of a roll.
     Push,
     /// A roll to the next head begins. It takes nothing from the fleet.
     BeginRoll,

@@ -55,8 +55,8 @@ returns-in-OpenFirst-clause-valid c = opened c
 
 -- ---- a unit
 
-pub extend-requires-clause-opened : goal.extend-requires-clause-opened
-extend-requires-clause-opened c =
+pub extend-requires : goal.extend-requires
+extend-requires c =
     let waits : IsNextPush (the_view c.self.inside).head (Some (next.Extend c.in-Extend.replica)) =
     subst (λ (n : Next). IsNextPush (the_view c.self.inside).head (Some n)) c.in-Extend.is
     (subst (λ (m : MasterData). IsNextPush m.head (Some c.args.next)) (sym c.self.view_is) c.requires) in
