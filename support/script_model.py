@@ -970,8 +970,7 @@ class Store:
         if head is not opening or not self.master.is_rolling:
             shortest = min(held, key=lambda replica: len(replica.text))
             if len(shortest.text) < len(head.text):
-                end = next(end for _, end in head.units if end > len(shortest.text))
-                return "extend", replace(shortest, text=head.text[:end])
+                return "extend", replace(shortest, text=head.text)
         if not self.master.is_rolling:
             return None
         for backup in self.homes(opening.id):

@@ -125,7 +125,7 @@ const SHORT: &[Ask] = &[
     Put(b"a", b'x', If::Any),
     Put(b"b", b'y', If::Any),
     Put(b"a", b'z', If::Any),
-    Push(6),
+    Push(2),
 ];
 
 /// Versions rise, and a new key gets the safe version. The replicas of master 1 are there until they are freed.
@@ -137,9 +137,15 @@ const AFTER: &[Call] = &[
     Call::Replies(Delete(b"b"), ("ok", 2)),
     Call::Replies(Get(b"b"), ("none", 0)),
     Call::Counts(1, 2, 6),
-    Call::Holds(&[(1, 1, 1), (1, 2, 1), (2, 1, 1), (2, 2, 1)]),
+    Call::Holds(&[(1, 1, 1, 143), (1, 2, 1, 90), (2, 1, 1, 143), (2, 2, 1, 90)]),
     Call::Retires,
-    Call::Holds(&[(1, 2, 1), (2, 2, 1)]),
+    Call::Holds(&[(1, 2, 1, 90), (2, 2, 1, 90)]),
+];
+
+/// Both objects are on both backups.
+const PUSHED: &[Call] = &[
+    Call::Counts(1, 0, 0),
+    Call::Holds(&[(1, 1, 1, 143), (1, 2, 1, 90), (2, 1, 1, 143), (2, 2, 1, 90)]),
 ];
 
 /// A value of which four fill a segment.
@@ -176,8 +182,9 @@ const NINE: &[Ask] = &[
 
 const ROWS: &[Row] = &[
     (SHORT, u64::MAX, 64, Ok(AFTER)),
-    // two Opens and an Extend are taken
+    // Two Opens and an Extend of both objects are taken. With one Extend more all is pushed.
     (SHORT, 3, 64, Err((Refusal::Spent, 2, 3))),
+    (SHORT, 4, 64, Ok(PUSHED)),
     // Of four whole segments two stay free for deletes: nine objects need a third.
     (NINE, u64::MAX, 32, Err((Refusal::Full, 9, 10))),
 ];

@@ -54,6 +54,9 @@ pub fn told(reply: &Reply) -> Told {
 /// What a record says: the key and the value of its command, its reply, and the value that was found.
 pub type Said = (&'static [u8], &'static [u8], Told, &'static [u8]);
 
+/// The backup, the master and the segment of a replica, and how many bytes it has.
+pub type Replica = (u64, u64, u64, usize);
+
 /// A call of a master, and its answer.
 pub enum Call {
     /// A run of steps, whose answers are not looked at.
@@ -78,8 +81,8 @@ pub enum Call {
     Sizes(&'static [(u64, u64, u64)]),
     /// The replicas of other masters are freed.
     Retires,
-    /// The backup, the master and the segment of each replica, of all masters.
-    Holds(&'static [(u64, u64, u64)]),
+    /// The backup, the master, the segment and the length of each replica, of all masters.
+    Holds(&'static [Replica]),
     /// What a copy of the record at this place says.
     Copy(usize, Said),
     /// It does what the plain programs do, if these are its first commands.
@@ -186,17 +189,18 @@ fn has_sizes(master: &Master<MemoryFleet>, want: &[(u64, u64, u64)]) -> bool {
     }
 }
 
-fn are_places(holdings: &[Holding], want: &[(u64, u64, u64)]) -> bool {
+fn are_replicas(holdings: &[Holding], want: &[Replica]) -> bool {
     let mut are_same = holdings.len() == want.len();
     for (holding, want) in holdings.iter().zip(want) {
-        are_same = are_same && (holding.backup, holding.master, holding.segment) == *want;
+        let bytes = holding.bytes.as_slice().len();
+        are_same = are_same && (holding.backup, holding.master, holding.segment, bytes) == *want;
     }
     are_same
 }
 
-fn holds(master: &Master<MemoryFleet>, want: &[(u64, u64, u64)]) -> bool {
+fn holds(master: &Master<MemoryFleet>, want: &[Replica]) -> bool {
     match &master.look(Look::Holdings) {
-        Ok(Shown::Holdings(inventory)) => are_places(inventory.as_slice(), want),
+        Ok(Shown::Holdings(inventory)) => are_replicas(inventory.as_slice(), want),
         _ => false,
     }
 }

@@ -132,6 +132,14 @@ const ONE_BEHIND: &[Ask] = &[
     Push(1),
 ];
 
+/// Puts `a` and `b`, and hands both to backup 1 alone.
+const BATCH_BEHIND: &[Ask] = &[
+    Push(2),
+    Put(b"a", b'x', If::Any),
+    Put(b"b", b'y', If::Any),
+    Push(1),
+];
+
 /// Puts `a`, and gets it.
 const READ: &[Ask] = &[Push(2), Put(b"a", b'x', If::Any), Get(b"a"), Push(3)];
 
@@ -140,7 +148,7 @@ const TWO_SEGMENTS: &[Ask] = &[
     Push(2),
     Put(b"a", b'x', If::Any),
     Put(b"b", b'y', If::Any),
-    Push(4),
+    Push(2),
     Roll,
     Push(4),
     Put(b"a", b'z', If::Any),
@@ -182,6 +190,9 @@ const ROWS: &[(Life, Recovered)] = &[
     ),
     ((ONE_BEHIND, &[0], &[], Order::Forward), Err("NoHead")),
     ((ONE_BEHIND, &[0], &[], Order::Reverse), Err("NoHead")),
+    ((BATCH_BEHIND, ALL, &[], Order::Forward), BOTH),
+    ((BATCH_BEHIND, &[1, 0], &[], Order::Forward), BOTH),
+    ((BATCH_BEHIND, &[2, 0], &[], Order::Forward), Ok((&[], 1))),
     // Groups 0 and 1 are of segment 1, and 2 and 3 of segment 2. A given order counts as forwards.
     ((TWO_SEGMENTS, ALL, SPLIT, Order::Forward), AGAIN),
     (

@@ -24,6 +24,33 @@ const STEPS: &[Call] = &[
     Call::NoImage(2),
 ];
 
+/// A push hands over all that a replica lacks: two puts go to each replica in one Extend. After two more commands the
+/// first replica takes two units, after a third one the second takes all three, and then the first takes one.
+const BATCHES: &[Call] = &[
+    Call::Run(&[Push(2)]),
+    Call::Answers(
+        &[Put(b"a", b'x', If::Any), Put(b"b", b'y', If::Any), Push(3)],
+        &[
+            ("applied", 0, 0),
+            ("applied", 1, 0),
+            ("extended", 1, 1),
+            ("extended", 2, 1),
+            ("Nothing", 0, 0),
+        ],
+    ),
+    Call::Counts(1, 2, 2),
+    Call::Holds(&[(1, 1, 1, 90), (2, 1, 1, 90)]),
+    Call::Run(&[Put(b"c", b'x', If::Any), Delete(b"b"), Push(1)]),
+    Call::Counts(1, 2, 4),
+    Call::Holds(&[(1, 1, 1, 143), (2, 1, 1, 90)]),
+    Call::Run(&[Put(b"d", b'x', If::Any), Get(b"d"), Push(1)]),
+    Call::Counts(1, 4, 6),
+    Call::Holds(&[(1, 1, 1, 143), (2, 1, 1, 168)]),
+    Call::Run(&[Push(1)]),
+    Call::Counts(1, 6, 6),
+    Call::Holds(&[(1, 1, 1, 168), (2, 1, 1, 168)]),
+];
+
 /// Puts `a`, rolls to head 2, puts `a` again, and rolls to head 3. Then there are two closed segments.
 const FILL: &[Ask] = &[
     Push(2),
@@ -105,7 +132,7 @@ const SIZED: &[Call] = &[
         Put(b"a", b'x', If::Any),
         Put(b"b", b'y', If::Any),
         Put(b"longer than a place", b'z', If::Any),
-        Push(6),
+        Push(2),
         Roll,
         Push(4),
         Write(2, b"A", b"four"),
@@ -132,7 +159,7 @@ const COPIED: &[Call] = &[
 const RETIRED: &[Call] = &[
     Call::Run(&[Push(2)]),
     Call::Retires,
-    Call::Holds(&[(1, 1, 1), (2, 1, 1)]),
+    Call::Holds(&[(1, 1, 1, 40), (2, 1, 1, 40)]),
 ];
 
 /// Commands on a few keys, so that most of them find what an earlier one left.
@@ -154,7 +181,7 @@ const COMPARED: &[Call] = &[Call::Compares(&[
 ])];
 
 const RUNS: &[&[Call]] = &[
-    STEPS, TURNS, IDLE, QUESTIONS, SIZED, COPIED, RETIRED, COMPARED,
+    STEPS, BATCHES, TURNS, IDLE, QUESTIONS, SIZED, COPIED, RETIRED, COMPARED,
 ];
 
 #[test]
