@@ -10,7 +10,7 @@ use Rattle.std.proofs.lemmas.List.Sums.{sum_by-append, sum_by-cons}
 use Rattle.entry.specs.declared.entry.Entry.{Entry}
 use Rattle.entry.specs.Format.{spelling}
 use Rattle.entry.specs.Text.{text_of, is_data, IsSegment}
-use Rattle.hash_index.specs.declared.place.Held.{Held}
+use Rattle.places.specs.Relocation.{Places}
 use Rattle.compactor.specs.Kept.{kept, kept_from, kept_of}
 use Rattle.cleaner.specs.Passes.{places_from, places_of, kept_len, kept_left, bytes_in}
 use Rattle.cleaner.proofs.Keeping.{left_segment, IsFitting, fitting_start, fitting_next}
@@ -41,7 +41,7 @@ all_drop P zero xs all = all
 all_drop P (suc i) [] all = tt
 all_drop P (suc i) (x ∷ xs) all = all_drop P i xs all.1
 
-module _ (ids : List ℕ) (held : List Held) (images : ℕ → List Entry) where
+module _ (ids : List ℕ) (held : Places) (images : ℕ → List Entry) where
   abbrev Bytes : ℕ → ℕ
   Bytes s = length (text_of (images s))
 

@@ -10,10 +10,10 @@ use Rattle.entry.specs.declared.entry.Entry.TheVariants as entry
 use Rattle.entry.specs.Format.{spelling}
 use Rattle.entry.specs.Text.{text_of}
 use Rattle.segment.specs.Bytes.{standing_at}
-use Rattle.hash_index.specs.declared.place.Place.{Place}
-use Rattle.hash_index.specs.declared.place.Held.{Held}
-use Rattle.hash_index.specs.Map.{hash_of}
-use Rattle.hash_index.specs.Relocation.{holds, relocated}
+use Rattle.places.specs.declared.place.Place.{Place}
+use Rattle.places.specs.declared.place.Held.{Held}
+use Rattle.places.specs.Map.{hash_of}
+use Rattle.places.specs.Relocation.{Places, holds, relocated}
 use Rattle.images.specs.declared.image.Image.{Image}
 use Rattle.images.specs.Sorted.{segment_of, changed}
 use Rattle.images.specs.Images.{ImagesValue}
@@ -46,14 +46,14 @@ seen_at images p n e there seen = go (segment_of images p.segment) refl there
 
 -- ---- by what is found
 
-module _ (p : Place) (survivor : ℕ) (images : List Image) (held : List Held) where
+module _ (p : Place) (survivor : ℕ) (images : List Image) (held : Places) where
   -- what is told, and what the images and the index are then
-  abbrev pub Does : Bool → Entry → Copied → List Image → List Held → Type 0
+  abbrev pub Does : Bool → Entry → Copied → List Image → Places → Type 0
   Does b e copied after later =
       (copied ≡ copied_as b e) × (after ≡ images_with b survivor e images)
       × (later ≡ held_with b p (copy_place survivor images) e held)
 
-  pub does_object : (b : Bool) (e : Entry) (h : Held) (after : List Image) (later : List Held)
+  pub does_object : (b : Bool) (e : Entry) (h : Held) (after : List Image) (later : Places)
       → fate_by b p e ≡ fate.Object h
       → after ≡ changed images survivor (with_unit (e ∷ [])) → later ≡ relocated h (copy_place survivor images) held
       → Does b e copied.Moved after later
@@ -67,7 +67,7 @@ module _ (p : Place) (survivor : ℕ) (images : List Image) (held : List Held) w
       let same : h ≡ own = cc in
       (refl, grown, index ∙ ap (λ (x : Held). relocated x (copy_place survivor images) held) same)
 
-  pub does_tombstone : (b : Bool) (e : Entry) (after : List Image) (later : List Held) → fate_by b p e ≡ fate.Tombstone
+  pub does_tombstone : (b : Bool) (e : Entry) (after : List Image) (later : Places) → fate_by b p e ≡ fate.Tombstone
       → after ≡ changed images survivor (with_unit (e ∷ [])) → later ≡ held → Does b e copied.Carried after later
   does_tombstone false e after later is grown index = absurd (cc)
   does_tombstone true (entry.Header x) after later is grown index = (refl, grown, index)
@@ -106,7 +106,7 @@ fate_of_tombstone_as p t true = refl
 fate_of_tombstone_as p t false = refl
 
 -- an object is found by its hash
-pub fate_of_object : (ids : List ℕ) (held : List Held) (p : Place) (e : Entry) (hash n : ℕ) (b : Bool)
+pub fate_of_object : (ids : List ℕ) (held : Places) (p : Place) (e : Entry) (hash n : ℕ) (b : Bool)
     → seen_of e ≡ Some (seen.Object hash n) → holds held (record { hash = hash; place = p }) ≡ b
     → fate_by (kept ids held p e) p e ≡ cond b (fate.Object (record { hash = hash; place = p })) fate.Dead
 fate_of_object ids held p (entry.Header h) hash n b is test = absurd (cc)
@@ -120,7 +120,7 @@ fate_of_object ids held p (entry.Object o) hash n b is test =
     ∙ fate_of_object_as p o hash b same
 
 -- a tombstone by the segment that it names
-pub fate_of_tombstone : (ids : List ℕ) (held : List Held) (p : Place) (e : Entry) (segment n : ℕ) (b : Bool)
+pub fate_of_tombstone : (ids : List ℕ) (held : Places) (p : Place) (e : Entry) (segment n : ℕ) (b : Bool)
     → seen_of e ≡ Some (seen.Tombstone segment n) → has_id ids segment ≡ b
     → fate_by (kept ids held p e) p e ≡ cond b fate.Tombstone fate.Dead
 fate_of_tombstone ids held p (entry.Header h) segment n b is test = absurd (cc)
@@ -133,7 +133,7 @@ fate_of_tombstone ids held p (entry.Tombstone t) segment n b is test =
     ∙ fate_of_tombstone_as p t b
 
 -- what is found is seen
-pub has_fate : (ids : List ℕ) (held : List Held) (images : ℕ → List Entry) (p : Place) (f : Fate) (x : Seen)
+pub has_fate : (ids : List ℕ) (held : Places) (images : ℕ → List Entry) (p : Place) (f : Fate) (x : Seen)
     → (one : IsSeenAt (images p.segment) p.at x) → fate_by (kept ids held p one.entry) p one.entry ≡ f
     → HasFate ids held images p f (seen_len x)
 has_fate ids held images p f x one is = (
@@ -171,7 +171,7 @@ module _ (images : List Image) (p : Place) (n : ℕ) (e : Entry) where
             subst (λ (xs : List Entry). StandsData (text_of xs) p.at n) own
             (stands_data (images_in images p.segment) p.at n e seen.valid seen.of_data seen.size seen.stands)
 
-    pub copy_room : (ids : List ℕ) (held : List Held) (survivor segment : ℕ) → kept ids held p e ≡ true
+    pub copy_room : (ids : List ℕ) (held : Places) (survivor segment : ℕ) → kept ids held p e ≡ true
         → len_at images survivor + kept_len ids held (images_in images) p ≤ segment
         → IfSome Read (λ (x : Entry). len_at images survivor + length (spelling x) ≤ segment)
     copy_room ids held survivor segment keeps room =
@@ -189,8 +189,8 @@ module _ (images : List Image) (p : Place) (n : ℕ) (e : Entry) where
         subst (λ (o : Option Entry). IfSome o (λ (x : Entry). new ≡
         record old { images = changed images survivor (with_unit (x ∷ [])) })) (seen_at images p n e there seen) is
 
-  pub treats : (seen : IsSeen (images_in images) p n e) (ids : List ℕ) (held : List Held) (survivor : ℕ)
-      (copied : Copied) (after : List Image) (later : List Held)
+  pub treats : (seen : IsSeen (images_in images) p n e) (ids : List ℕ) (held : Places) (survivor : ℕ)
+      (copied : Copied) (after : List Image) (later : Places)
       → Does p survivor images held (kept ids held p e) e copied after later
       → Treats ids images held p survivor copied n after later
   treats seen ids held survivor copied after later does =

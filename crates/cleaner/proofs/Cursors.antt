@@ -6,7 +6,7 @@ use Rattle.std.proofs.lemmas.List.{drop_all}
 use Rattle.entry.specs.declared.entry.Entry.{Entry}
 use Rattle.entry.specs.Format.{spelling}
 use Rattle.entry.specs.Text.{text_of, is_data}
-use Rattle.hash_index.specs.declared.place.Place.{Place}
+use Rattle.places.specs.declared.place.Place.{Place}
 use Rattle.compactor.specs.Places.{LiesAt}
 use Rattle.compactor.proofs.Cutting.{IsCut, cut_next, cut_end}
 use Rattle.compactor.proofs.Walking.{IsHere}

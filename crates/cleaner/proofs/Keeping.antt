@@ -14,8 +14,8 @@ use Rattle.entry.specs.Text.{text_of, is_data, IsSegment}
 use Rattle.entry.proofs.ListLemmas.{all_split}
 use Rattle.entry.proofs.TextLemmas.{front_of-spelling}
 use Rattle.segment.specs.Bytes.{standing_at}
-use Rattle.hash_index.specs.declared.place.Place.{Place}
-use Rattle.hash_index.specs.declared.place.Held.{Held}
+use Rattle.places.specs.declared.place.Place.{Place}
+use Rattle.places.specs.Relocation.{Places}
 use Rattle.images.specs.Steps.{StandsData}
 use Rattle.compactor.specs.Kept.{kept, kept_from, kept_of}
 use Rattle.compactor.specs.Places.{LiesAt}
@@ -57,7 +57,7 @@ stands_data es at n e valid own size lies =
 
 -- ---- at one place
 
-module _ (ids : List ℕ) (held : List Held) (images : ℕ → List Entry) where
+module _ (ids : List ℕ) (held : Places) (images : ℕ → List Entry) where
   abbrev Len : Place → Option Entry → ℕ
   Len p o = option_map_or (λ (e : Entry). cond (kept ids held p e) (length (spelling e)) 0) o 0
 
@@ -173,14 +173,14 @@ cond_le true false n so = absurd (let never : false ≡ true = so refl in cc)
 cond_le false t n so = omega arith
 
 -- at one place
-len_le : (ids again : List ℕ) (held later : List Held) (p : Place) (o : Option Entry)
+len_le : (ids again : List ℕ) (held later : Places) (p : Place) (o : Option Entry)
     → ((e : Entry) → o ≡ Some e → kept again later p e ≡ true → kept ids held p e ≡ true)
     → Len again later (λ s. []) p o ≤ Len ids held (λ s. []) p o
 len_le ids again held later p None so = omega arith
 len_le ids again held later p (Some e) so = cond_le (kept again later p e) (kept ids held p e)
     (length (spelling e)) (so e refl)
 
-pub kept_no_more : (ids again : List ℕ) (held later : List Held) (images : ℕ → List Entry) (places : List Place)
+pub kept_no_more : (ids again : List ℕ) (held later : Places) (images : ℕ → List Entry) (places : List Place)
     → KeepsNoMore ids again held later images places
     → kept_left again later images places ≤ kept_left ids held images places
 kept_no_more ids again held later images places so =
@@ -188,7 +188,7 @@ kept_no_more ids again held later images places so =
     (λ p m. len_le ids again held later p (standing_at p.at (text_of (images p.segment)))
     (λ e is keeps. so p e m is keeps))
 
-pub kept_same : (ids : List ℕ) (held : List Held) (images again : ℕ → List Entry) (places : List Place)
+pub kept_same : (ids : List ℕ) (held : Places) (images again : ℕ → List Entry) (places : List Place)
     → ((p : Place) → IsAmong p places → again p.segment ≡ images p.segment)
     → kept_left ids held again places ≡ kept_left ids held images places
 kept_same ids held images again places same =

@@ -3,16 +3,15 @@ use Rattle.std.proofs.Common.{◌≡◌, ℕ, ◌+◌, ◌≤◌, Bool, true, fa
 use Rattle.std.proofs.Common.{subst, ◌∙◌, inl, inr, ◌++◌, arith}
 use Rattle.std.specs.Prelude.{Option}
 use Rattle.std.specs.Option.{option_to_list}
-use Rattle.std.proofs.lemmas.Bool.{and_right, and_left, or_cases, or_left, or_right, ne_eqb}
+use Rattle.entry.specs.declared.key.Key.{Key}
 use Rattle.entry.specs.declared.entry.Entry.{Entry}
 use Rattle.entry.specs.declared.entry.Entry.TheVariants as entry
 use Rattle.entry.specs.Bag.{IsAmong}
 use Rattle.entry.specs.Format.{spelling}
 use Rattle.entry.specs.Text.{text_of}
-use Rattle.hash_index.specs.declared.place.Place.{Place}
-use Rattle.hash_index.specs.declared.place.Held.{Held}
-use Rattle.hash_index.specs.Map.{hash_of}
-use Rattle.hash_index.specs.Relocation.{is_same_place, is_same, holds, relocated}
+use Rattle.places.specs.declared.place.Place.{Place}
+use Rattle.places.specs.Relocation.{Places, names}
+use Rattle.places.proofs.Moves.{named_before}
 use Rattle.images.specs.declared.image.Image.{Image}
 use Rattle.images.specs.Sorted.{IsWhole}
 use Rattle.compactor.specs.Kept.{kept}
@@ -28,45 +27,18 @@ use Rattle.cleaner.proofs.Ends.{rest_segment}
 
 -- ---- the index
 
-other_segment : (h g : Held) → (g.place.segment ≡ h.place.segment → ⊥) → is_same h g ≡ false
-other_segment h g other =
-    and_right (g.hash == h.hash) (is_same_place h.place g.place)
-    (and_left (g.place.segment == h.place.segment) (g.place.at == h.place.at)
-    (ne_eqb g.place.segment h.place.segment other))
-
--- a place that isn't moved to is held afterwards only if it was before
-module _ (h : Held) (to : Place) (q : Held) (other : to.segment ≡ q.place.segment → ⊥) where
-  was_held : (hs : List Held) → holds (relocated h to hs) q ≡ true → holds hs q ≡ true
-  was_held [] is = is
-  was_held (g ∷ gs) is = go (is_same h g) (was_held gs) is
-    where
-      go : (b : Bool) → (holds (relocated h to gs) q ≡ true → holds gs q ≡ true)
-          → holds (cond b (record g { place = to } ∷ gs) (g ∷ relocated h to gs)) q ≡ true
-          → (is_same q g || holds gs q) ≡ true
-      go true rest found =
-          let not_it : is_same q (record g { place = to }) ≡ false = other_segment q (record g { place = to }) other in
-          or_right (is_same q g) (holds gs q)
-          (sym (ap (λ (b : Bool). b || holds gs q) not_it) ∙ found)
-      go false rest found =
-          elim (or_cases (is_same q g) (holds (relocated h to gs) q) found) as (λ _.
-          (is_same q g || holds gs q) ≡ true) [
-            | inl here ↦ or_left (is_same q g) (holds gs q) here
-            | inr later ↦ or_right (is_same q g) (holds gs q) (rest later)
-          ]
-
--- the same by the entry that moved
-was_held_with : (b : Bool) (p to : Place) (e : Entry) (q : Held) → (to.segment ≡ q.place.segment → ⊥) → (hs : List Held)
-    → holds (held_with b p to e hs) q ≡ true → holds hs q ≡ true
-was_held_with false p to e q other hs is = is
-was_held_with true p to (entry.Header h) q other hs is = is
-was_held_with true p to (entry.Digest l) q other hs is = is
-was_held_with true p to (entry.Safe v) q other hs is = is
-was_held_with true p to (entry.Tombstone t) q other hs is = is
-was_held_with true p to (entry.Object o) q other hs is =
-    was_held (record { hash = hash_of o.key; place = p }) to q other hs is
+-- a place that isn't moved to is named afterwards only if it was before
+was_named : (b : Bool) (p to : Place) (e : Entry) (k : Key) (r : Place) → (r ≡ to → ⊥) → (ps : Places)
+    → names (held_with b p to e ps) k r ≡ true → names ps k r ≡ true
+was_named false p to e k r other ps is = is
+was_named true p to (entry.Header h) k r other ps is = is
+was_named true p to (entry.Digest l) k r other ps is = is
+was_named true p to (entry.Safe v) k r other ps is = is
+was_named true p to (entry.Tombstone t) k r other ps is = is
+was_named true p to (entry.Object o) k r other ps is = named_before o.key k p to r other ps is
 
 -- what is kept afterwards at a place that isn't moved to was kept before
-was_kept : (b : Bool) (p to : Place) (e : Entry) (ids : List ℕ) (hs : List Held) (q : Place)
+was_kept : (b : Bool) (p to : Place) (e : Entry) (ids : List ℕ) (hs : Places) (q : Place)
     → (to.segment ≡ q.segment → ⊥)
     → (f : Entry) → kept ids (held_with b p to e hs) q f ≡ true → kept ids hs q f ≡ true
 was_kept b p to e ids hs q other (entry.Header h) is = is
@@ -74,7 +46,7 @@ was_kept b p to e ids hs q other (entry.Digest l) is = is
 was_kept b p to e ids hs q other (entry.Safe v) is = is
 was_kept b p to e ids hs q other (entry.Tombstone t) is = is
 was_kept b p to e ids hs q other (entry.Object o) is =
-    was_held_with b p to e (record { hash = hash_of o.key; place = q }) other hs is
+    was_named b p to e o.key q (λ same. other (sym (ap (λ (r : Place). r.segment) same))) hs is
 
 -- ---- the survivor
 
@@ -89,7 +61,7 @@ grown_len images survivor e false whole = omega arith
 -- ---- what is left
 
 module _ (segment : ℕ) (ids : List ℕ) (p q : Pass) (images after : List Image)
-    (held later : List Held) (copied : Copied)
+    (held later : Places) (copied : Copied)
     (pass : IsPass images p) (c : CopiesOne ids p images held copied q after later) where
   abbrev keeps : Bool
   keeps = kept ids held c.place c.entry
@@ -122,7 +94,7 @@ module _ (segment : ℕ) (ids : List ℕ) (p q : Pass) (images after : List Imag
         arith,
         same,
         less,
-        ap (λ (hs : List Held). kept_left ids hs (images_in images) c.later) c.index,
+        ap (λ (hs : Places). kept_left ids hs (images_in images) c.later) c.index,
       )
 
   pub left_room : HasRoom segment ids p images held → HasRoom segment ids q after later
@@ -143,7 +115,7 @@ module _ (segment : ℕ) (ids : List ℕ) (p q : Pass) (images after : List Imag
       ap (kept_left ids later (images_in after)) c.rest in
       omega (arith, room, rest, len, now, left_less)
 
-pub ids_kept : (ids : List ℕ) (p q : Pass) (images after : List Image) (held later : List Held) (copied : Copied)
+pub ids_kept : (ids : List ℕ) (p q : Pass) (images after : List Image) (held later : Places) (copied : Copied)
     → CopiesOne ids p images held copied q after later → (head : ℕ) (new : Option ℕ)
     → ids_in after head new ≡ ids_in images head new
 ids_kept ids p q images after held later copied c head new =

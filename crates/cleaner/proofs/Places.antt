@@ -12,7 +12,7 @@ use Rattle.entry.specs.Text.{text_of, is_data}
 use Rattle.entry.proofs.BagLemmas.{among_either}
 use Rattle.entry.proofs.TextLemmas.{length_first, spelling-some}
 use Rattle.segment.proofs.RowLemmas.{text_of-append}
-use Rattle.hash_index.specs.declared.place.Place.{Place}
+use Rattle.places.specs.declared.place.Place.{Place}
 use Rattle.compactor.specs.Places.{LiesAt}
 use Rattle.cleaner.specs.Passes.{places_from, places_past, places_of, places_on}
 

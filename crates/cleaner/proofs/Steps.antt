@@ -8,8 +8,8 @@ use Rattle.std.proofs.lemmas.List.{drop_more}
 use Rattle.entry.specs.declared.entry.Entry.{Entry}
 use Rattle.entry.specs.Bag.{IsAmong}
 use Rattle.entry.specs.Format.{spelling}
-use Rattle.hash_index.specs.declared.place.Place.{Place}
-use Rattle.hash_index.specs.declared.place.Held.{Held}
+use Rattle.places.specs.declared.place.Place.{Place}
+use Rattle.places.specs.Relocation.{Places}
 use Rattle.images.specs.declared.image.Image.{Image}
 use Rattle.images.specs.Sorted.{IsWhole, segment_of}
 use Rattle.images.specs.Steps.{len_at}
@@ -72,7 +72,7 @@ module _ (p : Pass) (images : List Image) (pass : IsPass images p) (more : is_at
       ap (λ (ids : List ℕ). places_on (images_in images) ids p.cursor.at) split
       ∙ on_data (images_in images) own others p.cursor.at own_data.0 own_data.1 own_data.2
 
-  pub own_room : (segment : ℕ) (ids : List ℕ) (held : List Held) → HasRoom segment ids p images held
+  pub own_room : (segment : ℕ) (ids : List ℕ) (held : Places) → HasRoom segment ids p images held
       → len_at images p.survivor + kept_len ids held (images_in images) Here ≤ segment
   own_room segment ids held room =
       let parts : kept_left ids held (images_in images) (rest_of (images_in images) p)
@@ -84,7 +84,7 @@ module _ (p : Pass) (images : List Image) (pass : IsPass images p) (more : is_at
 
   -- ---- the entry is treated
 
-  module _ (ids : List ℕ) (held : List Held) (copied : Copied) (n : ℕ) (after : List Image) (later : List Held)
+  module _ (ids : List ℕ) (held : Places) (copied : Copied) (n : ℕ) (after : List Image) (later : Places)
       (t : Treats ids images held Here p.survivor copied n after later) where
     abbrev keeps : Bool
     keeps = kept ids held Here t.entry

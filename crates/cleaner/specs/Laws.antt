@@ -4,8 +4,8 @@ use Rattle.entry.specs.declared.entry.Entry.{Entry}
 use Rattle.entry.specs.Bag.{IsAmong}
 use Rattle.entry.specs.Text.{text_of}
 use Rattle.segment.specs.Bytes.{standing_at}
-use Rattle.hash_index.specs.declared.place.Place.{Place}
-use Rattle.hash_index.specs.declared.place.Held.{Held}
+use Rattle.places.specs.declared.place.Place.{Place}
+use Rattle.places.specs.Relocation.{Places}
 use Rattle.images.specs.declared.image.Image.{Image}
 use Rattle.images.specs.Sorted.{IsWhole, segment_of}
 use Rattle.compactor.specs.Kept.{kept}
@@ -48,29 +48,29 @@ RestIsOfVictims = (images : ℕ → List Entry) (p : Pass) (place : Place) → I
 -- Once one entry is treated, a segment has room for the survivor and what is left.
 abbrev pub CopyLeavesRoom : Type 0
 CopyLeavesRoom = (segment : ℕ) (ids : List ℕ) (p q : Pass) (images images_after : List Image)
-    (held held_after : List Held) (copied : Copied) → IsPass images p
+    (held held_after : Places) (copied : Copied) → IsPass images p
     → CopiesOne ids p images held copied q images_after held_after
     → HasRoom segment ids p images held → HasRoom segment ids q images_after held_after
 
 -- The ids of the log set stay.
 abbrev pub CopyKeepsIds : Type 0
-CopyKeepsIds = (ids : List ℕ) (p q : Pass) (images images_after : List Image) (held held_after : List Held)
+CopyKeepsIds = (ids : List ℕ) (p q : Pass) (images images_after : List Image) (held held_after : Places)
     (copied : Copied) (head : ℕ) (new : Option ℕ) → CopiesOne ids p images held copied q images_after held_after
     → ids_in images_after head new ≡ ids_in images head new
 
 -- What is kept afterwards at one of the places was kept there before.
-abbrev pub KeepsNoMore : List ℕ → List ℕ → List Held → List Held → (ℕ → List Entry) → List Place → Type 0
+abbrev pub KeepsNoMore : List ℕ → List ℕ → Places → Places → (ℕ → List Entry) → List Place → Type 0
 KeepsNoMore ids again held later images places = (p : Place) (e : Entry) → IsAmong p places
     → standing_at p.at (text_of (images p.segment)) ≡ Some e → kept again later p e ≡ true → kept ids held p e ≡ true
 
 -- If it was, no more bytes are left.
 abbrev pub KeptDoesNotGrow : Type 0
-KeptDoesNotGrow = (ids again : List ℕ) (held later : List Held) (images : ℕ → List Entry) (places : List Place)
+KeptDoesNotGrow = (ids again : List ℕ) (held later : Places) (images : ℕ → List Entry) (places : List Place)
     → KeepsNoMore ids again held later images places
     → kept_left again later images places ≤ kept_left ids held images places
 
 -- Images that are the same at the places' segments have the same bytes left.
 abbrev pub KeptAgrees : Type 0
-KeptAgrees = (ids : List ℕ) (held : List Held) (images again : ℕ → List Entry) (places : List Place)
+KeptAgrees = (ids : List ℕ) (held : Places) (images again : ℕ → List Entry) (places : List Place)
     → ((p : Place) → IsAmong p places → again p.segment ≡ images p.segment)
     → kept_left ids held again places ≡ kept_left ids held images places

@@ -10,9 +10,9 @@ use Rattle.entry.specs.Bag.{IsAmong}
 use Rattle.entry.specs.Format.{spelling, IsEntry}
 use Rattle.entry.specs.Text.{text_of, is_data}
 use Rattle.segment.specs.Bytes.{standing_at}
-use Rattle.hash_index.specs.declared.place.Place.{Place}
-use Rattle.hash_index.specs.declared.place.Held.{Held}
-use Rattle.hash_index.specs.Map.{hash_of}
+use Rattle.places.specs.declared.place.Place.{Place}
+use Rattle.places.specs.Map.{hash_of}
+use Rattle.places.specs.Relocation.{Places}
 use Rattle.images.specs.declared.image.Image.{Image}
 use Rattle.images.specs.Sorted.{IsWhole, segment_of, changed}
 use Rattle.images.specs.Steps.{with_unit, len_at}
@@ -122,13 +122,13 @@ pub record IsPass (images : List Image) (p : Pass) : Type 0 where
 -- ---- kept bytes
 
 -- the bytes of the entry at a place if it is kept, else 0
-abbrev pub kept_len : List ℕ → List Held → (ℕ → List Entry) → Place → ℕ
+abbrev pub kept_len : List ℕ → Places → (ℕ → List Entry) → Place → ℕ
 kept_len ids held images p =
     option_map_or (λ (e : Entry). if kept ids held p e then length (spelling e) else 0)
     (standing_at p.at (text_of (images p.segment))) 0
 
 -- the bytes of what is kept at some places
-abbrev pub kept_left : List ℕ → List Held → (ℕ → List Entry) → List Place → ℕ
+abbrev pub kept_left : List ℕ → Places → (ℕ → List Entry) → List Place → ℕ
 kept_left ids held images places = sum_by (kept_len ids held images) places
 
 -- the bytes of some segments
@@ -136,7 +136,7 @@ abbrev pub bytes_in : (ℕ → List Entry) → List ℕ → ℕ
 bytes_in images ids = sum_by (λ (s : ℕ). length (text_of (images s))) ids
 
 -- a segment has room for what the survivor has and what is kept at the places before the pass
-abbrev pub HasRoom : ℕ → List ℕ → Pass → List Image → List Held → Type 0
+abbrev pub HasRoom : ℕ → List ℕ → Pass → List Image → Places → Type 0
 HasRoom segment ids p images held =
     length (text_of (images_in images p.survivor))
     + kept_left ids held (images_in images) (rest_of (images_in images) p) ≤ segment
@@ -161,12 +161,12 @@ abbrev pub images_with : Bool → ℕ → Entry → List Image → List Image
 images_with is_kept survivor e images = if is_kept then changed images survivor (with_unit (e ∷ [])) else images
 
 -- an object that is kept is then held where its copy lies
-abbrev pub held_with : Bool → Place → Place → Entry → List Held → List Held
+abbrev pub held_with : Bool → Place → Place → Entry → Places → Places
 held_with is_kept p to e held = if is_kept then moved_one p to e held else held
 
 -- The entry at the next place that the pass has before it is treated.
-pub record CopiesOne (ids : List ℕ) (p : Pass) (images : List Image) (held : List Held) (copied : Copied) (q : Pass)
-    (images_after : List Image) (held_after : List Held) : Type 0 where
+pub record CopiesOne (ids : List ℕ) (p : Pass) (images : List Image) (held : Places) (copied : Copied) (q : Pass)
+    (images_after : List Image) (held_after : Places) : Type 0 where
   pub place : Place
   pub later : List Place
   pub entry : Entry

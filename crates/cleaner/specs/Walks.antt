@@ -4,9 +4,9 @@ use Rattle.entry.specs.declared.entry.Entry.{Entry}
 use Rattle.entry.specs.declared.entry.Entry.TheVariants as entry
 use Rattle.entry.specs.Format.{spelling, IsEntry}
 use Rattle.entry.specs.Text.{text_of, is_data}
-use Rattle.hash_index.specs.declared.place.Place.{Place}
-use Rattle.hash_index.specs.declared.place.Held.{Held}
-use Rattle.hash_index.specs.Map.{hash_of}
+use Rattle.places.specs.declared.place.Place.{Place}
+use Rattle.places.specs.Map.{hash_of}
+use Rattle.places.specs.Relocation.{Places}
 use Rattle.images.specs.declared.image.Image.{Image}
 use Rattle.compactor.specs.Kept.{kept}
 use Rattle.compactor.specs.Places.{LiesAt, IsAtPlace}
@@ -78,12 +78,12 @@ pub record IsSeen (images : ℕ → List Entry) (p : Place) (len : ℕ) (e : Ent
   pub size : len ≡ length (spelling e)
 
 -- this becomes of the object or tombstone at the place
-abbrev pub HasFate : List ℕ → List Held → (ℕ → List Entry) → Place → Fate → ℕ → Type 0
+abbrev pub HasFate : List ℕ → Places → (ℕ → List Entry) → Place → Fate → ℕ → Type 0
 HasFate ids held images p f len = (e : Entry) × IsSeen images p len e × (f ≡ fate_by (kept ids held p e) p e)
 
 -- The object or tombstone at the place is treated.
-pub record Treats (ids : List ℕ) (images : List Image) (held : List Held) (p : Place) (survivor : ℕ) (copied : Copied)
-    (len : ℕ) (images_after : List Image) (held_after : List Held) : Type 0 where
+pub record Treats (ids : List ℕ) (images : List Image) (held : Places) (p : Place) (survivor : ℕ) (copied : Copied)
+    (len : ℕ) (images_after : List Image) (held_after : Places) : Type 0 where
   pub entry : Entry
   pub seen : IsSeen (images_in images) p len entry
   pub told : copied ≡ copied_as (kept ids held p entry) entry

@@ -6,7 +6,7 @@ use Rattle.std.proofs.lemmas.List.{length-append}
 use Rattle.entry.specs.declared.entry.Entry.{Entry}
 use Rattle.entry.specs.Format.{spelling}
 use Rattle.entry.specs.Text.{text_of, is_data}
-use Rattle.hash_index.specs.declared.place.Held.{Held}
+use Rattle.places.specs.Relocation.{Places}
 use Rattle.compactor.specs.Kept.{kept, kept_from, kept_of}
 use Rattle.compactor.proofs.Cutting.{IsCut, IsCut-start, cut_end}
 use Rattle.compactor.proofs.Walking.{IsHere, cut_behind}
@@ -23,7 +23,7 @@ cond_count false true e r n is size =
 cond_count true false e r n is size = omega arith
 cond_count false false e r n is size = omega arith
 
-module _ (ids : List ℕ) (held : List Held) (segment : ℕ) (es : List Entry) where
+module _ (ids : List ℕ) (held : Places) (segment : ℕ) (es : List Entry) where
   abbrev Left : ℕ → List Entry → ℕ
   Left at rest = length (text_of (filter is_data (kept_from ids held segment at rest)))
 

@@ -1,76 +1,35 @@
 -- After a compaction an index that follows it leads to the same objects.
-use Rattle.std.proofs.Common.{◌≡◌, ℕ, ◌+◌, Bool, true, false, ◌||◌, ◌==◌, List, [], ◌∷◌, ◌++◌, length, drop, refl, sym}
-use Rattle.std.proofs.Common.{ap, subst, ◌∙◌, inl, inr, arith, if◌then◌else◌}
+use Rattle.std.proofs.Common.{◌≡◌, ℕ, ◌+◌, Bool, true, false, ◌==◌, List, [], ◌∷◌, ◌++◌, length, drop, refl, sym}
+use Rattle.std.proofs.Common.{ap, subst, ◌∙◌, arith, if◌then◌else◌}
 use Rattle.std.specs.Prelude.{Option, Some}
 use Rattle.std.specs.List.{AllByRecursion}
 use Rattle.std.specs.Option.{option_map, option_and_then}
-use Rattle.std.proofs.lemmas.Bool.{and_from}
 use Rattle.std.proofs.lemmas.Bool.Decides.{Decides-eqb}
-use Rattle.std.proofs.Math.Bool.{or-true}
-use Rattle.entry.specs.Bag.{IsAmong}
 use Rattle.entry.specs.declared.key.Key.{Key}
 use Rattle.entry.specs.declared.entry.Object.{Object}
 use Rattle.entry.specs.declared.entry.Entry.{Entry}
 use Rattle.entry.specs.declared.entry.Entry.TheVariants as entry
 use Rattle.entry.specs.Format.{spelling, front_of, IsEntry}
 use Rattle.entry.specs.Text.{text_of, IsSegment}
-use Rattle.entry.proofs.BagLemmas.{among_from_contains}
-use Rattle.entry.proofs.ListLemmas.{all_split, all_among, all_from_among}
+use Rattle.entry.proofs.ListLemmas.{all_split}
 use Rattle.entry.proofs.TextLemmas.{front_of-spelling}
 use Rattle.segment.specs.Bytes.{standing_at}
-use Rattle.hash_index.specs.declared.place.Place.{Place}
-use Rattle.hash_index.specs.declared.place.Held.{Held}
-use Rattle.hash_index.specs.Map.{hash_of, found, AreKept}
-use Rattle.hash_index.specs.Relocation.{is_same, holds}
-use Rattle.hash_index.proofs.Finding.{found_contained}
+use Rattle.places.specs.declared.place.Place.{Place}
+use Rattle.places.specs.Map.{found, AreKept}
+use Rattle.places.specs.Relocation.{Places, names, AllPlaces}
+use Rattle.places.proofs.Each.{each_found}
+use Rattle.places.proofs.Going.{kept_gone, found_gone, all_gone, found_holds, all_then, all_both}
+use Rattle.places.proofs.Named.{found_named}
 use Rattle.compactor.specs.Kept.{kept, kept_from, kept_of, entries_before, moved_at, moved_place}
 use Rattle.compactor.specs.Laws.{compacted_images, IsFollowed}
 use Rattle.compactor.specs.Places.{LiesAt, IsAtPlace, as_object, object_in, keys_in, LieIn}
 use Rattle.compactor.proofs.Cutting.{before_cut, behind_cut}
 use Rattle.compactor.proofs.KeptEntries.{kept_append, kept_segment}
-use Rattle.compactor.proofs.FollowPlaces.{IsSeen, found_carried, kept_carried, all_carried}
-
--- ---- what is read where an entry lies
-
-stands_at : (image : List Entry) (at : ℕ) (e : Entry) → AllByRecursion IsEntry image → LiesAt image at e
-    → standing_at at (text_of image) ≡ Some e
-stands_at image at e each s =
-    let parts = all_split IsEntry s.before (e ∷ s.after) (subst
-    (λ (xs : List Entry). AllByRecursion IsEntry xs) s.split each) in
-    let behind : drop at (text_of image) ≡ spelling e ++ text_of s.after =
-    behind_cut image s.before (e ∷ s.after) at (record { split = s.split; offset = s.offset }) in
-    ap (λ (bytes : List ℕ). option_map (λ (f : Entry × ℕ). f.0) (front_of bytes)) behind
-    ∙ ap (λ (front : Option (Entry × ℕ)). option_map (λ (f : Entry × ℕ). f.0) front)
-    (front_of-spelling e (text_of s.after) parts.1.0)
-
--- the key that stands at an offset
-abbrev key_in : List Entry → ℕ → Option Key
-key_in image at = option_map (λ (o : Object). o.key) (object_in image at)
-
-key_lies : (image : List Entry) (at : ℕ) (o : Object) → AllByRecursion IsEntry image → LiesAt image at (entry.Object o)
-    → key_in image at ≡ Some o.key
-key_lies image at o each s =
-    ap (λ (e : Option Entry). option_map (λ (x : Object). x.key) (option_and_then as_object e))
-    (stands_at image at (entry.Object o) each s)
-
--- ---- what is held is kept
-
-among_holds : (hs : List Held) (h g : Held) → IsAmong h hs → is_same g h ≡ true → holds hs g ≡ true
-among_holds [] h g m same = absurd m
-among_holds (x ∷ xs) h g (inl e) same = ap (λ (b : Bool). b || holds xs g) (ap (λ (y : Held). is_same g y) e ∙ same)
-among_holds (x ∷ xs) h g (inr m) same = ap (λ (b : Bool). is_same g x || b) (among_holds xs h g m same)
-    ∙ or-true (is_same g x)
-
-is_itself : (h : Held) (hash segment at : ℕ) → h.hash ≡ hash → h.place.segment ≡ segment → h.place.at ≡ at
-    → is_same (record { hash = hash; place = record { segment = segment; at = at } }) h ≡ true
-is_itself h hash segment at e f g =
-    and_from (h.hash == hash) _ ((Decides-eqb h.hash hash).1 e)
-    (and_from (h.place.segment == segment) (h.place.at == at) ((Decides-eqb h.place.segment segment).1 f)
-    ((Decides-eqb h.place.at at).1 g))
+use Rattle.compactor.proofs.StandingKeys.{stands_at, key_in, key_lies}
 
 -- ---- where a kept object lies
 
-module _ (ids : List ℕ) (held : List Held) (segment : ℕ) (es : List Entry) (each : AllByRecursion IsEntry es) where
+module _ (ids : List ℕ) (held : Places) (segment : ℕ) (es : List Entry) (each : AllByRecursion IsEntry es) where
   before_is : (at : ℕ) (e : Entry) (s : LiesAt es at e) → entries_before at es ≡ s.before
   before_is at e s = before_cut es s.before (e ∷ s.after) at (record { split = s.split; offset = s.offset }) each
 
@@ -93,7 +52,7 @@ module _ (ids : List ℕ) (held : List Held) (segment : ℕ) (es : List Entry) (
 
 -- ---- the index follows
 
-module _ (ids : List ℕ) (held : List Held) (images : ℕ → List Entry) (segment : ℕ) where
+module _ (ids : List ℕ) (held : Places) (images : ℕ → List Entry) (segment : ℕ) where
   abbrev left : List Entry
   left = kept_of ids held segment (images segment)
 
@@ -136,20 +95,21 @@ module _ (ids : List ℕ) (held : List Held) (images : ℕ → List Entry) (segm
       pub lies : LiesAt (images segment) p.at (entry.Object o)
       pub moved : LiesAt left (gone p.at) (entry.Object o)
 
-    kept_here : (h : Held) (o : Object) → IsAmong h held → (h.place.segment == segment) ≡ true
-        → IsAtPlace images h.place (entry.Object o) → h.hash ≡ hash_of o.key → IsKeptHere h.place o
-    kept_here h o m so s hash =
-        let same : h.place.segment ≡ segment = (Decides-eqb h.place.segment segment).0 so in
-        let there = subst (λ (x : ℕ). LiesAt (images x) h.place.at (entry.Object o)) same s in
-        let keeps = among_holds held h (record {
-          hash = hash_of o.key;
-          place = record { segment = segment; at = h.place.at };
-        }) m
-        (is_itself h (hash_of o.key) segment h.place.at hash same refl) in
+    kept_here : AreKept (keys_in images) held → (p : Place) (o : Object) → (p.segment == segment) ≡ true
+        → IsAtPlace images p (entry.Object o)
+        → ((k : Key) → keys_in images p ≡ Some k → found (keys_in images) k held ≡ Some p) → IsKeptHere p o
+    kept_here all p o so s finds =
+        let same : p.segment ≡ segment = (Decides-eqb p.segment segment).0 so in
+        let there = subst (λ (x : ℕ). LiesAt (images x) p.at (entry.Object o)) same s in
+        let key : keys_in images p ≡ Some o.key =
+        ap (λ (x : ℕ). key_in (images x) p.at) same ∙ key_lies (images segment) p.at o valid.each there in
+        let named = found_named (keys_in images) o.key p key held all (finds o.key key) in
+        let place : p ≡ record { segment = segment; at = p.at } = ap (λ (x : ℕ). record p { segment = x }) same in
         record {
           here = so;
           lies = there;
-          moved = lies_moved ids held segment (images segment) valid.each h.place.at (entry.Object o) there keeps;
+          moved = lies_moved ids held segment (images segment) valid.each p.at (entry.Object o) there
+              (subst (λ (q : Place). names held o.key q ≡ true) place named);
         }
 
     keys_here : (p : Place) (o : Object) → IsKeptHere p o → keys_in later (goes p) ≡ keys_in images p
@@ -167,53 +127,47 @@ module _ (ids : List ℕ) (held : List Held) (images : ℕ → List Entry) (segm
         (subst (λ (image : List Entry). LiesAt image (gone p.at) (entry.Object o))
         (sym (image_here p.segment k.here)) k.moved)
 
-    module _ (lie : LieIn images held) where
-      seen : (h : Held) → IsAmong h held → keys_in later (goes h.place) ≡ keys_in images h.place
-      seen h m = go (h.place.segment == segment) refl (all_among _ held h lie m)
+    module _ (lie : LieIn images held) (all : AreKept (keys_in images) held) where
+      -- an object lies at the place, and the key that stands there is found there
+      abbrev IsThere : Place → Type 0
+      IsThere p = ((o : Object) × IsAtPlace images p (entry.Object o))
+          × ((k : Key) → keys_in images p ≡ Some k → found (keys_in images) k held ≡ Some p)
+
+      there : AllPlaces IsThere held
+      there = all_both _ _ held lie (each_found (keys_in images) held all.apart)
+
+      seen : (p : Place) → IsThere p → keys_in later (goes p) ≡ keys_in images p
+      seen p at = go (p.segment == segment) refl
         where
-          go : (b : Bool) → (h.place.segment == segment) ≡ b
-              → (o : Object) × IsAtPlace images h.place (entry.Object o) × (h.hash ≡ hash_of o.key)
-              → keys_in later (goes h.place) ≡ keys_in images h.place
-          go true so at = keys_here h.place at.0 (kept_here h at.0 m so at.1 at.2)
-          go false isnt at = keys_other h.place isnt
+          go : (b : Bool) → (p.segment == segment) ≡ b → keys_in later (goes p) ≡ keys_in images p
+          go true so = keys_here p at.0.0 (kept_here all p at.0.0 so at.0.1 at.1)
+          go false isnt = keys_other p isnt
 
       -- an object lies where its place has gone
-      object_gone : (h : Held) → IsAmong h held → (o : Object) → IsAtPlace images h.place (entry.Object o)
-          → IsAtPlace later (goes h.place) (entry.Object o)
-      object_gone h m o s = go (h.place.segment == segment) refl (all_among _ held h lie m)
+      object_gone : (p : Place) → IsThere p → (o : Object) → IsAtPlace images p (entry.Object o)
+          → IsAtPlace later (goes p) (entry.Object o)
+      object_gone p at o s = go (p.segment == segment) refl
         where
-          go : (b : Bool) → (h.place.segment == segment) ≡ b
-              → (x : Object) × IsAtPlace images h.place (entry.Object x) × (h.hash ≡ hash_of x.key)
-              → IsAtPlace later (goes h.place) (entry.Object o)
-          go true so at =
-              let k = kept_here h at.0 m so at.1 at.2 in
-              let in_segment : h.place.segment ≡ segment = (Decides-eqb h.place.segment segment).0 so in
-              let there = subst (λ (x : ℕ). LiesAt (images x) h.place.at (entry.Object o)) in_segment s in
-              let both : Some (entry.Object at.0) ≡ Some (entry.Object o) =
-              sym (stands_at (images segment) h.place.at (entry.Object at.0) valid.each k.lies)
-              ∙ stands_at (images segment) h.place.at (entry.Object o) valid.each there in
-              let same : at.0 ≡ o = cc in
-              subst (λ (x : Object). IsAtPlace later (goes h.place) (entry.Object x)) same (lies_here h.place at.0 k)
-          go false isnt at = lies_other h.place (entry.Object o) isnt s
+          go : (b : Bool) → (p.segment == segment) ≡ b → IsAtPlace later (goes p) (entry.Object o)
+          go true so =
+              let k = kept_here all p at.0.0 so at.0.1 at.1 in
+              let in_segment : p.segment ≡ segment = (Decides-eqb p.segment segment).0 so in
+              let here = subst (λ (x : ℕ). LiesAt (images x) p.at (entry.Object o)) in_segment s in
+              let both : Some (entry.Object at.0.0) ≡ Some (entry.Object o) =
+              sym (stands_at (images segment) p.at (entry.Object at.0.0) valid.each k.lies)
+              ∙ stands_at (images segment) p.at (entry.Object o) valid.each here in
+              let same : at.0.0 ≡ o = cc in
+              subst (λ (x : Object). IsAtPlace later (goes p) (entry.Object x)) same (lies_here p at.0.0 k)
+          go false isnt = lies_other p (entry.Object o) isnt s
 
-      lies : (h : Held) → IsAmong h held
-          → (o : Object) × IsAtPlace later (goes h.place) (entry.Object o) × (h.hash ≡ hash_of o.key)
-      lies h m = let at = all_among _ held h lie m in (at.0, object_gone h m at.0 at.1, at.2)
-
-      found_gone : (k : Key) (p : Place) (o : Object) → found (keys_in images) k held ≡ Some p
-          → IsAtPlace images p (entry.Object o) → IsAtPlace later (goes p) (entry.Object o)
-      found_gone k p o is s =
-          let place = found_contained (keys_in images) k held p is in
-          let m = among_from_contains place.0 held place.2 in
-          subst (λ (q : Place). IsAtPlace later (goes q) (entry.Object o)) place.1
-          (object_gone place.0 m o (subst (λ (q : Place). IsAtPlace images q (entry.Object o)) (sym place.1) s))
-
-      pub follows : AreKept (keys_in images) held → IsFollowed ids held images segment
-      follows all =
-          let each : AllByRecursion (IsSeen goes (keys_in images) (keys_in later)) held = all_from_among _ held seen in
+      pub follows : IsFollowed ids held images segment
+      follows =
+          let each = all_then IsThere (λ (p : Place). keys_in later (goes p) ≡ keys_in images p) held seen there in
           record {
-            kept = kept_carried goes (keys_in images) (keys_in later) held each all;
-            lie = all_carried goes (keys_in images) (keys_in later) _ held (all_from_among _ held lies);
-            finds = λ k. found_carried goes (keys_in images) (keys_in later) held each k;
-            carries = found_gone;
+            kept = kept_gone goes (keys_in images) (keys_in later) held each all;
+            lie = all_gone goes (λ (p : Place). (o : Object) × IsAtPlace later p (entry.Object o)) held
+                (all_then IsThere (λ (p : Place). (o : Object) × IsAtPlace later (goes p) (entry.Object o)) held
+                (λ p at. (at.0.0, object_gone p at at.0.0 at.0.1)) there);
+            finds = λ k. found_gone goes (keys_in images) (keys_in later) held each k;
+            carries = λ k p o is s. object_gone p (found_holds (keys_in images) IsThere k held p there is) o s;
           }

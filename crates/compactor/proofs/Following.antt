@@ -1,29 +1,28 @@
 -- How the places of an index follow the objects of a segment, entry by entry.
 use Rattle.std.proofs.Common.{◌≡◌, ℕ, ◌+◌, ◌<◌, ◌≤◌, Bool, true, false, cond, ◌&&◌, ◌==◌, List, [], ◌∷◌, ◌++◌, length}
-use Rattle.std.proofs.Common.{map, refl, sym, ap, subst, ◌∙◌, inl, inr, arith}
-use Rattle.std.specs.Prelude.{Some, None, nat_lt}
+use Rattle.std.proofs.Common.{refl, sym, ap, subst, ◌∙◌, inl, inr, arith}
+use Rattle.std.specs.Prelude.{Some, nat_lt}
 use Rattle.std.specs.List.{AllByRecursion}
 use Rattle.std.proofs.lemmas.Bool.{and_parts, and_from, and_left, and_right, ltb-true, lt-ltb, le-ltb, cases_lt}
-use Rattle.std.proofs.lemmas.Bool.{eqb-true, eq-eqb, false_from_ne_true}
+use Rattle.std.proofs.lemmas.Bool.{eqb-true, eq-eqb}
 use Rattle.segment.proofs.RowLemmas.{text_of-append}
 use Rattle.std.proofs.lemmas.List.{length-append}
-use Rattle.entry.specs.declared.key.Key.{Key}
 use Rattle.entry.specs.declared.entry.Object.{Object}
 use Rattle.entry.specs.declared.entry.Entry.{Entry}
 use Rattle.entry.specs.declared.entry.Entry.TheVariants as entry
 use Rattle.entry.specs.Format.{spelling, IsEntry}
 use Rattle.entry.specs.Text.{text_of}
 use Rattle.entry.proofs.TextLemmas.{length_first, spelling-some}
-use Rattle.hash_index.specs.declared.place.Place.{Place}
-use Rattle.hash_index.specs.declared.place.Held.{Held}
-use Rattle.hash_index.specs.Map.{hash_of, tells, found, IsTold, AreApart}
-use Rattle.hash_index.specs.Relocation.{is_same, relocated}
-use Rattle.hash_index.proofs.Finding.{found_here, found_later, tells_from}
+use Rattle.places.specs.declared.place.Place.{Place}
+use Rattle.places.specs.Map.{AreKept}
+use Rattle.places.specs.Relocation.{Places, moved, goes_all}
+use Rattle.places.proofs.Going.{all_then}
+use Rattle.places.proofs.Moves.{all_of, goes_alike, goes_nowhere, moves_alike}
 use Rattle.compactor.specs.Kept.{kept_of, moved_at, moved_place}
 use Rattle.compactor.specs.Places.{LiesAt, IsAtPlace, keys_in, LieIn}
 use Rattle.compactor.proofs.KeptEntries.{kept_length}
 use Rattle.compactor.proofs.Cutting.{IsCut, before_cut}
-use Rattle.compactor.proofs.Moving.{same_true, same_itself, other_at}
+use Rattle.compactor.proofs.StandingKeys.{key_in, key_lies}
 
 -- ---- where entries begin
 
@@ -50,73 +49,72 @@ one_beginning (x ∷ xs) (y ∷ ys) after later f e is low high =
 
 -- ---- the places that have moved
 
-module _ (ids : List ℕ) (held : List Held) (segment : ℕ) (es : List Entry) where
+module _ (ids : List ℕ) (held : Places) (segment : ℕ) (es : List Entry) where
   -- the place lies in the segment, before an offset
-  abbrev Passed : ℕ → Held → Bool
-  Passed cut h = (h.place.segment == segment) && nat_lt h.place.at cut
+  abbrev is_passed : ℕ → Place → Bool
+  is_passed cut p = (p.segment == segment) && nat_lt p.at cut
 
-  abbrev Moved : Held → Held
-  Moved h = record h { place = moved_place ids held segment es h.place }
+  abbrev goes : Place → Place
+  goes p = moved_place ids held segment es p
 
-  -- what is held once the cursor is at an offset
-  abbrev pub Until : ℕ → Held → Held
-  Until cut h = cond (Passed cut h) (Moved h) h
+  -- where a place is once the cursor is at an offset
+  abbrev until : ℕ → Place → Place
+  until cut p = cond (is_passed cut p) (goes p) p
 
-  abbrev pub AllUntil : ℕ → List Held → List Held
-  AllUntil cut hs = map (Until cut) hs
+  -- the places then
+  abbrev pub all_until : ℕ → Places → Places
+  all_until cut ps = goes_all (until cut) ps
 
   moved_here : (p : Place) → p.segment ≡ segment
-      → moved_place ids held segment es p ≡ record p { at = moved_at ids held segment es p.at }
+      → goes p ≡ record p { at = moved_at ids held segment es p.at }
   moved_here p here =
       ap (λ (b : Bool). cond b (record p { at = moved_at ids held segment es p.at }) p) (eq-eqb p.segment segment here)
 
-  passed_true : (cut : ℕ) (h : Held) → h.place.segment ≡ segment → h.place.at < cut → Passed cut h ≡ true
-  passed_true cut h here lt =
-      and_from (h.place.segment == segment) (nat_lt h.place.at cut) (eq-eqb h.place.segment segment here)
-      (lt-ltb h.place.at cut lt)
+  passed_true : (cut : ℕ) (p : Place) → p.segment ≡ segment → p.at < cut → is_passed cut p ≡ true
+  passed_true cut p here lt =
+      and_from (p.segment == segment) (nat_lt p.at cut) (eq-eqb p.segment segment here) (lt-ltb p.at cut lt)
 
-  passed_false : (cut : ℕ) (h : Held) → cut ≤ h.place.at → Passed cut h ≡ false
-  passed_false cut h le = and_right (h.place.segment == segment) (nat_lt h.place.at cut) (le-ltb h.place.at cut le)
+  passed_false : (cut : ℕ) (p : Place) → cut ≤ p.at → is_passed cut p ≡ false
+  passed_false cut p le = and_right (p.segment == segment) (nat_lt p.at cut) (le-ltb p.at cut le)
 
-  passed_out : (cut : ℕ) (h : Held) → (h.place.segment == segment) ≡ false → Passed cut h ≡ false
-  passed_out cut h out = and_left (h.place.segment == segment) (nat_lt h.place.at cut) out
+  passed_out : (cut : ℕ) (p : Place) → (p.segment == segment) ≡ false → is_passed cut p ≡ false
+  passed_out cut p out = and_left (p.segment == segment) (nat_lt p.at cut) out
 
-  until_test : (cut : ℕ) (h : Held) (b : Bool) → Passed cut h ≡ b → Until cut h ≡ cond b (Moved h) h
-  until_test cut h b is = ap (λ (t : Bool). cond t (Moved h) h) is
+  until_test : (cut : ℕ) (p : Place) (b : Bool) → is_passed cut p ≡ b → until cut p ≡ cond b (goes p) p
+  until_test cut p b is = ap (λ (t : Bool). cond t (goes p) p) is
 
   -- a place that isn't at an entry stays as the cursor passes it
-  until_same : (at next : ℕ) (h : Held) → at ≤ next
-      → (h.place.segment ≡ segment → at ≤ h.place.at → h.place.at < next → ⊥) → Until at h ≡ Until next h
-  until_same at next h le outside = go (h.place.segment == segment) refl
+  until_same : (at next : ℕ) (p : Place) → at ≤ next → (p.segment ≡ segment → at ≤ p.at → p.at < next → ⊥)
+      → until at p ≡ until next p
+  until_same at next p le outside = go (p.segment == segment) refl
     where
-      go : (b : Bool) → (h.place.segment == segment) ≡ b → Until at h ≡ Until next h
-      go false out = until_test at h false (passed_out at h out) ∙ sym (until_test next h false (passed_out next h out))
+      go : (b : Bool) → (p.segment == segment) ≡ b → until at p ≡ until next p
+      go false out = until_test at p false (passed_out at p out) ∙ sym (until_test next p false (passed_out next p out))
       go true eq =
-          let here : h.place.segment ≡ segment = eqb-true h.place.segment segment eq in
-          elim (cases_lt h.place.at at) as (λ _. Until at h ≡ Until next h) [
-            | inl before ↦ until_test at h true (passed_true at h here before)
-                ∙ sym (until_test next h true (passed_true next h here (omega arith)))
-            | inr behind ↦ elim (cases_lt h.place.at next) as (λ _. Until at h ≡ Until next h) [
+          let here : p.segment ≡ segment = eqb-true p.segment segment eq in
+          elim (cases_lt p.at at) as (λ _. until at p ≡ until next p) [
+            | inl before ↦ until_test at p true (passed_true at p here before)
+                ∙ sym (until_test next p true (passed_true next p here (omega arith)))
+            | inr behind ↦ elim (cases_lt p.at next) as (λ _. until at p ≡ until next p) [
               | inl within ↦ absurd (outside here behind within)
-              | inr past ↦ until_test at h false (passed_false at h behind)
-                  ∙ sym (until_test next h false (passed_false next h past))
+              | inr past ↦ until_test at p false (passed_false at p behind)
+                  ∙ sym (until_test next p false (passed_false next p past))
             ]
           ]
 
-  pub until_start : (hs : List Held) → AllUntil 0 hs ≡ hs
-  until_start [] = refl
-  until_start (h ∷ hs) =
-      ap (λ (x : Held). x ∷ AllUntil 0 hs) (until_test 0 h false (passed_false 0 h (omega arith)))
-      ∙ ap (λ (xs : List Held). h ∷ xs) (until_start hs)
+  pub until_start : (ps : Places) → all_until 0 ps ≡ ps
+  until_start ps =
+      goes_nowhere (until 0) ps
+      (all_of (λ (p : Place). until 0 p ≡ p) ps (λ p. until_test 0 p false (passed_false 0 p (omega arith))))
 
   -- ---- in images
 
   module _ (images : ℕ → List Entry) (is : images segment ≡ es) (all : AllByRecursion IsEntry es) where
-    abbrev Lies : Held → Type 0
-    Lies h = (o : Object) × IsAtPlace images h.place (entry.Object o) × (h.hash ≡ hash_of o.key)
+    abbrev Lies : Place → Type 0
+    Lies p = (o : Object) × IsAtPlace images p (entry.Object o)
 
-    lies_here : (h : Held) → (l : Lies h) → h.place.segment ≡ segment → LiesAt es h.place.at (entry.Object l.0)
-    lies_here h l here = subst (λ (x : List Entry). LiesAt x h.place.at (entry.Object l.0)) (ap images here ∙ is) l.1
+    lies_here : (p : Place) → (l : Lies p) → p.segment ≡ segment → LiesAt es p.at (entry.Object l.0)
+    lies_here p l here = subst (λ (x : List Entry). LiesAt x p.at (entry.Object l.0)) (ap images here ∙ is) l.1
 
     -- an entry moves to no later offset
     moved_low : (at : ℕ) (e : Entry) → LiesAt es at e → moved_at ids held segment es at ≤ at
@@ -127,27 +125,27 @@ module _ (ids : List ℕ) (held : List Held) (segment : ℕ) (es : List Entry) w
         ap (λ (xs : List Entry). length (text_of (kept_of ids held segment xs))) before in
         omega (arith, same, lies.offset, kept_length ids held segment 0 lies.before)
 
-    pub until_end : (hs : List Held) → LieIn images hs → AllUntil (length (text_of es)) hs ≡ map Moved hs
-    until_end [] lie = refl
-    until_end (h ∷ hs) lie =
-        ap (λ (x : Held). x ∷ AllUntil (length (text_of es)) hs) (go (h.place.segment == segment) refl)
-        ∙ ap (λ (xs : List Held). Moved h ∷ xs) (until_end hs lie.1)
+    pub until_end : (ps : Places) → LieIn images ps → all_until (length (text_of es)) ps ≡ goes_all goes ps
+    until_end ps lie =
+        goes_alike (until (length (text_of es))) goes ps
+        (all_then Lies (λ (p : Place). until (length (text_of es)) p ≡ goes p) ps
+        (λ p lies. passes p lies (p.segment == segment) refl) lie)
       where
-        go : (b : Bool) → (h.place.segment == segment) ≡ b → Until (length (text_of es)) h ≡ Moved h
-        go false out =
-            let stays : moved_place ids held segment es h.place ≡ h.place =
-            ap (λ (b : Bool). cond b (record h.place { at = moved_at ids held segment es h.place.at }) h.place) out in
-            until_test (length (text_of es)) h false (passed_out (length (text_of es)) h out)
-            ∙ ap (λ (p : Place). record h { place = p }) (sym stays)
-        go true eq =
-            let here : h.place.segment ≡ segment = eqb-true h.place.segment segment eq in
-            let lies = lies_here h lie.0 here in
-            let o = lie.0.0 in
+        passes : (p : Place) → Lies p → (b : Bool) → (p.segment == segment) ≡ b
+            → until (length (text_of es)) p ≡ goes p
+        passes p l false out =
+            let stays : goes p ≡ p =
+            ap (λ (b : Bool). cond b (record p { at = moved_at ids held segment es p.at }) p) out in
+            until_test (length (text_of es)) p false (passed_out (length (text_of es)) p out) ∙ sym stays
+        passes p l true eq =
+            let here : p.segment ≡ segment = eqb-true p.segment segment eq in
+            let lies = lies_here p l here in
+            let o = l.0 in
             let whole : length (text_of es) ≡ length (text_of lies.before) + length
             (text_of (entry.Object o ∷ lies.after)) =
             ap length (ap text_of lies.split ∙ text_of-append lies.before (entry.Object o ∷ lies.after))
             ∙ length-append (text_of lies.before) (text_of (entry.Object o ∷ lies.after)) in
-            let within : h.place.at < length (text_of es) =
+            let within : p.at < length (text_of es) =
             omega (
               arith,
               whole,
@@ -155,7 +153,7 @@ module _ (ids : List ℕ) (held : List Held) (segment : ℕ) (es : List Entry) w
               length_first (entry.Object o) lies.after,
               spelling-some (entry.Object o),
             ) in
-            until_test (length (text_of es)) h true (passed_true (length (text_of es)) h here within)
+            until_test (length (text_of es)) p true (passed_true (length (text_of es)) p here within)
 
     -- ---- one entry
 
@@ -163,125 +161,82 @@ module _ (ids : List ℕ) (held : List Held) (segment : ℕ) (es : List Entry) w
       abbrev next : ℕ
       next = at + length (spelling e)
 
-      -- what is held within the entry is held at it
-      here_alone : (h : Held) → (l : Lies h) → h.place.segment ≡ segment → at ≤ h.place.at → h.place.at < next
-          → (h.place.at ≡ at) × (entry.Object l.0 ≡ e)
-      here_alone h l here low high =
-          let lies = lies_here h l here in
+      -- an object that lies within the entry lies at it
+      here_alone : (p : Place) → (l : Lies p) → p.segment ≡ segment → at ≤ p.at → p.at < next
+          → (p.at ≡ at) × (entry.Object l.0 ≡ e)
+      here_alone p l here low high =
+          let lies = lies_here p l here in
           let one =
           one_beginning lies.before before lies.after later (entry.Object l.0) e (sym lies.split ∙ cut.split)
           (omega (arith, low, cut.offset, lies.offset)) (omega (arith, high, cut.offset, lies.offset)) in
           (omega (arith, one.0, cut.offset, lies.offset), one.1)
 
-      -- behind an entry that is no object nothing is held that wasn't
-      pub until_plain : ((o : Object) → entry.Object o ≡ e → ⊥) → (hs : List Held) → LieIn images hs
-          → AllUntil at hs ≡ AllUntil next hs
-      until_plain plain [] lie = refl
-      until_plain plain (h ∷ hs) lie =
-          ap (λ (x : Held). x ∷ AllUntil at hs)
-          (until_same at next h (omega arith)
-          (λ here low high. plain lie.0.0 (here_alone h lie.0 here low high).1))
-          ∙ ap (λ (xs : List Held). Until next h ∷ xs) (until_plain plain hs lie.1)
+      -- behind an entry that is no object each place is where it was
+      pub until_plain : ((o : Object) → entry.Object o ≡ e → ⊥) → (ps : Places) → LieIn images ps
+          → all_until at ps ≡ all_until next ps
+      until_plain plain ps lie =
+          goes_alike (until at) (until next) ps
+          (all_then Lies (λ (p : Place). until at p ≡ until next p) ps
+          (λ p l. until_same at next p (omega arith) (λ here low high. plain l.0 (here_alone p l here low high).1)) lie)
 
       module _ (o : Object) (object : e ≡ entry.Object o) (m : ℕ)
           (copied : m ≡ length (text_of (kept_of ids held segment before))) where
-        abbrev old : Held
-        old = record { hash = hash_of o.key; place = record { segment = segment; at = at } }
+        abbrev old : Place
+        old = record { segment = segment; at = at }
 
         abbrev to : Place
         to = record { segment = segment; at = m }
 
-        -- what is held within the object is its own place
-        only_old : (h : Held) → Lies h → h.place.segment ≡ segment → at ≤ h.place.at → h.place.at < next → h ≡ old
-        only_old h l here low high =
-            let one = here_alone h l here low high in
-            let both : entry.Object l.0 ≡ entry.Object o = one.1 ∙ object in
-            let same : l.0 ≡ o = cc in
-            let hash : h.hash ≡ hash_of o.key = l.2 ∙ ap (λ (x : Object). hash_of x.key) same in
-            λ i. record { hash = hash i; place = record { segment = here i; at = one.0 i } }
+        -- its key stands at its place
+        key_old : keys_in images old ≡ Some o.key
+        key_old =
+            ap (λ (image : List Entry). key_in image at) is
+            ∙ key_lies es at o all (record {
+              before = before;
+              after = later;
+              split = cut.split ∙ ap (λ (x : Entry). before ++ x ∷ later) object;
+              offset = cut.offset;
+            })
 
-        until_other : (h : Held) → Lies h → (h ≡ old → ⊥) → Until at h ≡ Until next h
-        until_other h l other =
-            until_same at next h (omega arith) (λ here low high. other (only_old h l here low high))
+        until_other : (p : Place) → Lies p → (p ≡ old → ⊥) → until at p ≡ until next p
+        until_other p l other =
+            until_same at next p (omega arith)
+            (λ here low high. other (λ i. record { segment = here i; at = (here_alone p l here low high).0 i }))
 
-        not_until : (h : Held) → Lies h → (h ≡ old → ⊥) → is_same old (Until at h) ≡ false
-        not_until h l other = go (Passed at h) refl
+        not_until : (p : Place) → Lies p → (p ≡ old → ⊥) → until at p ≡ old → ⊥
+        not_until p l other = go (is_passed at p) refl
           where
-            go : (b : Bool) → Passed at h ≡ b → is_same old (Until at h) ≡ false
-            go false not =
-                ap (is_same old) (until_test at h false not)
-                ∙ false_from_ne_true (is_same old h) (λ same. other (same_true old h same))
-            go true passed =
-                let parts = and_parts (h.place.segment == segment) (nat_lt h.place.at at) passed in
-                let here : h.place.segment ≡ segment = eqb-true h.place.segment segment parts.0 in
-                let lt : h.place.at < at = ltb-true h.place.at at parts.1 in
-                let low = moved_low h.place.at (entry.Object l.0) (lies_here h l here) in
-                let new : (Moved h).place.at ≡ moved_at ids held segment es h.place.at =
-                ap (λ (p : Place). p.at) (moved_here h.place here) in
-                ap (is_same old) (until_test at h true passed)
-                ∙ other_at old (Moved h) (λ same. omega (arith, same, new, low, lt))
+            go : (b : Bool) → is_passed at p ≡ b → until at p ≡ old → ⊥
+            go false not same = other (sym (until_test at p false not) ∙ same)
+            go true passed same =
+                let parts = and_parts (p.segment == segment) (nat_lt p.at at) passed in
+                let here : p.segment ≡ segment = eqb-true p.segment segment parts.0 in
+                let lt : p.at < at = ltb-true p.at at parts.1 in
+                let low = moved_low p.at (entry.Object l.0) (lies_here p l here) in
+                let new : (goes p).at ≡ moved_at ids held segment es p.at =
+                ap (λ (q : Place). q.at) (moved_here p here) in
+                let there : (goes p).at ≡ at =
+                ap (λ (q : Place). q.at) (sym (until_test at p true passed) ∙ same) in
+                omega (arith, there, new, low, lt)
 
-        -- the place itself
-        until_old : (h : Held) → h ≡ old → record (Until at h) { place = to } ≡ Until next h
-        until_old h same =
-            let here : h.place.segment ≡ segment = ap (λ (x : Held). x.place.segment) same in
-            let there : h.place.at ≡ at = ap (λ (x : Held). x.place.at) same in
-            let first : Until at h ≡ h = until_test at h false (passed_false at h (omega (arith, there))) in
-            let second : Until next h ≡ Moved h =
-            until_test next h true (passed_true next h here (omega (arith, there, spelling-some e))) in
-            let offset : moved_at ids held segment es h.place.at ≡ m =
-            ap (moved_at ids held segment es) there
-            ∙ ap (λ (xs : List Entry). length (text_of (kept_of ids held segment xs)))
+        -- the place itself stays up to there, and is passed behind it
+        until_old : until at old ≡ old
+        until_old = until_test at old false (passed_false at old (omega arith))
+
+        until_new : until next old ≡ to
+        until_new =
+            let offset : moved_at ids held segment es at ≡ m =
+            ap (λ (xs : List Entry). length (text_of (kept_of ids held segment xs)))
             (before_cut es before (e ∷ later) at cut all)
             ∙ sym copied in
-            let place : moved_place ids held segment es h.place ≡ to =
-            moved_here h.place here ∙ (λ i. record { segment = here i; at = offset i }) in
-            ap (λ (x : Held). record x { place = to }) first
-            ∙ ap (λ (p : Place). record h { place = p }) (sym place)
-            ∙ sym second
+            until_test next old true (passed_true next old refl (omega (arith, spelling-some e)))
+            ∙ moved_here old refl
+            ∙ ap (λ (n : ℕ). record old { at = n }) offset
 
-        -- no other place is that of the object's key
-        rest_same : (k : Key) → keys_in images old.place ≡ Some k → (hs : List Held) → LieIn images hs
-            → found (keys_in images) k hs ≡ None → AllUntil at hs ≡ AllUntil next hs
-        rest_same k is_key [] lie none = refl
-        rest_same k is_key (h ∷ hs) lie none = go (tells (keys_in images) k h.place) refl (rest_same k is_key hs lie.1)
-          where
-            go : (b : Bool) → tells (keys_in images) k h.place ≡ b
-                → (found (keys_in images) k hs ≡ None → AllUntil at hs ≡ AllUntil next hs)
-                → AllUntil at (h ∷ hs) ≡ AllUntil next (h ∷ hs)
-            go true told more = let some = found_here (keys_in images) k h hs told in absurd (cc)
-            go false not more =
-                let other : h ≡ old → ⊥ = λ same.
-                let so : tells (keys_in images) k h.place ≡ true =
-                tells_from (keys_in images) k h.place (ap (λ (x : Held). keys_in images x.place) same ∙ is_key) in
-                cc in
-                ap (λ (x : Held). x ∷ AllUntil at hs) (until_other h lie.0 other)
-                ∙ ap (λ (xs : List Held). Until next h ∷ xs)
-                (more (sym (found_later (keys_in images) k h hs not) ∙ none))
-
-        pub until_object : (hs : List Held) → LieIn images hs → AllByRecursion (IsTold (keys_in images)) hs
-            → AreApart (keys_in images) hs → relocated old to (AllUntil at hs) ≡ AllUntil next hs
-        until_object [] lie told apart = refl
-        until_object (h ∷ hs) lie told apart =
-            go (is_same old h) refl (until_object hs lie.1 told.1 apart.1)
-          where
-            go : (b : Bool) → is_same old h ≡ b → relocated old to (AllUntil at hs) ≡ AllUntil next hs
-                → relocated old to (AllUntil at (h ∷ hs)) ≡ AllUntil next (h ∷ hs)
-            go true is_old more =
-                let same : h ≡ old = same_true old h is_old in
-                let first : Until at h ≡ h =
-                until_test at h false (passed_false at h (omega (arith, ap (λ (x : Held). x.place.at) same))) in
-                let test : is_same old (Until at h) ≡ true = ap (is_same old) first ∙ is_old in
-                let key : keys_in images old.place ≡ Some told.0.0 =
-                ap (λ (x : Held). keys_in images x.place) (sym same) ∙ told.0.1 in
-                ap (λ (b : Bool). cond b (record (Until at h) { place = to } ∷ AllUntil at hs)
-                (Until at h ∷ relocated old to (AllUntil at hs))) test
-                ∙ ap (λ (x : Held). x ∷ AllUntil at hs) (until_old h same)
-                ∙ ap (λ (xs : List Held). Until next h ∷ xs)
-                (rest_same told.0.0 key hs lie.1 (apart.0 told.0.0 told.0.1))
-            go false not_old more =
-                let other : h ≡ old → ⊥ = λ same. let so = same_itself old h same in cc in
-                ap (λ (b : Bool). cond b (record (Until at h) { place = to } ∷ AllUntil at hs)
-                (Until at h ∷ relocated old to (AllUntil at hs))) (not_until h lie.0 other)
-                ∙ ap (λ (x : Held). x ∷ relocated old to (AllUntil at hs)) (until_other h lie.0 other)
-                ∙ ap (λ (xs : List Held). Until next h ∷ xs) more
+        pub until_object : (ps : Places) → LieIn images ps → AreKept (keys_in images) ps
+            → moved (all_until at ps) o.key old to ≡ all_until next ps
+        until_object ps lie kept =
+            moves_alike (keys_in images) (until at) (until next) o.key old to key_old until_old until_new ps kept.told
+            kept.apart
+            (all_then Lies (λ (p : Place). (p ≡ old → ⊥) → (until at p ≡ until next p) × (until at p ≡ old → ⊥)) ps
+            (λ p l other. (until_other p l other, not_until p l other)) lie)

@@ -10,7 +10,7 @@ use Rattle.entry.specs.declared.entry.Entry.{Entry}
 use Rattle.entry.specs.declared.entry.Entry.TheVariants as entry
 use Rattle.entry.specs.Format.{spelling, IsEntry}
 use Rattle.entry.specs.Text.{text_of, is_data, are_data, ends_with, is_rest, is_whole, IsSegment}
-use Rattle.hash_index.specs.declared.place.Held.{Held}
+use Rattle.places.specs.Relocation.{Places}
 use Rattle.compactor.specs.Kept.{kept, kept_from, kept_of}
 
 -- ---- one more entry, which is kept or not
@@ -48,7 +48,7 @@ module _ (b : Bool) (e : Entry) where
 
 -- ---- the kept ones
 
-module _ (ids : List ℕ) (held : List Held) (segment : ℕ) where
+module _ (ids : List ℕ) (held : Places) (segment : ℕ) where
   abbrev Keeps : ℕ → Entry → Bool
   Keeps at e = kept ids held (record { segment = segment; at = at }) e
 

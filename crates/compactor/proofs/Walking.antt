@@ -9,17 +9,17 @@ use Rattle.entry.specs.Format.{spelling, IsEntry}
 use Rattle.entry.specs.Text.{text_of, IsSegment, IsTextOf}
 use Rattle.entry.proofs.TextLemmas.{spelling-some}
 use Rattle.segment.proofs.RowLemmas.{text_of-append}
-use Rattle.hash_index.specs.declared.place.Place.{Place}
-use Rattle.hash_index.specs.declared.place.Held.{Held}
-use Rattle.hash_index.specs.Map.{hash_of, AreKept}
-use Rattle.hash_index.specs.Relocation.{holds}
+use Rattle.entry.specs.declared.key.Key.{Key}
+use Rattle.places.specs.declared.place.Place.{Place}
+use Rattle.places.specs.Map.{AreKept}
+use Rattle.places.specs.Relocation.{Places, names}
+use Rattle.places.proofs.Moves.{names_other}
 use Rattle.compactor.specs.Kept.{kept, kept_from, kept_of}
 use Rattle.compactor.specs.Moved.{moved_one, Follows}
 use Rattle.compactor.specs.Places.{keys_in, LieIn}
 use Rattle.compactor.proofs.KeptEntries.{kept_push, kept_length, kept_segment}
 use Rattle.compactor.proofs.Cutting.{IsCut, IsCut-start, first_at, cut_next, cut_end}
-use Rattle.compactor.proofs.Moving.{other_at, holds_relocated}
-use Rattle.compactor.proofs.Following.{AllUntil, until_start, until_end, until_plain, until_object}
+use Rattle.compactor.proofs.Following.{all_until, until_start, until_end, until_plain, until_object}
 
 -- the entry that was read is the first of the rest
 pub record IsHere (es before rest : List Entry) (at : ℕ) (e : Entry) (n : ℕ) : Type 0 where
@@ -59,7 +59,7 @@ cond_size : (b : Bool) (e : Entry) (r : List Entry) (n : ℕ) → n ≡ length (
 cond_size true e r n is = omega (arith, is, length-append (spelling e) (text_of r))
 cond_size false e r n is = omega arith
 
-module _ (ids : List ℕ) (held : List Held) (segment : ℕ) (es : List Entry) where
+module _ (ids : List ℕ) (held : Places) (segment : ℕ) (es : List Entry) where
   abbrev Rest : ℕ → List Entry → ℕ
   Rest at rest = length (text_of (kept_from ids held segment at rest))
 
@@ -127,12 +127,12 @@ module _ (ids : List ℕ) (held : List Held) (segment : ℕ) (es : List Entry) w
 
   -- ---- the copy
 
-  -- places from an offset on are held as they were
-  abbrev AreAsBefore : ℕ → List Held → Type 0
-  AreAsBefore at now = (q : Held) → at ≤ q.place.at → holds now q ≡ holds held q
+  -- places from an offset on are named as they were
+  abbrev AreAsBefore : ℕ → Places → Type 0
+  AreAsBefore at now = (k : Key) (p : Place) → at ≤ p.at → names now k p ≡ names held k p
 
   -- The kept entries before an offset are copied, and the index has moved with them. There is room for the others.
-  pub record IsCopied (at : ℕ) (out : List ℕ) (capacity : ℕ) (now : List Held) : Type 0 where
+  pub record IsCopied (at : ℕ) (out : List ℕ) (capacity : ℕ) (now : Places) : Type 0 where
     pub before : List Entry
     pub rest : List Entry
     pub cut : IsCut es before rest at
@@ -140,7 +140,7 @@ module _ (ids : List ℕ) (held : List Held) (segment : ℕ) (es : List Entry) w
     pub room : length out + Rest at rest ≤ capacity
     pub same : AreAsBefore at now
     pub follows : (images : ℕ → List Entry) → images segment ≡ es → LieIn images held
-        → AreKept (keys_in images) held → now ≡ AllUntil ids held segment es at held
+        → AreKept (keys_in images) held → now ≡ all_until ids held segment es at held
 
   pub IsCopied-start : (out : List ℕ) (capacity : ℕ) → out ≡ []
       → length (text_of (kept_of ids held segment es)) ≤ capacity → IsCopied 0 out capacity held
@@ -150,40 +150,39 @@ module _ (ids : List ℕ) (held : List Held) (segment : ℕ) (es : List Entry) w
     cut = IsCut-start es;
     text = empty;
     room = omega (arith, room, ap length empty);
-    same = λ q le. refl;
+    same = λ k p le. refl;
     follows = λ images is lie all. sym (until_start ids held segment es held);
   }
 
   -- an entry is kept as it was, wherever it lies from an offset on
-  kept_same : (at : ℕ) (now : List Held) → AreAsBefore at now → (p : Place) (e : Entry) → at ≤ p.at
+  kept_same : (at : ℕ) (now : Places) → AreAsBefore at now → (p : Place) (e : Entry) → at ≤ p.at
       → kept ids now p e ≡ kept ids held p e
   kept_same at now same p (entry.Header h) le = refl
   kept_same at now same p (entry.Digest l) le = refl
   kept_same at now same p (entry.Safe version) le = refl
-  kept_same at now same p (entry.Object o) le = same (record { hash = hash_of o.key; place = p }) le
+  kept_same at now same p (entry.Object o) le = same o.key p le
   kept_same at now same p (entry.Tombstone t) le = refl
 
-  same_next : (at n m : ℕ) (now : List Held) (e : Entry) → 0 < n → m ≤ at → AreAsBefore at now
+  same_next : (at n m : ℕ) (now : Places) (e : Entry) → 0 < n → m ≤ at → AreAsBefore at now
       → AreAsBefore (at + n)
       (moved_one (record { segment = segment; at = at }) (record { segment = segment; at = m }) e now)
-  same_next at n m now (entry.Header h) some low same = λ q le. same q (omega arith)
-  same_next at n m now (entry.Digest l) some low same = λ q le. same q (omega arith)
-  same_next at n m now (entry.Safe version) some low same = λ q le. same q (omega arith)
-  same_next at n m now (entry.Tombstone t) some low same = λ q le. same q (omega arith)
-  same_next at n m now (entry.Object o) some low same = λ q le.
-      let old : Held = record { hash = hash_of o.key; place = record { segment = segment; at = at } } in
-      let to : Place = record { segment = segment; at = m } in
-      holds_relocated old to q (other_at q old (λ is. omega (arith, is, le, some)))
-      (other_at q (record old { place = to }) (λ is. omega (arith, is, le, some, low))) now
-      ∙ same q (omega arith)
+  same_next at n m now (entry.Header h) some low same = λ k p le. same k p (omega arith)
+  same_next at n m now (entry.Digest l) some low same = λ k p le. same k p (omega arith)
+  same_next at n m now (entry.Safe version) some low same = λ k p le. same k p (omega arith)
+  same_next at n m now (entry.Tombstone t) some low same = λ k p le. same k p (omega arith)
+  same_next at n m now (entry.Object o) some low same = λ k p le.
+      names_other o.key k (record { segment = segment; at = at }) (record { segment = segment; at = m }) p
+      (λ is. omega (arith, ap (λ (q : Place). q.at) is, le, some))
+      (λ is. omega (arith, ap (λ (q : Place). q.at) is, le, some, low)) now
+      ∙ same k p (omega arith)
 
   -- the places of one entry follow it
   followed_by : (all : AllByRecursion IsEntry es) (before later : List Entry) (e : Entry) (at m : ℕ)
       → IsCut es before (e ∷ later) at → m ≡ length (text_of (kept_of ids held segment before))
       → (images : ℕ → List Entry) → images segment ≡ es → LieIn images held → AreKept (keys_in images) held
       → moved_one (record { segment = segment; at = at }) (record { segment = segment; at = m }) e
-      (AllUntil ids held segment es at held)
-      ≡ AllUntil ids held segment es (at + length (spelling e)) held
+      (all_until ids held segment es at held)
+      ≡ all_until ids held segment es (at + length (spelling e)) held
   followed_by all before later (entry.Header h) at m cut copied images is lie found =
       until_plain ids held segment es images is all before later (entry.Header h) at cut (λ o same. cc) held lie
   followed_by all before later (entry.Digest l) at m cut copied images is lie found =
@@ -193,13 +192,12 @@ module _ (ids : List ℕ) (held : List Held) (segment : ℕ) (es : List Entry) w
   followed_by all before later (entry.Tombstone t) at m cut copied images is lie found =
       until_plain ids held segment es images is all before later (entry.Tombstone t) at cut (λ o same. cc) held lie
   followed_by all before later (entry.Object o) at m cut copied images is lie found =
-      until_object ids held segment es images is all before later (entry.Object o) at cut o refl m copied held lie
-      found.told found.apart
+      until_object ids held segment es images is all before later (entry.Object o) at cut o refl m copied held lie found
 
-  module _ (all : AllByRecursion IsEntry es) (at : ℕ) (out : List ℕ) (capacity : ℕ) (now : List Held)
+  module _ (all : AllByRecursion IsEntry es) (at : ℕ) (out : List ℕ) (capacity : ℕ) (now : Places)
       (s : IsCopied at out capacity now) (e : Entry) (n m : ℕ) (here : IsHere es s.before s.rest at e n)
       (end : m ≡ length out) where
-    abbrev after : List Held
+    abbrev after : Places
     after = moved_one (record { segment = segment; at = at }) (record { segment = segment; at = m }) e now
 
     copied_low : m ≤ at
@@ -210,12 +208,12 @@ module _ (ids : List ℕ) (held : List Held) (segment : ℕ) (es : List Entry) w
     keeps_as b is = sym (is ∙ kept_same at now s.same (record { segment = segment; at = at }) e (omega arith))
 
     follows_next : (images : ℕ → List Entry) → images segment ≡ es → LieIn images held → AreKept (keys_in images) held
-        → after ≡ AllUntil ids held segment es (at + n) held
+        → after ≡ all_until ids held segment es (at + n) held
     follows_next images is lie found =
         ap (moved_one (record { segment = segment; at = at }) (record { segment = segment; at = m }) e)
         (s.follows images is lie found)
         ∙ followed_by all s.before here.later e at m here.cut (end ∙ ap length s.text) images is lie found
-        ∙ ap (λ (k : ℕ). AllUntil ids held segment es (at + k) held) (sym here.size)
+        ∙ ap (λ (k : ℕ). all_until ids held segment es (at + k) held) (sym here.size)
 
     text_next : (b : Bool) → kept ids held (record { segment = segment; at = at }) e ≡ b
         → text_of (kept_of ids held segment (s.before ++ e ∷ [])) ≡ out ++ text_of (cond b (e ∷ []) [])
@@ -270,7 +268,7 @@ module _ (ids : List ℕ) (held : List Held) (segment : ℕ) (es : List Entry) w
         }
 
   -- the same bytes, with more room
-  pub IsCopied-as : (at : ℕ) (out again : List ℕ) (capacity wide : ℕ) (now : List Held) → again ≡ out
+  pub IsCopied-as : (at : ℕ) (out again : List ℕ) (capacity wide : ℕ) (now : Places) → again ≡ out
       → capacity ≤ wide → IsCopied at out capacity now → IsCopied at again wide now
   IsCopied-as at out again capacity wide now is wider s =
       record {
@@ -289,24 +287,24 @@ module _ (ids : List ℕ) (held : List Held) (segment : ℕ) (es : List Entry) w
   whole_before before rest at cut past =
       sym (cut.split ∙ ap (λ (r : List Entry). before ++ r) (cut_end es before rest at cut past) ∙ append-nil before)
 
-  pub IsCopied-text : (at : ℕ) (out : List ℕ) (capacity : ℕ) (now : List Held) → IsCopied at out capacity now
+  pub IsCopied-text : (at : ℕ) (out : List ℕ) (capacity : ℕ) (now : Places) → IsCopied at out capacity now
       → length (text_of es) ≤ at → out ≡ text_of (kept_of ids held segment es)
   IsCopied-text at out capacity now s past =
       s.text ∙ ap (λ (xs : List Entry). text_of (kept_of ids held segment xs))
       (whole_before s.before s.rest at s.cut past)
 
-  pub IsCopied-follows : (all : AllByRecursion IsEntry es) (at : ℕ) (out : List ℕ) (capacity : ℕ) (now : List Held)
+  pub IsCopied-follows : (all : AllByRecursion IsEntry es) (at : ℕ) (out : List ℕ) (capacity : ℕ) (now : Places)
       → IsCopied at out capacity now → length (text_of es) ≤ at → Follows ids segment es held now
   IsCopied-follows all at out capacity now s past = λ images is lie found.
       let end : at ≡ length (text_of es) =
       s.cut.offset ∙ ap (λ (xs : List Entry). length (text_of xs)) (whole_before s.before s.rest at s.cut past) in
       s.follows images is lie found
-      ∙ ap (λ (k : ℕ). AllUntil ids held segment es k held) end
+      ∙ ap (λ (k : ℕ). all_until ids held segment es k held) end
       ∙ until_end ids held segment es images is all held lie
 
   -- what is copied is a segment's text
   pub IsCopied-all : (text : List ℕ) → text ≡ text_of es → IsSegment es → (at : ℕ) (out : List ℕ) (capacity : ℕ)
-      (now : List Held) → IsCopied at out capacity now → length text ≤ at
+      (now : Places) → IsCopied at out capacity now → length text ≤ at
       → IsTextOf out (kept_of ids held segment es)
   IsCopied-all text is valid at out capacity now s past = record {
     segment = kept_segment ids held segment es valid;

@@ -2,9 +2,9 @@
 use Rattle.std.specs.Prelude.{ℕ, ◌+◌, List, [], ◌∷◌, ◌&&◌, if◌then◌else◌}
 use Rattle.entry.specs.declared.entry.Entry.{Entry}
 use Rattle.entry.specs.Text.{is_data}
-use Rattle.hash_index.specs.declared.place.Place.{Place}
-use Rattle.hash_index.specs.declared.place.Held.{Held}
-use Rattle.hash_index.specs.Relocation.{holds}
+use Rattle.places.specs.declared.place.Place.{Place}
+use Rattle.places.specs.declared.place.Held.{Held}
+use Rattle.places.specs.Relocation.{Places, holds}
 use Rattle.compactor.specs.declared.keeping.Asked.{Asked}
 use Rattle.compactor.specs.Kept.{kept}
 
@@ -18,10 +18,10 @@ asked_bytes [] = 0
 asked_bytes (a ∷ others) = a.len + asked_bytes others
 
 -- the bytes of those that the index holds
-abbrev pub held_bytes : List Held → ℕ → List Asked → ℕ
+abbrev pub held_bytes : Places → ℕ → List Asked → ℕ
 held_bytes held id [] = 0
 held_bytes held id (a ∷ others) = (if holds held (asked_of id a) then a.len else 0) + held_bytes held id others
 
 -- the bytes of an entry if it is an object or a tombstone that is kept, else 0
-abbrev pub counted : List ℕ → List Held → Place → Entry → ℕ → ℕ
+abbrev pub counted : List ℕ → Places → Place → Entry → ℕ → ℕ
 counted ids held p e len = if is_data e && kept ids held p e then len else 0

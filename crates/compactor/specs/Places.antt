@@ -1,6 +1,5 @@
 -- Where entries stand in an image, and which keys images tell an index.
 use Rattle.std.specs.Prelude.{◌≡◌, ℕ, List, ◌∷◌, ◌++◌, length, Option, Some, None}
-use Rattle.std.specs.List.{AllByRecursion}
 use Rattle.std.specs.Option.{option_map, option_and_then}
 use Rattle.entry.specs.declared.key.Key.{Key}
 use Rattle.entry.specs.declared.entry.Object.{Object}
@@ -8,9 +7,8 @@ use Rattle.entry.specs.declared.entry.Entry.{Entry}
 use Rattle.entry.specs.declared.entry.Entry.TheVariants as entry
 use Rattle.entry.specs.Text.{text_of}
 use Rattle.segment.specs.Bytes.{standing_at}
-use Rattle.hash_index.specs.declared.place.Held.{Held}
-use Rattle.hash_index.specs.declared.place.Place.{Place}
-use Rattle.hash_index.specs.Map.{hash_of}
+use Rattle.places.specs.declared.place.Place.{Place}
+use Rattle.places.specs.Relocation.{Places, AllPlaces}
 
 -- the entry stands at this offset of the image
 pub record LiesAt (image : List Entry) (at : ℕ) (e : Entry) : Type 0 where
@@ -43,7 +41,6 @@ object_there images p = object_in (images p.segment) p.at
 abbrev pub keys_in : (ℕ → List Entry) → Place → Option Key
 keys_in images p = option_map (λ (o : Object). o.key) (object_there images p)
 
--- at each place lies an object of the images, and the hash of its key is held there
-abbrev pub LieIn : (ℕ → List Entry) → List Held → Type 0
-LieIn images hs = AllByRecursion (λ (h : Held).
-    (o : Object) × IsAtPlace images h.place (entry.Object o) × (h.hash ≡ hash_of o.key)) hs
+-- at each place lies an object of the images
+abbrev pub LieIn : (ℕ → List Entry) → Places → Type 0
+LieIn images ps = AllPlaces (λ (p : Place). (o : Object) × IsAtPlace images p (entry.Object o)) ps

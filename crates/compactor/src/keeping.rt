@@ -3,7 +3,7 @@
 ghost use Rattle.std.specs.Prelude.{◌≡◌, ◌+◌, ◌≤◌, length, filter, if◌then◌else◌};
 ghost use Rattle.entry.specs.Text.{text_of, is_data, IsSegment};
 ghost use Rattle.entry.specs.View.{shown};
-ghost use Rattle.hash_index.specs.Relocation.{holds};
+ghost use Rattle.places.specs.Relocation.{holds};
 ghost use Rattle.compactor.specs.Asked.{asked_of, asked_bytes, counted, held_bytes};
 ghost use Rattle.compactor.specs.Kept.{kept, kept_of};
 ghost use Rattle.compactor.specs.Log.{ids_of_log};

@@ -9,11 +9,11 @@ use Rattle.std.proofs.lemmas.Grind.{flat_map-append}
 use Rattle.std.proofs.lemmas.Bool.Decides.{Decides-eqb}
 use Rattle.entry.specs.declared.key.Key.{Key}
 use Rattle.entry.proofs.ListLemmas.{all_append, all_split}
-use Rattle.hash_index.specs.declared.place.Place.{Place}
-use Rattle.hash_index.specs.declared.place.Held.{Held}
-use Rattle.hash_index.specs.Map.{hash_of, tells, found, IsTold, AreKept, IndexValue}
+use Rattle.places.specs.declared.place.Place.{Place}
+use Rattle.places.specs.declared.place.Held.{Held}
+use Rattle.places.specs.Map.{hash_of, tells, found, IsTold, AreKept, IndexValue}
 use Rattle.hash_index.specs.Steps.{HashesPass, BringsNoHash, IsShuffled, chain_of, belongs, places_in, AreInChains}
-use Rattle.hash_index.proofs.Finding.{tells_is, found_later}
+use Rattle.places.proofs.Finding.{tells_is, found_later}
 use Rattle.hash_index.proofs.Joining.{found_left, found_right, kept_left, kept_right, shuffled_then, shuffled_left}
 use Rattle.hash_index.proofs.Joining.{shuffled_right, shuffled_turned}
 

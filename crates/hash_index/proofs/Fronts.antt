@@ -4,7 +4,7 @@ use Rattle.std.specs.Prelude.{slice_set}
 use Rattle.std.specs.List.{refill}
 use Rattle.std.proofs.lemmas.List.{length-set}
 use Rattle.entry.proofs.ListLemmas.{written_back}
-use Rattle.hash_index.specs.declared.place.Held.{Held}
+use Rattle.places.specs.declared.place.Held.{Held}
 
 -- the list with one item set that is written back
 pub set_back : (items lent : List Held) (i : ℕ) (x : Held) → lent ≡ items

@@ -8,11 +8,11 @@ use Rattle.std.proofs.Math.Seq.{split_at}
 use Rattle.std.proofs.lemmas.List.{take_more}
 use Rattle.entry.specs.declared.key.Key.{Key}
 use Rattle.entry.proofs.ListLemmas.{all_append, all_split}
-use Rattle.hash_index.specs.declared.place.Place.{Place}
-use Rattle.hash_index.specs.declared.place.Held.{Held}
-use Rattle.hash_index.specs.Map.{tells, found, IsTold, AreApart, AreKept, IsSameMap}
+use Rattle.places.specs.declared.place.Place.{Place}
+use Rattle.places.specs.declared.place.Held.{Held}
+use Rattle.places.specs.Map.{tells, found, IsTold, AreApart, AreKept, IsSameMap}
 use Rattle.hash_index.specs.Steps.{IsShuffled}
-use Rattle.hash_index.proofs.Finding.{tells_is, tells_from, found_here, found_later, kept_tail}
+use Rattle.places.proofs.Finding.{tells_is, tells_from, found_here, found_later, kept_tail}
 
 or_if : (t : Bool) (p : Place) (a b : Option Place) → (if t then Some p else option_or a b)
     ≡ option_or (if t then Some p else a) b

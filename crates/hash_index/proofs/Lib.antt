@@ -1,13 +1,9 @@
-pub mod Finding
-pub mod Changing
 pub mod Slots
-pub mod Again
 pub mod Joining
 pub mod Chains
 pub mod Whole
-pub mod Each
 pub mod Relocating
 pub mod Parts
 pub mod Fronts
 pub mod TakingOut
-pub mod FoundPlaces
+pub mod Adding

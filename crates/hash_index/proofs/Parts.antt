@@ -2,9 +2,9 @@
 use Rattle.std.proofs.Common.{◌≡◌, true, false, List, [], ◌∷◌, ◌++◌, append_assoc, sym, ap, subst, ◌∙◌}
 use Rattle.std.specs.Prelude.{Result, Ok, Err, OnOk}
 use Rattle.entry.proofs.ListLemmas.{all_append, all_split}
-use Rattle.hash_index.specs.declared.place.Place.{Place}
-use Rattle.hash_index.specs.declared.place.Held.{Held}
-use Rattle.hash_index.specs.Relocation.{holds, relocated}
+use Rattle.places.specs.declared.place.Place.{Place}
+use Rattle.places.specs.declared.place.Held.{Held}
+use Rattle.places.specs.Relocation.{holds, relocated}
 use Rattle.hash_index.specs.Steps.{BringsNoHash, IsShuffled}
 use Rattle.hash_index.proofs.Joining.{shuffled_itself, shuffled_then, shuffled_left, shuffled_right, shuffled_turned}
 use Rattle.hash_index.proofs.Relocating.{relocated_first, relocated_right, relocated_none}

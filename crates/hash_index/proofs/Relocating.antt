@@ -7,10 +7,10 @@ use Rattle.std.specs.List.{list_any, position, position_or_len}
 use Rattle.std.proofs.lemmas.List.Folds.{list_any-append, list_any_at}
 use Rattle.std.proofs.lemmas.List.Quantifiers.{position-Some}
 use Rattle.std.proofs.lemmas.Bool.Decides.{Decides-eqb}
-use Rattle.hash_index.specs.declared.place.Place.{Place}
-use Rattle.hash_index.specs.declared.place.Held.{Held}
-use Rattle.hash_index.specs.Map.{IndexValue}
-use Rattle.hash_index.specs.Relocation.{is_same, is_same_place, holds, relocated}
+use Rattle.places.specs.declared.place.Place.{Place}
+use Rattle.places.specs.declared.place.Held.{Held}
+use Rattle.places.specs.Map.{IndexValue}
+use Rattle.places.specs.Relocation.{is_same, is_same_place, holds, relocated}
 use Rattle.hash_index.specs.Steps.{HashesPass, BringsNoHash, chain_of, belongs, places_in, AreInChains}
 use Rattle.hash_index.proofs.Slots.{past_none, past_tail, not_met}
 use Rattle.hash_index.proofs.Chains.{places_split, places_set}

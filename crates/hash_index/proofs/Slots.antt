@@ -7,10 +7,10 @@ use Rattle.std.proofs.Math.Seq.{split_at}
 use Rattle.std.proofs.lemmas.List.Quantifiers.{position-Some}
 use Rattle.std.proofs.lemmas.Bool.Decides.{Decides-eqb}
 use Rattle.entry.specs.declared.key.Key.{Key}
-use Rattle.hash_index.specs.declared.place.Place.{Place}
-use Rattle.hash_index.specs.declared.place.Held.{Held}
-use Rattle.hash_index.specs.Map.{hash_of, tells, has_hash, is_of, found, IsTold, AreKept, IsCandidate}
-use Rattle.hash_index.proofs.Finding.{tells_is, found_later, found_at}
+use Rattle.places.specs.declared.place.Place.{Place}
+use Rattle.places.specs.declared.place.Held.{Held}
+use Rattle.places.specs.Map.{hash_of, tells, has_hash, is_of, found, IsTold, AreKept, IsCandidate}
+use Rattle.places.proofs.Finding.{tells_is, found_later, found_at}
 
 and_second : (a b : Bool) → (a && b) ≡ true → b ≡ true
 and_second true b e = e

@@ -5,9 +5,9 @@ use Rattle.std.proofs.Common.{get_or, set, take, drop, refl, sym, ap, subst, ◌
 use Rattle.std.specs.Prelude.{Some}
 use Rattle.std.specs.List.{position, position_or_len, remove}
 use Rattle.std.proofs.lemmas.List.Quantifiers.{position-Some}
-use Rattle.hash_index.specs.declared.place.Held.{Held}
-use Rattle.hash_index.specs.Map.{IndexValue}
-use Rattle.hash_index.specs.Relocation.{is_same, holds, without}
+use Rattle.places.specs.declared.place.Held.{Held}
+use Rattle.places.specs.Map.{IndexValue}
+use Rattle.places.specs.Relocation.{is_same, holds, without}
 use Rattle.hash_index.specs.Steps.{HashesPass, BringsNoHash, chain_of, places_in, AreInChains}
 use Rattle.hash_index.proofs.Chains.{places_split, places_set}
 use Rattle.hash_index.proofs.Relocating.{position_is, before_lacks, after_lacks}

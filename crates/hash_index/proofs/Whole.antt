@@ -3,9 +3,9 @@ use Rattle.std.proofs.Common.{◌≡◌, true, false, List, ◌++◌, ap, ◌∙
 use Rattle.std.specs.Prelude.{Option, Some, None, Result, Ok, Err, OnOk, OnErr, is_ok, is_err}
 use Rattle.std.specs.Option.{option_or}
 use Rattle.entry.specs.declared.key.Key.{Key}
-use Rattle.hash_index.specs.declared.place.Place.{Place}
-use Rattle.hash_index.specs.declared.place.Held.{Held}
-use Rattle.hash_index.specs.Map.{found}
+use Rattle.places.specs.declared.place.Place.{Place}
+use Rattle.places.specs.declared.place.Held.{Held}
+use Rattle.places.specs.Map.{found}
 use Rattle.hash_index.proofs.Joining.{found_append, found_right}
 
 pub on_ok : {T E : Type 0} {P : Type 0} (r : Result T E) → OnOk r P → is_ok r ≡ true → P

@@ -3,16 +3,15 @@
 ghost use Rattle.std.specs.Prelude.{◌≡◌, ◌∷◌, ◌++◌, [], Option, true, OnOk, OnErr};
 ghost use Rattle.entry.specs.declared.key.Key.{Key};
 ghost use Rattle.entry.specs.View.{shown_key};
-ghost use Rattle.hash_index.specs.declared.place.Place.{Place as PlaceValue};
-ghost use Rattle.hash_index.specs.Map.{found, hash_of, AreKept, IsCandidate};
-ghost use Rattle.hash_index.specs.Relocation.{holds, relocated, without};
+ghost use Rattle.places.specs.declared.place.Place.{Place as PlaceValue};
+ghost use Rattle.places.specs.Map.{found, hash_of, AreKept, IsCandidate};
+ghost use Rattle.places.specs.Relocation.{holds, relocated, without};
 ghost use Rattle.hash_index.specs.Steps.{BringsNoHash, IsShuffled};
 
 use crate::front::Front;
-use crate::place::{Held, Place};
 use crate::plain::PlainIndex;
-use crate::resolve::Resolve;
 use entry::{KeyRef, NoMemory};
+use places::{Held, Place, Resolve};
 use std::alloc::Global;
 use std::marker::Model;
 
@@ -26,7 +25,7 @@ pub(crate) struct Chain {
 
 impl Model for Chain {
     ghost use Rattle.std.specs.Prelude.{◌++◌};
-    ghost use Rattle.hash_index.specs.Map.{IndexValue};
+    ghost use Rattle.places.specs.Map.{IndexValue};
 
     ghost Value = { IndexValue };
 

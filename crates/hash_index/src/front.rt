@@ -3,15 +3,14 @@
 ghost use Rattle.std.specs.Prelude.{◌≡◌, ◌∷◌, ◌++◌, [], Option, true, false};
 ghost use Rattle.entry.specs.declared.key.Key.{Key};
 ghost use Rattle.entry.specs.View.{shown_key};
-ghost use Rattle.hash_index.specs.declared.place.Place.{Place as PlaceValue};
-ghost use Rattle.hash_index.specs.Map.{found, hash_of, AreKept, IsCandidate};
-ghost use Rattle.hash_index.specs.Relocation.{holds, relocated, without};
+ghost use Rattle.places.specs.declared.place.Place.{Place as PlaceValue};
+ghost use Rattle.places.specs.Map.{found, hash_of, AreKept, IsCandidate};
+ghost use Rattle.places.specs.Relocation.{holds, relocated, without};
 
-use crate::place::{Held, Place};
-use crate::resolve::Resolve;
 use crate::walk::{first_slot, is_same_held, slot_at, slot_of};
 use arrayvec::ArrayVec;
 use entry::KeyRef;
+use places::{Held, Place, Resolve};
 use std::marker::Model;
 
 /// How many places of a chain lie in the table itself.
@@ -25,7 +24,7 @@ pub(crate) struct Front {
 
 impl Model for Front {
     ghost use Rattle.std.specs.Prelude.{List};
-    ghost use Rattle.hash_index.specs.declared.place.Held.{Held};
+    ghost use Rattle.places.specs.declared.place.Held.{Held};
 
     ghost Value = { List Held };
 

@@ -3,15 +3,14 @@
 ghost use Rattle.std.specs.Prelude.{◌≡◌, ◌+◌, ◌<◌, ◌≤◌, [], Option, Some, None, true, false, length, OnOk, OnErr};
 ghost use Rattle.entry.specs.declared.key.Key.{Key};
 ghost use Rattle.entry.specs.View.{shown_key};
-ghost use Rattle.hash_index.specs.declared.place.Place.{Place as PlaceValue};
-ghost use Rattle.hash_index.specs.Map.{found, hash_of, AreKept, IsSet, IsSameMap, IsCandidate};
-ghost use Rattle.hash_index.specs.Relocation.{holds, relocated};
+ghost use Rattle.places.specs.declared.place.Place.{Place as PlaceValue};
+ghost use Rattle.places.specs.Map.{found, hash_of, AreKept, IsSet, IsSameMap, IsCandidate};
+ghost use Rattle.places.specs.Relocation.{holds, relocated};
 
-use crate::place::{Held, Place};
 use crate::plain::PlainIndex;
-use crate::resolve::Resolve;
 use crate::table::Table;
 use entry::{KeyRef, NoMemory};
+use places::{Held, Place, Resolve};
 use std::alloc::{AllocError, Global};
 use std::marker::Model;
 
@@ -51,7 +50,7 @@ pub struct Index {
 
 impl Model for Index {
     ghost use Rattle.std.specs.Prelude.{◌++◌};
-    ghost use Rattle.hash_index.specs.Map.{IndexValue};
+    ghost use Rattle.places.specs.Map.{IndexValue};
     ghost use Rattle.hash_index.specs.Whole.{IsWhole};
 
     ghost Value = { IndexValue };

@@ -2,13 +2,11 @@
 
 ghost use Rattle.std.specs.Prelude.{◌≡◌, ◌+◌, ◌<◌, ◌≤◌, Some, None, is_some, if◌then◌else◌};
 ghost use Rattle.entry.specs.View.{shown_key};
-ghost use Rattle.hash_index.specs.Map.{found, AreKept, IsSet};
+ghost use Rattle.places.specs.Map.{found, AreKept, IsSet};
 
-use crate::hashing::hash_key;
 use crate::index::Index;
-use crate::place::{Held, Place};
-use crate::resolve::Resolve;
 use entry::KeyRef;
+use places::{Held, Place, Resolve, hash_key};
 
 impl Index {
     /// The place of a key.

@@ -13,27 +13,19 @@
 //! `get`, `set`, `remove` and `move_to` take a key. Whoever looked it up, or moves objects within the log, knows its
 //! hash and its place. `insert`, `relocate`, `take_out` and `holds` take these two, and read no key.
 //!
-//! The hash is the same in each run. So whoever picks the keys can make them all fall into one chain, until the hash
-//! has a parameter of its own.
+//! The hash is the same in each run. So whoever picks the keys can make them all fall into one chain.
 //!
-//! `PlainIndex` promises the same over one list that is walked. What both are is in `specs/Map.antt`.
+//! `PlainIndex` promises the same over one list that is walked. What both are is said in `places`.
 #![tactic(auto)]
 
 mod chain;
 mod front;
-mod hashing;
 mod index;
 mod keyed;
-mod laws;
-mod place;
 mod plain;
-mod resolve;
 mod table;
 mod walk;
 
-pub use hashing::hash_key;
 pub use index::Index;
-pub use laws::{found_places_move, resolvers_agree};
-pub use place::{Held, Place};
+pub use places::{Held, Place, Resolve, hash_key};
 pub use plain::PlainIndex;
-pub use resolve::Resolve;

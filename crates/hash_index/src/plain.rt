@@ -4,14 +4,13 @@ ghost use Rattle.std.specs.Prelude.{◌≡◌, ◌+◌, ◌<◌, ◌≤◌, ◌�
 ghost use Rattle.std.specs.List.{remove};
 ghost use Rattle.entry.specs.declared.key.Key.{Key};
 ghost use Rattle.entry.specs.View.{shown_key};
-ghost use Rattle.hash_index.specs.declared.place.Place.{Place as PlaceValue};
-ghost use Rattle.hash_index.specs.Map.{found, hash_of, AreKept, IsCandidate};
-ghost use Rattle.hash_index.specs.Relocation.{holds, relocated, without};
+ghost use Rattle.places.specs.declared.place.Place.{Place as PlaceValue};
+ghost use Rattle.places.specs.Map.{found, hash_of, AreKept, IsCandidate};
+ghost use Rattle.places.specs.Relocation.{holds, relocated, without};
 
-use crate::place::{Held, Place};
-use crate::resolve::Resolve;
 use crate::walk::{first_slot, slot_at, slot_of};
 use entry::{KeyRef, NoMemory};
+use places::{Held, Place, Resolve};
 use std::alloc::Global;
 use std::marker::Model;
 
@@ -23,7 +22,7 @@ pub struct PlainIndex {
 
 impl Model for PlainIndex {
     ghost use Rattle.std.specs.Prelude.{◌-◌, vec_len, vec_capacity};
-    ghost use Rattle.hash_index.specs.Map.{IndexValue};
+    ghost use Rattle.places.specs.Map.{IndexValue};
 
     ghost Value = { IndexValue };
 

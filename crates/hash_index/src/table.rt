@@ -4,16 +4,15 @@ ghost use Rattle.std.specs.Prelude.{◌≡◌, ◌+◌, ◌<◌, ◌≤◌, ◌�
 ghost use Rattle.std.specs.Prelude.{OnErr};
 ghost use Rattle.entry.specs.declared.key.Key.{Key};
 ghost use Rattle.entry.specs.View.{shown_key};
-ghost use Rattle.hash_index.specs.Map.{found, hash_of, AreKept, IsCandidate};
-ghost use Rattle.hash_index.specs.Relocation.{holds, relocated, without};
-ghost use Rattle.hash_index.specs.declared.place.Place.{Place as PlaceValue};
+ghost use Rattle.places.specs.Map.{found, hash_of, AreKept, IsCandidate};
+ghost use Rattle.places.specs.Relocation.{holds, relocated, without};
+ghost use Rattle.places.specs.declared.place.Place.{Place as PlaceValue};
 ghost use Rattle.hash_index.specs.Steps.{IsShuffled, chain_of};
 
 use crate::chain::Chain;
-use crate::place::{Held, Place};
 use crate::plain::PlainIndex;
-use crate::resolve::Resolve;
 use entry::{KeyRef, NoMemory};
+use places::{Held, Place, Resolve};
 use std::alloc::{AllocError, Global};
 use std::marker::Model;
 
@@ -26,7 +25,7 @@ pub(crate) struct Table {
 
 impl Model for Table {
     ghost use Rattle.std.specs.Prelude.{List, length};
-    ghost use Rattle.hash_index.specs.declared.place.Held.{Held};
+    ghost use Rattle.places.specs.declared.place.Held.{Held};
     ghost use Rattle.hash_index.specs.Steps.{places_in, AreInChains};
 
     ghost Value = { List Held };

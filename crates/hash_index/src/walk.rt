@@ -3,12 +3,11 @@
 ghost use Rattle.std.specs.Prelude.{◌≡◌};
 ghost use Rattle.std.specs.List.{position};
 ghost use Rattle.entry.specs.View.{shown_key};
-ghost use Rattle.hash_index.specs.Map.{is_of, has_hash};
-ghost use Rattle.hash_index.specs.Relocation.{is_same};
+ghost use Rattle.places.specs.Map.{is_of, has_hash};
+ghost use Rattle.places.specs.Relocation.{is_same};
 
-use crate::place::Held;
-use crate::resolve::{Resolve, stands};
 use entry::KeyRef;
+use places::{Held, Resolve, stands};
 
 /// Whether this is the key's. The key is read only if the hash agrees.
 #[inline]

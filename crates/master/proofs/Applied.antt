@@ -23,7 +23,7 @@ use Rattle.clean_model.specs.Intact.{IsIntact}
 use Rattle.clean_model.specs.Memory.{Place as EntryPlace, Index, Images, Memory, grown}
 use Rattle.clean_model.specs.Steps.{next_place, index_after, images_with, index_with, recorded, IsNamed}
 use Rattle.clean_model.proofs.Applying.{apply_keeps}
-use Rattle.hash_index.specs.declared.place.Place.{Place}
+use Rattle.places.specs.declared.place.Place.{Place}
 use Rattle.master_state.specs.declared.step.StepAnswer.{StepAnswer}
 use Rattle.master_state.specs.Budget.{victims_of, survivors_of, is_committing}
 use Rattle.master_state.specs.Causes.{dead_segment}

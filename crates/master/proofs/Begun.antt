@@ -17,7 +17,7 @@ use Rattle.entry.specs.Bag.{IsAmong}
 use Rattle.entry.specs.Text.{text_of, is_data}
 use Rattle.entry.proofs.BagLemmas.{among_image}
 use Rattle.entry.proofs.ListLemmas.{all_among}
-use Rattle.hash_index.specs.declared.place.Place.{Place}
+use Rattle.places.specs.declared.place.Place.{Place}
 use Rattle.images.specs.declared.image.Image.{Image}
 use Rattle.images.specs.Sorted.{AreBelow, image_of, segment_of}
 use Rattle.images.proofs.Adding.{newest_last, segment_found}

@@ -16,7 +16,7 @@ use Rattle.clean_model.specs.Steps.{compacted, MayCompact}
 use Rattle.clean_model.proofs.Compacting.{compact_keeps}
 use Rattle.clean_model.proofs.KeptEntries.{has_is}
 use Rattle.clean_model.proofs.LogSetIds.{in_digest as counts_listed}
-use Rattle.hash_index.specs.declared.place.Place.{Place}
+use Rattle.places.specs.declared.place.Place.{Place}
 use Rattle.compactor.specs.Kept.{kept_of}
 use Rattle.compactor.specs.Laws.{compacted_images, CompactionFollows}
 use Rattle.compactor.proofs.FollowLaw.{follows}

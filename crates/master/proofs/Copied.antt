@@ -19,10 +19,10 @@ use Rattle.entry.specs.declared.entry.Object.{Object}
 use Rattle.entry.specs.declared.entry.Entry.TheVariants as entry
 use Rattle.entry.specs.Bag.{IsAmong}
 use Rattle.entry.specs.Text.{text_of, is_data}
-use Rattle.hash_index.specs.declared.place.Held.{Held}
-use Rattle.hash_index.specs.declared.place.Place.{Place}
-use Rattle.hash_index.specs.Map.{hash_of}
-use Rattle.hash_index.specs.Relocation.{holds}
+use Rattle.places.specs.declared.place.Place.{Place}
+use Rattle.places.specs.Relocation.{names}
+use Rattle.places.proofs.Moves.{names_still, names_moved}
+use Rattle.places.proofs.Named.{named_found}
 use Rattle.images.specs.declared.image.Image.{Image}
 use Rattle.images.specs.Sorted.{changed}
 use Rattle.images.specs.Steps.{with_unit}
@@ -47,10 +47,8 @@ use Rattle.master.specs.Invariant.{IsWellKept}
 use Rattle.master.proofs.Agreeing.{Agree, agreeing_is_intact}
 use Rattle.master.proofs.GrownImages.{index_then}
 use Rattle.master.proofs.Handed.{unhanded_kept}
-use Rattle.master.proofs.HeldPlaces.{holds_found}
 use Rattle.master.proofs.KeptByEntries.{position_is, stands_by_entries, kept_same}
 use Rattle.master.proofs.LogSets.{same_set}
-use Rattle.master.proofs.MovedPlaces.{held_moved, held_still}
 use Rattle.master.proofs.OpenPasses.{closed_among, same_among, open_now, rest_is, victim_image, below_survivor}
 use Rattle.master.proofs.OpenPasses.{not_head, survivor_image}
 
@@ -145,19 +143,18 @@ module _ (d : MasterData) (core : IsCore d) (p : Pass) (opened : d.pass ≡ Some
       let at = position_is (images_of x p.survivor) to.at e (each_of x then_core p.survivor) lies_to in
       λ i. record { segment = p.survivor; position = at i }
 
-  -- what is held where it was is found there, and the object of the copy where that lies
+  -- what is named where it was is found there, and the object of the copy where that lies
   index_as : (k : Key) → ((w : Place) → keys_in (images_of d) w ≡ Some k
-      → holds d.index (record { hash = hash_of k; place = w }) ≡ true
-      → holds x.index (record { hash = hash_of k; place = w }) ≡ true) → (memory_of x).index k ≡ (memory_of d).index k
-  index_as k held = index_then d x core then_core (λ j. refl) grow k held
+      → names d.index k w ≡ true → names x.index k w ≡ true) → (memory_of x).index k ≡ (memory_of d).index k
+  index_as k named = index_then d x core then_core (λ j. refl) grow k named
 
-  index_to : (o : Object) → e ≡ entry.Object o → holds x.index (record { hash = hash_of o.key; place = to }) ≡ true
+  index_to : (o : Object) → e ≡ entry.Object o → names x.index o.key to ≡ true
       → (memory_of x).index o.key ≡ Some (next_place (images_of d) p.survivor)
-  index_to o is held =
+  index_to o is named =
       let stands = subst (λ (y : Entry). IsAtPlace (images_of x) to y) is lies_to in
       let key = key_seen (images_of x) (each_of x then_core) to o.key
       (record { version = o.version; value = o.value }) stands in
-      let found = holds_found (keys_in (images_of x)) x.index then_core.index.kept o.key to key held in
+      let found = named_found (keys_in (images_of x)) o.key to key x.index then_core.index.kept named in
       ap (option_map (entry_place x)) found ∙ ap (λ (w : EntryPlace). Some w) to_place
 
 index_kept : (d : MasterData) (core : IsCore d) (p : Pass) (opened : d.pass ≡ Some p) (u : Place) (e : Entry) (q : Pass)
@@ -165,39 +162,33 @@ index_kept : (d : MasterData) (core : IsCore d) (p : Pass) (opened : d.pass ≡ 
     → is_kept (log_set_ids d) d.index u e ≡ true
     → (k : Key) → (memory_of (copied_data d p u e q)).index k ≡ index_moved (memory_of d) p.survivor e k
 index_kept d core p opened u (entry.Header h) q then_core l is k =
-    index_as d core p opened u (entry.Header h) q then_core k (λ w key held. held)
+    index_as d core p opened u (entry.Header h) q then_core k (λ w key named. named)
 index_kept d core p opened u (entry.Digest ids) q then_core l is k =
-    index_as d core p opened u (entry.Digest ids) q then_core k (λ w key held. held)
+    index_as d core p opened u (entry.Digest ids) q then_core k (λ w key named. named)
 index_kept d core p opened u (entry.Safe version) q then_core l is k =
-    index_as d core p opened u (entry.Safe version) q then_core k (λ w key held. held)
+    index_as d core p opened u (entry.Safe version) q then_core k (λ w key named. named)
 index_kept d core p opened u (entry.Tombstone t) q then_core l is k =
-    index_as d core p opened u (entry.Tombstone t) q then_core k (λ w key held. held)
+    index_as d core p opened u (entry.Tombstone t) q then_core k (λ w key named. named)
 index_kept d core p opened u (entry.Object o) q then_core l is k =
     elim (key_eq-tells k o.key) as (λ _. (memory_of x).index k
     ≡ index_moved (memory_of d) p.survivor (entry.Object o) k) [
       | inl t ↦ (let yes = t.0 in rw yes (ap (memory_of x).index t.1 ∙ there))
       | inr n ↦ (let no = n.0 in rw no (index_as d core p opened u (entry.Object o) q then_core k
-          (λ w key held. still n.1 w key held)))
+          (λ w key named. still n.1 w key named)))
     ]
   where
     x : MasterData
     x = copied_data d p u (entry.Object o) q
 
-    h : Held
-    h = record { hash = hash_of o.key; place = u }
-
     there : (memory_of (copied_data d p u (entry.Object o) q)).index o.key ≡ Some (next_place (images_of d) p.survivor)
     there =
         index_to d core p opened u (entry.Object o) q then_core o refl
-        (held_moved (record { hash = hash_of o.key; place = u }) (copy_place p.survivor d.closed) d.index is)
+        (names_moved o.key u (copy_place p.survivor d.closed) d.index is)
 
     still : (k ≡ o.key → ⊥) → (w : Place) → keys_in (images_of d) w ≡ Some k
-        → holds d.index (record { hash = hash_of k; place = w }) ≡ true
-        → holds (copied_data d p u (entry.Object o) q).index (record { hash = hash_of k; place = w }) ≡ true
-    still differ w key held =
-        held_still (record { hash = hash_of o.key; place = u }) (copy_place p.survivor d.closed)
-        (record { hash = hash_of k; place = w })
-        other d.index held
+        → names d.index k w ≡ true → names (copied_data d p u (entry.Object o) q).index k w ≡ true
+    still differ w key named =
+        names_still o.key k u (copy_place p.survivor d.closed) w other d.index named
       where
         other : w ≡ u → ⊥
         other same =

@@ -10,8 +10,8 @@ use Rattle.entry.specs.declared.key.Key.{Key}
 use Rattle.entry.specs.declared.entry.Entry.{Entry}
 use Rattle.entry.specs.Bag.{IsAmong}
 use Rattle.entry.proofs.BagLemmas.{among_left, among_right, among_either, among_push}
-use Rattle.hash_index.specs.declared.place.Place.{Place}
-use Rattle.hash_index.specs.Map.{found}
+use Rattle.places.specs.declared.place.Place.{Place}
+use Rattle.places.specs.Map.{found}
 use Rattle.images.specs.declared.image.Image.{Image}
 use Rattle.compactor.specs.Places.{keys_in}
 use Rattle.replica.specs.Picture.{Picture, FleetState}

@@ -6,9 +6,9 @@ use Rattle.entry.specs.declared.key.Key.{Key}
 use Rattle.entry.specs.declared.entry.Entry.{Entry}
 use Rattle.entry.specs.Meaning.{Versioned, object_at}
 use Rattle.clean_model.specs.Memory.{Place as EntryPlace}
-use Rattle.hash_index.specs.declared.place.Place.{Place}
-use Rattle.hash_index.specs.Map.{hash_of}
-use Rattle.hash_index.specs.Relocation.{holds}
+use Rattle.places.specs.declared.place.Place.{Place}
+use Rattle.places.specs.Relocation.{names}
+use Rattle.places.proofs.Named.{named_found, found_named}
 use Rattle.compactor.specs.Places.{LiesAt, IsAtPlace, keys_in}
 use Rattle.master_state.specs.Data.{MasterData}
 use Rattle.master_state.specs.Index.{LiesFound}
@@ -16,7 +16,6 @@ use Rattle.master_state.specs.Invariant.{IsCore}
 use Rattle.master_state.specs.Log.{images_of, find, state_now, entry_place, memory_of}
 use Rattle.master_state.proofs.Finding.{each_of, found_place}
 use Rattle.master_state.proofs.Indexing.{Grow, key_seen}
-use Rattle.master.proofs.HeldPlaces.{holds_found, found_holds}
 use Rattle.master.proofs.KeptByEntries.{position_is}
 
 -- an entry stays where it is if there is more behind
@@ -52,11 +51,10 @@ module _ (d x : MasterData) (core : IsCore d) (core_then : IsCore x)
       let was = position_is (images_of d u.segment) u.at e (each_of d core u.segment) l in
       λ i. record { segment = u.segment; position = (now ∙ sym was) i }
 
-  -- what is found is found again where it is still held
+  -- what is found is found again where it is still named
   pub index_then : (k : Key) → ((u : Place) → keys_in (images_of d) u ≡ Some k
-      → holds d.index (record { hash = hash_of k; place = u }) ≡ true
-      → holds x.index (record { hash = hash_of k; place = u }) ≡ true) → (memory_of x).index k ≡ (memory_of d).index k
-  index_then k held = go ((state_now d).contents k) refl where
+      → names d.index k u ≡ true → names x.index k u ≡ true) → (memory_of x).index k ≡ (memory_of d).index k
+  index_then k named = go ((state_now d).contents k) refl where
     go : (v : Option Versioned) → (state_now d).contents k ≡ v
         → option_map (entry_place x) (find x k) ≡ option_map (entry_place d) (find d k)
     go None none =
@@ -65,9 +63,9 @@ module _ (d x : MasterData) (core : IsCore d) (core_then : IsCore x)
     go (Some v) has =
         let at = found_place d core k v has in
         let key = key_seen (images_of d) (each_of d core) at.0 k v at.2 in
-        let was = found_holds (keys_in (images_of d)) d.index core.index.kept.told k at.0 at.1 in
-        let now = holds_found (keys_in (images_of x)) x.index core_then.index.kept k at.0
+        let was = found_named (keys_in (images_of d)) k at.0 key d.index core.index.kept at.1 in
+        let now = named_found (keys_in (images_of x)) k at.0
         (key_seen (images_of x) (each_of x core_then) at.0 k v (lies_then at.0 (object_at k v) at.2))
-        (held at.0 key was) in
+        x.index core_then.index.kept (named at.0 key was) in
         ap (option_map (entry_place x)) now ∙ ap (λ (p : EntryPlace). Some p) (place_then at.0 (object_at k v) at.2)
         ∙ ap (option_map (entry_place d)) (sym at.1)

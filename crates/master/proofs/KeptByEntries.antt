@@ -19,10 +19,9 @@ use Rattle.segment.proofs.RowLemmas.{text_of-append}
 use Rattle.log_model.specs.Ids.{has}
 use Rattle.clean_model.specs.Compaction.{is_place, kept as entry_kept, kept_from as entries_kept}
 use Rattle.clean_model.specs.Memory.{IsAt, Index as EntryIndex}
-use Rattle.hash_index.specs.declared.place.Held.{Held}
-use Rattle.hash_index.specs.declared.place.Place.{Place}
-use Rattle.hash_index.specs.Map.{hash_of}
-use Rattle.hash_index.specs.Relocation.{holds}
+use Rattle.places.specs.declared.place.Place.{Place}
+use Rattle.places.specs.Relocation.{names}
+use Rattle.places.proofs.Named.{named_found, found_named}
 use Rattle.compactor.specs.Kept.{has_id, kept, kept_from, kept_of, entries_before}
 use Rattle.compactor.specs.Places.{LiesAt, IsAtPlace, keys_in}
 use Rattle.master_state.specs.Data.{MasterData}
@@ -30,7 +29,6 @@ use Rattle.master_state.specs.Invariant.{IsCore}
 use Rattle.master_state.specs.Log.{images_of, find, state_now, position_of, entry_place, memory_of}
 use Rattle.master_state.proofs.Finding.{each_of}
 use Rattle.master_state.proofs.Indexing.{found_lies, key_seen}
-use Rattle.master.proofs.HeldPlaces.{holds_found, found_holds}
 use Rattle.master.proofs.LogSets.{agree}
 
 -- ---- lists
@@ -87,11 +85,12 @@ module _ (d : MasterData) (core : IsCore d) (s : ℕ) where
     abbrev here : Place
     here = record { segment = s; at = length (text_of front) }
 
-    abbrev held : Held
-    held = record { hash = hash_of o.key; place = record { segment = s; at = length (text_of front) } }
-
     abbrev lies : LiesAt (images_of d s) (length (text_of front)) (entry.Object o)
     lies = record { before = front; after = rest; split = split; offset = refl }
+
+    stands : keys_in (images_of d) here ≡ Some o.key
+    stands = key_seen (images_of d) (each_of d core) here o.key
+        (record { version = o.version; value = o.value }) lies
 
     position : position_of (images_of d s) (length (text_of front)) ≡ length front
     position = position_is (images_of d s) (length (text_of front)) (entry.Object o) (each_of d core s) lies
@@ -113,29 +112,27 @@ module _ (d : MasterData) (core : IsCore d) (s : ℕ) where
         let at : q.at ≡ length (text_of front) = there.offset ∙ ap (λ (es : List Entry). length (text_of es)) same in
         λ i. record { segment = segment i; at = at i }
 
-    to_held : is_place (index o.key) s (length front) ≡ true → holds d.index held ≡ true
-    to_held is = go (find d o.key) refl is where
+    to_named : is_place (index o.key) s (length front) ≡ true → names d.index o.key here ≡ true
+    to_named is = go (find d o.key) refl is where
       go : (f : Option Place) → find d o.key ≡ f → is_place (option_map (entry_place d) f) s (length front) ≡ true
-          → holds d.index held ≡ true
+          → names d.index o.key here ≡ true
       go None none is = absurd (cc)
       go (Some q) some is =
           let there = found_lies (images_of d) o.key (find d o.key) ((state_now d).contents o.key)
           (core.index.lies o.key) q some in
           let same = named q there.0 there.2 is in
-          found_holds (keys_in (images_of d)) d.index core.index.kept.told o.key here (some ∙ ap Some same)
+          found_named (keys_in (images_of d)) o.key here stands d.index core.index.kept (some ∙ ap Some same)
 
-    from_held : holds d.index held ≡ true → is_place (index o.key) s (length front) ≡ true
-    from_held is =
-        let stands = key_seen (images_of d) (each_of d core) here o.key
-        (record { version = o.version; value = o.value }) lies in
-        let place = holds_found (keys_in (images_of d)) d.index core.index.kept o.key here stands is in
+    from_named : names d.index o.key here ≡ true → is_place (index o.key) s (length front) ≡ true
+    from_named is =
+        let place = named_found (keys_in (images_of d)) o.key here stands d.index core.index.kept is in
         ap (λ (f : Option Place). is_place (option_map (entry_place d) f) s (length front)) place
         ∙ and_from (s == s) (position_of (images_of d s) (length (text_of front)) == length front)
         ((Decides-eqb s s).1 refl) ((Decides-eqb (position_of (images_of d s) (length (text_of front)))
         (length front)).1 position)
 
-    pub object_same : is_place (index o.key) s (length front) ≡ holds d.index held
-    object_same = agree (is_place (index o.key) s (length front)) (holds d.index held) to_held from_held
+    pub object_same : is_place (index o.key) s (length front) ≡ names d.index o.key here
+    object_same = agree (is_place (index o.key) s (length front)) (names d.index o.key here) to_named from_named
 
 -- by two lists with the same ids
 module _ (d : MasterData) (core : IsCore d) (ids set : List ℕ) (both : (z : ℕ) → has ids z ≡ has_id set z) (s : ℕ) where

@@ -1,6 +1,5 @@
 pub mod Placing
 pub mod LogSets
-pub mod HeldPlaces
 pub mod KeptByEntries
 pub mod Victims
 pub mod Handed
@@ -19,7 +18,6 @@ pub mod Served
 pub mod Loaded
 pub mod PassPlaces
 pub mod GrownImages
-pub mod MovedPlaces
 pub mod Begun
 pub mod Copied
 pub mod Sealed

@@ -18,7 +18,7 @@ use Rattle.clean_model.specs.Memory.{new_ids, log_ids}
 use Rattle.clean_model.proofs.CommitDigest.{all_in, all_out}
 use Rattle.clean_model.proofs.KeptEntries.{has_is, is_has}
 use Rattle.clean_model.proofs.LogSetIds.{ids_out, in_digest, in_survivors, in_others, head_in, new_in}
-use Rattle.hash_index.specs.declared.place.Place.{Place}
+use Rattle.places.specs.declared.place.Place.{Place}
 use Rattle.master_state.specs.Budget.{survivors_of}
 use Rattle.master_state.specs.Data.{MasterData}
 use Rattle.master_state.specs.Images.{new_image_or}

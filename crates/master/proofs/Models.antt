@@ -13,7 +13,7 @@ use Rattle.entry.specs.declared.entry.Entry.{Entry}
 use Rattle.entry.specs.declared.entry.Entry.TheVariants as entry
 use Rattle.entry.specs.Bag.{IsAmong}
 use Rattle.entry.specs.Meaning.{Versioned, object_at}
-use Rattle.hash_index.specs.declared.place.Place.{Place}
+use Rattle.places.specs.declared.place.Place.{Place}
 use Rattle.compactor.specs.Places.{IsAtPlace}
 use Rattle.log_head.specs.Log.{head_of, phase_of}
 use Rattle.log_model.specs.Data.{LogData, ids_of, new_of}

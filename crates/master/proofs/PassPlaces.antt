@@ -10,7 +10,7 @@ use Rattle.entry.specs.Text.{text_of, is_data}
 use Rattle.entry.proofs.BagLemmas.{among_left, among_right}
 use Rattle.clean_model.specs.Compaction.{places}
 use Rattle.clean_model.specs.Memory.{IsAt}
-use Rattle.hash_index.specs.declared.place.Place.{Place}
+use Rattle.places.specs.declared.place.Place.{Place}
 
 -- The entry is the one behind these.
 pub record IsBehind (es : List Entry) (n : ℕ) (e : Entry) : Type 0 where

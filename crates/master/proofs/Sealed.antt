@@ -14,7 +14,7 @@ use Rattle.replica.specs.Picture.{Picture, FleetState}
 use Rattle.replica.specs.Take.{Takes, Refuses, taken as fleet_taken}
 use Rattle.replica.specs.declared.op.TakeFault.{TakeFault}
 use Rattle.replica.specs.declared.op.TakeFault.TheVariants as take_fault
-use Rattle.hash_index.specs.declared.place.Place.{Place}
+use Rattle.places.specs.declared.place.Place.{Place}
 use Rattle.log_model.specs.Data.{IsHomeAt}
 use Rattle.log_model.specs.Ops.{LogOp, op_of, taken}
 use Rattle.clean_model.specs.Intact.{IsIntact}

@@ -13,8 +13,9 @@ use Rattle.entry.specs.declared.entry.Entry.TheVariants as entry
 use Rattle.entry.specs.Bag.{IsAmong}
 use Rattle.entry.specs.Text.{text_of, IsSegment}
 use Rattle.entry.proofs.BagLemmas.{among_either}
-use Rattle.hash_index.specs.declared.place.Held.{Held}
-use Rattle.hash_index.specs.declared.place.Place.{Place}
+use Rattle.places.specs.declared.place.Held.{Held}
+use Rattle.places.specs.declared.place.Place.{Place}
+use Rattle.places.specs.Relocation.{Places}
 use Rattle.cleaner.specs.declared.pass.Pass.{Pass as OpenPass}
 use Rattle.cleaner.specs.Laws.{KeepsNoMore}
 use Rattle.cleaner.specs.Passes.{images_in, rest_of, kept_left, ids_in as log_ids}
@@ -159,7 +160,7 @@ module _ (d : MasterData) (core : IsCore d) (command : Command) (change : Change
       (each_among h d.closed head core.segments) d.index (state_now d).contents (index_of d core) (state_now d).safe
       command change held.place judged.change_of sought.place
 
-  module _ (seat at : ℕ) (new : List Held) (passed : command_refusal d command ≡ None)
+  module _ (seat at : ℕ) (new : Places) (passed : command_refusal d command ≡ None)
       (is_placed : IsPlaced d command change at)
       (moved : IsMovedBy (keys_in (images_among (appended d.head (length d.history)
       (unit_of_change dead command change)) d.closed)) d.index
@@ -359,8 +360,7 @@ module _ (d : MasterData) (core : IsCore d) (command : Command) (change : Change
       keeps_no_more : KeepsNoMore (log_set_ids d) (log_set_ids d) d.index new (images_in d.closed) rest
       keeps_no_more q e m stands keeps =
           kept_again (log_set_ids d) d.index new q e
-          (λ h here is. others_on.held_on h
-          (λ same. not_victim q (rest_segment (images_in d.closed) p q m) (sym here ∙ same)) is) keeps
+          (λ k is. others_on.named_on k q (not_victim q (rest_segment (images_in d.closed) p q m)) is) keeps
 
       passes : GoesOn d added p
       passes =

@@ -11,10 +11,10 @@ use Rattle.entry.specs.declared.entry.Entry.TheVariants as entry
 use Rattle.entry.specs.Format.{IsEntry}
 use Rattle.entry.specs.Text.{text_of}
 use Rattle.entry.specs.Meaning.{Versioned, Contents, version_of, object_at}
-use Rattle.hash_index.specs.declared.place.Held.{Held}
-use Rattle.hash_index.specs.declared.place.Place.{Place}
-use Rattle.hash_index.specs.Map.{found, AreKept, IsSet}
-use Rattle.hash_index.specs.Relocation.{holds}
+use Rattle.places.specs.declared.place.Place.{Place}
+use Rattle.places.specs.Map.{found, AreKept, IsSet}
+use Rattle.places.specs.Relocation.{Places, names}
+use Rattle.places.proofs.Named.{set_finds, set_names}
 use Rattle.master_state.specs.Index.{LiesFound}
 use Rattle.versioned_map.specs.declared.command.Command.{Command}
 use Rattle.versioned_map.specs.declared.command.Command.TheVariants.{Get, Put, Delete}
@@ -31,7 +31,6 @@ use Rattle.compactor.specs.Places.{IsAtPlace, keys_in}
 use Rattle.master_commands.specs.Index.{IsMoved}
 use Rattle.master_commands.proofs.Changes.{unmet, undeleted, clashes}
 use Rattle.master_state.proofs.Indexing.{Grow, Indexes, key_seen, kept_grown, found_grown, index_grown, index_set}
-use Rattle.master_state.proofs.Holding.{set_finds, set_holds}
 
 -- ---- the state after a command, by what it leaves its key
 
@@ -122,7 +121,7 @@ replaced_at safe (Some x) k value when dead version c = (λ e. cc, go (is_met wh
 -- ---- where the key was found
 
 -- a change of the key's object, as this resolver tells the keys
-abbrev pub IsMovedBy : (Place → Option Key) → List Held → Change → Key → Place → List Held → Type 0
+abbrev pub IsMovedBy : (Place → Option Key) → Places → Change → Key → Place → Places → Type 0
 IsMovedBy keys old change.Nothing k p new = new ≡ old
 IsMovedBy keys old (change.Create version) k p new = AreKept keys old → keys p ≡ Some k → IsSet keys old k (Some p) new
 IsMovedBy keys old (change.Replace dead version) k p new = AreKept keys old → keys p ≡ Some k
@@ -130,13 +129,13 @@ IsMovedBy keys old (change.Replace dead version) k p new = AreKept keys old → 
 IsMovedBy keys old (change.Delete dead) k p new = AreKept keys old → IsSet keys old k None new
 
 -- where the key was found, as the change has it
-abbrev pub WasFound : (Place → Option Key) → List Held → Change → Key → Place → Type 0
+abbrev pub WasFound : (Place → Option Key) → Places → Change → Key → Place → Type 0
 WasFound keys old change.Nothing k was = Unit {0}
 WasFound keys old (change.Create version) k was = found keys k old ≡ None
 WasFound keys old (change.Replace dead version) k was = found keys k old ≡ Some was
 WasFound keys old (change.Delete dead) k was = found keys k old ≡ Some was
 
-pub moved_by : (keys : Place → Option Key) (old : List Held) (c : Change) (k : Key) (was p : Place) (new : List Held)
+pub moved_by : (keys : Place → Option Key) (old : Places) (c : Change) (k : Key) (was p : Place) (new : Places)
     → IsMoved old c k was p new → WasFound keys old c k was → IsMovedBy keys old c k p new
 moved_by keys old change.Nothing k was p new moved there = moved
 moved_by keys old (change.Create version) k was p new moved there = λ all is. moved keys all there is
@@ -164,7 +163,7 @@ deleted_at safe None k dead c none = let e = c.nothing 0 in cc
 deleted_at safe (Some v) k dead c none = cc
 
 module _ (images grown : ℕ → List Entry) (grow : Grow images grown) (each : (s : ℕ) → AllByRecursion IsEntry (grown s))
-    (hs : List Held) (contents : Contents) (index : Indexes images hs contents) where
+    (hs : Places) (contents : Contents) (index : Indexes images hs contents) where
   -- what was found before is found in the images that grew
   pub absent_grown : (k : Key) → contents k ≡ None → found (keys_in grown) k hs ≡ None
   absent_grown k none =
@@ -204,7 +203,7 @@ IsPut image segment command c at = (front : List Entry) (o : Object)
     → unit_of_change segment command c ≡ front ++ entry.Object o ∷ [] → at ≡ length (text_of (image ++ front))
 
 module _ (images grown : ℕ → List Entry) (grow : Grow images grown) (each : (s : ℕ) → AllByRecursion IsEntry (grown s))
-    (p : Place) (segment : ℕ) (hs new : List Held) (contents : Contents) (safe : ℕ)
+    (p : Place) (segment : ℕ) (hs new : Places) (contents : Contents) (safe : ℕ)
     (index : Indexes images hs contents) where
   -- the image of the place's segment has this more
   abbrev Ends : List Entry → Type 0
@@ -218,7 +217,7 @@ module _ (images grown : ℕ → List Entry) (grow : Grow images grown) (each : 
       → Indexes grown new (with_contents contents k x)
   kept_index k x has same =
       subst (λ (c : Contents). Indexes grown new c) (same_contents contents k x has)
-      (subst (λ (l : List Held). Indexes grown l contents) (sym same)
+      (subst (λ (l : Places). Indexes grown l contents) (sym same)
       (index_grown images grown grow each hs contents index))
 
   pub put_stands : (front : List Entry) (o : Object) → p.at ≡ length (text_of (images p.segment ++ front))
@@ -272,9 +271,9 @@ module _ (images grown : ℕ → List Entry) (grow : Grow images grown) (each : 
 
   -- ---- other places
 
-  -- What is held and found elsewhere was held and found before.
+  -- What is named and found elsewhere was named and found before.
   pub record KeepsOthers : Type 0 where
-    pub held_on : (h : Held) → (h.place ≡ p → ⊥) → holds new h ≡ true → holds hs h ≡ true
+    pub named_on : (q : Key) (r : Place) → (r ≡ p → ⊥) → names new q r ≡ true → names hs q r ≡ true
     pub found_on : (q : Key) (r : Place) → (r ≡ p → ⊥) → found (keys_in grown) q new ≡ Some r
         → found (keys_in images) q hs ≡ Some r
 
@@ -283,17 +282,17 @@ module _ (images grown : ℕ → List Entry) (grow : Grow images grown) (each : 
 
   as_before : new ≡ hs → KeepsOthers
   as_before same = record {
-    held_on = λ h other is. subst (λ (l : List Held). holds l h ≡ true) same is;
+    named_on = λ q r other is. subst (λ (l : Places). names l q r ≡ true) same is;
     found_on = λ q r other is. sym (found_before q) ∙ subst
-        (λ (l : List Held). found (keys_in grown) q l ≡ Some r) same is;
+        (λ (l : Places). found (keys_in grown) q l ≡ Some r) same is;
   }
 
   -- the index is set to nothing or to the place
   set_to : (k : Key) (x : Option Place) → ((r : Place) → x ≡ Some r → r ≡ p)
       → IsSet (keys_in grown) hs k x new → KeepsOthers
   set_to k x here set = record {
-    held_on = λ h other is. set_holds (keys_in grown) hs new k x kept set h is (λ own. other (here h.place own));
-    found_on = λ q r other is. sym (found_before q) ∙ set_finds (keys_in grown) hs new k x kept set q r is
+    named_on = λ q r other is. set_names (keys_in grown) hs new k x set kept q r is (λ own. other (here r own));
+    found_on = λ q r other is. sym (found_before q) ∙ set_finds (keys_in grown) hs new k x set q r is
         (λ own. other (here r own));
   }
 

@@ -22,9 +22,9 @@ use Rattle.entry.specs.Meaning.{versioned}
 use Rattle.entry.specs.Tablet.{have_key}
 use Rattle.entry.specs.Text.{text_of}
 use Rattle.entry.proofs.BagLemmas.{among_either}
-use Rattle.hash_index.specs.declared.place.Held.{Held}
-use Rattle.hash_index.specs.declared.place.Place.{Place}
-use Rattle.hash_index.specs.Map.{found}
+use Rattle.places.specs.declared.place.Place.{Place}
+use Rattle.places.specs.Map.{found}
+use Rattle.places.specs.Relocation.{Places}
 use Rattle.images.specs.Images.{count_of}
 use Rattle.log_head.specs.declared.head.Roll.{Roll}
 use Rattle.log_head.specs.Head.{HeadValue, IsHeadValue, is_open}
@@ -99,7 +99,7 @@ absent_then d core bare o is_new head =
 
 module _ (d : MasterData) (core : IsCore d) (bare : IsBare d) (o : Object) (is_new : IsNewObject d o)
     (passed : load_refusal d o ≡ None)
-    (new : List Held) (head : IsHeadValue (with_unit_end d.head 0 (loaded_unit o)))
+    (new : Places) (head : IsHeadValue (with_unit_end d.head 0 (loaded_unit o)))
     (moved : IsMovedBy (keys_in (images_among (with_unit_end d.head 0 (loaded_unit o)) d.closed)) d.index
     (change.Create o.version) o.key
     (record { segment = d.head.id; at = length (text_of d.head.image) }) new) where

@@ -20,9 +20,9 @@ use Rattle.versioned_map.specs.Versioned.{is_spent, reply_given}
 use Rattle.versioned_map.specs.Units.{object_entry, tombstone_entry, unit_given, safe_given}
 use Rattle.master_state.specs.Causes.{is_empty, dead_segment}
 use Rattle.master_state.specs.Data.{MasterData}
-use Rattle.hash_index.specs.declared.place.Held.{Held}
-use Rattle.hash_index.specs.declared.place.Place.{Place}
-use Rattle.hash_index.specs.Map.{hash_of}
+use Rattle.places.specs.declared.place.Held.{Held}
+use Rattle.places.specs.declared.place.Place.{Place}
+use Rattle.places.specs.Map.{hash_of}
 use Rattle.master_state.specs.Log.{state_now, held_now, find}
 use Rattle.master_state.specs.Steps.{IsFound}
 

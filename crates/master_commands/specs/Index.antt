@@ -1,20 +1,20 @@
 -- What becomes of the index.
-use Rattle.std.specs.Prelude.{◌≡◌, List, Option, Some, None}
+use Rattle.std.specs.Prelude.{◌≡◌, Option, Some, None}
 use Rattle.entry.specs.declared.key.Key.{Key}
-use Rattle.hash_index.specs.declared.place.Held.{Held}
-use Rattle.hash_index.specs.declared.place.Place.{Place}
-use Rattle.hash_index.specs.Map.{found, AreKept, IsSet}
+use Rattle.places.specs.declared.place.Place.{Place}
+use Rattle.places.specs.Map.{found, AreKept, IsSet}
+use Rattle.places.specs.Relocation.{Places}
 use Rattle.master_commands.specs.declared.change.Change.{Change}
 use Rattle.master_commands.specs.declared.change.Change.TheVariants as change
 
 -- a key that has no place gets this one, whoever tells the keys
-abbrev pub IsAdded : List Held → Key → Place → List Held → Type 0
+abbrev pub IsAdded : Places → Key → Place → Places → Type 0
 IsAdded old k p new = (keys : Place → Option Key) → AreKept keys old → found keys k old ≡ None → keys p ≡ Some k
     → IsSet keys old k (Some p) new
 
 -- a change of the key's object, which was found at the one place, if there is one, and whose new object, if any, is at
 -- the other
-abbrev pub IsMoved : List Held → Change → Key → Place → Place → List Held → Type 0
+abbrev pub IsMoved : Places → Change → Key → Place → Place → Places → Type 0
 IsMoved old change.Nothing k was p new = new ≡ old
 IsMoved old (change.Create version) k was p new = IsAdded old k p new
 IsMoved old (change.Replace dead version) k was p new =

@@ -4,7 +4,7 @@ ghost use Rattle.std.specs.Prelude.{◌≡◌, ◌<◌, true};
 ghost use Rattle.std.specs.Option.{option_map};
 ghost use Rattle.entry.specs.View.{shown_key, shown_object};
 ghost use Rattle.entry.specs.declared.key.Key.{Key};
-ghost use Rattle.hash_index.specs.Map.{hash_of, AreKept};
+ghost use Rattle.places.specs.Map.{hash_of, AreKept};
 ghost use Rattle.master_commands.specs.Change.{creates};
 ghost use Rattle.master_state.specs.Images.{images_among};
 ghost use Rattle.compactor.specs.Places.{object_in, object_there, keys_in};

@@ -8,7 +8,7 @@ ghost use Rattle.entry.specs.declared.entry.Entry.TheVariants as entry;
 ghost use Rattle.entry.specs.Text.{text_of};
 ghost use Rattle.entry.specs.View.{shown};
 ghost use Rattle.log_head.specs.Head.{IsHeadValue, len_with};
-ghost use Rattle.hash_index.specs.Map.{hash_of};
+ghost use Rattle.places.specs.Map.{hash_of};
 ghost use Rattle.master_commands.specs.Index.{IsMoved};
 ghost use Rattle.versioned_map.specs.Command.{command_key};
 ghost use Rattle.versioned_map.specs.Units.{object_entry, tombstone_entry};

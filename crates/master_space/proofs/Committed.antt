@@ -17,11 +17,13 @@ use Rattle.entry.specs.declared.key.Key.{Key}
 use Rattle.entry.specs.Bag.{IsAmong}
 use Rattle.entry.specs.Meaning.{Versioned, Contents, object_at}
 use Rattle.entry.specs.Text.{text_of, IsSegment}
-use Rattle.hash_index.specs.declared.place.Held.{Held}
-use Rattle.hash_index.specs.declared.place.Place.{Place}
-use Rattle.hash_index.specs.Map.{found, IsTold}
-use Rattle.hash_index.proofs.Again.{kept_again, found_again}
-use Rattle.hash_index.proofs.Each.{each_found}
+use Rattle.places.specs.declared.place.Place.{Place}
+use Rattle.places.specs.Law.{AreToldAgain}
+use Rattle.places.specs.Map.{found}
+use Rattle.places.specs.Relocation.{Places}
+use Rattle.places.proofs.Again.{kept_again, found_again}
+use Rattle.places.proofs.Each.{HasKey, each_told}
+use Rattle.places.proofs.Going.{all_then}
 use Rattle.images.specs.declared.image.Image.{Image}
 use Rattle.images.specs.Images.{count_of}
 use Rattle.images.specs.Sorted.{segment_of, changed}
@@ -115,19 +117,15 @@ module _ (segment seglet : ℕ) (some : 0 < seglet) (multiple : segment % seglet
 
 -- ---- an index of images that stay where it leads
 
-module _ (images others : ℕ → List Entry) (hs : List Held) (contents : Contents) (index : Indexes images hs contents)
+module _ (images others : ℕ → List Entry) (hs : Places) (contents : Contents) (index : Indexes images hs contents)
     (same : (k : Key) (q : Place) → found (keys_in images) k hs ≡ Some q → others q.segment ≡ images q.segment) where
   key_same : (q : Place) → others q.segment ≡ images q.segment → keys_in others q ≡ keys_in images q
   key_same q is = ap (λ (image : List Entry). option_map (λ (o : Object). o.key) (object_in image q.at)) is
 
-  again : AllByRecursion (λ (h : Held). keys_in others h.place ≡ keys_in images h.place) hs
-  again = go hs index.kept.told (each_found (keys_in images) hs index.kept.apart) where
-    go : (rest : List Held) → AllByRecursion (IsTold (keys_in images)) rest
-        → AllByRecursion (λ (h : Held). (k : Key) → keys_in images h.place ≡ Some k
-        → found (keys_in images) k hs ≡ Some h.place) rest
-        → AllByRecursion (λ (h : Held). keys_in others h.place ≡ keys_in images h.place) rest
-    go [] told at = tt
-    go (h ∷ rest) told at = (key_same h.place (same told.0.0 h.place (at.0 told.0.0 told.0.1)), go rest told.1 at.1)
+  again : AreToldAgain (keys_in images) (keys_in others) hs
+  again =
+      all_then (HasKey (keys_in images) hs) (λ (p : Place). keys_in others p ≡ keys_in images p) hs
+      (λ p at. key_same p (same at.0 p at.2)) (each_told (keys_in images) hs index.kept)
 
   lies_there : (k : Key) (o : Option Place) (x : Option Versioned)
       → ((q : Place) → o ≡ Some q → others q.segment ≡ images q.segment)

@@ -8,7 +8,7 @@ use Rattle.std.proofs.lemmas.List.{length-map}
 use Rattle.std.proofs.lemmas.Option.{same_Some}
 use Rattle.entry.specs.declared.entry.Entry.{Entry}
 use Rattle.entry.specs.Text.{text_of}
-use Rattle.hash_index.specs.declared.place.Held.{Held}
+use Rattle.places.specs.Relocation.{Places}
 use Rattle.images.specs.declared.image.Image.{Image}
 use Rattle.images.specs.Images.{ImagesValue, IsImages, AreWithin, free_seglets, count_at}
 use Rattle.images.specs.Sorted.{AreRising, segment_of, changed}
@@ -48,7 +48,7 @@ module _ (d : MasterData) (core : IsCore d) (id : ℕ) (passed : compact_refusal
   -- the closed segments, and what was found out
   module _ (closed : ImagesValue) (own : closed.images ≡ d.closed) (valid : IsImages closed)
       (are : AreImagesOf d.config closed)
-      (ids : List ℕ) (es segment : List Entry) (index : List Held) (listed : ids ≡ log_set_ids d)
+      (ids : List ℕ) (es segment : List Entry) (index : Places) (listed : ids ≡ log_set_ids d)
       (same : es ≡ images_of d id) (kept : segment ≡ kept_of ids d.index id es) where
     no_longer : length (text_of segment) ≤ length (text_of (images_of d id))
     no_longer =

@@ -1,21 +1,22 @@
 -- What the index leads to once a segment is compacted.
 use Rattle.std.proofs.Common.{◌≡◌, ℕ, Bool, true, false, ◌==◌, List, [], ◌∷◌, refl, sym, ap, subst, ◌∙◌, if◌then◌else◌}
 use Rattle.std.specs.Prelude.{Option, Some, None}
-use Rattle.std.specs.List.{AllByRecursion}
 use Rattle.std.proofs.lemmas.Bool.{eqb-true}
 use Rattle.std.proofs.lemmas.Option.{same_Some}
 use Rattle.std.specs.Option.{option_map}
 use Rattle.entry.specs.declared.key.Key.{Key}
 use Rattle.entry.specs.declared.entry.Entry.{Entry}
+use Rattle.entry.specs.declared.entry.Entry.TheVariants as entry
 use Rattle.entry.specs.declared.entry.Object.{Object}
 use Rattle.entry.specs.Meaning.{Versioned, Contents}
-use Rattle.hash_index.specs.declared.place.Held.{Held}
-use Rattle.hash_index.specs.declared.place.Place.{Place}
-use Rattle.hash_index.specs.Map.{found, IsTold, AreKept}
-use Rattle.hash_index.proofs.Each.{each_found}
+use Rattle.places.specs.declared.place.Place.{Place}
+use Rattle.places.specs.Map.{found, AreKept}
+use Rattle.places.specs.Relocation.{Places}
+use Rattle.places.proofs.Each.{HasKey, each_told}
+use Rattle.places.proofs.Going.{all_then}
 use Rattle.compactor.specs.Kept.{moved_at, moved_place, moved_all}
 use Rattle.compactor.specs.Laws.{compacted_images, LeadsOn, CompactionFollows}
-use Rattle.compactor.specs.Places.{keys_in, LieIn}
+use Rattle.compactor.specs.Places.{IsAtPlace, keys_in, LieIn}
 use Rattle.master_state.specs.Data.{MasterData}
 use Rattle.master_state.specs.Index.{LiesFound}
 use Rattle.master_state.specs.Invariant.{IsCore, IsIndex}
@@ -25,24 +26,19 @@ use Rattle.master_space.proofs.CompactedCore.{IsAdmitted, old_segment, images_th
 use Rattle.master_state.proofs.Finding.{index_of}
 use Rattle.master_state.proofs.Indexing.{Indexes, found_lies}
 
--- at each place that an index of some contents holds lies an object, under its hash
-pub held_lie : (images : ℕ → List Entry) (hs : List Held) (contents : Contents)
+-- at each place that an index of some contents leads to lies an object
+pub held_lie : (images : ℕ → List Entry) (hs : Places) (contents : Contents)
     → Indexes images hs contents → LieIn images hs
-held_lie images hs contents index = go hs index.kept.told (each_found (keys_in images) hs index.kept.apart) where
-  go : (rest : List Held) → AllByRecursion (IsTold (keys_in images)) rest
-      → AllByRecursion (λ (h : Held). (k : Key) → keys_in images h.place ≡ Some k
-      → found (keys_in images) k hs ≡ Some h.place) rest
-      → LieIn images rest
-  go [] told at = tt
-  go (h ∷ rest) told at =
-      let k = told.0.0 in
-      let there = found_lies images k (found (keys_in images) k hs) (contents k) (index.lies k) h.place
-      (at.0 k told.0.1) in
-      let o : Object = record { key = k; version = there.0.version; value = there.0.value } in
-      ((o, there.2, told.0.2), go rest told.1 at.1)
+held_lie images hs contents index =
+    all_then (HasKey (keys_in images) hs) (λ (p : Place). (o : Object) × IsAtPlace images p (entry.Object o)) hs
+    (λ p at.
+    let k = at.0 in
+    let there = found_lies images k (found (keys_in images) k hs) (contents k) (index.lies k) p at.2 in
+    (record { key = k; version = there.0.version; value = there.0.value }, there.2))
+    (each_told (keys_in images) hs index.kept)
 
 -- what lay where a key was found lies where it is found then
-moved_lies : (images later : ℕ → List Entry) (goes : Place → Place) (old new : List Held)
+moved_lies : (images later : ℕ → List Entry) (goes : Place → Place) (old new : Places)
     → LeadsOn images later goes old new
     → (k : Key) (f : Option Place) (x : Option Versioned) → found (keys_in images) k old ≡ f → LiesFound images k f x
     → LiesFound later k (option_map goes f) x
@@ -89,32 +85,31 @@ module _ (follows : CompactionFollows) (d : MasterData) (core : IsCore d) (id : 
     safe = core.index.safe;
   }
 
+  abbrev goes : Place → Place
+  goes = moved_place ids d.index id (images_of d id)
+
+  -- a place that has gone to another segment has stayed
+  pub stayed : (r q : Place) → (q.segment ≡ id → ⊥) → moved_place ids d.index id (images_of d id) r ≡ q → r ≡ q
+  stayed r q other moved = test (r.segment == id) refl where
+    test : (t : Bool) → (r.segment == id) ≡ t → r ≡ q
+    test true own =
+        let at : goes r ≡ record r { at = moved_at ids d.index id (images_of d id) r.at } =
+        ap (λ (b : Bool). if b then record r { at = moved_at ids d.index id (images_of d id) r.at } else r) own in
+        absurd (other (ap (λ (p : Place). p.segment) (sym moved ∙ at) ∙ eqb-true r.segment id own))
+    test false away =
+        let at : goes r ≡ r =
+        ap (λ (b : Bool). if b then record r { at = moved_at ids d.index id (images_of d id) r.at } else r) away in
+        sym at ∙ moved
+
   -- a key that is found elsewhere was found there before
   pub found_elsewhere : (k : Key) (q : Place) → find e k ≡ Some q → (q.segment ≡ id → ⊥) → find d k ≡ Some q
   found_elsewhere k q finds other = go (find d k) refl where
-    follows_to : find e k ≡ option_map (moved_place ids d.index id (images_of d id)) (find d k)
+    follows_to : find e k ≡ option_map goes (find d k)
     follows_to =
-        subst (λ (images : ℕ → List Entry). found (keys_in images) k e.index
-        ≡ option_map (moved_place ids d.index id (images_of d id)) (find d k))
+        subst (λ (images : ℕ → List Entry). found (keys_in images) k e.index ≡ option_map goes (find d k))
         same_images (followed.finds k)
 
-    here : (r : Place) → find d k ≡ Some r → moved_place ids d.index id (images_of d id) r ≡ q → find d k ≡ Some q
-    here r is moved = test (r.segment == id) refl where
-      test : (t : Bool) → (r.segment == id) ≡ t → find d k ≡ Some q
-      test true own =
-          let at : moved_place ids d.index id (images_of d id) r
-          ≡ record r { at = moved_at ids d.index id (images_of d id) r.at } =
-          ap (λ (b : Bool). if b then record r { at = moved_at ids d.index id (images_of d id) r.at } else r) own in
-          absurd (other (ap (λ (p : Place). p.segment) (sym moved ∙ at) ∙ eqb-true r.segment id own))
-      test false away =
-          let at : moved_place ids d.index id (images_of d id) r ≡ r =
-          ap (λ (b : Bool). if b then record r { at = moved_at ids d.index id (images_of d id) r.at } else r) away in
-          is ∙ ap Some (sym at ∙ moved)
-
     go : (o : Option Place) → find d k ≡ o → find d k ≡ Some q
-    go None is =
-        let none = sym finds ∙ follows_to ∙ ap (option_map (moved_place ids d.index id (images_of d id))) is in
-        absurd (cc)
+    go None is = let none = sym finds ∙ follows_to ∙ ap (option_map goes) is in absurd (cc)
     go (Some r) is =
-        here r is (same_Some (moved_place ids d.index id (images_of d id) r) q
-        (sym (follows_to ∙ ap (option_map (moved_place ids d.index id (images_of d id))) is) ∙ finds))
+        is ∙ ap Some (stayed r q other (same_Some (goes r) q (sym (follows_to ∙ ap (option_map goes) is) ∙ finds)))

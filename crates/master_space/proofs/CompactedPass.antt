@@ -3,24 +3,23 @@ use Rattle.std.proofs.Common.{◌≡◌, inl, inr, ℕ, ◌≤◌, ◌<◌, Bool
 use Rattle.std.proofs.Common.{ap, subst, ◌∙◌, if◌then◌else◌, arith}
 use Rattle.std.specs.Prelude.{Option, Some, None, IfSome, IsSome, IsSomeAnd, unwrap_or}
 use Rattle.std.specs.Option.{option_map, option_to_list}
-use Rattle.std.proofs.lemmas.Bool.{eqb-true}
 use Rattle.cleaner.specs.declared.pass.Pass.{Pass as OpenPass}
 use Rattle.cleaner.specs.Laws.{AreSameAt, KeepsNoMore}
 use Rattle.cleaner.specs.Passes.{images_in, rest_of, kept_left, IsPass}
 use Rattle.cleaner.proofs.Ends.{rest_same, cursor_agrees, rest_segment}
 use Rattle.cleaner.proofs.Keeping.{kept_no_more, kept_same}
+use Rattle.entry.specs.declared.key.Key.{Key}
 use Rattle.entry.specs.declared.entry.Entry.{Entry}
 use Rattle.entry.specs.Bag.{IsAmong}
-use Rattle.entry.proofs.BagLemmas.{among_images}
 use Rattle.entry.proofs.ListLemmas.{all_among, all_from_among}
-use Rattle.hash_index.specs.declared.place.Held.{Held}
-use Rattle.hash_index.specs.declared.place.Place.{Place}
-use Rattle.hash_index.specs.Relocation.{holds}
+use Rattle.places.specs.declared.place.Place.{Place}
+use Rattle.places.specs.Relocation.{names}
+use Rattle.places.proofs.Moves.{named_gone}
 use Rattle.images.specs.declared.image.Image.{Image}
 use Rattle.images.specs.Sorted.{segment_of}
 use Rattle.images.specs.Steps.{replaced_by}
 use Rattle.images.proofs.Finding.{other_changed}
-use Rattle.compactor.specs.Kept.{has_id, moved_at, moved_place}
+use Rattle.compactor.specs.Kept.{has_id, moved_place}
 use Rattle.compactor.specs.Laws.{CompactionFollows}
 use Rattle.log_head.specs.declared.head.Roll.{Roll}
 use Rattle.master_state.specs.Budget.{used_seglets, victims_of, survivors_of}
@@ -29,8 +28,8 @@ use Rattle.master_state.specs.Invariant.{IsCore, IsOpenPass}
 use Rattle.master_state.specs.Log.{images_of, log_set_ids}
 use Rattle.master_state.specs.Steps.{kept_now, compacted_data}
 use Rattle.master_space.proofs.CompactedCore.{IsAdmitted, no_survivor}
-use Rattle.master_space.proofs.CompactedIndex.{found_elsewhere}
-use Rattle.master_state.proofs.Holding.{held_among, among_held, kept_again}
+use Rattle.master_space.proofs.CompactedIndex.{stayed, found_elsewhere}
+use Rattle.master_state.proofs.Holding.{kept_again}
 use Rattle.master_state.proofs.Imaging.{same_id}
 use Rattle.master_state.proofs.Passing.{GoesOn, goes_on}
 use Rattle.master_space.proofs.Replacing.{same_ids, changed_there}
@@ -79,45 +78,17 @@ module _ (follows : CompactionFollows) (d : MasterData) (core : IsCore d) (id : 
     abbrev rest : List Place
     rest = rest_of (images_in d.closed) p
 
-    -- what the index holds of another segment, it held before
-    held_elsewhere : (h : Held) → (id ≡ h.place.segment → ⊥) → holds e.index h ≡ true → holds d.index h ≡ true
-    held_elsewhere h other has =
-        let there = among_images (λ (g : Held). record g {
-          place = moved_place (log_set_ids d) d.index id
-              (images_of d id) g.place;
-        }) d.index h
-        (held_among e.index h has) in
-        go there.0 there.1 there.2 (there.0.place.segment == id) refl
-      where
-        go : (g : Held) → IsAmong g d.index → record g {
-          place = moved_place (log_set_ids d) d.index id
-              (images_of d id) g.place;
-        } ≡ h
-            → (t : Bool) → (g.place.segment == id) ≡ t → holds d.index h ≡ true
-        go g m goes true here =
-            let at : moved_place (log_set_ids d) d.index id (images_of d id) g.place
-            ≡ record g.place { at = moved_at (log_set_ids d) d.index id (images_of d id) g.place.at } =
-            ap (λ (b : Bool). if b then record g.place {
-              at = moved_at (log_set_ids d) d.index id
-                  (images_of d id) g.place.at;
-            } else g.place) here in
-            absurd (other (sym (eqb-true g.place.segment id here) ∙ sym (ap (λ (q : Place). q.segment) at)
-            ∙ ap (λ (x : Held). x.place.segment) goes))
-        go g m goes false away =
-            let at : moved_place (log_set_ids d) d.index id (images_of d id) g.place ≡ g.place =
-            ap (λ (b : Bool). if b then record g.place {
-              at = moved_at (log_set_ids d) d.index id
-                  (images_of d id) g.place.at;
-            } else g.place) away in
-            let same : g ≡ h = (λ i. record g { place = sym at i }) ∙ goes in
-            among_held d.index h (subst (λ (x : Held). IsAmong x d.index) same m)
+    -- what the index names in another segment, it named before
+    named_elsewhere : (k : Key) (q : Place) → (id ≡ q.segment → ⊥) → names e.index k q ≡ true
+        → names d.index k q ≡ true
+    named_elsewhere k q other is_named =
+        named_gone (moved_place (log_set_ids d) d.index id (images_of d id)) k q
+        (λ r moved. stayed follows d core id is r q (λ same. other (sym same)) moved) d.index is_named
 
     keeps_no_more : KeepsNoMore (log_set_ids d) (log_set_ids d) d.index e.index (images_in d.closed) rest
     keeps_no_more q x m stands keeps =
         kept_again (log_set_ids d) d.index e.index q x
-        (λ h here has. held_elsewhere h
-        (λ same. not_victim q.segment (rest_segment (images_in d.closed) p q m)
-        (same ∙ ap (λ (r : Place). r.segment) here)) has) keeps
+        (λ k named. named_elsewhere k q (not_victim q.segment (rest_segment (images_in d.closed) p q m)) named) keeps
 
     left_then : kept_left (log_set_ids e) e.index (images_in e.closed) rest
         ≤ kept_left (log_set_ids d) d.index (images_in d.closed) rest

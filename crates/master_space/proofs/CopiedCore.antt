@@ -22,8 +22,8 @@ use Rattle.cleaner.proofs.Images.{with_other, len_is, is_victim}
 use Rattle.cleaner.proofs.Leaving.{left_room}
 use Rattle.compactor.specs.Kept.{kept}
 use Rattle.compactor.specs.Places.{LiesAt, IsAtPlace}
-use Rattle.hash_index.specs.declared.place.Held.{Held}
-use Rattle.hash_index.specs.declared.place.Place.{Place}
+use Rattle.places.specs.declared.place.Place.{Place}
+use Rattle.places.specs.Relocation.{Places}
 use Rattle.images.specs.declared.image.Image.{Image}
 use Rattle.images.specs.Sorted.{AreRising}
 use Rattle.log_head.specs.declared.head.Roll.{Roll}
@@ -95,7 +95,7 @@ module _ (d : MasterData) (core : IsCore d) (p : Pass) (opened : d.pass ≡ Some
     abbrev to : Place
     to = copy_place p.survivor d.closed
 
-    abbrev pub held : List Held
+    abbrev pub held : Places
     held = held_with b place to x d.index
 
     abbrev later : ℕ → List Entry
@@ -284,7 +284,7 @@ module _ (d : MasterData) (core : IsCore d) (p : Pass) (opened : d.pass ≡ Some
 
 -- by what one copy does
 pub copied_core : (d : MasterData) → IsCore d → (p q : Pass) (copied : Copied) (closed_after : List Image)
-    (held_after : List Held)
+    (held_after : Places)
     → d.pass ≡ Some p → is_at_end p ≡ false → AreRising d.closed
     → CopiesOne (log_set_ids d) p d.closed d.index copied q closed_after held_after → IsPass closed_after q
     → IsCore (record d { closed = closed_after; index = held_after; pass = Some q })
@@ -292,11 +292,11 @@ copied_core d core p q copied closed_after held_after opened more rising one val
     let is_open = open_pass d core p opened more rising in
     let room = left_room d.config.segment (log_set_ids d) p q d.closed closed_after d.index held_after copied
     is_open.pass one is_open.fits in
-    subst (λ (y : List Image × List Held). IsCore (record d { closed = y.0; index = y.1; pass = Some q }))
+    subst (λ (y : List Image × Places). IsCore (record d { closed = y.0; index = y.1; pass = Some q }))
     (λ i. (sym one.survivor i, sym one.index i))
     (core_then d core p opened more rising one.place one.entry one.victim one.stands one.valid one.of_data q one.pass
     one.later one.first
     (subst (λ (cs : List Image). rest_of (images_in cs) q ≡ one.later) one.survivor one.rest)
     (subst (λ (cs : List Image). IsPass cs q) one.survivor valid)
-    (subst (λ (y : List Image × List Held). HasRoom d.config.segment (log_set_ids d) q y.0 y.1)
+    (subst (λ (y : List Image × Places). HasRoom d.config.segment (log_set_ids d) q y.0 y.1)
     (λ i. (one.survivor i, one.index i)) room))

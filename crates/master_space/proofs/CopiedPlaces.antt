@@ -11,21 +11,21 @@ use Rattle.entry.specs.declared.entry.Entry.TheVariants as entry
 use Rattle.entry.specs.Format.{IsEntry}
 use Rattle.entry.specs.Meaning.{Contents}
 use Rattle.entry.specs.Order.{key_eq}
-use Rattle.hash_index.specs.declared.place.Held.{Held}
-use Rattle.hash_index.specs.declared.place.Place.{Place}
-use Rattle.hash_index.specs.Map.{hash_of, found}
-use Rattle.hash_index.specs.Relocation.{holds}
-use Rattle.hash_index.proofs.Finding.{found_is}
+use Rattle.places.specs.declared.place.Place.{Place}
+use Rattle.places.specs.Map.{found}
+use Rattle.places.specs.Relocation.{Places, names}
+use Rattle.places.proofs.Finding.{found_is}
+use Rattle.places.proofs.Named.{found_named}
 use Rattle.versioned_map.proofs.Keys.{key_eq-true}
 use Rattle.cleaner.specs.Passes.{held_with}
 use Rattle.compactor.specs.Kept.{kept}
 use Rattle.compactor.specs.Places.{IsAtPlace, as_object, keys_in}
-use Rattle.master_space.proofs.CopiedIndex.{found_holds, at_from, copy_set, index_copied}
+use Rattle.master_space.proofs.CopiedIndex.{at_from, copy_set, index_copied}
 use Rattle.master_state.proofs.Indexing.{Grow, Indexes, stands_at, found_grown, index_grown}
 
 module _ (images grown : ℕ → List Entry) (grow : Grow images grown)
     (each_before : (s : ℕ) → AllByRecursion IsEntry (images s))
-    (each : (s : ℕ) → AllByRecursion IsEntry (grown s)) (ids : List ℕ) (hs : List Held) (contents : Contents)
+    (each : (s : ℕ) → AllByRecursion IsEntry (grown s)) (ids : List ℕ) (hs : Places) (contents : Contents)
     (index : Indexes images hs contents) (from to : Place) where
   -- ---- the index
 
@@ -66,20 +66,20 @@ module _ (images grown : ℕ → List Entry) (grow : Grow images grown)
   abbrev pub IsFoundBefore : Key → Place → Type 0
   IsFoundBefore k r = (found (keys_in images) k hs ≡ Some r) × (r ≡ from → ⊥)
 
-  same_held : (e : Entry) (k : Key) (r : Place) → IsAtPlace images from e
-      → ((o : Object) → e ≡ entry.Object o → holds hs (record { hash = hash_of o.key; place = from }) ≡ false)
+  found_before : (e : Entry) (k : Key) (r : Place) → IsAtPlace images from e
+      → ((o : Object) → e ≡ entry.Object o → names hs o.key from ≡ false)
       → found (keys_in grown) k hs ≡ Some r → IsFoundBefore k r
-  same_held e k r stands dead is =
+  found_before e k r stands dead is =
       let before : found (keys_in images) k hs ≡ Some r = sym
       (found_grown images grown grow each hs contents index k) ∙ is in (
         before,
         λ here. (
             let at : found (keys_in images) k hs ≡ Some from = before ∙ ap Some here in
             let object = found_object e k stands at in
-            let lives = found_holds (keys_in images) hs k from index.kept at in
+            let lives = found_named (keys_in images) k from (found_is (keys_in images) k hs from at) hs index.kept at in
             let not = dead object.0 object.1 in
-            let same : holds hs (record { hash = hash_of k; place = from }) ≡ false =
-            subst (λ (q : Key). holds hs (record { hash = hash_of q; place = from }) ≡ false) object.2 not in
+            let same : names hs k from ≡ false =
+            subst (λ (q : Key). names hs q from ≡ false) object.2 not in
             cc),
       )
 
@@ -87,16 +87,16 @@ module _ (images grown : ℕ → List Entry) (grow : Grow images grown)
       → (b ≡ true → IsAtPlace grown to e) → (r ≡ to → ⊥) → found (keys_in grown) k (held_with b from to e hs) ≡ Some r
       → IsFoundBefore k r
   found_treated false e k r is stands copy other finds =
-      same_held e k r stands
+      found_before e k r stands
       (λ o same. subst (λ (x : Entry). kept ids hs from x ≡ false) same is) finds
   found_treated true (entry.Header h) k r is stands copy other finds =
-      same_held (entry.Header h) k r stands (λ o same. absurd (cc)) finds
+      found_before (entry.Header h) k r stands (λ o same. absurd (cc)) finds
   found_treated true (entry.Digest l) k r is stands copy other finds =
-      same_held (entry.Digest l) k r stands (λ o same. absurd (cc)) finds
+      found_before (entry.Digest l) k r stands (λ o same. absurd (cc)) finds
   found_treated true (entry.Safe version) k r is stands copy other finds =
-      same_held (entry.Safe version) k r stands (λ o same. absurd (cc)) finds
+      found_before (entry.Safe version) k r stands (λ o same. absurd (cc)) finds
   found_treated true (entry.Tombstone t) k r is stands copy other finds =
-      same_held (entry.Tombstone t) k r stands (λ o same. absurd (cc)) finds
+      found_before (entry.Tombstone t) k r stands (λ o same. absurd (cc)) finds
   found_treated true (entry.Object o) k r is stands copy other finds = go (key_eq k o.key) refl
     where
       after : found (keys_in grown) k (held_with true from to (entry.Object o) hs)

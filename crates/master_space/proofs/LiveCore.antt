@@ -12,9 +12,8 @@ use Rattle.entry.specs.declared.entry.Entry.TheVariants as entry
 use Rattle.entry.specs.Bag.{IsAmong}
 use Rattle.entry.specs.Meaning.{Versioned, versioned, contents_of}
 use Rattle.entry.proofs.BagLemmas.{among_left, among_right, among_either}
-use Rattle.hash_index.specs.declared.place.Place.{Place}
-use Rattle.hash_index.specs.Map.{hash_of}
-use Rattle.hash_index.specs.Relocation.{holds}
+use Rattle.places.specs.declared.place.Place.{Place}
+use Rattle.places.specs.Relocation.{names}
 use Rattle.images.specs.declared.image.Image.{Image}
 use Rattle.images.specs.Sorted.{segment_of}
 use Rattle.log_head.specs.declared.head.Roll.{Roll}
@@ -29,7 +28,7 @@ use Rattle.master_state.specs.Log.{images_of, state_now}
 use Rattle.master_state.specs.Sizes.{AreOnce, live_from, live_closed, live_objects}
 use Rattle.master_state.proofs.Finding.{each_of, index_of}
 use Rattle.master_state.proofs.Imaging.{ids_in, same_id, other_id, head_images}
-use Rattle.master_space.proofs.LiveObjects.{contents_are, once_append, place_has, closed_has, live_held, IsLiveIn}
+use Rattle.master_space.proofs.LiveObjects.{contents_are, once_append, place_has, closed_has, live_named, IsLiveIn}
 use Rattle.master_space.proofs.LiveObjects.{live_apart, walk_live, walk_once, AreImages, closed_live, closed_once}
 use Rattle.master_state.proofs.LogIds.{closed_rise, not_closed, no_head, none_above}
 use Rattle.master_space.proofs.PlaceRows.{lies_among}
@@ -210,26 +209,25 @@ module _ (d : MasterData) (core : IsCore d) where
       o : Object
       o = record { key = k; version = x.version; value = x.value }
 
-      held : (p : Place) × IsAtPlace (images_of d) p (entry.Object o)
-          × (holds d.index (record { hash = hash_of k; place = p }) ≡ true)
-      held = live_held (images_of d) (each_of d core) d.index (state_now d).contents (index_of d core) k x has
+      named : (p : Place) × IsAtPlace (images_of d) p (entry.Object o) × (names d.index k p ≡ true)
+      named = live_named (images_of d) (each_of d core) d.index (state_now d).contents (index_of d core) k x has
 
       p : Place
-      p = held.0
+      p = named.0
 
       lies : IsAtPlace (images_of d) p (entry.Object o)
-      lies = held.1
+      lies = named.1
 
       go : Lies p.segment → IsAmong o (live_objects d)
       go (inl head) =
           among_right o (live_closed d.index d.closed) (live_from d.index d.head.id 0 d.head.image)
           (place_has d.index d.head.id d.head.image p o head
-          (subst (λ (es : List Entry). LiesAt es p.at (entry.Object o)) (ap (images_of d) head ∙ head_is) lies) held.2)
+          (subst (λ (es : List Entry). LiesAt es p.at (entry.Object o)) (ap (images_of d) head ∙ head_is) lies) named.2)
       go (inr closed) =
           among_left o (live_closed d.index d.closed) (live_from d.index d.head.id 0 d.head.image)
           (closed_has d.index d.closed closed.0 o closed.1
           (place_has d.index closed.0.id closed.0.segment p o (sym closed.2)
-          (subst (λ (es : List Entry). LiesAt es p.at (entry.Object o)) closed.3 lies) held.2))
+          (subst (λ (es : List Entry). LiesAt es p.at (entry.Object o)) closed.3 lies) named.2))
 
   -- ---- the live objects are the map's
 

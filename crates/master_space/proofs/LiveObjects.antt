@@ -6,7 +6,6 @@ use Rattle.std.specs.List.{AllByRecursion}
 use Rattle.std.specs.Option.{option_to_list}
 use Rattle.std.proofs.lemmas.Option.{same_Some}
 use Rattle.std.proofs.lemmas.List.{length-append, append-nil}
-use Rattle.std.proofs.Math.Bool.{or-true}
 use Rattle.entry.specs.declared.key.Key.{Key}
 use Rattle.entry.specs.declared.entry.Object.{Object}
 use Rattle.entry.specs.declared.entry.Entry.{Entry}
@@ -19,15 +18,13 @@ use Rattle.entry.proofs.BagLemmas.{among_left, among_right, among_either}
 use Rattle.entry.proofs.KeyOrder.{key_eq_tells}
 use Rattle.entry.proofs.TextLemmas.{spelling-some}
 use Rattle.segment.proofs.RowLemmas.{text_of-append}
-use Rattle.hash_index.specs.declared.place.Held.{Held}
-use Rattle.hash_index.specs.declared.place.Place.{Place}
-use Rattle.hash_index.specs.Map.{hash_of, tells, found, IsTold}
-use Rattle.hash_index.specs.Relocation.{is_same, holds}
-use Rattle.hash_index.proofs.Each.{each_found}
-use Rattle.hash_index.proofs.Finding.{tells_is, found_here, found_later}
+use Rattle.places.specs.declared.place.Place.{Place}
+use Rattle.places.specs.Map.{found}
+use Rattle.places.specs.Relocation.{Places, names}
+use Rattle.places.proofs.Finding.{found_is}
+use Rattle.places.proofs.Named.{named_found, found_named}
 use Rattle.images.specs.declared.image.Image.{Image}
 use Rattle.compactor.specs.Places.{LiesAt, IsAtPlace, object_there, keys_in}
-use Rattle.compactor.proofs.Moving.{same_true, same_itself}
 use Rattle.master_state.specs.Index.{LiesFound}
 use Rattle.master_state.specs.Sizes.{AreOnce, live_at, live_from, live_closed}
 use Rattle.master_state.proofs.Imaging.{ids_in}
@@ -111,26 +108,26 @@ once_append (o ∷ xs) ys first second apart =
 
 -- ---- one entry
 
-module _ (hs : List Held) where
-  abbrev Holds : Object → Place → Type 0
-  Holds o p = holds hs (record { hash = hash_of o.key; place = p }) ≡ true
+module _ (hs : Places) where
+  abbrev Names : Object → Place → Type 0
+  Names o p = names hs o.key p ≡ true
 
   pub live_is : (e : Entry) (p : Place) (o : Object) → IsAmong o (option_to_list (live_at hs p e))
-      → (e ≡ entry.Object o) × Holds o p
+      → (e ≡ entry.Object o) × Names o p
   live_is (entry.Header h) p o m = absurd m
   live_is (entry.Digest l) p o m = absurd m
   live_is (entry.Safe v) p o m = absurd m
   live_is (entry.Tombstone t) p o m = absurd m
-  live_is (entry.Object q) p o m = go (holds hs (record { hash = hash_of q.key; place = p })) refl m
+  live_is (entry.Object q) p o m = go (names hs q.key p) refl m
     where
-      go : (b : Bool) → holds hs (record { hash = hash_of q.key; place = p }) ≡ b
+      go : (b : Bool) → names hs q.key p ≡ b
           → IsAmong o (option_to_list (if b then Some q else None))
-          → (entry.Object q ≡ entry.Object o) × Holds o p
-      go true is (inl same) = (ap (λ (x : Object). entry.Object x) same, subst (λ (x : Object). Holds x p) same is)
+          → (entry.Object q ≡ entry.Object o) × Names o p
+      go true is (inl same) = (ap (λ (x : Object). entry.Object x) same, subst (λ (x : Object). Names x p) same is)
       go true is (inr m) = absurd m
       go false is m = absurd m
 
-  pub live_there : (o : Object) (p : Place) → Holds o p → IsAmong o (option_to_list (live_at hs p (entry.Object o)))
+  pub live_there : (o : Object) (p : Place) → Names o p → IsAmong o (option_to_list (live_at hs p (entry.Object o)))
   live_there o p is = rw is (inl refl)
 
   live_once : (e : Entry) (p : Place) → AreOnce (option_to_list (live_at hs p e))
@@ -138,7 +135,7 @@ module _ (hs : List Held) where
   live_once (entry.Digest l) p = tt
   live_once (entry.Safe v) p = tt
   live_once (entry.Tombstone t) p = tt
-  live_once (entry.Object q) p = go (holds hs (record { hash = hash_of q.key; place = p }))
+  live_once (entry.Object q) p = go (names hs q.key p)
     where
       go : (b : Bool) → AreOnce (option_to_list (if b then Some q else None))
       go true = (refl, tt)
@@ -146,31 +143,31 @@ module _ (hs : List Held) where
 
   -- a live object of a segment is listed
   pub walk_has : (s at : ℕ) (before after : List Entry) (o : Object)
-      → Holds o (record { segment = s; at = at + length (text_of before) })
+      → Names o (record { segment = s; at = at + length (text_of before) })
       → IsAmong o (live_from hs s at (before ++ entry.Object o ∷ after))
   walk_has s at [] after o is =
       let here : at + 0 ≡ at = omega arith in
       among_left o (option_to_list (live_at hs (record { segment = s; at = at }) (entry.Object o)))
       (live_from hs s (at + length (spelling (entry.Object o))) after)
       (live_there o (record { segment = s; at = at }) (subst
-      (λ (n : ℕ). Holds o (record { segment = s; at = n })) here is))
+      (λ (n : ℕ). Names o (record { segment = s; at = n })) here is))
   walk_has s at (x ∷ xs) after o is =
       let more = length-append (spelling x) (text_of xs) in
       let there : at + length (text_of (x ∷ xs)) ≡ (at + length (spelling x)) + length (text_of xs) = omega arith in
       among_right o (option_to_list (live_at hs (record { segment = s; at = at }) x))
       (live_from hs s (at + length (spelling x)) (xs ++ entry.Object o ∷ after))
       (walk_has s (at + length (spelling x)) xs after o (subst
-      (λ (n : ℕ). Holds o (record { segment = s; at = n })) there is))
+      (λ (n : ℕ). Names o (record { segment = s; at = n })) there is))
 
   pub place_has : (s : ℕ) (es : List Entry) (p : Place) (o : Object) → p.segment ≡ s
-      → LiesAt es p.at (entry.Object o) → Holds o p
+      → LiesAt es p.at (entry.Object o) → Names o p
       → IsAmong o (live_from hs s 0 es)
   place_has s es p o own lies is =
       let offset : p.at ≡ 0 + length (text_of lies.before) = (let at = lies.offset in omega arith) in
       let here : p ≡ record { segment = s; at = 0 + length (text_of lies.before) } =
       λ i. record { segment = own i; at = offset i } in
       subst (λ (l : List Entry). IsAmong o (live_from hs s 0 l)) (sym lies.split)
-      (walk_has s 0 lies.before lies.after o (subst (λ (q : Place). Holds o q) here is))
+      (walk_has s 0 lies.before lies.after o (subst (λ (q : Place). Names o q) here is))
 
   pub closed_has : (cs : List Image) (c : Image) (o : Object) → IsAmong c cs → IsAmong o (live_from hs c.id 0 c.segment)
       → IsAmong o (live_closed hs cs)
@@ -183,35 +180,16 @@ module _ (hs : List Held) where
 
 -- ---- objects that an index leads to
 
-module _ (images : ℕ → List Entry) (each : (s : ℕ) → AllByRecursion IsEntry (images s)) (hs : List Held)
+module _ (images : ℕ → List Entry) (each : (s : ℕ) → AllByRecursion IsEntry (images s)) (hs : Places)
     (contents : Contents)
     (index : Indexes images hs contents) where
-  -- the key of a place that is held is found there
-  held_found : (gs : List Held)
-      → AllByRecursion (λ (h : Held). (k : Key) → keys_in images h.place ≡ Some k
-      → found (keys_in images) k hs ≡ Some h.place) gs
-      → (q : Held) → holds gs q ≡ true → (k : Key) → keys_in images q.place ≡ Some k
-      → found (keys_in images) k hs ≡ Some q.place
-  held_found [] all q is k told = absurd (cc)
-  held_found (g ∷ gs) all q is k told = go (is_same q g) refl (held_found gs all.1 q)
-    where
-      go : (b : Bool) → is_same q g ≡ b
-          → (holds gs q ≡ true → (j : Key) → keys_in images q.place ≡ Some j
-          → found (keys_in images) j hs ≡ Some q.place)
-          → found (keys_in images) k hs ≡ Some q.place
-      go true same later =
-          let one : g.place ≡ q.place = ap (λ (h : Held). h.place) (same_true q g same) in
-          all.0 k (ap (keys_in images) one ∙ told) ∙ ap (λ (p : Place). Some p) one
-      go false other later = later (rw other at is) k told
-
-  -- an object whose place is held is its key's
-  pub held_live : (o : Object) (p : Place) → IsAtPlace images p (entry.Object o) → Holds hs o p
+  -- an object whose place is named is its key's
+  pub named_live : (o : Object) (p : Place) → IsAtPlace images p (entry.Object o) → Names hs o p
       → (found (keys_in images) o.key hs ≡ Some p) × (contents o.key ≡ Some (versioned o))
-  held_live o p stands is =
+  named_live o p stands is =
       let seen : object_there images p ≡ Some o = object_seen images each p o stands in
       let told : keys_in images p ≡ Some o.key = key_seen images each p o.key (versioned o) stands in
-      let there = held_found hs (each_found (keys_in images) hs index.kept.apart)
-      (record { hash = hash_of o.key; place = p }) is o.key told in
+      let there = named_found (keys_in images) o.key p told hs index.kept is in
       let lies = found_lies images o.key (found (keys_in images) o.key hs) (contents o.key)
       (index.lies o.key) p there in
       let x : Versioned = lies.0 in
@@ -220,43 +198,22 @@ module _ (images : ℕ → List Entry) (each : (s : ℕ) → AllByRecursion IsEn
       let one : record { key = o.key; version = x.version; value = x.value } ≡ o = same_Some _ o (sym again ∙ seen) in
       (there, lies.1 ∙ ap (λ (q : Object). Some (versioned q)) one)
 
-  -- the place where a key is found is held
-  found_held : (gs : List Held) → AllByRecursion (IsTold (keys_in images)) gs → (k : Key) (p : Place)
-      → found (keys_in images) k gs ≡ Some p → holds gs (record { hash = hash_of k; place = p }) ≡ true
-  found_held [] told k p is = absurd (cc)
-  found_held (g ∷ gs) told k p is = go (tells (keys_in images) k g.place) refl (found_held gs told.1 k p)
-    where
-      q : Held
-      q = record { hash = hash_of k; place = p }
-
-      go : (t : Bool) → tells (keys_in images) k g.place ≡ t
-          → (found (keys_in images) k gs ≡ Some p → holds gs q ≡ true) → holds (g ∷ gs) q ≡ true
-      go true so later =
-          let place : g.place ≡ p = same_Some g.place p (sym (found_here (keys_in images) k g gs so) ∙ is) in
-          let key : told.0.0 ≡ k = same_Some told.0.0 k (sym told.0.1 ∙ tells_is (keys_in images) k g.place so) in
-          let hash : g.hash ≡ hash_of k = told.0.2 ∙ ap hash_of key in
-          let one : is_same q g ≡ true = same_itself q g (λ i. record { hash = hash i; place = place i }) in
-          ap (λ (b : Bool). b || holds gs q) one
-      go false isnt later =
-          ap (λ (b : Bool). is_same q g || b) (later (sym (found_later (keys_in images) k g gs isnt) ∙ is))
-          ∙ or-true (is_same q g)
-
-  -- a key's object lies where it is held
-  pub live_held : (k : Key) (x : Versioned) → contents k ≡ Some x
-      → (p : Place) × IsAtPlace images p (object_at k x) × (holds hs (record { hash = hash_of k; place = p }) ≡ true)
-  live_held k x has = go (found (keys_in images) k hs) (contents k) refl has (index.lies k)
+  -- a key's object lies at a place that is named for it
+  pub live_named : (k : Key) (x : Versioned) → contents k ≡ Some x
+      → (p : Place) × IsAtPlace images p (object_at k x) × (names hs k p ≡ true)
+  live_named k x has = go (found (keys_in images) k hs) (contents k) refl has (index.lies k)
     where
       go : (f : Option Place) (y : Option Versioned) → found (keys_in images) k hs ≡ f → y ≡ Some x
           → LiesFound images k f y
           → (p : Place) × IsAtPlace images p (object_at k x)
-          × (holds hs (record { hash = hash_of k; place = p }) ≡ true)
+          × (names hs k p ≡ true)
       go None None is same lies = absurd (cc)
       go None (Some v) is same lies = absurd lies
       go (Some p) None is same lies = absurd lies
       go (Some p) (Some v) is same lies = (
         p,
         subst (λ (w : Versioned). IsAtPlace images p (object_at k w)) (same_Some v x same) lies,
-        found_held hs index.kept.told k p is,
+        found_named (keys_in images) k p (found_is (keys_in images) k hs p is) hs index.kept is,
       )
 
   -- ---- in segments
@@ -306,7 +263,7 @@ module _ (images : ℕ → List Entry) (each : (s : ℕ) → AllByRecursion IsEn
         → IsLiveIn (At s at) o
     first_live o m =
         let own = live_is hs e (record { segment = s; at = at }) o m in
-        let live = held_live o (record { segment = s; at = at }) (record {
+        let live = named_live o (record { segment = s; at = at }) (record {
           before = front;
           after = es;
           split = is ∙ ap (λ (x : Entry). front ++ x ∷ es) own.0;

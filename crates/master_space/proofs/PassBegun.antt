@@ -22,7 +22,7 @@ use Rattle.cleaner.proofs.Ends.{rest_same, cursor_agrees}
 use Rattle.cleaner.proofs.Keeping.{kept_no_more, kept_same}
 use Rattle.compactor.specs.Kept.{has_id, kept}
 use Rattle.compactor.specs.Places.{IsAtPlace}
-use Rattle.hash_index.specs.declared.place.Place.{Place}
+use Rattle.places.specs.declared.place.Place.{Place}
 use Rattle.images.specs.declared.image.Image.{Image}
 use Rattle.images.specs.Sorted.{IsWhole, image_of as image_in, segment_of, added}
 use Rattle.images.proofs.Adding.{newest_last, segment_found}

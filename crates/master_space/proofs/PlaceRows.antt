@@ -8,7 +8,7 @@ use Rattle.entry.specs.Bag.{IsAmong}
 use Rattle.entry.specs.Format.{spelling}
 use Rattle.entry.specs.Text.{text_of, is_data}
 use Rattle.entry.proofs.BagLemmas.{among_left, among_right, among_either}
-use Rattle.hash_index.specs.declared.place.Place.{Place}
+use Rattle.places.specs.declared.place.Place.{Place}
 use Rattle.compactor.specs.Kept.{has_id}
 use Rattle.compactor.specs.Places.{LiesAt, IsAtPlace}
 use Rattle.cleaner.specs.Passes.{places_from, places_of}

@@ -18,8 +18,8 @@ use Rattle.entry.specs.Text.{text_of, is_data, IsSegment}
 use Rattle.entry.proofs.BagLemmas.{among_either, among_right}
 use Rattle.entry.proofs.ListLemmas.{all_among}
 use Rattle.segment.specs.Bytes.{standing_at}
-use Rattle.hash_index.specs.declared.place.Held.{Held}
-use Rattle.hash_index.specs.declared.place.Place.{Place}
+use Rattle.places.specs.declared.place.Place.{Place}
+use Rattle.places.specs.Relocation.{Places}
 use Rattle.images.specs.declared.image.Image.{Image}
 use Rattle.compactor.specs.Kept.{has_id}
 use Rattle.compactor.specs.Places.{LiesAt, IsAtPlace}
@@ -111,7 +111,7 @@ module _ (images : ℕ → List Entry) (each : (s : ℕ) → AllByRecursion IsEn
 -- ---- other ids of the log set
 
 -- If tombstones name ids below one, and no id below that one is new in the log set, no more bytes are left.
-module _ (ids again : List ℕ) (held : List Held) (images : ℕ → List Entry)
+module _ (ids again : List ℕ) (held : Places) (images : ℕ → List Entry)
     (each : (s : ℕ) → AllByRecursion IsEntry (images s))
     (p : Pass) (unused : ℕ)
     (named : (q : Place) (t : Tombstone) → IsAmong q (rest_of images p) → IsAmong (entry.Tombstone t) (images q.segment)

@@ -17,8 +17,8 @@ use Rattle.entry.specs.declared.entry.Entry.TheVariants as entry
 use Rattle.entry.specs.Bag.{IsAmong}
 use Rattle.entry.specs.Format.{IsEntry}
 use Rattle.entry.specs.Text.{text_of, IsSegment}
-use Rattle.hash_index.specs.declared.place.Place.{Place}
-use Rattle.hash_index.specs.Map.{found, AreKept}
+use Rattle.places.specs.declared.place.Place.{Place}
+use Rattle.places.specs.Map.{found, AreKept}
 use Rattle.images.specs.declared.image.Image.{Image}
 use Rattle.images.specs.Images.{count_of}
 use Rattle.images.specs.Sorted.{image_of, segment_of, added}

@@ -8,7 +8,7 @@ use Rattle.entry.specs.declared.entry.Entry.{Entry}
 use Rattle.entry.specs.declared.tablet.Size.{Size}
 use Rattle.entry.specs.Format.{spelling}
 use Rattle.entry.specs.Text.{text_of}
-use Rattle.hash_index.specs.declared.place.Held.{Held}
+use Rattle.places.specs.Relocation.{Places}
 use Rattle.compactor.proofs.Cutting.{IsCut, IsCut-start, cut_end}
 use Rattle.compactor.proofs.Walking.{IsHere, cut_behind}
 use Rattle.master_state.specs.Sizes.{size_of, live_at, live_from}
@@ -17,7 +17,7 @@ listed_option : (x : Option Object) → map size_of (option_to_list x) ≡ optio
 listed_option None = refl
 listed_option (Some o) = refl
 
-module _ (held : List Held) (segment : ℕ) (es : List Entry) (old : List Size) where
+module _ (held : Places) (segment : ℕ) (es : List Entry) (old : List Size) where
   -- the sizes from an offset on
   abbrev Rest : ℕ → List Entry → List Size
   Rest at rest = map size_of (live_from held segment at rest)

@@ -11,9 +11,9 @@ use Rattle.entry.specs.Format.{IsEntry}
 use Rattle.entry.specs.Meaning.{Versioned, versioned, object_at}
 use Rattle.entry.specs.Text.{IsSegment}
 use Rattle.entry.specs.View.{shown_object}
-use Rattle.hash_index.specs.declared.place.Held.{Held}
-use Rattle.hash_index.specs.declared.place.Place.{Place}
-use Rattle.hash_index.specs.Map.{found}
+use Rattle.places.specs.declared.place.Place.{Place}
+use Rattle.places.specs.Map.{found}
+use Rattle.places.specs.Relocation.{Places}
 use Rattle.log_head.specs.declared.head.Roll.{Roll}
 use Rattle.log_head.specs.Head.{HeadValue, IsHeadValue, IsRollValue}
 use Rattle.images.specs.declared.image.Image.{Image}
@@ -79,7 +79,7 @@ found_place d core k x has = go (find d k) ((state_now d).contents k) refl has (
 
 -- ---- what a search finds
 
-pub finds_place : (images : ℕ → List Entry) (hs : List Held) (k : Key) (f : Option (Place × ObjectRef))
+pub finds_place : (images : ℕ → List Entry) (hs : Places) (k : Key) (f : Option (Place × ObjectRef))
     → FindsObject images hs k f
     → place_found f ≡ found (keys_in images) k hs
 finds_place images hs k None is = sym is

@@ -16,11 +16,13 @@ use Rattle.entry.proofs.ListLemmas.{all_split}
 use Rattle.entry.proofs.TextLemmas.{front_of-spelling}
 use Rattle.segment.specs.Bytes.{standing_at}
 use Rattle.segment.proofs.RowLemmas.{text_of-append}
-use Rattle.hash_index.specs.declared.place.Held.{Held}
-use Rattle.hash_index.specs.declared.place.Place.{Place}
-use Rattle.hash_index.specs.Map.{found, IsTold, AreKept, IsSet}
-use Rattle.hash_index.proofs.Again.{kept_again, found_again}
-use Rattle.hash_index.proofs.Each.{each_found}
+use Rattle.places.specs.declared.place.Place.{Place}
+use Rattle.places.specs.Law.{AreToldAgain}
+use Rattle.places.specs.Map.{found, AreKept, IsSet}
+use Rattle.places.specs.Relocation.{Places}
+use Rattle.places.proofs.Again.{kept_again, found_again}
+use Rattle.places.proofs.Each.{HasKey, each_told}
+use Rattle.places.proofs.Going.{all_then}
 use Rattle.versioned_map.specs.Versioned.{with_contents}
 use Rattle.versioned_map.proofs.Keys.{key_eq-tells}
 use Rattle.compactor.specs.Places.{LiesAt, IsAtPlace, as_object, object_there, keys_in}
@@ -40,7 +42,8 @@ stands_more image more at e s = record {
   offset = s.offset;
 }
 
-stands_grown : (images grown : ℕ → List Entry) (p : Place) (e : Entry) → Grow images grown → IsAtPlace images p e
+-- what stands in images stands there once they have grown
+pub stands_grown : (images grown : ℕ → List Entry) (p : Place) (e : Entry) → Grow images grown → IsAtPlace images p e
     → IsAtPlace grown p e
 stands_grown images grown p e g s =
     let longer = g p.segment in
@@ -79,7 +82,7 @@ module _ (images : ℕ → List Entry) (each : (s : ℕ) → AllByRecursion IsEn
 -- ---- an index of images
 
 -- the index leads to the objects of these contents, and to no other
-pub record Indexes (images : ℕ → List Entry) (hs : List Held) (contents : Contents) : Type 0 where
+pub record Indexes (images : ℕ → List Entry) (hs : Places) (contents : Contents) : Type 0 where
   pub kept : AreKept (keys_in images) hs
   pub lies : (k : Key) → LiesFound images k (found (keys_in images) k hs) (contents k)
 
@@ -99,23 +102,15 @@ lies_grown images grown k (Some p) None g lies = absurd lies
 lies_grown images grown k (Some p) (Some x) g lies = stands_grown images grown p (object_at k x) g lies
 
 module _ (images grown : ℕ → List Entry) (grow : Grow images grown) (each : (s : ℕ) → AllByRecursion IsEntry (grown s))
-    (hs : List Held) (contents : Contents) (index : Indexes images hs contents) where
-  again : AllByRecursion (λ (h : Held). keys_in grown h.place ≡ keys_in images h.place) hs
-  again = go hs index.kept.told (each_found (keys_in images) hs index.kept.apart) where
-    go : (rest : List Held) → AllByRecursion (IsTold (keys_in images)) rest
-        → AllByRecursion (λ (h : Held). (k : Key) → keys_in images h.place ≡ Some k
-        → found (keys_in images) k hs ≡ Some h.place) rest
-        → AllByRecursion (λ (h : Held). keys_in grown h.place ≡ keys_in images h.place) rest
-    go [] told at = tt
-    go (h ∷ rest) told at =
-        let k = told.0.0 in
-        let is = told.0.1 in
-        let there = found_lies images k (found (keys_in images) k hs) (contents k)
-        (index.lies k) h.place (at.0 k is) in (
-          key_seen grown each h.place k there.0 (stands_grown images grown h.place
-              (object_at k there.0) grow there.2) ∙ sym is,
-          go rest told.1 at.1,
-        )
+    (hs : Places) (contents : Contents) (index : Indexes images hs contents) where
+  again : AreToldAgain (keys_in images) (keys_in grown) hs
+  again =
+      all_then (HasKey (keys_in images) hs) (λ (p : Place). keys_in grown p ≡ keys_in images p) hs
+      (λ p at.
+      let k = at.0 in
+      let there = found_lies images k (found (keys_in images) k hs) (contents k) (index.lies k) p at.2 in
+      key_seen grown each p k there.0 (stands_grown images grown p (object_at k there.0) grow there.2) ∙ sym at.1)
+      (each_told (keys_in images) hs index.kept)
 
   pub kept_grown : AreKept (keys_in grown) hs
   kept_grown = kept_again (keys_in images) (keys_in grown) hs index.kept again
@@ -133,7 +128,7 @@ module _ (images grown : ℕ → List Entry) (grow : Grow images grown) (each : 
   index_grown = record { kept = kept_grown; lies = lies_still }
 
   -- the index is set for one key
-  pub index_set : (new : List Held) (k : Key) (f : Option Place) (x : Option Versioned) → LiesFound grown k f x
+  pub index_set : (new : Places) (k : Key) (f : Option Place) (x : Option Versioned) → LiesFound grown k f x
       → IsSet (keys_in grown) hs k f new → Indexes grown new (with_contents contents k x)
   index_set new k f x here set = record { kept = set.kept; lies = at } where
     at : (q : Key) → LiesFound grown q (found (keys_in grown) q new) (with_contents contents k x q)

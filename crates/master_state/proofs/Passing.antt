@@ -12,7 +12,7 @@ use Rattle.entry.specs.declared.key.Key.{Key}
 use Rattle.entry.specs.Bag.{IsAmong}
 use Rattle.entry.specs.Text.{text_of}
 use Rattle.entry.proofs.ListLemmas.{all_among}
-use Rattle.hash_index.specs.declared.place.Place.{Place}
+use Rattle.places.specs.declared.place.Place.{Place}
 use Rattle.log_head.specs.declared.head.Roll.{Roll}
 use Rattle.log_head.specs.Log.{head_of}
 use Rattle.log_model.specs.Data.{Start, ids_of}

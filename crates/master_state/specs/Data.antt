@@ -2,13 +2,13 @@
 use Rattle.std.specs.Prelude.{ℕ, List, [], Bool, false, Option, None}
 use Rattle.cleaner.specs.declared.pass.Pass.{Pass}
 use Rattle.entry.specs.declared.entry.Object.{Object}
-use Rattle.hash_index.specs.declared.place.Held.{Held}
 use Rattle.images.specs.declared.image.Image.{Image}
 use Rattle.versioned_map.specs.declared.command.Record.{Record}
 use Rattle.log_model.specs.Steps.{first_start}
 use Rattle.log_head.specs.Head.{HeadValue}
 use Rattle.log_head.specs.Steps.{fresh_head}
 use Rattle.master_state.specs.declared.config.Config.{Config}
+use Rattle.places.specs.Relocation.{Places}
 
 -- What a master began its history with: objects that were loaded, the last one first, and a safe version.
 pub record Origin : Type 0 where
@@ -27,7 +27,7 @@ pub record MasterData : Type 0 where
   -- the first id that no segment had yet
   pub next : ℕ
   -- where the live objects lie: the places that the index holds
-  pub index : List Held
+  pub index : Places
   -- the version that the next new key gets
   pub safe : ℕ
   pub history : List Record

@@ -6,9 +6,9 @@ use Rattle.entry.specs.declared.entry.Entry.{Entry}
 use Rattle.entry.specs.declared.view.ObjectRef.{ObjectRef}
 use Rattle.entry.specs.Meaning.{Versioned, versioned, object_at}
 use Rattle.entry.specs.View.{shown_object}
-use Rattle.hash_index.specs.declared.place.Held.{Held}
-use Rattle.hash_index.specs.declared.place.Place.{Place}
-use Rattle.hash_index.specs.Map.{found}
+use Rattle.places.specs.declared.place.Place.{Place}
+use Rattle.places.specs.Map.{found}
+use Rattle.places.specs.Relocation.{Places}
 use Rattle.compactor.specs.Places.{IsAtPlace, object_there, keys_in}
 
 -- a key's object lies where it is found, and nothing is found of a key that has none
@@ -30,7 +30,7 @@ abbrev pub object_found : Option (Place × ObjectRef) → Option Versioned
 object_found found = option_map (λ (f : Place × ObjectRef). versioned (shown_object f.1)) found
 
 -- the key's place was found, and the object that stands there
-abbrev pub FindsObject : (ℕ → List Entry) → List Held → Key → Option (Place × ObjectRef) → Type 0
+abbrev pub FindsObject : (ℕ → List Entry) → Places → Key → Option (Place × ObjectRef) → Type 0
 FindsObject images index k None = found (keys_in images) k index ≡ None
 FindsObject images index k (Some f) =
     (found (keys_in images) k index ≡ Some f.0) × (object_there images f.0 ≡ Some (shown_object f.1))

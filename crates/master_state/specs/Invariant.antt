@@ -13,8 +13,8 @@ use Rattle.log_model.specs.Ids.{has, all_inserted, without}
 use Rattle.entry.specs.declared.key.Key.{Key}
 use Rattle.std.specs.List.{AllByRecursion}
 use Rattle.entry.specs.Text.{text_of, IsSegment}
-use Rattle.hash_index.specs.declared.place.Place.{Place}
-use Rattle.hash_index.specs.Map.{AreKept}
+use Rattle.places.specs.declared.place.Place.{Place}
+use Rattle.places.specs.Map.{AreKept}
 use Rattle.images.specs.declared.image.Image.{Image}
 use Rattle.images.specs.Images.{ImagesValue}
 use Rattle.versioned_map.specs.History.{IsLegal}

@@ -5,7 +5,7 @@ use Rattle.entry.specs.declared.entry.Entry.TheVariants as entry
 use Rattle.entry.specs.declared.entry.Object.{Object}
 use Rattle.entry.specs.declared.key.Key.{Key}
 use Rattle.entry.specs.Tablet.{have_key}
-use Rattle.hash_index.specs.declared.place.Place.{Place}
+use Rattle.places.specs.declared.place.Place.{Place}
 use Rattle.log_head.specs.declared.next.Next.{Next}
 use Rattle.log_head.specs.Head.{is_open}
 use Rattle.log_head.specs.Steps.{lone_start, fresh_head, with_unit_end, settled}

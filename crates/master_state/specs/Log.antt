@@ -18,8 +18,8 @@ use Rattle.log_head.specs.declared.head.Roll.{Roll}
 use Rattle.log_head.specs.Log.{head_of, phase_of}
 use Rattle.master_state.specs.Budget.{victims_of, survivors_of, is_committing}
 use Rattle.master_state.specs.declared.config.Config.{Config}
-use Rattle.hash_index.specs.declared.place.Place.{Place}
-use Rattle.hash_index.specs.Map.{found}
+use Rattle.places.specs.declared.place.Place.{Place}
+use Rattle.places.specs.Map.{found}
 use Rattle.master_state.specs.Data.{MasterData}
 use Rattle.master_state.specs.Images.{image_among, images_among}
 use Rattle.compactor.specs.Places.{keys_in}

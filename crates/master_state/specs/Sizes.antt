@@ -10,10 +10,8 @@ use Rattle.entry.specs.declared.tablet.Size.{Size}
 use Rattle.entry.specs.Format.{spelling}
 use Rattle.entry.specs.Key.{place_of}
 use Rattle.entry.specs.Meaning.{Contents, contents_of}
-use Rattle.hash_index.specs.declared.place.Held.{Held}
-use Rattle.hash_index.specs.declared.place.Place.{Place}
-use Rattle.hash_index.specs.Map.{hash_of}
-use Rattle.hash_index.specs.Relocation.{holds}
+use Rattle.places.specs.declared.place.Place.{Place}
+use Rattle.places.specs.Relocation.{Places, names}
 use Rattle.images.specs.declared.image.Image.{Image}
 use Rattle.tablet_will.specs.Sizes.{are_in_order}
 use Rattle.master_state.specs.Data.{MasterData}
@@ -43,23 +41,23 @@ pub record AreSizesOf (contents : Contents) (sizes : List Size) : Type 0 where
 
 -- ---- how they are found
 
--- the object, if the entry is one and the index holds its place
-abbrev pub live_at : List Held → Place → Entry → Option Object
+-- the object, if the entry is one and the index names its place
+abbrev pub live_at : Places → Place → Entry → Option Object
 live_at held p (entry.Header h) = None
 live_at held p (entry.Digest l) = None
 live_at held p (entry.Safe version) = None
-live_at held p (entry.Object o) = if holds held (record { hash = hash_of o.key; place = p }) then Some o else None
+live_at held p (entry.Object o) = if names held o.key p then Some o else None
 live_at held p (entry.Tombstone t) = None
 
 -- these objects among the entries of a segment from an offset on
-abbrev pub live_from : List Held → ℕ → ℕ → List Entry → List Object
+abbrev pub live_from : Places → ℕ → ℕ → List Entry → List Object
 live_from held segment at [] = []
 live_from held segment at (e ∷ es) =
     option_to_list (live_at held (record { segment = segment; at = at }) e)
     ++ live_from held segment (at + length (spelling e)) es
 
 -- those of closed segments
-abbrev pub live_closed : List Held → List Image → List Object
+abbrev pub live_closed : Places → List Image → List Object
 live_closed held images = flat_map (λ (image : Image). live_from held image.id 0 image.segment) images
 
 -- those of all images

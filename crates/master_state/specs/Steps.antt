@@ -13,7 +13,7 @@ use Rattle.cleaner.specs.Passes.{images_in, places_of, rest_of, CopiesOne, is_re
 use Rattle.entry.specs.declared.entry.Entry.{Entry}
 use Rattle.entry.specs.declared.key.Key.{Key}
 use Rattle.entry.specs.Text.{text_of}
-use Rattle.hash_index.specs.declared.place.Place.{Place}
+use Rattle.places.specs.declared.place.Place.{Place}
 use Rattle.images.specs.Sorted.{changed}
 use Rattle.images.specs.Steps.{replaced_by}
 use Rattle.compactor.specs.Kept.{kept_of, moved_all}

@@ -1,6 +1,6 @@
 use Rattle.std.proofs.Common.{◌≡◌, [], ◌∷◌, refl, sym, ap, ◌∙◌}
-use Rattle.hash_index.specs.declared.place.Place.{Place}
-use Rattle.hash_index.specs.Relocation.{relocated}
+use Rattle.places.specs.declared.place.Place.{Place}
+use Rattle.places.specs.Relocation.{relocated}
 use Rattle.images.specs.Images.{ImagesValue}
 use Rattle.images.specs.Sorted.{changed}
 use Rattle.images.specs.Steps.{with_unit}

@@ -1,5 +1,5 @@
 use Rattle.std.proofs.Common.{◌≡◌, ◌+◌, ◌≤◌, ap, arith, if◌then◌else◌}
-use Rattle.hash_index.specs.Relocation.{holds}
+use Rattle.places.specs.Relocation.{holds}
 use Rattle.compactor.specs.Asked.{asked_of, asked_bytes, held_bytes}
 use Rattle.compactor.proofs.Asking.{asked_append, held_append}
 use Rattle.compactor.proofs.keeping.ask.Goals.{then-is_full, else-is_full}

@@ -3,7 +3,7 @@ use Rattle.std.specs.Prelude.{Option}
 use Rattle.std.specs.Result.{result_err}
 use Rattle.std.proofs.lemmas.Result.{err_from_is_err_and}
 use Rattle.entry.specs.Meaning.{Versioned}
-use Rattle.hash_index.specs.Map.{hash_of}
+use Rattle.places.specs.Map.{hash_of}
 use Rattle.versioned_map.specs.Versioned.{is_spent}
 use Rattle.master_state.specs.Causes.{early_refusal}
 use Rattle.master_commands.specs.Change.{version_in, IsChangeOf, IsChangeNow}

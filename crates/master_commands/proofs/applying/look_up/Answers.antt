@@ -9,7 +9,7 @@ use Rattle.compactor.specs.Places.{keys_in}
 use Rattle.master_state.specs.Index.{FindsObject}
 use Rattle.master_state.specs.Log.{images_of}
 use Rattle.master_state.proofs.Finding.{finds_place, finds_held}
-use Rattle.hash_index.specs.Map.{AreKept}
+use Rattle.places.specs.Map.{AreKept}
 use Rattle.master_commands.proofs.applying.look_up.Goals as goal
 
 module _ (c : goal.After-find_object) where

@@ -1,5 +1,5 @@
-use Rattle.hash_index.proofs.Each.{set_grown}
-use Rattle.hash_index.proofs.FoundPlaces.{relocated_set}
+use Rattle.places.proofs.Each.{set_grown}
+use Rattle.places.proofs.FoundPlaces.{relocated_set}
 use Rattle.master_commands.proofs.index.move_object.Goals as goal
 
 pub returns-in-Create : goal.returns-in-Create

@@ -5,7 +5,7 @@ use Rattle.entry.specs.declared.tablet.Size.{Size}
 use Rattle.entry.specs.declared.view.EntryRef.{EntryRef}
 use Rattle.entry.specs.View.{shown, shown_object}
 use Rattle.entry.proofs.SpellingLemmas.{length-object}
-use Rattle.hash_index.specs.Relocation.{holds}
+use Rattle.places.specs.Relocation.{holds}
 use Rattle.master_state.specs.Sizes.{size_of, live_at}
 use Rattle.master_space.proofs.sizes.live_size.Goals.{After-holds}
 use Rattle.master_space.proofs.sizes.live_size.Goals as goal

@@ -1,7 +1,7 @@
 use Rattle.std.proofs.Common.{◌≡◌, sym, subst, ◌∙◌}
 use Rattle.std.specs.Prelude.{Some}
 use Rattle.entry.specs.View.{shown_key}
-use Rattle.hash_index.specs.Map.{IndexValue, AreKept, found}
+use Rattle.places.specs.Map.{IndexValue, AreKept, found}
 use Rattle.hash_index.proofs.Joining.{kept_left, kept_right}
 use Rattle.hash_index.proofs.Whole.{found_table, found_waiting}
 use Rattle.hash_index.proofs.chain.Chain.get.Goals as goal

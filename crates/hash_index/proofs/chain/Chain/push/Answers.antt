@@ -1,6 +1,6 @@
 use Rattle.std.proofs.Common.{[], ◌∷◌, ◌++◌, refl, subst}
 use Rattle.std.specs.Prelude.{OnOk}
-use Rattle.hash_index.specs.Map.{IndexValue}
+use Rattle.places.specs.Map.{IndexValue}
 use Rattle.hash_index.specs.Steps.{BringsNoHash, IsShuffled}
 use Rattle.hash_index.proofs.Parts.{filled_shuffled, filled_brings, filled_itself, filled_same, pushed_shuffled}
 use Rattle.hash_index.proofs.Parts.{pushed_brings}

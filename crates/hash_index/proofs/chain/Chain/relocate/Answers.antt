@@ -1,6 +1,6 @@
 use Rattle.std.proofs.Common.{◌≡◌, ◌++◌, sym, subst, ◌∙◌}
-use Rattle.hash_index.specs.Map.{IndexValue}
-use Rattle.hash_index.specs.Relocation.{relocated}
+use Rattle.places.specs.Map.{IndexValue}
+use Rattle.places.specs.Relocation.{relocated}
 use Rattle.hash_index.proofs.Parts.{relocated_in_first, relocated_in_other}
 use Rattle.hash_index.proofs.chain.Chain.relocate.Goals as goal
 

@@ -1,6 +1,6 @@
 use Rattle.std.proofs.Common.{◌≡◌, ◌++◌, sym, subst, ◌∙◌}
-use Rattle.hash_index.specs.Map.{IndexValue}
-use Rattle.hash_index.specs.Relocation.{without}
+use Rattle.places.specs.Map.{IndexValue}
+use Rattle.places.specs.Relocation.{without}
 use Rattle.hash_index.proofs.TakingOut.{without_in_first, without_in_other}
 use Rattle.hash_index.proofs.chain.Chain.take_out.Goals as goal
 

@@ -1,8 +1,8 @@
 use Rattle.std.proofs.Common.{List, get_or, sym, ap, subst, ◌∙◌}
 use Rattle.std.specs.Prelude.{Option, Some, None}
-use Rattle.hash_index.specs.declared.place.Held.{Held}
-use Rattle.hash_index.specs.declared.place.Place.{Place}
-use Rattle.hash_index.specs.Map.{IsCandidate}
+use Rattle.places.specs.declared.place.Held.{Held}
+use Rattle.places.specs.declared.place.Place.{Place}
+use Rattle.places.specs.Map.{IsCandidate}
 use Rattle.hash_index.proofs.Slots.{first_along, first_none, first_some}
 use Rattle.hash_index.proofs.front.Front.candidate.Goals as goal
 

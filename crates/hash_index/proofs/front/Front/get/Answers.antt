@@ -1,7 +1,7 @@
 use Rattle.std.proofs.Common.{List, get_or, sym, ap, ◌∙◌}
 use Rattle.std.specs.Prelude.{Some, None}
 use Rattle.entry.specs.View.{shown_key}
-use Rattle.hash_index.specs.declared.place.Held.{Held}
+use Rattle.places.specs.declared.place.Held.{Held}
 use Rattle.hash_index.proofs.Slots.{along, slot_none, found_slot}
 use Rattle.hash_index.proofs.front.Front.get.Goals as goal
 

@@ -1,6 +1,6 @@
 use Rattle.std.proofs.Common.{List, ap, ◌∙◌}
-use Rattle.hash_index.specs.declared.place.Held.{Held}
-use Rattle.hash_index.specs.Relocation.{holds}
+use Rattle.places.specs.declared.place.Held.{Held}
+use Rattle.places.specs.Relocation.{holds}
 use Rattle.hash_index.proofs.Relocating.{slot_tells}
 use Rattle.hash_index.proofs.front.Front.holds.Goals as goal
 

@@ -1,8 +1,8 @@
 use Rattle.std.proofs.Common.{List, length, get_or, refl, sym, ap, ◌∙◌}
 use Rattle.std.specs.Prelude.{slice_set}
 use Rattle.std.specs.List.{position, refill}
-use Rattle.hash_index.specs.declared.place.Held.{Held}
-use Rattle.hash_index.specs.Relocation.{is_same, holds, relocated}
+use Rattle.places.specs.declared.place.Held.{Held}
+use Rattle.places.specs.Relocation.{is_same, holds, relocated}
 use Rattle.hash_index.proofs.Fronts.{set_back}
 use Rattle.hash_index.proofs.Relocating.{slot_holds, slot_lacks, slot_relocated, relocated_none}
 use Rattle.hash_index.proofs.front.Front.relocate.Goals as goal

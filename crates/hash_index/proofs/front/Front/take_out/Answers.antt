@@ -1,7 +1,7 @@
 use Rattle.std.proofs.Common.{List, sym, ap, ◌∙◌}
 use Rattle.std.specs.List.{position}
-use Rattle.hash_index.specs.declared.place.Held.{Held}
-use Rattle.hash_index.specs.Relocation.{is_same, holds, without}
+use Rattle.places.specs.declared.place.Held.{Held}
+use Rattle.places.specs.Relocation.{is_same, holds, without}
 use Rattle.hash_index.proofs.Relocating.{slot_holds, slot_lacks}
 use Rattle.hash_index.proofs.TakingOut.{slot_without, without_none}
 use Rattle.hash_index.proofs.front.Front.take_out.Goals as goal

@@ -1,6 +1,6 @@
 use Rattle.std.proofs.Common.{◌++◌, subst}
 use Rattle.std.specs.Prelude.{Some}
-use Rattle.hash_index.specs.Map.{IndexValue, AreKept, IsCandidate}
+use Rattle.places.specs.Map.{IndexValue, AreKept, IsCandidate}
 use Rattle.hash_index.proofs.Joining.{kept_left, kept_right}
 use Rattle.hash_index.proofs.Slots.{candidate_same}
 use Rattle.hash_index.proofs.Whole.{found_table, found_waiting}

@@ -1,9 +1,9 @@
 use Rattle.std.proofs.Common.{◌≡◌, List, [], ◌∷◌, ◌++◌, sym, subst, ◌∙◌}
 use Rattle.std.specs.Prelude.{Some, None}
-use Rattle.hash_index.specs.declared.place.Held.{Held}
-use Rattle.hash_index.specs.Map.{IndexValue, AreKept, IsSet, found, hash_of}
+use Rattle.places.specs.declared.place.Held.{Held}
+use Rattle.places.specs.Map.{IndexValue, AreKept, IsSet, found, hash_of}
 use Rattle.hash_index.specs.Steps.{IsShuffled}
-use Rattle.hash_index.proofs.FoundPlaces.{shuffled_set}
+use Rattle.hash_index.proofs.Adding.{shuffled_set}
 use Rattle.hash_index.proofs.Joining.{shuffled_itself}
 use Rattle.hash_index.proofs.Parts.{filled_shuffled, pushed_is}
 use Rattle.hash_index.proofs.Whole.{on_err, on_not_err}

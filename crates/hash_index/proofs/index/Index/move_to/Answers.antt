@@ -1,10 +1,10 @@
 use Rattle.std.proofs.Common.{List, sym, subst, if◌then◌else◌}
 use Rattle.std.specs.Prelude.{Option, Some, None, is_some}
 use Rattle.entry.specs.View.{shown_key}
-use Rattle.hash_index.specs.declared.place.Held.{Held}
-use Rattle.hash_index.specs.declared.place.Place.{Place}
-use Rattle.hash_index.specs.Map.{IsSet}
-use Rattle.hash_index.proofs.FoundPlaces.{relocated_set}
+use Rattle.places.specs.declared.place.Held.{Held}
+use Rattle.places.specs.declared.place.Place.{Place}
+use Rattle.places.specs.Map.{IsSet}
+use Rattle.places.proofs.FoundPlaces.{relocated_set}
 use Rattle.hash_index.proofs.index.Index.move_to.Goals as goal
 
 pub returns-in-Some-clause-moved : goal.returns-in-Some-clause-moved

@@ -1,7 +1,7 @@
 use Rattle.std.proofs.Common.{◌≡◌, ◌++◌, List, length, length-append, sym, ap, ◌∙◌, arith}
-use Rattle.hash_index.specs.declared.place.Held.{Held}
-use Rattle.hash_index.specs.Map.{IndexValue}
-use Rattle.hash_index.specs.Relocation.{relocated}
+use Rattle.places.specs.declared.place.Held.{Held}
+use Rattle.places.specs.Map.{IndexValue}
+use Rattle.places.specs.Relocation.{relocated}
 use Rattle.hash_index.proofs.Relocating.{relocated_first, relocated_right, relocated_none, relocated_len}
 use Rattle.hash_index.proofs.index.Index.relocate.Goals as goal
 

@@ -1,9 +1,9 @@
 use Rattle.std.proofs.Common.{List, sym, subst}
 use Rattle.std.specs.Prelude.{Some}
 use Rattle.entry.specs.View.{shown_key}
-use Rattle.hash_index.specs.declared.place.Held.{Held}
-use Rattle.hash_index.specs.Map.{IsSet}
-use Rattle.hash_index.proofs.FoundPlaces.{relocated_set}
+use Rattle.places.specs.declared.place.Held.{Held}
+use Rattle.places.specs.Map.{IsSet}
+use Rattle.places.proofs.FoundPlaces.{relocated_set}
 use Rattle.hash_index.proofs.index.Index.set.Goals as goal
 
 pub returns-in-Some-clause-set : goal.returns-in-Some-clause-set

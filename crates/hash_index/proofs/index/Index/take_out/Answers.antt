@@ -1,9 +1,9 @@
 use Rattle.std.proofs.Common.{◌≡◌, ◌++◌, List, length, length-append, sym, ap, subst, ◌∙◌, arith}
 use Rattle.std.specs.Prelude.{Some, None}
-use Rattle.hash_index.specs.declared.place.Held.{Held}
-use Rattle.hash_index.specs.Map.{IndexValue, AreKept, IsSet, found, hash_of}
-use Rattle.hash_index.specs.Relocation.{without}
-use Rattle.hash_index.proofs.FoundPlaces.{without_set}
+use Rattle.places.specs.declared.place.Held.{Held}
+use Rattle.places.specs.Map.{IndexValue, AreKept, IsSet, found, hash_of}
+use Rattle.places.specs.Relocation.{without}
+use Rattle.places.proofs.FoundPlaces.{without_set}
 use Rattle.hash_index.proofs.TakingOut.{without_none, without_len, without_in_first, without_in_other}
 use Rattle.hash_index.proofs.index.Index.take_out.Goals as goal
 

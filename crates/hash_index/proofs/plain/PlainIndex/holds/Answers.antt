@@ -1,7 +1,7 @@
 use Rattle.std.proofs.Common.{List, ap, ◌∙◌}
-use Rattle.hash_index.specs.declared.place.Held.{Held}
-use Rattle.hash_index.specs.Map.{IndexValue}
-use Rattle.hash_index.specs.Relocation.{holds}
+use Rattle.places.specs.declared.place.Held.{Held}
+use Rattle.places.specs.Map.{IndexValue}
+use Rattle.places.specs.Relocation.{holds}
 use Rattle.hash_index.proofs.Relocating.{slot_tells}
 use Rattle.hash_index.proofs.plain.PlainIndex.holds.Goals as goal
 

@@ -1,8 +1,8 @@
 use Rattle.std.proofs.Common.{List, sym, ap, ◌∙◌}
 use Rattle.std.specs.List.{position}
-use Rattle.hash_index.specs.declared.place.Held.{Held}
-use Rattle.hash_index.specs.Map.{IndexValue}
-use Rattle.hash_index.specs.Relocation.{is_same, holds, relocated}
+use Rattle.places.specs.declared.place.Held.{Held}
+use Rattle.places.specs.Map.{IndexValue}
+use Rattle.places.specs.Relocation.{is_same, holds, relocated}
 use Rattle.hash_index.proofs.Relocating.{slot_holds, slot_lacks, slot_relocates, relocated_none}
 use Rattle.hash_index.proofs.plain.PlainIndex.relocate.Goals as goal
 

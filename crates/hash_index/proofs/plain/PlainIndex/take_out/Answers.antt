@@ -1,8 +1,8 @@
 use Rattle.std.proofs.Common.{List, sym, ap, ◌∙◌}
 use Rattle.std.specs.List.{position}
-use Rattle.hash_index.specs.declared.place.Held.{Held}
-use Rattle.hash_index.specs.Map.{IndexValue}
-use Rattle.hash_index.specs.Relocation.{is_same, holds}
+use Rattle.places.specs.declared.place.Held.{Held}
+use Rattle.places.specs.Map.{IndexValue}
+use Rattle.places.specs.Relocation.{is_same, holds}
 use Rattle.hash_index.proofs.Relocating.{slot_holds, slot_lacks}
 use Rattle.hash_index.proofs.TakingOut.{slot_without, without_none}
 use Rattle.hash_index.proofs.plain.PlainIndex.take_out.Goals as goal

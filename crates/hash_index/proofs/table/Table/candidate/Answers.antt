@@ -1,6 +1,6 @@
 use Rattle.std.proofs.Common.{◌≡◌, ℕ, ◌<◌, List, ap, sym, subst, ◌∙◌, length, arith}
-use Rattle.hash_index.specs.declared.place.Held.{Held}
-use Rattle.hash_index.specs.Map.{IndexValue, AreKept, found, hash_of}
+use Rattle.places.specs.declared.place.Held.{Held}
+use Rattle.places.specs.Map.{IndexValue, AreKept, found, hash_of}
 use Rattle.hash_index.specs.Steps.{chain_of}
 use Rattle.hash_index.proofs.Chains.{kept_chain, found_chain}
 use Rattle.hash_index.proofs.Slots.{candidate_same}

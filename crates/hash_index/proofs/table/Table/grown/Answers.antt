@@ -1,5 +1,5 @@
 use Rattle.std.proofs.Common.{List, ◌++◌, subst}
-use Rattle.hash_index.specs.declared.place.Held.{Held}
+use Rattle.places.specs.declared.place.Held.{Held}
 use Rattle.hash_index.specs.Steps.{IsShuffled}
 use Rattle.hash_index.proofs.Joining.{shuffled_left, shuffled_then}
 use Rattle.hash_index.proofs.table.Table.grown.Goals as goal

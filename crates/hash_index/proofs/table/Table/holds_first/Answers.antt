@@ -1,7 +1,7 @@
 use Rattle.std.proofs.Common.{◌≡◌, ℕ, ◌<◌, List, ap, sym, ◌∙◌, length, arith}
-use Rattle.hash_index.specs.declared.place.Held.{Held}
-use Rattle.hash_index.specs.Map.{IndexValue}
-use Rattle.hash_index.specs.Relocation.{holds}
+use Rattle.places.specs.declared.place.Held.{Held}
+use Rattle.places.specs.Map.{IndexValue}
+use Rattle.places.specs.Relocation.{holds}
 use Rattle.hash_index.specs.Steps.{chain_of}
 use Rattle.hash_index.proofs.Relocating.{holds_chain}
 use Rattle.hash_index.proofs.table.Table.holds_first.Goals as goal

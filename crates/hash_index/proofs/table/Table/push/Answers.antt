@@ -1,7 +1,7 @@
 use Rattle.std.proofs.Common.{◌≡◌, ℕ, ◌<◌, List, [], ◌∷◌, ◌++◌, ap, subst, ◌∙◌, length, set, arith}
 use Rattle.std.specs.Prelude.{OnOk, OnErr}
-use Rattle.hash_index.specs.declared.place.Held.{Held}
-use Rattle.hash_index.specs.Map.{IndexValue}
+use Rattle.places.specs.declared.place.Held.{Held}
+use Rattle.places.specs.Map.{IndexValue}
 use Rattle.hash_index.specs.Steps.{BringsNoHash, chain_of, places_in, IsShuffled}
 use Rattle.hash_index.proofs.Chains.{own_result, pushed_result}
 use Rattle.hash_index.proofs.table.Table.push.Goals as goal

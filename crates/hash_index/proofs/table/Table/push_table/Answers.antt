@@ -1,6 +1,6 @@
 use Rattle.std.proofs.Common.{List, ◌++◌, ap, subst}
-use Rattle.hash_index.specs.declared.place.Held.{Held}
-use Rattle.hash_index.specs.Map.{IndexValue}
+use Rattle.places.specs.declared.place.Held.{Held}
+use Rattle.places.specs.Map.{IndexValue}
 use Rattle.hash_index.specs.Steps.{IsShuffled}
 use Rattle.hash_index.proofs.Chains.{shuffled_chain}
 use Rattle.hash_index.proofs.table.Table.push_table.Goals as goal

@@ -1,6 +1,6 @@
 use Rattle.std.proofs.Common.{◌≡◌, ◌+◌, ◌-◌, ◌<◌, List, [], ◌∷◌, ◌++◌, length, get_or, sym, subst, arith}
 use Rattle.std.proofs.lemmas.List.Edits.{length-remove}
-use Rattle.hash_index.specs.declared.place.Held.{Held}
+use Rattle.places.specs.declared.place.Held.{Held}
 use Rattle.hash_index.specs.Steps.{IsShuffled}
 use Rattle.hash_index.proofs.Joining.{shuffled_over, shuffled_then}
 use Rattle.hash_index.proofs.Whole.{on_ok}

@@ -1,7 +1,7 @@
 use Rattle.std.proofs.Common.{◌≡◌, ℕ, ◌<◌, List, ap, sym, subst, ◌∙◌, length, get_or, arith}
-use Rattle.hash_index.specs.declared.place.Held.{Held}
-use Rattle.hash_index.specs.Map.{IndexValue}
-use Rattle.hash_index.specs.Relocation.{holds, without}
+use Rattle.places.specs.declared.place.Held.{Held}
+use Rattle.places.specs.Map.{IndexValue}
+use Rattle.places.specs.Relocation.{holds, without}
 use Rattle.hash_index.specs.Steps.{BringsNoHash, chain_of}
 use Rattle.hash_index.proofs.Chains.{own_brings}
 use Rattle.hash_index.proofs.Relocating.{holds_chain}

@@ -3,7 +3,7 @@ use Rattle.std.specs.Prelude.{Option, None}
 use Rattle.std.specs.Option.{option_map, option_to_list}
 use Rattle.std.specs.Result.{result_err}
 use Rattle.entry.specs.declared.entry.Entry.{Entry}
-use Rattle.hash_index.specs.declared.place.Held.{Held}
+use Rattle.places.specs.Relocation.{Places}
 use Rattle.compactor.specs.Kept.{moved_all}
 use Rattle.compactor.specs.Laws.{CompactionFollows}
 use Rattle.compactor.specs.Moved.{Follows}
@@ -31,7 +31,7 @@ ids_are : (d : MasterData) (head : ℕ) (new : Option ℕ) → head ≡ d.head.i
 ids_are d head new own opening = λ i. ids_in d.closed ++ own i ∷ option_to_list (opening i)
 
 -- the index has followed
-index_then : (d : MasterData) → IsCore d → (ids : List ℕ) (id : ℕ) (es : List Entry) (new : List Held)
+index_then : (d : MasterData) → IsCore d → (ids : List ℕ) (id : ℕ) (es : List Entry) (new : Places)
     → es ≡ images_of d id
     → Follows ids id es d.index new → new ≡ moved_all ids d.index id es
 index_then d core ids id es new same follow =

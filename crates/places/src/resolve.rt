@@ -4,8 +4,8 @@ ghost use Rattle.std.specs.Prelude.{◌≡◌, Option};
 ghost use Rattle.std.specs.Option.{option_map, option_map_or};
 ghost use Rattle.entry.specs.declared.key.Key.{Key};
 ghost use Rattle.entry.specs.View.{shown_key};
-ghost use Rattle.hash_index.specs.declared.place.Place.{Place as PlaceValue};
-ghost use Rattle.hash_index.specs.Map.{tells};
+ghost use Rattle.places.specs.declared.place.Place.{Place as PlaceValue};
+ghost use Rattle.places.specs.Map.{tells};
 
 use crate::place::Place;
 use entry::KeyRef;
@@ -22,7 +22,7 @@ pub trait Resolve {
 
 /// Whether the key stands at the place.
 #[inline]
-pub(crate) fn stands<R: Resolve>(resolver: &R, key: &KeyRef<'_>, place: Place) -> bool
+pub fn stands<R: Resolve>(resolver: &R, key: &KeyRef<'_>, place: Place) -> bool
     ensures { result ≡ tells (R.keys resolver.now) (shown_key key.now) place }
 {
     match resolver.key_at(place) {

@@ -5,11 +5,11 @@ use Rattle.std.specs.Prelude.{Option, Some, None}
 use Rattle.entry.specs.declared.key.Key.{Key}
 use Rattle.entry.specs.Order.{key_eq}
 use Rattle.entry.proofs.KeyOrder.{key_eq_tells}
-use Rattle.hash_index.specs.declared.place.Place.{Place}
-use Rattle.hash_index.specs.declared.place.Held.{Held}
-use Rattle.hash_index.specs.Map.{hash_of, tells, found, IsTold, AreKept, IsSet}
-use Rattle.hash_index.proofs.Finding.{key_itself, tells_is, tells_of, other_key, found_here, found_later, kept_tail}
-use Rattle.hash_index.proofs.Finding.{not_first}
+use Rattle.places.specs.declared.place.Place.{Place}
+use Rattle.places.specs.declared.place.Held.{Held}
+use Rattle.places.specs.Map.{hash_of, tells, found, IsTold, AreKept, IsSet}
+use Rattle.places.proofs.Finding.{key_itself, tells_is, tells_of, other_key, found_here, found_later, kept_tail}
+use Rattle.places.proofs.Finding.{not_first}
 
 module _ (keys : Place → Option Key) where
   pub kept_cons : (x : Held) (hs : List Held) → IsTold keys x

@@ -8,9 +8,9 @@ use Rattle.std.proofs.lemmas.List.Elements.{Contains-append_left, Contains-appen
 use Rattle.entry.specs.declared.key.Key.{Key}
 use Rattle.entry.specs.Order.{key_eq}
 use Rattle.entry.proofs.KeyOrder.{key_eq_decides, key_eq_tells}
-use Rattle.hash_index.specs.declared.place.Place.{Place}
-use Rattle.hash_index.specs.declared.place.Held.{Held}
-use Rattle.hash_index.specs.Map.{tells, found, AreKept}
+use Rattle.places.specs.declared.place.Place.{Place}
+use Rattle.places.specs.declared.place.Held.{Held}
+use Rattle.places.specs.Map.{tells, found, AreKept}
 
 key_told : (k : Key) (o : Option Key) → option_map_or (key_eq k) o false ≡ true → o ≡ Some k
 key_told k None e = absurd (cc)

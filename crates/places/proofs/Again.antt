@@ -5,9 +5,9 @@ use Rattle.std.specs.List.{AllByRecursion}
 use Rattle.std.specs.Option.{option_map_or}
 use Rattle.entry.specs.declared.key.Key.{Key}
 use Rattle.entry.specs.Order.{key_eq}
-use Rattle.hash_index.specs.declared.place.Place.{Place}
-use Rattle.hash_index.specs.declared.place.Held.{Held}
-use Rattle.hash_index.specs.Map.{tells, found, IsTold, AreApart, AreKept}
+use Rattle.places.specs.declared.place.Place.{Place}
+use Rattle.places.specs.declared.place.Held.{Held}
+use Rattle.places.specs.Map.{tells, found, IsTold, AreApart, AreKept}
 
 module _ (keys again : Place → Option Key) where
   pub found_again : (hs : List Held) → AllByRecursion (λ (h : Held). again h.place ≡ keys h.place) hs → (q : Key)

@@ -3,7 +3,7 @@
 
 ghost use Rattle.std.specs.Prelude.{◌≡◌};
 ghost use Rattle.entry.specs.View.{shown_key};
-ghost use Rattle.hash_index.specs.Map.{hash_of};
+ghost use Rattle.places.specs.Map.{hash_of};
 
 use entry::KeyRef;
 use std::hash::{FoldHasher, Hasher};

@@ -6,8 +6,8 @@ use Rattle.std.specs.Hash as fed
 use Rattle.std.specs.Hash.FoldHasher as folding
 use Rattle.entry.specs.declared.key.Key.{Key}
 use Rattle.entry.specs.Order.{key_eq}
-use Rattle.hash_index.specs.declared.place.Place.{Place}
-use Rattle.hash_index.specs.declared.place.Held.{Held}
+use Rattle.places.specs.declared.place.Place.{Place}
+use Rattle.places.specs.declared.place.Held.{Held}
 
 -- the hash of a key: its table is fed to the hasher, then its bytes
 unfoldable pub hash_of : Key → ℕ

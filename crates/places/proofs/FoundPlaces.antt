@@ -7,17 +7,16 @@ use Rattle.std.proofs.lemmas.Bool.Decides.{Decides-eqb}
 use Rattle.std.proofs.lemmas.List.{append-nil}
 use Rattle.std.proofs.lemmas.Option.{same_Some}
 use Rattle.entry.specs.declared.key.Key.{Key}
-use Rattle.hash_index.specs.declared.place.Place.{Place}
-use Rattle.hash_index.specs.declared.place.Held.{Held}
-use Rattle.hash_index.specs.Map.{hash_of, tells, found, AreKept, IsSet}
-use Rattle.hash_index.specs.Relocation.{is_same_place, is_same, relocated, without}
-use Rattle.hash_index.specs.Steps.{IsShuffled}
-use Rattle.hash_index.proofs.Finding.{tells_is, tells_from, found_is, found_here, found_later, kept_tail}
-use Rattle.hash_index.proofs.Changing.{set_behind, cuts_out, puts_among, puts_in_place}
+use Rattle.places.specs.declared.place.Place.{Place}
+use Rattle.places.specs.declared.place.Held.{Held}
+use Rattle.places.specs.Map.{hash_of, tells, found, AreKept, IsSet}
+use Rattle.places.specs.Relocation.{is_same_place, is_same, relocated, without}
+use Rattle.places.proofs.Finding.{tells_is, tells_from, found_is, found_here, found_later, kept_tail}
+use Rattle.places.proofs.Changing.{set_behind, cuts_out, puts_among, puts_in_place}
 
 -- ---- the same place under the same hash
 
-same_true : (h g : Held) → is_same h g ≡ true → g ≡ h
+pub same_true : (h g : Held) → is_same h g ≡ true → g ≡ h
 same_true h g is =
     let parts = and_parts (g.hash == h.hash) (is_same_place h.place g.place) is in
     let place = and_parts (g.place.segment == h.place.segment) (g.place.at == h.place.at) parts.1 in
@@ -26,7 +25,7 @@ same_true h g is =
     let at = (Decides-eqb g.place.at h.place.at).0 place.1 in
     λ i. record { hash = hash i; place = record { segment = segment i; at = at i } }
 
-same_from : (h g : Held) → g.hash ≡ h.hash → g.place ≡ h.place → is_same h g ≡ true
+pub same_from : (h g : Held) → g.hash ≡ h.hash → g.place ≡ h.place → is_same h g ≡ true
 same_from h g hash place =
     and_from (g.hash == h.hash) (is_same_place h.place g.place) ((Decides-eqb g.hash h.hash).1 hash)
     (and_from (g.place.segment == h.place.segment) (g.place.at == h.place.at)
@@ -103,9 +102,8 @@ module _ (keys : Place → Option Key) (k : Key) where
           subst (λ (xs : List Held). IsSet keys (g ∷ gs) k None xs) (sym out)
           (set_behind keys g gs (without h gs) k None all isnt (rest (sym (found_later keys k g gs isnt) ∙ is)))
 
-  -- ---- a place more
-
-  last_set : (hs : List Held) (h : Held) → AreKept keys hs → found keys k hs ≡ None → keys h.place ≡ Some k
+  -- a place more
+  pub last_set : (hs : List Held) (h : Held) → AreKept keys hs → found keys k hs ≡ None → keys h.place ≡ Some k
       → h.hash ≡ hash_of k
       → IsSet keys hs k (Some h.place) (hs ++ h ∷ [])
   last_set hs h all none there of =
@@ -113,12 +111,3 @@ module _ (keys : Place → Option Key) (k : Key) where
       subst (λ (xs : List Held). IsSet keys xs k (Some h.place) (hs ++ h ∷ [])) same
       (puts_among keys hs [] h k (subst (λ (xs : List Held). AreKept keys xs) (sym same) all) there of
       (ap (λ (xs : List Held). found keys k xs) same ∙ none))
-
-  -- a place more, wherever it goes
-  pub shuffled_set : (hs new : List Held) (h : Held) → IsShuffled (hs ++ h ∷ []) new → AreKept keys hs
-      → found keys k hs ≡ None
-      → keys h.place ≡ Some k → h.hash ≡ hash_of k → IsSet keys hs k (Some h.place) new
-  shuffled_set hs new h shuffled all none there of =
-      let set = last_set hs h all none there of in
-      let same = shuffled.same keys set.kept in
-      record { kept = same.kept; finds = λ q. same.finds q ∙ set.finds q }

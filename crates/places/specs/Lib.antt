@@ -1,0 +1,3 @@
+pub mod Map
+pub mod Law
+pub mod Relocation
