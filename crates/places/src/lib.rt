@@ -3,7 +3,7 @@
 //! A place is held under the hash of the key that stands there (`Held`). No key is held: whoever owns the log tells
 //! which key stands at a place (`Resolve`). The places are a map from keys if the resolver tells a key at each of them,
 //! and each key once (*AreKept*). `specs/Map.antt` says what such a map has (*found*) and what becomes of it (*IsSet*).
-//! Who stands above an index speaks of its places in few words, which know no hash and no order (*names*, *moved*,
+//! Whoever stands above an index speaks of its places in few words, which know no hash and no order (*names*, *moved*,
 //! *goes_all*), in `specs/Relocation.antt`; laws tie them to the map.
 //!
 //! `hash_key` is the hash. It is the same in each run, so whoever picks the keys can make them all fall together.
