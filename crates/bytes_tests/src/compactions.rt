@@ -8,7 +8,7 @@ ghost use Rattle.compactor.specs.Places.{object_in};
 use crate::vectors::{FIRST, OBJECT, are_spelt, bytes_of};
 use compactor::{LogSet, compact};
 use entry::{EntryRef, Key, KeyRef, ObjectRef};
-use hash_index::{Held, Index, Place, Resolve, hash_key};
+use hash_index::{Held, Index, Place, Resolve};
 use images::Images;
 use segment::{Segment, read_segment};
 use std::alloc::Global;
@@ -74,8 +74,9 @@ fn set(index: &mut Index, segment: &Segment, at: usize) -> bool {
     match object_at(segment, at) {
         None => false,
         Some(object) => {
+            let hash = index.hash(&object.key);
             index.insert(Held {
-                hash: hash_key(&object.key),
+                hash,
                 place: Place { segment: 1, at },
             });
             true

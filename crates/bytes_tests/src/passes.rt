@@ -9,7 +9,7 @@ use crate::compactions::{BEFORE, NEWER, OF_CLOSED, OF_NEW, OTHER, add_spelt, set
 use crate::vectors::{SURVIVOR, are_spelt};
 use cleaner::{Copied, Pass, fit};
 use entry::{Key, Row};
-use hash_index::{Index, hash_key};
+use hash_index::Index;
 use images::Images;
 use std::alloc::Global;
 
@@ -47,7 +47,7 @@ fn letter(copied: Copied) -> char {
 
 /// Whether each entry becomes what it should, and the pass then is at its end.
 fn copies(pass: &mut Pass, images: &mut Images, index: &mut Index) -> bool
-    requires pass { IsPass images.old.images pass.old }
+    requires pass { IsPass index.old.held.seed images.old.images pass.old }
     requires room { HasRoom 512 (ids_in images.old.images 2 (Some 4)) pass.old images.old.images index.old.held }
     requires segment { images.old.segment ≡ 512 }
 {
@@ -89,14 +89,14 @@ fn runs(alloc: Global, images: &mut Images, index: &mut Index) -> bool {
     let Ok(victims) = Vec::from_slice(alloc, &[1]) else {
         return false;
     };
-    let mut pass = Pass::begin(Row::new(victims), near, 3, images);
+    let mut pass = Pass::begin(Row::new(victims), near, 3, images, index);
     copies(&mut pass, images, index)
 }
 
 /// Whether the index leads to this offset of the survivor for a key of table 1.
 fn is_found(alloc: Global, index: &Index, key: &[u8], at: usize) -> bool {
     match Key::new(alloc, 1, key) {
-        Ok(key) => match index.candidate(hash_key(&key.view())) {
+        Ok(key) => match index.candidate(index.hash(&key.view())) {
             Some(place) => place.segment == 3 && place.at == at,
             None => false,
         },

@@ -10,7 +10,7 @@ use Rattle.std.proofs.lemmas.List.Sums.{sum_by-append, sum_by-cons}
 use Rattle.entry.specs.declared.entry.Entry.{Entry}
 use Rattle.entry.specs.Format.{spelling}
 use Rattle.entry.specs.Text.{text_of, is_data, IsSegment}
-use Rattle.places.specs.Relocation.{Places}
+use Rattle.places.specs.Map.{Places}
 use Rattle.compactor.specs.Kept.{kept, kept_from, kept_of}
 use Rattle.cleaner.specs.Passes.{places_from, places_of, kept_len, kept_left, bytes_in}
 use Rattle.cleaner.proofs.Keeping.{left_segment, IsFitting, fitting_start, fitting_next}

@@ -12,8 +12,9 @@ use Rattle.entry.specs.Text.{text_of}
 use Rattle.segment.specs.Bytes.{standing_at}
 use Rattle.places.specs.declared.place.Place.{Place}
 use Rattle.places.specs.declared.place.Held.{Held}
-use Rattle.places.specs.Map.{hash_of}
-use Rattle.places.specs.Relocation.{Places, holds, relocated}
+use Rattle.places.specs.Hashing.{hash_of}
+use Rattle.places.specs.Map.{Places}
+use Rattle.places.specs.Relocation.{holds, held_of, relocated}
 use Rattle.images.specs.declared.image.Image.{Image}
 use Rattle.images.specs.Sorted.{segment_of, changed}
 use Rattle.images.specs.Images.{ImagesValue}
@@ -54,7 +55,7 @@ module _ (p : Place) (survivor : ℕ) (images : List Image) (held : Places) wher
       × (later ≡ held_with b p (copy_place survivor images) e held)
 
   pub does_object : (b : Bool) (e : Entry) (h : Held) (after : List Image) (later : Places)
-      → fate_by b p e ≡ fate.Object h
+      → fate_by held b p e ≡ fate.Object h
       → after ≡ changed images survivor (with_unit (e ∷ [])) → later ≡ relocated h (copy_place survivor images) held
       → Does b e copied.Moved after later
   does_object false e h after later is grown index = absurd (cc)
@@ -63,11 +64,11 @@ module _ (p : Place) (survivor : ℕ) (images : List Image) (held : Places) wher
   does_object true (entry.Safe x) h after later is grown index = absurd (cc)
   does_object true (entry.Tombstone x) h after later is grown index = absurd (cc)
   does_object true (entry.Object o) h after later is grown index =
-      let own : Held = record { hash = hash_of o.key; place = p } in
-      let same : h ≡ own = cc in
+      let same : h ≡ held_of held o.key p = cc in
       (refl, grown, index ∙ ap (λ (x : Held). relocated x (copy_place survivor images) held) same)
 
-  pub does_tombstone : (b : Bool) (e : Entry) (after : List Image) (later : Places) → fate_by b p e ≡ fate.Tombstone
+  pub does_tombstone : (b : Bool) (e : Entry) (after : List Image) (later : Places)
+      → fate_by held b p e ≡ fate.Tombstone
       → after ≡ changed images survivor (with_unit (e ∷ [])) → later ≡ held → Does b e copied.Carried after later
   does_tombstone false e after later is grown index = absurd (cc)
   does_tombstone true (entry.Header x) after later is grown index = (refl, grown, index)
@@ -76,7 +77,7 @@ module _ (p : Place) (survivor : ℕ) (images : List Image) (held : Places) wher
   does_tombstone true (entry.Tombstone x) after later is grown index = (refl, grown, index)
   does_tombstone true (entry.Object o) after later is grown index = absurd (cc)
 
-  pub does_dead : (b : Bool) (e : Entry) → fate_by b p e ≡ fate.Dead → Does b e copied.Dropped images held
+  pub does_dead : (b : Bool) (e : Entry) → fate_by held b p e ≡ fate.Dead → Does b e copied.Dropped images held
   does_dead false e is = (refl, refl, refl)
   does_dead true (entry.Header x) is = absurd (cc)
   does_dead true (entry.Digest x) is = absurd (cc)
@@ -85,64 +86,66 @@ module _ (p : Place) (survivor : ℕ) (images : List Image) (held : Places) wher
   does_dead true (entry.Object x) is = absurd (cc)
 
 -- what is found as an object or a tombstone is kept
-pub object_kept : (p : Place) (b : Bool) (e : Entry) (h : Held) → fate_by b p e ≡ fate.Object h → b ≡ true
-object_kept p true e h is = refl
-object_kept p false e h is = absurd (cc)
+pub object_kept : (held : Places) (p : Place) (b : Bool) (e : Entry) (h : Held) → fate_by held b p e ≡ fate.Object h
+    → b ≡ true
+object_kept held p true e h is = refl
+object_kept held p false e h is = absurd (cc)
 
-pub tombstone_kept : (p : Place) (b : Bool) (e : Entry) → fate_by b p e ≡ fate.Tombstone → b ≡ true
-tombstone_kept p true e is = refl
-tombstone_kept p false e is = absurd (cc)
+pub tombstone_kept : (held : Places) (p : Place) (b : Bool) (e : Entry) → fate_by held b p e ≡ fate.Tombstone
+    → b ≡ true
+tombstone_kept held p true e is = refl
+tombstone_kept held p false e is = absurd (cc)
 
 -- ---- by what was read
 
-fate_of_object_as : (p : Place) (o : Object) (hash : ℕ) (b : Bool) → hash_of o.key ≡ hash
-    → fate_by b p (entry.Object o) ≡ cond b (fate.Object (record { hash = hash; place = p })) fate.Dead
-fate_of_object_as p o hash true same = ap (λ (h : ℕ). fate.Object (record { hash = h; place = p })) same
-fate_of_object_as p o hash false same = refl
+fate_of_object_as : (held : Places) (p : Place) (o : Object) (hash : ℕ) (b : Bool) → hash_of held.seed o.key ≡ hash
+    → fate_by held b p (entry.Object o) ≡ cond b (fate.Object (record { hash = hash; place = p })) fate.Dead
+fate_of_object_as held p o hash true same = ap (λ (h : ℕ). fate.Object (record { hash = h; place = p })) same
+fate_of_object_as held p o hash false same = refl
 
-fate_of_tombstone_as : (p : Place) (t : Tombstone) (b : Bool)
-    → fate_by b p (entry.Tombstone t) ≡ cond b fate.Tombstone fate.Dead
-fate_of_tombstone_as p t true = refl
-fate_of_tombstone_as p t false = refl
+fate_of_tombstone_as : (held : Places) (p : Place) (t : Tombstone) (b : Bool)
+    → fate_by held b p (entry.Tombstone t) ≡ cond b fate.Tombstone fate.Dead
+fate_of_tombstone_as held p t true = refl
+fate_of_tombstone_as held p t false = refl
 
 -- an object is found by its hash
 pub fate_of_object : (ids : List ℕ) (held : Places) (p : Place) (e : Entry) (hash n : ℕ) (b : Bool)
-    → seen_of e ≡ Some (seen.Object hash n) → holds held (record { hash = hash; place = p }) ≡ b
-    → fate_by (kept ids held p e) p e ≡ cond b (fate.Object (record { hash = hash; place = p })) fate.Dead
+    → seen_of held.seed e ≡ Some (seen.Object hash n) → holds held (record { hash = hash; place = p }) ≡ b
+    → fate_by held (kept ids held p e) p e ≡ cond b (fate.Object (record { hash = hash; place = p })) fate.Dead
 fate_of_object ids held p (entry.Header h) hash n b is test = absurd (cc)
 fate_of_object ids held p (entry.Digest l) hash n b is test = absurd (cc)
 fate_of_object ids held p (entry.Safe v) hash n b is test = absurd (cc)
 fate_of_object ids held p (entry.Tombstone t) hash n b is test = absurd (cc)
 fate_of_object ids held p (entry.Object o) hash n b is test =
-    let same : hash_of o.key ≡ hash = cc in
-    ap (λ (t : Bool). fate_by t p (entry.Object o))
+    let same : hash_of held.seed o.key ≡ hash = cc in
+    ap (λ (t : Bool). fate_by held t p (entry.Object o))
     (ap (λ (h : ℕ). holds held (record { hash = h; place = p })) same ∙ test)
-    ∙ fate_of_object_as p o hash b same
+    ∙ fate_of_object_as held p o hash b same
 
 -- a tombstone by the segment that it names
 pub fate_of_tombstone : (ids : List ℕ) (held : Places) (p : Place) (e : Entry) (segment n : ℕ) (b : Bool)
-    → seen_of e ≡ Some (seen.Tombstone segment n) → has_id ids segment ≡ b
-    → fate_by (kept ids held p e) p e ≡ cond b fate.Tombstone fate.Dead
+    → seen_of held.seed e ≡ Some (seen.Tombstone segment n) → has_id ids segment ≡ b
+    → fate_by held (kept ids held p e) p e ≡ cond b fate.Tombstone fate.Dead
 fate_of_tombstone ids held p (entry.Header h) segment n b is test = absurd (cc)
 fate_of_tombstone ids held p (entry.Digest l) segment n b is test = absurd (cc)
 fate_of_tombstone ids held p (entry.Safe v) segment n b is test = absurd (cc)
 fate_of_tombstone ids held p (entry.Object o) segment n b is test = absurd (cc)
 fate_of_tombstone ids held p (entry.Tombstone t) segment n b is test =
     let same : t.segment ≡ segment = cc in
-    ap (λ (x : Bool). fate_by x p (entry.Tombstone t)) (ap (has_id ids) same ∙ test)
-    ∙ fate_of_tombstone_as p t b
+    ap (λ (x : Bool). fate_by held x p (entry.Tombstone t)) (ap (has_id ids) same ∙ test)
+    ∙ fate_of_tombstone_as held p t b
 
 -- what is found is seen
 pub has_fate : (ids : List ℕ) (held : Places) (images : ℕ → List Entry) (p : Place) (f : Fate) (x : Seen)
-    → (one : IsSeenAt (images p.segment) p.at x) → fate_by (kept ids held p one.entry) p one.entry ≡ f
+    → (one : IsSeenAt held.seed (images p.segment) p.at x) → fate_by held (kept ids held p one.entry) p one.entry ≡ f
     → HasFate ids held images p f (seen_len x)
 has_fate ids held images p f x one is = (
   one.entry,
   record {
     stands = one.lies;
     valid = one.valid;
-    of_data = shows_data one.entry x one.shows;
-    size = shows_len one.entry x one.shows;
+    of_data = shows_data held.seed one.entry x one.shows;
+    size = shows_len held.seed one.entry x one.shows;
   },
   sym is,
 )

@@ -23,17 +23,17 @@ rest_same images again p same =
     on_same images again (drop p.cursor.victim p.victims) p.cursor.at
     (λ s m. same s (among_drop p.cursor.victim p.victims s m))
 
-pub cursor_same : (images again : ℕ → List Entry) (ids : List ℕ) (cursor : Cursor) → AreSameAt images again ids
-    → IsCursorAt images ids cursor → IsCursorAt again ids cursor
-cursor_same images again [] cursor same is = tt
-cursor_same images again (s ∷ ids) cursor same is =
-    subst (λ (es : List Entry). IsAhead es cursor.at cursor.ahead) (sym (same s (inl refl))) is
+pub cursor_same : (seed : List ℕ) (images again : ℕ → List Entry) (ids : List ℕ) (cursor : Cursor)
+    → AreSameAt images again ids → IsCursorAt seed images ids cursor → IsCursorAt seed again ids cursor
+cursor_same seed images again [] cursor same is = tt
+cursor_same seed images again (s ∷ ids) cursor same is =
+    subst (λ (es : List Entry). IsAhead seed es cursor.at cursor.ahead) (sym (same s (inl refl))) is
 
-pub cursor_agrees : (images again : ℕ → List Entry) (p : Pass) → AreSameAt images again p.victims
-    → IsCursorAt images (drop p.cursor.victim p.victims) p.cursor
-    → IsCursorAt again (drop p.cursor.victim p.victims) p.cursor
-cursor_agrees images again p same is =
-    cursor_same images again (drop p.cursor.victim p.victims) p.cursor
+pub cursor_agrees : (seed : List ℕ) (images again : ℕ → List Entry) (p : Pass) → AreSameAt images again p.victims
+    → IsCursorAt seed images (drop p.cursor.victim p.victims) p.cursor
+    → IsCursorAt seed again (drop p.cursor.victim p.victims) p.cursor
+cursor_agrees seed images again p same is =
+    cursor_same seed images again (drop p.cursor.victim p.victims) p.cursor
     (λ s m. same s (among_drop p.cursor.victim p.victims s m)) is
 
 -- victims that are found as before
@@ -46,17 +46,17 @@ victims_agree images again survivor (s ∷ ids) same all = (
   victims_agree images again survivor ids (λ t m. same t (inr m)) all.1,
 )
 
-pub pass_agrees : (images again : List Image) (p : Pass) → IsPass images p
+pub pass_agrees : (seed : List ℕ) (images again : List Image) (p : Pass) → IsPass seed images p
     → ((s : ℕ) → IsAmong s p.victims → segment_of again s ≡ segment_of images s) → IsWhole again p.survivor
-    → IsPass again p × (rest_of (images_in again) p ≡ rest_of (images_in images) p)
-pass_agrees images again p pass same whole =
+    → IsPass seed again p × (rest_of (images_in again) p ≡ rest_of (images_in images) p)
+pass_agrees seed images again p pass same whole =
     let all : AreSameAt (images_in images) (images_in again) p.victims = λ s m.
     ap (λ (o : Option (List Entry)). unwrap_or o []) (same s m) in (
       record {
         victims = victims_agree images again p.survivor p.victims same pass.victims;
         whole = whole;
         within = pass.within;
-        cursor = cursor_agrees (images_in images) (images_in again) p all pass.cursor;
+        cursor = cursor_agrees seed (images_in images) (images_in again) p all pass.cursor;
       },
       rest_same (images_in images) (images_in again) p all,
     )
@@ -79,23 +79,23 @@ not_none : {X : Type 0} (x : X) (xs ys : List X) → ys ≡ x ∷ xs → ys ≡ 
 not_none x xs ys some none = absurd (cc)
 
 -- where a segment is left, a place is left
-none_left : (images : ℕ → List Entry) (ids : List ℕ) (cursor : Cursor) → IsCursorAt images ids cursor
-    → places_on images ids cursor.at ≡ [] → ids ≡ []
-none_left images [] cursor is none = refl
-none_left images (s ∷ ids) cursor is none =
+none_left : (seed : List ℕ) (images : ℕ → List Entry) (ids : List ℕ) (cursor : Cursor)
+    → IsCursorAt seed images ids cursor → places_on images ids cursor.at ≡ [] → ids ≡ []
+none_left seed images [] cursor is none = refl
+none_left seed images (s ∷ ids) cursor is none =
     let at = cursor.at in
-    let there = ahead_data (images s) at cursor.ahead is in
+    let there = ahead_data seed (images s) at cursor.ahead is in
     absurd (not_none (place_at s at) (places_on images (s ∷ ids) (at + length (spelling there.0)))
     (places_on images (s ∷ ids) at)
     (on_data images s ids at there.0 there.1 there.2) none)
 
-pub none_end : (images : List Image) (p : Pass) → IsPass images p → rest_of (images_in images) p ≡ []
-    → is_at_end p ≡ true
-none_end images p pass none =
-    let left = none_left (images_in images) (drop p.cursor.victim p.victims) p.cursor pass.cursor none in
+pub none_end : (seed : List ℕ) (images : List Image) (p : Pass) → IsPass seed images p
+    → rest_of (images_in images) p ≡ [] → is_at_end p ≡ true
+none_end seed images p pass none =
+    let left = none_left seed (images_in images) (drop p.cursor.victim p.victims) p.cursor pass.cursor none in
     eq-eqb p.cursor.victim (length p.victims)
     (omega (arith, pass.within, length-drop p.cursor.victim p.victims, ap length left))
 
-pub end_is_none : (images : List Image) (p : Pass) → IsPass images p
+pub end_is_none : (seed : List ℕ) (images : List Image) (p : Pass) → IsPass seed images p
     → (is_at_end p ≡ true) ↔ (rest_of (images_in images) p ≡ [])
-end_is_none images p pass = (end_none (images_in images) p, none_end images p pass)
+end_is_none seed images p pass = (end_none (images_in images) p, none_end seed images p pass)

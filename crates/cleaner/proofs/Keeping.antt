@@ -15,7 +15,7 @@ use Rattle.entry.proofs.ListLemmas.{all_split}
 use Rattle.entry.proofs.TextLemmas.{front_of-spelling}
 use Rattle.segment.specs.Bytes.{standing_at}
 use Rattle.places.specs.declared.place.Place.{Place}
-use Rattle.places.specs.Relocation.{Places}
+use Rattle.places.specs.Map.{Places}
 use Rattle.images.specs.Steps.{StandsData}
 use Rattle.compactor.specs.Kept.{kept, kept_from, kept_of}
 use Rattle.compactor.specs.Places.{LiesAt}

@@ -1,6 +1,6 @@
 -- What is left to be copied after one entry.
-use Rattle.std.proofs.Common.{◌≡◌, ℕ, ◌+◌, ◌≤◌, Bool, true, false, cond, ◌||◌, ◌==◌, List, [], ◌∷◌, length, sym, ap}
-use Rattle.std.proofs.Common.{subst, ◌∙◌, inl, inr, ◌++◌, arith}
+use Rattle.std.proofs.Common.{◌≡◌, ℕ, ◌+◌, ◌≤◌, Bool, true, false, cond, List, ◌∷◌, ◌++◌, length, sym, ap}
+use Rattle.std.proofs.Common.{subst, ◌∙◌, inr, arith}
 use Rattle.std.specs.Prelude.{Option}
 use Rattle.std.specs.Option.{option_to_list}
 use Rattle.entry.specs.declared.key.Key.{Key}
@@ -10,16 +10,16 @@ use Rattle.entry.specs.Bag.{IsAmong}
 use Rattle.entry.specs.Format.{spelling}
 use Rattle.entry.specs.Text.{text_of}
 use Rattle.places.specs.declared.place.Place.{Place}
-use Rattle.places.specs.Relocation.{Places, names}
-use Rattle.places.proofs.Moves.{named_before}
+use Rattle.places.specs.Map.{Places}
+use Rattle.places.specs.Relocation.{names}
+use Rattle.places.proofs.Words.{named_before}
 use Rattle.images.specs.declared.image.Image.{Image}
 use Rattle.images.specs.Sorted.{IsWhole}
 use Rattle.compactor.specs.Kept.{kept}
 use Rattle.cleaner.specs.declared.pass.Pass.{Pass}
 use Rattle.cleaner.specs.declared.pass.Copied.{Copied}
 use Rattle.cleaner.specs.Passes.{images_in, ids_in, rest_of, kept_left, IsPass, HasRoom, CopiesOne, images_with}
-use Rattle.cleaner.specs.Passes.{held_with}
-use Rattle.cleaner.specs.Passes.{copy_place}
+use Rattle.cleaner.specs.Passes.{copy_place, held_with}
 use Rattle.cleaner.proofs.Places.{length_last}
 use Rattle.cleaner.proofs.Images.{is_victim, grown_own, with_ids, with_same}
 use Rattle.cleaner.proofs.Keeping.{len_stands, left_cons, kept_no_more, kept_same}
@@ -62,7 +62,7 @@ grown_len images survivor e false whole = omega arith
 
 module _ (segment : ℕ) (ids : List ℕ) (p q : Pass) (images after : List Image)
     (held later : Places) (copied : Copied)
-    (pass : IsPass images p) (c : CopiesOne ids p images held copied q after later) where
+    (pass : IsPass held.seed images p) (c : CopiesOne ids p images held copied q after later) where
   abbrev keeps : Bool
   keeps = kept ids held c.place c.entry
 

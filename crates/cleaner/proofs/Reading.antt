@@ -22,25 +22,25 @@ use Rattle.cleaner.proofs.Cursors.{cut_of, between_behind}
 
 -- ---- what is remembered of an entry
 
-pub shows_data : (e : Entry) (x : Seen) → seen_of e ≡ Some x → is_data e ≡ true
-shows_data (entry.Header h) x is = absurd (cc)
-shows_data (entry.Digest ids) x is = absurd (cc)
-shows_data (entry.Safe version) x is = absurd (cc)
-shows_data (entry.Object o) x is = refl
-shows_data (entry.Tombstone t) x is = refl
+pub shows_data : (seed : List ℕ) (e : Entry) (x : Seen) → seen_of seed e ≡ Some x → is_data e ≡ true
+shows_data seed (entry.Header h) x is = absurd (cc)
+shows_data seed (entry.Digest ids) x is = absurd (cc)
+shows_data seed (entry.Safe version) x is = absurd (cc)
+shows_data seed (entry.Object o) x is = refl
+shows_data seed (entry.Tombstone t) x is = refl
 
-pub shows_len : (e : Entry) (x : Seen) → seen_of e ≡ Some x → seen_len x ≡ length (spelling e)
-shows_len (entry.Header h) x is = absurd (cc)
-shows_len (entry.Digest ids) x is = absurd (cc)
-shows_len (entry.Safe version) x is = absurd (cc)
-shows_len (entry.Object o) x is = ap seen_len (sym (same_Some _ x is))
-shows_len (entry.Tombstone t) x is = ap seen_len (sym (same_Some _ x is))
+pub shows_len : (seed : List ℕ) (e : Entry) (x : Seen) → seen_of seed e ≡ Some x → seen_len x ≡ length (spelling e)
+shows_len seed (entry.Header h) x is = absurd (cc)
+shows_len seed (entry.Digest ids) x is = absurd (cc)
+shows_len seed (entry.Safe version) x is = absurd (cc)
+shows_len seed (entry.Object o) x is = ap seen_len (sym (same_Some _ x is))
+shows_len seed (entry.Tombstone t) x is = ap seen_len (sym (same_Some _ x is))
 
 -- ---- the first of some
 
-pub ahead_data : (es : List Entry) (at : ℕ) (xs : List Seen) → IsAhead es at xs → IsAtData es at
-ahead_data es at [] none = absurd none
-ahead_data es at (x ∷ xs) all = let s = all.0 in (s.entry, s.lies, shows_data s.entry x s.shows)
+pub ahead_data : (seed : List ℕ) (es : List Entry) (at : ℕ) (xs : List Seen) → IsAhead seed es at xs → IsAtData es at
+ahead_data seed es at [] none = absurd none
+ahead_data seed es at (x ∷ xs) all = let s = all.0 in (s.entry, s.lies, shows_data seed s.entry x s.shows)
 
 -- ---- one that is read
 
@@ -65,10 +65,9 @@ module _ (es : List Entry) (at : ℕ) (text : List ℕ) (spelled : text ≡ text
 
     module _ (e : Entry) (n : ℕ) (reads : (f : Entry) (more : List ℕ) → IsEntry f
         → take (length text - at) (drop at text) ≡ spelling f ++ more → (e ≡ f) × (n ≡ length (spelling f))) where
-      pub read_seen : (x : Seen) → IsBetween es at → length text ≤ 8388608
-          → (n ≡ length (spelling e) → seen_of e ≡ Some x)
-          → IsSeenAt es at x
-      read_seen x b limit shows =
+      pub read_seen : (seed : List ℕ) (x : Seen) → IsBetween es at → length text ≤ 8388608
+          → (n ≡ length (spelling e) → seen_of seed e ≡ Some x) → IsSeenAt seed es at x
+      read_seen seed x b limit shows =
           let here = here_of es text spelled valid.each b.before b.rest at (cut_of es at b) lt e n reads in
           let is = shows here.size in
           record {
@@ -81,7 +80,7 @@ module _ (es : List Entry) (at : ℕ) (text : List ℕ) (spelled : text ≡ text
                 omega (
                   arith,
                   limit,
-                  shows_len e x is,
+                  shows_len seed e x is,
                   ap length spelled,
                   cut_length es b.before (e ∷ here.later) at here.cut,
                   length-append (spelling e) (text_of here.later),
@@ -109,13 +108,12 @@ module _ (es : List Entry) (at : ℕ) (text : List ℕ) (spelled : text ≡ text
 abbrev pub Bytes : List Seen → ℕ
 Bytes xs = sum_by seen_len xs
 
-seen_push : (es : List Entry) (at : ℕ) (xs : List Seen) (x : Seen) → AreSeenFrom es at xs
-    → IsSeenAt es (at + Bytes xs) x
-    → AreSeenFrom es at (xs ++ x ∷ [])
-seen_push es at [] x all one = (subst (λ (n : ℕ). IsSeenAt es n x) (omega arith) one, tt)
-seen_push es at (y ∷ ys) x all one =
+seen_push : (seed : List ℕ) (es : List Entry) (at : ℕ) (xs : List Seen) (x : Seen) → AreSeenFrom seed es at xs
+    → IsSeenAt seed es (at + Bytes xs) x → AreSeenFrom seed es at (xs ++ x ∷ [])
+seen_push seed es at [] x all one = (subst (λ (n : ℕ). IsSeenAt seed es n x) (omega arith) one, tt)
+seen_push seed es at (y ∷ ys) x all one =
     let next : at + Bytes (y ∷ ys) ≡ at + seen_len y + Bytes ys = omega (arith, sum_by-cons seen_len y ys) in
-    (all.0, seen_push es (at + seen_len y) ys x all.1 (subst (λ (n : ℕ). IsSeenAt es n x) next one))
+    (all.0, seen_push seed es (at + seen_len y) ys x all.1 (subst (λ (n : ℕ). IsSeenAt seed es n x) next one))
 
 sum_push : (xs : List Seen) (x : Seen) → Bytes (xs ++ x ∷ []) ≡ Bytes xs + seen_len x
 sum_push [] x = omega (arith, sum_by-cons seen_len x [])
@@ -123,43 +121,43 @@ sum_push (y ∷ ys) x =
     omega (arith, sum_by-cons seen_len y (ys ++ x ∷ []), sum_by-cons seen_len y ys, sum_push ys x)
 
 -- So many entries were read from an offset on, and the walk is behind them.
-pub record IsGathered (es : List Entry) (from count at : ℕ) (xs : List Seen) : Type 0 where
-  pub all : AreSeenFrom es from xs
+pub record IsGathered (seed : List ℕ) (es : List Entry) (from count at : ℕ) (xs : List Seen) : Type 0 where
+  pub all : AreSeenFrom seed es from xs
   pub end : at ≡ from + Bytes xs
   pub between : IsBetween es at
   pub few : length xs ≡ count
 
-pub gathered_start : (es : List Entry) (from : ℕ) (xs : List Seen) → xs ≡ [] → IsAtData es from
-    → IsGathered es from 0 from xs
-gathered_start es from xs none there =
+pub gathered_start : (seed : List ℕ) (es : List Entry) (from : ℕ) (xs : List Seen) → xs ≡ [] → IsAtData es from
+    → IsGathered seed es from 0 from xs
+gathered_start seed es from xs none there =
     let lies = there.1 in
-    subst (IsGathered es from 0 from) (sym none) (record {
+    subst (IsGathered seed es from 0 from) (sym none) (record {
       all = tt;
       end = omega arith;
       between = record { before = lies.before; rest = there.0 ∷ lies.after; split = lies.split; offset = lies.offset };
       few = refl;
     })
 
-pub gathered_next : (es : List Entry) (from count at : ℕ) (xs : List Seen) (x : Seen) → IsGathered es from count at xs
-    → IsSeenAt es at x → IsGathered es from (count + 1) (at + seen_len x) (xs ++ x ∷ [])
-gathered_next es from count at xs x g one = record {
-  all = seen_push es from xs x g.all (subst (λ (n : ℕ). IsSeenAt es n x) g.end one);
+pub gathered_next : (seed : List ℕ) (es : List Entry) (from count at : ℕ) (xs : List Seen) (x : Seen)
+    → IsGathered seed es from count at xs → IsSeenAt seed es at x
+    → IsGathered seed es from (count + 1) (at + seen_len x) (xs ++ x ∷ [])
+gathered_next seed es from count at xs x g one = record {
+  all = seen_push seed es from xs x g.all (subst (λ (n : ℕ). IsSeenAt seed es n x) g.end one);
   end = omega (arith, g.end, sum_push xs x);
-  between = between_behind es at (seen_len x) one.entry one.lies (shows_len one.entry x one.shows);
+  between = between_behind es at (seen_len x) one.entry one.lies (shows_len seed one.entry x one.shows);
   few = omega (arith, g.few, length-append xs (x ∷ []));
 }
 
 -- at least one was read
-pub gathered_ahead : (es : List Entry) (from : ℕ) (xs : List Seen) → AreSeenFrom es from xs → (xs ≡ [] → ⊥)
-    → IsAhead es from xs
-gathered_ahead es from [] all some = absurd (some refl)
-gathered_ahead es from (x ∷ xs) all some = all
+pub gathered_ahead : (seed : List ℕ) (es : List Entry) (from : ℕ) (xs : List Seen) → AreSeenFrom seed es from xs
+    → (xs ≡ [] → ⊥) → IsAhead seed es from xs
+gathered_ahead seed es from [] all some = absurd (some refl)
+gathered_ahead seed es from (x ∷ xs) all some = all
 
 -- if nothing can be read, something was
-pub gathered_some : (es : List Entry) (from count at : ℕ) (xs : List Seen) → IsGathered es from count at xs
-    → IsAtData es from
-    → (IsAtData es at → ⊥) → xs ≡ [] → ⊥
-gathered_some es from count at xs g there none is =
+pub gathered_some : (seed : List ℕ) (es : List Entry) (from count at : ℕ) (xs : List Seen)
+    → IsGathered seed es from count at xs → IsAtData es from → (IsAtData es at → ⊥) → xs ≡ [] → ⊥
+gathered_some seed es from count at xs g there none is =
     let end : from ≡ at = omega (arith, g.end, ap Bytes is) in
     none (subst (IsAtData es) end there)
 
@@ -181,30 +179,32 @@ pub rest_left : (xs : List Seen) (n : ℕ) → drop (n + 1) xs ≡ drop 1 (drop 
 rest_left xs n = rw add-one (rest_after xs n)
 
 -- those behind the first
-pub behind_first : (es : List Entry) (at : ℕ) (xs : List Seen) (n : ℕ) → IsAhead es at xs
-    → 0 < length (drop 1 xs) → IfSome (slice_get xs 0) (λ (x : Seen). n ≡ seen_len x) → IsAhead es (at + n) (drop 1 xs)
-behind_first es at [] n none more is = absurd none
-behind_first es at (x ∷ []) n all more is = absurd (omega arith)
-behind_first es at (x ∷ y ∷ ys) n all more is = subst (λ (m : ℕ). IsAhead es (at + m) (y ∷ ys)) (sym is) all.1
+pub behind_first : (seed : List ℕ) (es : List Entry) (at : ℕ) (xs : List Seen) (n : ℕ) → IsAhead seed es at xs
+    → 0 < length (drop 1 xs) → IfSome (slice_get xs 0) (λ (x : Seen). n ≡ seen_len x)
+    → IsAhead seed es (at + n) (drop 1 xs)
+behind_first seed es at [] n none more is = absurd none
+behind_first seed es at (x ∷ []) n all more is = absurd (omega arith)
+behind_first seed es at (x ∷ y ∷ ys) n all more is =
+    subst (λ (m : ℕ). IsAhead seed es (at + m) (y ∷ ys)) (sym is) all.1
 
 -- the walk is behind the first
-pub between_first : (es : List Entry) (at : ℕ) (xs : List Seen) (n : ℕ) → IsAhead es at xs
+pub between_first : (seed : List ℕ) (es : List Entry) (at : ℕ) (xs : List Seen) (n : ℕ) → IsAhead seed es at xs
     → IfSome (slice_get xs 0) (λ (x : Seen). n ≡ seen_len x) → IsBetween es (at + n) × (at + n ≤ 8388608)
-between_first es at [] n none is = absurd none
-between_first es at (x ∷ xs) n all is =
+between_first seed es at [] n none is = absurd none
+between_first seed es at (x ∷ xs) n all is =
     let one = all.0 in (
-      between_behind es at n one.entry one.lies (is ∙ shows_len one.entry x one.shows),
+      between_behind es at n one.entry one.lies (is ∙ shows_len seed one.entry x one.shows),
       omega (arith, is, one.limit),
     )
 
-pub some_ahead : (es : List Entry) (at : ℕ) (xs : List Seen) → IsAhead es at xs → 0 < length xs
-some_ahead es at [] none = absurd none
-some_ahead es at (x ∷ xs) all = omega arith
+pub some_ahead : (seed : List ℕ) (es : List Entry) (at : ℕ) (xs : List Seen) → IsAhead seed es at xs → 0 < length xs
+some_ahead seed es at [] none = absurd none
+some_ahead seed es at (x ∷ xs) all = omega arith
 
 -- ---- the cursor
 
-module _ (images : ℕ → List Entry) (victims : List ℕ) (cursor : Cursor) (n : ℕ) (lt : cursor.victim < length victims)
-    (is : IsCursorAt images (drop cursor.victim victims) cursor)
+module _ (seed : List ℕ) (images : ℕ → List Entry) (victims : List ℕ) (cursor : Cursor) (n : ℕ)
+    (lt : cursor.victim < length victims) (is : IsCursorAt seed images (drop cursor.victim victims) cursor)
     (first : IfSome (slice_get cursor.ahead 0) (λ (x : Seen). n ≡ seen_len x)) where
   abbrev own : ℕ
   own = get_or victims cursor.victim 0
@@ -212,32 +212,32 @@ module _ (images : ℕ → List Entry) (victims : List ℕ) (cursor : Cursor) (n
   split : drop cursor.victim victims ≡ own ∷ drop (cursor.victim + 1) victims
   split = drop_more victims cursor.victim 0 lt
 
-  own_ahead : IsAhead (images own) cursor.at cursor.ahead
-  own_ahead = subst (λ (ids : List ℕ). IsCursorAt images ids cursor) split is
+  own_ahead : IsAhead seed (images own) cursor.at cursor.ahead
+  own_ahead = subst (λ (ids : List ℕ). IsCursorAt seed images ids cursor) split is
 
   pub own_between : IsPositionBetween images (drop cursor.victim victims) (cursor.at + n)
   own_between =
       subst (λ (ids : List ℕ). IsPositionBetween images ids (cursor.at + n)) (sym split)
-      (between_first (images own) cursor.at cursor.ahead n own_ahead first).0
+      (between_first seed (images own) cursor.at cursor.ahead n own_ahead first).0
 
   pub own_limit : cursor.at + n ≤ 8388608
-  own_limit = (between_first (images own) cursor.at cursor.ahead n own_ahead first).1
+  own_limit = (between_first seed (images own) cursor.at cursor.ahead n own_ahead first).1
 
   -- it goes on with the next of those that were read
   pub own_next : (rest : List Seen) → rest ≡ drop 1 cursor.ahead → 0 < length rest
-      → GoesTo images victims (record { victim = cursor.victim; at = cursor.at + n })
+      → GoesTo seed images victims (record { victim = cursor.victim; at = cursor.at + n })
       (record { victim = cursor.victim; at = cursor.at + n; ahead = rest })
   own_next rest same some =
       let more : 0 < length (drop 1 cursor.ahead) = omega (arith, some, ap (λ (xs : List Seen). length xs) same) in
-      let ahead = behind_first (images own) cursor.at cursor.ahead n own_ahead more first in
+      let ahead = behind_first seed (images own) cursor.at cursor.ahead n own_ahead more first in
       record {
         within = omega (arith, lt);
         rest = refl;
         cursor =
-            subst (λ (ids : List ℕ). IsCursorAt images ids (record {
+            subst (λ (ids : List ℕ). IsCursorAt seed images ids (record {
               victim = cursor.victim;
               at = cursor.at + n;
               ahead = rest;
             }))
-            (sym split) (subst (λ (xs : List Seen). IsAhead (images own) (cursor.at + n) xs) (sym same) ahead);
+            (sym split) (subst (λ (xs : List Seen). IsAhead seed (images own) (cursor.at + n) xs) (sym same) ahead);
       }

@@ -6,10 +6,11 @@ use Rattle.std.specs.List.{AllByRecursion}
 use Rattle.std.proofs.lemmas.Bool.{eq-eqb}
 use Rattle.std.proofs.lemmas.List.{drop_more}
 use Rattle.entry.specs.declared.entry.Entry.{Entry}
+use Rattle.entry.specs.declared.entry.Entry.TheVariants as entry
 use Rattle.entry.specs.Bag.{IsAmong}
 use Rattle.entry.specs.Format.{spelling}
 use Rattle.places.specs.declared.place.Place.{Place}
-use Rattle.places.specs.Relocation.{Places}
+use Rattle.places.specs.Map.{Places}
 use Rattle.images.specs.declared.image.Image.{Image}
 use Rattle.images.specs.Sorted.{IsWhole, segment_of}
 use Rattle.images.specs.Steps.{len_at}
@@ -17,15 +18,25 @@ use Rattle.compactor.specs.Kept.{kept}
 use Rattle.cleaner.specs.declared.pass.Cursor.{Cursor}
 use Rattle.cleaner.specs.declared.pass.Pass.{Pass}
 use Rattle.cleaner.specs.declared.pass.Copied.{Copied}
-use Rattle.cleaner.specs.Passes.{images_in, rest_of, is_at_end, places_on, kept_len, kept_left, images_with}
-use Rattle.cleaner.specs.Passes.{AreVictims, IsAhead, IsCursorAt, IsPass, HasRoom, CopiesOne}
+use Rattle.cleaner.specs.Passes.{images_in, rest_of, is_at_end, places_on, kept_len, kept_left, copy_place}
+use Rattle.cleaner.specs.Passes.{images_with, held_with, AreVictims, IsAhead, IsCursorAt, IsPass, HasRoom, CopiesOne}
 use Rattle.cleaner.specs.Walks.{IsAtData, GoesTo, Treats}
 use Rattle.cleaner.proofs.Places.{place_at, on_data, on_same, among_drop}
 use Rattle.cleaner.proofs.Images.{len_is, is_victim, are_there, with_whole, with_victims, with_same}
 use Rattle.cleaner.proofs.Keeping.{left_cons}
 use Rattle.cleaner.proofs.Reading.{ahead_data}
 
-module _ (p : Pass) (images : List Image) (pass : IsPass images p) (more : is_at_end p ≡ false) where
+-- what becomes of an object's place leaves the seed
+with_seed : (b : Bool) (p to : Place) (e : Entry) (held : Places) → (held_with b p to e held).seed ≡ held.seed
+with_seed false p to e held = refl
+with_seed true p to (entry.Header h) held = refl
+with_seed true p to (entry.Digest ids) held = refl
+with_seed true p to (entry.Safe version) held = refl
+with_seed true p to (entry.Object o) held = refl
+with_seed true p to (entry.Tombstone t) held = refl
+
+module _ (seed : List ℕ) (p : Pass) (images : List Image) (pass : IsPass seed images p)
+    (more : is_at_end p ≡ false) where
   -- a victim is left
   pub lt : p.cursor.victim < length p.victims
   lt =
@@ -54,11 +65,11 @@ module _ (p : Pass) (images : List Image) (pass : IsPass images p) (more : is_at
   pub own_below : own < p.survivor
   own_below = (is_victim images p.survivor p.victims own pass.victims own_among).1
 
-  pub own_ahead : IsAhead (images_in images own) p.cursor.at p.cursor.ahead
-  own_ahead = subst (λ (ids : List ℕ). IsCursorAt (images_in images) ids p.cursor) split pass.cursor
+  pub own_ahead : IsAhead seed (images_in images own) p.cursor.at p.cursor.ahead
+  own_ahead = subst (λ (ids : List ℕ). IsCursorAt seed (images_in images) ids p.cursor) split pass.cursor
 
   own_data : IsAtData (images_in images own) p.cursor.at
-  own_data = ahead_data (images_in images own) p.cursor.at p.cursor.ahead own_ahead
+  own_data = ahead_data seed (images_in images own) p.cursor.at p.cursor.ahead own_ahead
 
   abbrev pub Here : Place
   Here = place_at own p.cursor.at
@@ -84,10 +95,15 @@ module _ (p : Pass) (images : List Image) (pass : IsPass images p) (more : is_at
 
   -- ---- the entry is treated
 
-  module _ (ids : List ℕ) (held : Places) (copied : Copied) (n : ℕ) (after : List Image) (later : Places)
-      (t : Treats ids images held Here p.survivor copied n after later) where
+  module _ (ids : List ℕ) (held : Places) (of : held.seed ≡ seed) (copied : Copied) (n : ℕ) (after : List Image)
+      (later : Places) (t : Treats ids images held Here p.survivor copied n after later) where
     abbrev keeps : Bool
     keeps = kept ids held Here t.entry
+
+    -- the seed stays
+    after_seed : later.seed ≡ seed
+    after_seed =
+        ap (λ (hs : Places). hs.seed) t.index ∙ with_seed keeps Here (copy_place p.survivor images) t.entry held ∙ of
 
     after_same : (s : ℕ) → IsAmong s p.victims → images_in after s ≡ images_in images s
     after_same s m =
@@ -101,10 +117,13 @@ module _ (p : Pass) (images : List Image) (pass : IsPass images p) (more : is_at
         (with_victims images p.survivor t.entry keeps p.victims pass.victims))
 
     -- what was read ahead is there still
-    pub after_cursor : IsCursorAt (images_in after) (drop p.cursor.victim p.victims) p.cursor
+    pub after_cursor : IsCursorAt later.seed (images_in after) (drop p.cursor.victim p.victims) p.cursor
     after_cursor =
-        subst (λ (xs : List ℕ). IsCursorAt (images_in after) xs p.cursor) (sym split)
-        (subst (λ (es : List Entry). IsAhead es p.cursor.at p.cursor.ahead) (sym (after_same own own_among)) own_ahead)
+        subst (λ (s : List ℕ). IsCursorAt s (images_in after) (drop p.cursor.victim p.victims) p.cursor)
+        (sym after_seed)
+        (subst (λ (xs : List ℕ). IsCursorAt seed (images_in after) xs p.cursor) (sym split)
+        (subst (λ (es : List Entry). IsAhead seed es p.cursor.at p.cursor.ahead)
+        (sym (after_same own own_among)) own_ahead))
 
     -- the places behind it are left
     behind : places_on (images_in after) (drop p.cursor.victim p.victims) (p.cursor.at + n)
@@ -116,7 +135,7 @@ module _ (p : Pass) (images : List Image) (pass : IsPass images p) (more : is_at
         ∙ ap Behind t.seen.size
 
     module _ (cursor : Cursor)
-        (goes : GoesTo (images_in after) p.victims (record {
+        (goes : GoesTo later.seed (images_in after) p.victims (record {
           victim = p.cursor.victim;
           at = p.cursor.at + n;
         }) cursor) where
@@ -139,7 +158,7 @@ module _ (p : Pass) (images : List Image) (pass : IsPass images p) (more : is_at
         pass = refl;
       }
 
-      pub stays_pass : IsPass after (record p { cursor = cursor })
+      pub stays_pass : IsPass later.seed after (record p { cursor = cursor })
       stays_pass = record {
         victims =
             subst (λ (xs : List Image). AreVictims xs p.survivor p.victims) (sym t.grown)

@@ -5,7 +5,7 @@ use Rattle.entry.specs.Bag.{IsAmong}
 use Rattle.entry.specs.Text.{text_of}
 use Rattle.segment.specs.Bytes.{standing_at}
 use Rattle.places.specs.declared.place.Place.{Place}
-use Rattle.places.specs.Relocation.{Places}
+use Rattle.places.specs.Map.{Places}
 use Rattle.images.specs.declared.image.Image.{Image}
 use Rattle.images.specs.Sorted.{IsWhole, segment_of}
 use Rattle.compactor.specs.Kept.{kept}
@@ -25,19 +25,19 @@ RestsAgree = (images again : ℕ → List Entry) (p : Pass) → AreSameAt images
 
 -- The cursor is at an object or a tombstone of those images too.
 abbrev pub CursorsAgree : Type 0
-CursorsAgree = (images again : ℕ → List Entry) (p : Pass) → AreSameAt images again p.victims
-    → IsCursorAt images (drop p.cursor.victim p.victims) p.cursor
-    → IsCursorAt again (drop p.cursor.victim p.victims) p.cursor
+CursorsAgree = (seed : List ℕ) (images again : ℕ → List Entry) (p : Pass) → AreSameAt images again p.victims
+    → IsCursorAt seed images (drop p.cursor.victim p.victims) p.cursor
+    → IsCursorAt seed again (drop p.cursor.victim p.victims) p.cursor
 
 -- A pass over images stays one over others that have the same victims, if the survivor is there and whole.
 abbrev pub PassesAgree : Type 0
-PassesAgree = (images again : List Image) (p : Pass) → IsPass images p
+PassesAgree = (seed : List ℕ) (images again : List Image) (p : Pass) → IsPass seed images p
     → ((s : ℕ) → IsAmong s p.victims → segment_of again s ≡ segment_of images s) → IsWhole again p.survivor
-    → IsPass again p × (rest_of (images_in again) p ≡ rest_of (images_in images) p)
+    → IsPass seed again p × (rest_of (images_in again) p ≡ rest_of (images_in images) p)
 
 -- A pass is at its end exactly if no place is left.
 abbrev pub EndHasNoRest : Type 0
-EndHasNoRest = (images : List Image) (p : Pass) → IsPass images p
+EndHasNoRest = (seed : List ℕ) (images : List Image) (p : Pass) → IsPass seed images p
     → (is_at_end p ≡ true) ↔ (rest_of (images_in images) p ≡ [])
 
 -- The places that are left are of victims.
@@ -48,7 +48,7 @@ RestIsOfVictims = (images : ℕ → List Entry) (p : Pass) (place : Place) → I
 -- Once one entry is treated, a segment has room for the survivor and what is left.
 abbrev pub CopyLeavesRoom : Type 0
 CopyLeavesRoom = (segment : ℕ) (ids : List ℕ) (p q : Pass) (images images_after : List Image)
-    (held held_after : Places) (copied : Copied) → IsPass images p
+    (held held_after : Places) (copied : Copied) → IsPass held.seed images p
     → CopiesOne ids p images held copied q images_after held_after
     → HasRoom segment ids p images held → HasRoom segment ids q images_after held_after
 

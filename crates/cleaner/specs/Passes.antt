@@ -11,8 +11,8 @@ use Rattle.entry.specs.Format.{spelling, IsEntry}
 use Rattle.entry.specs.Text.{text_of, is_data}
 use Rattle.segment.specs.Bytes.{standing_at}
 use Rattle.places.specs.declared.place.Place.{Place}
-use Rattle.places.specs.Map.{hash_of}
-use Rattle.places.specs.Relocation.{Places}
+use Rattle.places.specs.Hashing.{hash_of}
+use Rattle.places.specs.Map.{Places}
 use Rattle.images.specs.declared.image.Image.{Image}
 use Rattle.images.specs.Sorted.{IsWhole, segment_of, changed}
 use Rattle.images.specs.Steps.{with_unit, len_at}
@@ -76,13 +76,13 @@ is_at_end p = p.cursor.victim == length p.victims
 abbrev pub is_ready : ℕ → Pass → Bool
 is_ready replicas p = is_at_end p && (p.sealed == replicas)
 
--- what a pass remembers of an object or a tombstone that it read
-abbrev pub seen_of : Entry → Option Seen
-seen_of (entry.Header h) = None
-seen_of (entry.Digest ids) = None
-seen_of (entry.Safe version) = None
-seen_of (entry.Object o) = Some (seen.Object (hash_of o.key) (length (spelling (entry.Object o))))
-seen_of (entry.Tombstone t) = Some (seen.Tombstone t.segment (length (spelling (entry.Tombstone t))))
+-- What a pass remembers of an object or a tombstone that it read. It is right for an index whose hashes have this seed.
+abbrev pub seen_of : List ℕ → Entry → Option Seen
+seen_of seed (entry.Header h) = None
+seen_of seed (entry.Digest ids) = None
+seen_of seed (entry.Safe version) = None
+seen_of seed (entry.Object o) = Some (seen.Object (hash_of seed o.key) (length (spelling (entry.Object o))))
+seen_of seed (entry.Tombstone t) = Some (seen.Tombstone t.segment (length (spelling (entry.Tombstone t))))
 
 -- its length
 abbrev pub seen_len : Seen → ℕ
@@ -90,34 +90,34 @@ seen_len (seen.Object hash len) = len
 seen_len (seen.Tombstone segment len) = len
 
 -- An object or a tombstone stands at the offset, and this is what is remembered of it.
-pub record IsSeenAt (es : List Entry) (at : ℕ) (x : Seen) : Type 0 where
+pub record IsSeenAt (seed : List ℕ) (es : List Entry) (at : ℕ) (x : Seen) : Type 0 where
   pub entry : Entry
   pub lies : LiesAt es at entry
   pub valid : IsEntry entry
-  pub shows : seen_of entry ≡ Some x
+  pub shows : seen_of seed entry ≡ Some x
   pub limit : at + seen_len x ≤ 8388608
 
 -- the same of entries from an offset on, one after another
-abbrev pub AreSeenFrom : List Entry → ℕ → List Seen → Type 0
-AreSeenFrom es at [] = Unit {0}
-AreSeenFrom es at (x ∷ xs) = IsSeenAt es at x × AreSeenFrom es (at + seen_len x) xs
+abbrev pub AreSeenFrom : List ℕ → List Entry → ℕ → List Seen → Type 0
+AreSeenFrom seed es at [] = Unit {0}
+AreSeenFrom seed es at (x ∷ xs) = IsSeenAt seed es at x × AreSeenFrom seed es (at + seen_len x) xs
 
 -- at least one was read
-abbrev pub IsAhead : List Entry → ℕ → List Seen → Type 0
-IsAhead es at [] = ⊥
-IsAhead es at (x ∷ xs) = AreSeenFrom es at (x ∷ xs)
+abbrev pub IsAhead : List ℕ → List Entry → ℕ → List Seen → Type 0
+IsAhead seed es at [] = ⊥
+IsAhead seed es at (x ∷ xs) = AreSeenFrom seed es at (x ∷ xs)
 
 -- What the cursor read ahead begins at its place in the first of these segments, or there is no segment.
-abbrev pub IsCursorAt : (ℕ → List Entry) → List ℕ → Cursor → Type 0
-IsCursorAt images [] cursor = Unit {0}
-IsCursorAt images (s ∷ ids) cursor = IsAhead (images s) cursor.at cursor.ahead
+abbrev pub IsCursorAt : List ℕ → (ℕ → List Entry) → List ℕ → Cursor → Type 0
+IsCursorAt seed images [] cursor = Unit {0}
+IsCursorAt seed images (s ∷ ids) cursor = IsAhead seed (images s) cursor.at cursor.ahead
 
--- What holds of an open pass and the images.
-pub record IsPass (images : List Image) (p : Pass) : Type 0 where
+-- What holds of an open pass and the images, for an index whose hashes have this seed.
+pub record IsPass (seed : List ℕ) (images : List Image) (p : Pass) : Type 0 where
   pub victims : AreVictims images p.survivor p.victims
   pub whole : IsWhole images p.survivor
   pub within : p.cursor.victim ≤ length p.victims
-  pub cursor : IsCursorAt (images_in images) (drop p.cursor.victim p.victims) p.cursor
+  pub cursor : IsCursorAt seed (images_in images) (drop p.cursor.victim p.victims) p.cursor
 
 -- ---- kept bytes
 

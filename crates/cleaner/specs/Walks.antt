@@ -5,8 +5,8 @@ use Rattle.entry.specs.declared.entry.Entry.TheVariants as entry
 use Rattle.entry.specs.Format.{spelling, IsEntry}
 use Rattle.entry.specs.Text.{text_of, is_data}
 use Rattle.places.specs.declared.place.Place.{Place}
-use Rattle.places.specs.Map.{hash_of}
-use Rattle.places.specs.Relocation.{Places}
+use Rattle.places.specs.Map.{Places}
+use Rattle.places.specs.Relocation.{held_of}
 use Rattle.images.specs.declared.image.Image.{Image}
 use Rattle.compactor.specs.Kept.{kept}
 use Rattle.compactor.specs.Places.{LiesAt, IsAtPlace}
@@ -54,21 +54,22 @@ pub record GoesOn (images : ℕ → List Entry) (victims : List ℕ) (from to : 
   pub position : IsSpotAt images (drop to.victim victims) to.at
 
 -- The same of a cursor, which has read ahead there.
-pub record GoesTo (images : ℕ → List Entry) (victims : List ℕ) (from : WalkPosition) (to : Cursor) : Type 0 where
+pub record GoesTo (seed : List ℕ) (images : ℕ → List Entry) (victims : List ℕ) (from : WalkPosition) (to : Cursor)
+    : Type 0 where
   pub within : to.victim ≤ length victims
   pub rest : places_on images (drop to.victim victims) to.at ≡ places_on images (drop from.victim victims) from.at
-  pub cursor : IsCursorAt images (drop to.victim victims) to
+  pub cursor : IsCursorAt seed images (drop to.victim victims) to
 
 -- ---- the entry
 
 -- what becomes of the entry at a place, by whether it is kept
-abbrev pub fate_by : Bool → Place → Entry → Fate
-fate_by false p e = fate.Dead
-fate_by true p (entry.Header h) = fate.Tombstone
-fate_by true p (entry.Digest ids) = fate.Tombstone
-fate_by true p (entry.Safe version) = fate.Tombstone
-fate_by true p (entry.Object o) = fate.Object (record { hash = hash_of o.key; place = p })
-fate_by true p (entry.Tombstone t) = fate.Tombstone
+abbrev pub fate_by : Places → Bool → Place → Entry → Fate
+fate_by held false p e = fate.Dead
+fate_by held true p (entry.Header h) = fate.Tombstone
+fate_by held true p (entry.Digest ids) = fate.Tombstone
+fate_by held true p (entry.Safe version) = fate.Tombstone
+fate_by held true p (entry.Object o) = fate.Object (held_of held o.key p)
+fate_by held true p (entry.Tombstone t) = fate.Tombstone
 
 -- An object or tombstone of this length stands at the place.
 pub record IsSeen (images : ℕ → List Entry) (p : Place) (len : ℕ) (e : Entry) : Type 0 where
@@ -79,7 +80,7 @@ pub record IsSeen (images : ℕ → List Entry) (p : Place) (len : ℕ) (e : Ent
 
 -- this becomes of the object or tombstone at the place
 abbrev pub HasFate : List ℕ → Places → (ℕ → List Entry) → Place → Fate → ℕ → Type 0
-HasFate ids held images p f len = (e : Entry) × IsSeen images p len e × (f ≡ fate_by (kept ids held p e) p e)
+HasFate ids held images p f len = (e : Entry) × IsSeen images p len e × (f ≡ fate_by held (kept ids held p e) p e)
 
 -- The object or tombstone at the place is treated.
 pub record Treats (ids : List ℕ) (images : List Image) (held : Places) (p : Place) (survivor : ℕ) (copied : Copied)

@@ -7,7 +7,7 @@ ghost use Rattle.cleaner.specs.Walks.{IsBetween, IsAtData};
 
 use arrayvec::ArrayVec;
 use entry::EntryRef;
-use hash_index::{Index, hash_key};
+use hash_index::Index;
 use segment::Segment;
 use std::marker::Model;
 
@@ -17,7 +17,7 @@ const AHEAD: usize = 16;
 /// What a pass remembers of an object or a tombstone that it read.
 #[derive(Clone, Copy)]
 pub enum Seen {
-    /// An object: the hash of its key, and its length in bytes.
+    /// An object: the hash under which the index holds its key's place, and its length in bytes.
     Object(u64, usize),
     /// A tombstone: the segment that it names, and its length in bytes.
     Tombstone(u64, usize),
@@ -67,9 +67,9 @@ impl Model for Ahead {
 
 /// What stands at an offset of a segment, if it is an object or a tombstone.
 #[inline(always)]
-fn seen_at(segment: &Segment, at: usize) -> Option<Seen>
+fn seen_at(segment: &Segment, at: usize, index: &Index) -> Option<Seen>
     requires { IsBetween segment.now at }
-    ensures seen { IfSome result (IsSeenAt segment.now at) }
+    ensures seen { IfSome result (IsSeenAt index.now.held.seed segment.now at) }
     ensures other { IfNone result (IsAtData segment.now at → ⊥) }
 {
     let text = segment.bytes();
@@ -80,21 +80,21 @@ fn seen_at(segment: &Segment, at: usize) -> Option<Seen>
         unreachable!()
     };
     match entry {
-        EntryRef::Object(object) => Some(Seen::Object(hash_key(&object.key), len)),
+        EntryRef::Object(object) => Some(Seen::Object(index.hash(&object.key), len)),
         EntryRef::Tombstone(tombstone) => Some(Seen::Tombstone(tombstone.segment, len)),
         _ => None,
     }
 }
 
 /// The objects and tombstones of a segment from an offset on, as many as are read ahead.
-fn gather(segment: &Segment, from: usize, seen: &mut ArrayVec<Seen, AHEAD>)
+fn gather(segment: &Segment, from: usize, index: &Index, seen: &mut ArrayVec<Seen, AHEAD>)
     requires empty { seen.old.items ≡ [] }
     requires at { IsAtData segment.now from }
-    ensures { IsAhead segment.now from seen.new.items }
+    ensures { IsAhead index.now.held.seed segment.now from seen.new.items }
 {
     let mut at = from;
     for _ in 0..AHEAD {
-        let Some(one) = seen_at(segment, at) else {
+        let Some(one) = seen_at(segment, at, index) else {
             return;
         };
         seen.push(one);
@@ -136,12 +136,12 @@ impl Ahead {
     }
 
     /// Reads on in a segment, at an object or tombstone.
-    pub(crate) fn read(&mut self, segment: &Segment, from: usize)
+    pub(crate) fn read(&mut self, segment: &Segment, from: usize, index: &Index)
         requires { IsAtData segment.now from }
-        ensures { IsAhead segment.now from self.new }
+        ensures { IsAhead index.now.held.seed segment.now from self.new }
     {
         let mut seen = ArrayVec::new();
-        gather(segment, from, &mut seen);
+        gather(segment, from, index, &mut seen);
         self.seen = seen;
         self.treated = 0;
     }

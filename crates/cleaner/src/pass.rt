@@ -54,11 +54,11 @@ pub struct Pass {
 }
 
 /// Goes to the first object or tombstone from a position on, or behind the last victim, and reads on there.
-fn go_to(cursor: &mut Cursor, from: WalkPosition, victims: &[u64], images: &Images)
+fn go_to(cursor: &mut Cursor, from: WalkPosition, victims: &[u64], images: &Images, index: &Index)
     requires there { AllByRecursion (λ s. IsSome (segment_of images.now.images s)) victims.now }
     requires within { from.victim ≤ length victims.now }
     requires between { IsPositionBetween (images_in images.now.images) (drop from.victim victims.now) from.at }
-    ensures { GoesTo (images_in images.now.images) victims.now from cursor.new }
+    ensures { GoesTo index.now.held.seed (images_in images.now.images) victims.now from cursor.new }
 {
     let position = next_position(victims, images, from);
     cursor.victim = position.victim;
@@ -67,7 +67,7 @@ fn go_to(cursor: &mut Cursor, from: WalkPosition, victims: &[u64], images: &Imag
         let Some(segment) = images.get(victims[position.victim]) else {
             unreachable!()
         };
-        cursor.ahead.read(segment, position.at);
+        cursor.ahead.read(segment, position.at, index);
     }
 }
 
@@ -76,9 +76,10 @@ fn go_to(cursor: &mut Cursor, from: WalkPosition, victims: &[u64], images: &Imag
 fn go_on(cursor: &mut Cursor, len: usize, victims: &[u64], images: &Images, index: &Index)
     requires there { AllByRecursion (λ s. IsSome (segment_of images.now.images s)) victims.now }
     requires within { cursor.old.victim < length victims.now }
-    requires cursor { IsCursorAt (images_in images.now.images) (drop cursor.old.victim victims.now) cursor.old }
+    requires cursor { IsCursorAt index.now.held.seed (images_in images.now.images) (drop cursor.old.victim victims.now)
+        cursor.old }
     requires len { IfSome (slice_get cursor.old.ahead 0) (λ x. len ≡ seen_len x) }
-    ensures { GoesTo (images_in images.now.images) victims.now
+    ensures { GoesTo index.now.held.seed (images_in images.now.images) victims.now
         (record { victim = cursor.old.victim; at = cursor.old.at + len }) cursor.new }
 {
     let at = cursor.at + len;
@@ -89,14 +90,21 @@ fn go_on(cursor: &mut Cursor, len: usize, victims: &[u64], images: &Images, inde
             victim: cursor.victim,
             at,
         };
-        go_to(cursor, behind, victims, images);
+        go_to(cursor, behind, victims, images, index);
         cursor.ahead.touch(cursor.victim, index);
     }
 }
 
 impl Pass {
-    /// Begins a pass over `victims`. The first `near` of them are still in cache, as `fit` reported. Allocates nothing.
-    pub fn begin(victims: Row<u64>, near: usize, survivor: u64, images: &Images) -> Pass
+    /// Begins a pass over `victims`. The first `near` of them are still in cache, as `fit` reported. What it reads
+    /// ahead is right for `index`, and for any with the same seed. Allocates nothing.
+    pub fn begin(
+        victims: Row<u64>,
+        near: usize,
+        survivor: u64,
+        images: &Images,
+        index: &Index,
+    ) -> Pass
         requires { AreVictims images.now.images survivor victims }
         ensures begun { result ≡ record {
           victims = victims;
@@ -107,7 +115,8 @@ impl Pass {
         } }
         ensures rest { let images = images_in images.now.images in rest_of images result ≡ places_of images victims }
         ensures within { result.cursor.victim ≤ length victims }
-        ensures cursor { IsCursorAt (images_in images.now.images) (drop result.cursor.victim victims) result.cursor }
+        ensures cursor { IsCursorAt index.now.held.seed (images_in images.now.images)
+            (drop result.cursor.victim victims) result.cursor }
     {
         let mut cursor = Cursor {
             victim: 0,
@@ -115,7 +124,7 @@ impl Pass {
             ahead: Ahead::new(near),
         };
         let start = WalkPosition { victim: 0, at: 0 };
-        go_to(&mut cursor, start, victims.as_slice(), images);
+        go_to(&mut cursor, start, victims.as_slice(), images, index);
         Pass {
             victims,
             cursor,
@@ -158,13 +167,13 @@ impl Pass {
         head: u64,
         new: Option<u64>,
     ) -> Result<Copied, NoMemory>
-        requires pass { IsPass images.old.images self.old }
+        requires pass { IsPass index.old.held.seed images.old.images self.old }
         requires more { is_at_end self.old ≡ false }
         requires room { HasRoom images.old.segment (ids_in images.old.images head new) self.old images.old.images
             index.old.held }
         ensures copied { IfOk result (λ copied. CopiesOne (ids_in images.old.images head new) self.old
             images.old.images index.old.held copied self.new images.new.images index.new.held) }
-        ensures pass { OnOk result (IsPass images.new.images self.new) }
+        ensures pass { OnOk result (IsPass index.new.held.seed images.new.images self.new) }
         ensures images { images.new ≡ record images.old { images = images.new.images } }
         ensures room { index.new.room ≡ index.old.room }
         ensures err { OnErr result ((self.new ≡ self.old) × (images.new ≡ images.old) × (index.new ≡ index.old)) }

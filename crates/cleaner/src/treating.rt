@@ -32,7 +32,7 @@ pub(crate) enum Fate {
 /// What becomes of the entry at a place, of which this is known.
 #[inline(always)]
 fn fate_of(seen: Seen, place: Place, index: &Index, log: &LogSet<'_>) -> Fate
-    requires { IsSeenAt (images_in log.now.closed.now.images place.segment) place.at seen }
+    requires { IsSeenAt index.now.held.seed (images_in log.now.closed.now.images place.segment) place.at seen }
     ensures { HasFate (ids_of_log log.now) index.now.held (images_in log.now.closed.now.images) place result
         (seen_len seen) }
 {
@@ -66,8 +66,10 @@ fn copy(images: &mut Images, place: Place, len: usize, survivor: u64) -> Result<
     ensures ok { OnOk result (IfSome (entry_at images.old.images place.segment place.at) (λ e. images.new ≡
         record images.old { images = changed images.old.images survivor (with_unit (e ∷ [])) })) }
     ensures place { IfOk result (λ to. to ≡ copy_place survivor images.old.images) }
+    ensures limit { IfOk result (λ to. to.at < 8388608) }
     ensures err { OnErr result (images.new ≡ images.old) }
 {
+    images.show_valid();
     match images.copy_entry(place.segment, place.at, len, survivor) {
         Ok(at) => Ok(Place {
             segment: survivor,
@@ -91,7 +93,7 @@ pub(crate) fn treat(
     requires order { place.segment < survivor }
     requires there { IsSome (segment_of images.old.images place.segment) }
     requires whole { IsWhole images.old.images survivor }
-    requires at { IsSeenAt (images_in images.old.images place.segment) place.at seen }
+    requires at { IsSeenAt index.old.held.seed (images_in images.old.images place.segment) place.at seen }
     requires room { len_at images.old.images survivor + kept_len (ids_in images.old.images head new) index.old.held
         (images_in images.old.images) place ≤ images.old.segment }
     ensures treated { IfOk result (λ copied. Treats (ids_in images.old.images head new) images.old.images

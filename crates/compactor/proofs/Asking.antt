@@ -1,6 +1,7 @@
 -- Sums over objects whose places an index is asked for.
 use Rattle.std.proofs.Common.{◌≡◌, ◌+◌, ℕ, List, [], ◌∷◌, ◌++◌, arith, if◌then◌else◌}
-use Rattle.places.specs.Relocation.{Places, holds}
+use Rattle.places.specs.Map.{Places}
+use Rattle.places.specs.Relocation.{holds}
 use Rattle.compactor.specs.declared.keeping.Asked.{Asked}
 use Rattle.compactor.specs.Asked.{asked_of, asked_bytes, held_bytes}
 

@@ -6,7 +6,7 @@ use Rattle.std.proofs.lemmas.List.{length-append}
 use Rattle.entry.specs.declared.entry.Entry.{Entry}
 use Rattle.entry.specs.Format.{spelling}
 use Rattle.entry.specs.Text.{text_of, is_data}
-use Rattle.places.specs.Relocation.{Places}
+use Rattle.places.specs.Map.{Places}
 use Rattle.compactor.specs.Kept.{kept, kept_from, kept_of}
 use Rattle.compactor.proofs.Cutting.{IsCut, IsCut-start, cut_end}
 use Rattle.compactor.proofs.Walking.{IsHere, cut_behind}

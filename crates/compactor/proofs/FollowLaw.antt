@@ -1,29 +1,24 @@
 -- After a compaction an index that follows it leads to the same objects.
-use Rattle.std.proofs.Common.{◌≡◌, ℕ, ◌+◌, Bool, true, false, ◌==◌, List, [], ◌∷◌, ◌++◌, length, drop, refl, sym}
+use Rattle.std.proofs.Common.{◌≡◌, ℕ, ◌+◌, Bool, true, false, ◌==◌, List, ◌∷◌, ◌++◌, length, refl, sym}
 use Rattle.std.proofs.Common.{ap, subst, ◌∙◌, arith, if◌then◌else◌}
-use Rattle.std.specs.Prelude.{Option, Some}
+use Rattle.std.specs.Prelude.{Some}
 use Rattle.std.specs.List.{AllByRecursion}
-use Rattle.std.specs.Option.{option_map, option_and_then}
 use Rattle.std.proofs.lemmas.Bool.Decides.{Decides-eqb}
 use Rattle.entry.specs.declared.key.Key.{Key}
 use Rattle.entry.specs.declared.entry.Object.{Object}
 use Rattle.entry.specs.declared.entry.Entry.{Entry}
 use Rattle.entry.specs.declared.entry.Entry.TheVariants as entry
-use Rattle.entry.specs.Format.{spelling, front_of, IsEntry}
+use Rattle.entry.specs.Format.{spelling, IsEntry}
 use Rattle.entry.specs.Text.{text_of, IsSegment}
-use Rattle.entry.proofs.ListLemmas.{all_split}
-use Rattle.entry.proofs.TextLemmas.{front_of-spelling}
-use Rattle.segment.specs.Bytes.{standing_at}
 use Rattle.places.specs.declared.place.Place.{Place}
-use Rattle.places.specs.Map.{found, AreKept}
-use Rattle.places.specs.Relocation.{Places, names, AllPlaces}
-use Rattle.places.proofs.Each.{each_found}
-use Rattle.places.proofs.Going.{kept_gone, found_gone, all_gone, found_holds, all_then, all_both}
-use Rattle.places.proofs.Named.{found_named}
+use Rattle.places.specs.Map.{Places, found, AreKept}
+use Rattle.places.specs.Relocation.{names, AllPlaces}
+use Rattle.places.proofs.Words.{each_found, found_named, found_holds, all_then, all_both}
+use Rattle.places.proofs.Words.{kept_gone, found_gone, all_gone}
 use Rattle.compactor.specs.Kept.{kept, kept_from, kept_of, entries_before, moved_at, moved_place}
 use Rattle.compactor.specs.Laws.{compacted_images, IsFollowed}
-use Rattle.compactor.specs.Places.{LiesAt, IsAtPlace, as_object, object_in, keys_in, LieIn}
-use Rattle.compactor.proofs.Cutting.{before_cut, behind_cut}
+use Rattle.compactor.specs.Places.{LiesAt, IsAtPlace, keys_in, LieIn}
+use Rattle.compactor.proofs.Cutting.{before_cut}
 use Rattle.compactor.proofs.KeptEntries.{kept_append, kept_segment}
 use Rattle.compactor.proofs.StandingKeys.{stands_at, key_in, key_lies}
 
@@ -103,7 +98,7 @@ module _ (ids : List ℕ) (held : Places) (images : ℕ → List Entry) (segment
         let there = subst (λ (x : ℕ). LiesAt (images x) p.at (entry.Object o)) same s in
         let key : keys_in images p ≡ Some o.key =
         ap (λ (x : ℕ). key_in (images x) p.at) same ∙ key_lies (images segment) p.at o valid.each there in
-        let named = found_named (keys_in images) o.key p key held all (finds o.key key) in
+        let named = found_named (keys_in images) o.key p held all (finds o.key key) in
         let place : p ≡ record { segment = segment; at = p.at } = ap (λ (x : ℕ). record p { segment = x }) same in
         record {
           here = so;
@@ -134,7 +129,7 @@ module _ (ids : List ℕ) (held : Places) (images : ℕ → List Entry) (segment
           × ((k : Key) → keys_in images p ≡ Some k → found (keys_in images) k held ≡ Some p)
 
       there : AllPlaces IsThere held
-      there = all_both _ _ held lie (each_found (keys_in images) held all.apart)
+      there = all_both _ _ held lie (each_found (keys_in images) held all)
 
       seen : (p : Place) → IsThere p → keys_in later (goes p) ≡ keys_in images p
       seen p at = go (p.segment == segment) refl

@@ -14,10 +14,9 @@ use Rattle.entry.specs.Format.{spelling, IsEntry}
 use Rattle.entry.specs.Text.{text_of}
 use Rattle.entry.proofs.TextLemmas.{length_first, spelling-some}
 use Rattle.places.specs.declared.place.Place.{Place}
-use Rattle.places.specs.Map.{AreKept}
-use Rattle.places.specs.Relocation.{Places, moved, goes_all}
-use Rattle.places.proofs.Going.{all_then}
-use Rattle.places.proofs.Moves.{all_of, goes_alike, goes_nowhere, moves_alike}
+use Rattle.places.specs.Map.{Places, AreKept}
+use Rattle.places.specs.Relocation.{moved, goes_all}
+use Rattle.places.proofs.Words.{all_then, all_of, goes_alike, goes_nowhere, moves_alike}
 use Rattle.compactor.specs.Kept.{kept_of, moved_at, moved_place}
 use Rattle.compactor.specs.Places.{LiesAt, IsAtPlace, keys_in, LieIn}
 use Rattle.compactor.proofs.KeptEntries.{kept_length}
@@ -236,7 +235,6 @@ module _ (ids : List ℕ) (held : Places) (segment : ℕ) (es : List Entry) wher
         pub until_object : (ps : Places) → LieIn images ps → AreKept (keys_in images) ps
             → moved (all_until at ps) o.key old to ≡ all_until next ps
         until_object ps lie kept =
-            moves_alike (keys_in images) (until at) (until next) o.key old to key_old until_old until_new ps kept.told
-            kept.apart
+            moves_alike (keys_in images) (until at) (until next) o.key old to key_old until_old until_new ps kept
             (all_then Lies (λ (p : Place). (p ≡ old → ⊥) → (until at p ≡ until next p) × (until at p ≡ old → ⊥)) ps
             (λ p l other. (until_other p l other, not_until p l other)) lie)

@@ -10,7 +10,7 @@ use Rattle.entry.specs.declared.entry.Entry.{Entry}
 use Rattle.entry.specs.declared.entry.Entry.TheVariants as entry
 use Rattle.entry.specs.Format.{spelling, IsEntry}
 use Rattle.entry.specs.Text.{text_of, is_data, are_data, ends_with, is_rest, is_whole, IsSegment}
-use Rattle.places.specs.Relocation.{Places}
+use Rattle.places.specs.Map.{Places}
 use Rattle.compactor.specs.Kept.{kept, kept_from, kept_of}
 
 -- ---- one more entry, which is kept or not

@@ -11,9 +11,9 @@ use Rattle.entry.proofs.TextLemmas.{spelling-some}
 use Rattle.segment.proofs.RowLemmas.{text_of-append}
 use Rattle.entry.specs.declared.key.Key.{Key}
 use Rattle.places.specs.declared.place.Place.{Place}
-use Rattle.places.specs.Map.{AreKept}
-use Rattle.places.specs.Relocation.{Places, names}
-use Rattle.places.proofs.Moves.{names_other}
+use Rattle.places.specs.Map.{Places, AreKept}
+use Rattle.places.specs.Relocation.{names}
+use Rattle.places.proofs.Words.{names_other}
 use Rattle.compactor.specs.Kept.{kept, kept_from, kept_of}
 use Rattle.compactor.specs.Moved.{moved_one, Follows}
 use Rattle.compactor.specs.Places.{keys_in, LieIn}

@@ -4,7 +4,8 @@ use Rattle.entry.specs.declared.entry.Entry.{Entry}
 use Rattle.entry.specs.Text.{is_data}
 use Rattle.places.specs.declared.place.Place.{Place}
 use Rattle.places.specs.declared.place.Held.{Held}
-use Rattle.places.specs.Relocation.{Places, holds}
+use Rattle.places.specs.Map.{Places}
+use Rattle.places.specs.Relocation.{holds}
 use Rattle.compactor.specs.declared.keeping.Asked.{Asked}
 use Rattle.compactor.specs.Kept.{kept}
 

@@ -6,7 +6,8 @@ use Rattle.entry.specs.declared.entry.Entry.TheVariants as entry
 use Rattle.entry.specs.Format.{spelling}
 use Rattle.entry.specs.Text.{text_of, entries_in}
 use Rattle.places.specs.declared.place.Place.{Place}
-use Rattle.places.specs.Relocation.{Places, names, goes_all}
+use Rattle.places.specs.Map.{Places}
+use Rattle.places.specs.Relocation.{names, goes_all}
 
 -- ---- the kept entries
 

@@ -7,8 +7,7 @@ use Rattle.entry.specs.declared.entry.Entry.{Entry}
 use Rattle.entry.specs.declared.entry.Entry.TheVariants as entry
 use Rattle.entry.specs.Text.{IsSegment}
 use Rattle.places.specs.declared.place.Place.{Place}
-use Rattle.places.specs.Map.{found, AreKept}
-use Rattle.places.specs.Relocation.{Places}
+use Rattle.places.specs.Map.{Places, found, AreKept}
 use Rattle.compactor.specs.Kept.{kept_of, moved_place, moved_all}
 use Rattle.compactor.specs.Places.{IsAtPlace, keys_in, LieIn}
 

@@ -3,8 +3,8 @@ use Rattle.std.specs.Prelude.{◌≡◌, ℕ, List}
 use Rattle.entry.specs.declared.entry.Entry.{Entry}
 use Rattle.entry.specs.declared.entry.Entry.TheVariants as entry
 use Rattle.places.specs.declared.place.Place.{Place}
-use Rattle.places.specs.Map.{AreKept}
-use Rattle.places.specs.Relocation.{Places, moved}
+use Rattle.places.specs.Map.{Places, AreKept}
+use Rattle.places.specs.Relocation.{moved}
 use Rattle.compactor.specs.Kept.{moved_all}
 use Rattle.compactor.specs.Places.{keys_in, LieIn}
 

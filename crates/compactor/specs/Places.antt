@@ -8,7 +8,8 @@ use Rattle.entry.specs.declared.entry.Entry.TheVariants as entry
 use Rattle.entry.specs.Text.{text_of}
 use Rattle.segment.specs.Bytes.{standing_at}
 use Rattle.places.specs.declared.place.Place.{Place}
-use Rattle.places.specs.Relocation.{Places, AllPlaces}
+use Rattle.places.specs.Map.{Places}
+use Rattle.places.specs.Relocation.{AllPlaces}
 
 -- the entry stands at this offset of the image
 pub record LiesAt (image : List Entry) (at : ℕ) (e : Entry) : Type 0 where

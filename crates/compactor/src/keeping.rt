@@ -1,6 +1,6 @@
 //! Which entries are kept.
 
-ghost use Rattle.std.specs.Prelude.{◌≡◌, ◌+◌, ◌≤◌, length, filter, if◌then◌else◌};
+ghost use Rattle.std.specs.Prelude.{◌≡◌, ◌+◌, ◌<◌, ◌≤◌, length, filter, if◌then◌else◌};
 ghost use Rattle.entry.specs.Text.{text_of, is_data, IsSegment};
 ghost use Rattle.entry.specs.View.{shown};
 ghost use Rattle.places.specs.Relocation.{holds};
@@ -12,7 +12,7 @@ ghost use Rattle.compactor.specs.Moved.{moved_one};
 use crate::log_set::LogSet;
 use arrayvec::ArrayVec;
 use entry::EntryRef;
-use hash_index::{Held, Index, Place, hash_key};
+use hash_index::{Held, Index, Place};
 use segment::Segment;
 
 /// Objects are looked up in batches of this many.
@@ -21,7 +21,7 @@ const SIDE_BY_SIDE: usize = 8;
 /// An object of a segment that waits for its look-up.
 #[derive(Clone, Copy, Default)]
 pub(crate) struct Asked {
-    /// The hash of its key.
+    /// The hash under which the index holds its key's place.
     pub hash: u64,
     /// Its offset in the segment, in bytes.
     pub at: usize,
@@ -50,7 +50,7 @@ pub fn kept(entry: &EntryRef<'_>, place: Place, index: &Index, log: &LogSet<'_>)
 {
     match entry {
         EntryRef::Object(object) => {
-            let hash = hash_key(&object.key);
+            let hash = index.hash(&object.key);
             index.holds(Held { hash, place })
         }
         EntryRef::Tombstone(tombstone) => log.has(tombstone.segment),
@@ -58,8 +58,8 @@ pub fn kept(entry: &EntryRef<'_>, place: Place, index: &Index, log: &LogSet<'_>)
     }
 }
 
-/// The bytes of those objects that the index holds. Looks up the first place of each chain on the way down, where the
-/// cache misses overlap, and the rest of a chain on the way up.
+/// The bytes of those objects that the index holds. Looks into the bucket of each hash on the way down, where the cache
+/// misses overlap, and at what overflows on the way up.
 fn held_bytes(asked: &[Asked], id: u64, index: &Index) -> usize
     requires { asked_bytes asked.now ≤ 8388608 }
     ensures sum { result ≡ held_bytes index.now.held id asked.now }
@@ -112,7 +112,7 @@ fn count(
 {
     match entry {
         EntryRef::Object(object) => {
-            let hash = hash_key(&object.key);
+            let hash = index.hash(&object.key);
             let at = place.at;
             ask(Asked { hash, at, len }, asked, place.segment, index)
         }
@@ -151,13 +151,14 @@ pub(crate) fn kept_and_moved(
     index: &mut Index,
     log: &LogSet<'_>,
 ) -> bool
+    requires { to.at < 8388608 }
     ensures kept { result ≡ kept (ids_of_log log.now) index.old.held place (shown entry.now) }
     ensures moved { index.new.held ≡ moved_one place to (shown entry.now) index.old.held }
     ensures room { index.new.room ≡ index.old.room }
 {
     match entry {
         EntryRef::Object(object) => {
-            let hash = hash_key(&object.key);
+            let hash = index.hash(&object.key);
             index.relocate(Held { hash, place }, to)
         }
         _ => kept(entry, place, index, log),

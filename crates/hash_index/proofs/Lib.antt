@@ -1,9 +1,5 @@
-pub mod Slots
-pub mod Joining
-pub mod Chains
-pub mod Whole
-pub mod Relocating
-pub mod Parts
-pub mod Fronts
-pub mod TakingOut
-pub mod Adding
+pub mod Packing
+pub mod Taken
+pub mod Blocked
+pub mod Addresses
+pub mod Halves

@@ -1,2 +1,2 @@
-pub mod Steps
-pub mod Whole
+pub mod Packing
+pub mod Buckets

@@ -8,7 +8,7 @@ use Rattle.entry.specs.Meaning.{Versioned, object_at}
 use Rattle.clean_model.specs.Memory.{Place as EntryPlace}
 use Rattle.places.specs.declared.place.Place.{Place}
 use Rattle.places.specs.Relocation.{names}
-use Rattle.places.proofs.Named.{named_found, found_named}
+use Rattle.places.proofs.Words.{named_found, found_named}
 use Rattle.compactor.specs.Places.{LiesAt, IsAtPlace, keys_in}
 use Rattle.master_state.specs.Data.{MasterData}
 use Rattle.master_state.specs.Index.{LiesFound}
@@ -63,7 +63,7 @@ module _ (d x : MasterData) (core : IsCore d) (core_then : IsCore x)
     go (Some v) has =
         let at = found_place d core k v has in
         let key = key_seen (images_of d) (each_of d core) at.0 k v at.2 in
-        let was = found_named (keys_in (images_of d)) k at.0 key d.index core.index.kept at.1 in
+        let was = found_named (keys_in (images_of d)) k at.0 d.index core.index.kept at.1 in
         let now = named_found (keys_in (images_of x)) k at.0
         (key_seen (images_of x) (each_of x core_then) at.0 k v (lies_then at.0 (object_at k v) at.2))
         x.index core_then.index.kept (named at.0 key was) in

@@ -21,7 +21,7 @@ use Rattle.clean_model.specs.Compaction.{is_place, kept as entry_kept, kept_from
 use Rattle.clean_model.specs.Memory.{IsAt, Index as EntryIndex}
 use Rattle.places.specs.declared.place.Place.{Place}
 use Rattle.places.specs.Relocation.{names}
-use Rattle.places.proofs.Named.{named_found, found_named}
+use Rattle.places.proofs.Words.{named_found, found_named}
 use Rattle.compactor.specs.Kept.{has_id, kept, kept_from, kept_of, entries_before}
 use Rattle.compactor.specs.Places.{LiesAt, IsAtPlace, keys_in}
 use Rattle.master_state.specs.Data.{MasterData}
@@ -121,7 +121,7 @@ module _ (d : MasterData) (core : IsCore d) (s : ℕ) where
           let there = found_lies (images_of d) o.key (find d o.key) ((state_now d).contents o.key)
           (core.index.lies o.key) q some in
           let same = named q there.0 there.2 is in
-          found_named (keys_in (images_of d)) o.key here stands d.index core.index.kept (some ∙ ap Some same)
+          found_named (keys_in (images_of d)) o.key here d.index core.index.kept (some ∙ ap Some same)
 
     from_named : names d.index o.key here ≡ true → is_place (index o.key) s (length front) ≡ true
     from_named is =

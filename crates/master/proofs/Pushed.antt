@@ -1,5 +1,5 @@
 -- The op that comes next, taken or not, keeps what holds of a master.
-use Rattle.std.proofs.Common.{◌≡◌, ℕ, ◌<◌, inl, inr, suc, ◌+◌, Bool, true, false, List, [], ◌∷◌, ◌++◌, refl, sym, ap}
+use Rattle.std.proofs.Common.{◌≡◌, ℕ, ◌<◌, inl, inr, suc, Bool, true, false, List, [], ◌∷◌, ◌++◌, refl, sym, ap}
 use Rattle.std.proofs.Common.{length, subst, ◌∙◌, arith}
 use Rattle.std.specs.Prelude.{Option, Some, None, ◌==◌, slice_set, if◌then◌else◌}
 use Rattle.std.specs.Option.{option_map_or}

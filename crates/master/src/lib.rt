@@ -20,7 +20,9 @@ mod showing;
 
 pub use loading::Loading;
 pub use master::Master;
-pub use master_core::{Config, ConfigFault, Core, PassFault, Refusal, Step, StepAnswer};
+pub use master_core::{
+    Config, ConfigFault, Core, KeyHasher, PassFault, Refusal, Secret, Step, StepAnswer,
+};
 pub use segment::{Segment, SegmentFault, read_segment};
 pub use showing::{Look, Shown};
 pub use versioned_map::{Command, If, Record, Reply};

@@ -15,10 +15,10 @@ use Rattle.entry.specs.Text.{text_of, IsSegment}
 use Rattle.entry.proofs.BagLemmas.{among_either}
 use Rattle.places.specs.declared.place.Held.{Held}
 use Rattle.places.specs.declared.place.Place.{Place}
-use Rattle.places.specs.Relocation.{Places}
+use Rattle.places.specs.Map.{Places}
 use Rattle.cleaner.specs.declared.pass.Pass.{Pass as OpenPass}
 use Rattle.cleaner.specs.Laws.{KeepsNoMore}
-use Rattle.cleaner.specs.Passes.{images_in, rest_of, kept_left, ids_in as log_ids}
+use Rattle.cleaner.specs.Passes.{images_in, rest_of, kept_left, ids_in as log_ids, IsPass}
 use Rattle.segment.proofs.RowLemmas.{text_of-append}
 use Rattle.versioned_map.specs.declared.command.Command.{Command}
 use Rattle.versioned_map.specs.declared.command.Record.{Record}
@@ -370,7 +370,7 @@ module _ (d : MasterData) (core : IsCore d) (command : Command) (change : Change
             roll = subst (λ (o : Option Roll). IfSome o (λ (r : Roll). (r.id == p.survivor) ≡ false))
                 (sym same.2) is.survivor.not_new;
             next = omega arith;
-            pass = is.pass;
+            pass = subst (λ (s : List ℕ). IsPass s d.closed p) (sym others_on.seed) is.pass;
             survivor = refl;
             rest = refl;
             left = subst (λ (ids : List ℕ). kept_left ids new (images_in d.closed) rest

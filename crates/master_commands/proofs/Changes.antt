@@ -1,5 +1,5 @@
 -- The change that a command makes: the reply, the length of its unit, and what its tombstone names.
-use Rattle.std.proofs.Common.{◌≡◌, ℕ, ◌+◌, List, [], ◌∷◌, ◌++◌, length, Bool, true, false, Option, Some, None}
+use Rattle.std.proofs.Common.{◌≡◌, ℕ, ◌+◌, ◌<◌, List, [], ◌∷◌, ◌++◌, length, Bool, true, false, Option, Some, None}
 use Rattle.std.proofs.Common.{if◌then◌else◌, refl, sym, ap, ◌∙◌}
 use Rattle.std.proofs.Common.{arith, inl, inr}
 use Rattle.std.specs.Prelude.{Result, Ok, Err, IfOk, IfErr}
@@ -25,7 +25,7 @@ use Rattle.versioned_map.specs.Versioned.{is_met, reply_given}
 use Rattle.versioned_map.specs.Units.{object_entry, tombstone_entry, put_unit}
 use Rattle.versioned_map.specs.Command.{command_key}
 use Rattle.versioned_map.specs.Versioned.{is_spent}
-use Rattle.master_commands.specs.Change.{unit_of_change, version_in, IsChangeOf}
+use Rattle.master_commands.specs.Change.{unit_of_change, version_in, is_nothing, puts, IsChangeOf}
 use Rattle.master_state.specs.Causes.{is_empty}
 
 -- ---- lengths of units
@@ -80,6 +80,37 @@ front_of_replacing segment (Get k) dead version front o is = absurd (front_of_no
 front_of_replacing segment (Put k value when) dead version front o is =
     front_of_two k dead segment (object_entry k version value) front o is
 front_of_replacing segment (Delete k) dead version front o is = absurd (front_of_none front (entry.Object o) is)
+
+-- the object of a unit begins before the unit ends
+pub object_within : (segment : ℕ) (command : Command) (c : Change) (at : ℕ) → puts c ≡ true
+    → is_empty (unit_of_change segment command c) ≡ false
+    → ((front : List Entry) (o : Object) → unit_of_change segment command c ≡ front ++ entry.Object o ∷ []
+    → at ≡ length (text_of front))
+    → at < length (text_of (unit_of_change segment command c))
+object_within segment command change.Nothing at of_put some begins = absurd (cc)
+object_within segment command (change.Delete dead) at of_put some begins = absurd (cc)
+object_within segment (Get k) (change.Create version) at of_put some begins = absurd (cc)
+object_within segment (Get k) (change.Replace dead version) at of_put some begins = absurd (cc)
+object_within segment (Delete k) (change.Create version) at of_put some begins = absurd (cc)
+object_within segment (Delete k) (change.Replace dead version) at of_put some begins = absurd (cc)
+object_within segment (Put k value when) (change.Create version) at of_put some begins =
+    let o : Object = record { key = k; version = version; value = value } in
+    let start : at ≡ 0 = begins [] o refl in
+    let len = length_object_entry k version value in
+    omega arith
+object_within segment (Put k value when) (change.Replace dead version) at of_put some begins =
+    let o : Object = record { key = k; version = version; value = value } in
+    let start = begins (tombstone_entry k dead segment ∷ []) o refl in
+    let front = length_tombstone_entry k dead segment in
+    let len = length_replacing k dead version segment value in
+    omega arith
+
+-- a change that puts an object is one
+pub put_is_some : (c : Change) → puts c ≡ true → is_nothing c ≡ false
+put_is_some change.Nothing of_put = absurd (cc)
+put_is_some (change.Create version) of_put = refl
+put_is_some (change.Replace dead version) of_put = refl
+put_is_some (change.Delete dead) of_put = refl
 
 -- ---- the tombstone of a unit
 

@@ -12,9 +12,9 @@ use Rattle.entry.specs.Format.{IsEntry}
 use Rattle.entry.specs.Text.{text_of}
 use Rattle.entry.specs.Meaning.{Versioned, Contents, version_of, object_at}
 use Rattle.places.specs.declared.place.Place.{Place}
-use Rattle.places.specs.Map.{found, AreKept, IsSet}
-use Rattle.places.specs.Relocation.{Places, names}
-use Rattle.places.proofs.Named.{set_finds, set_names}
+use Rattle.places.specs.Map.{Places, found, AreKept, IsSet}
+use Rattle.places.specs.Relocation.{names}
+use Rattle.places.proofs.Words.{set_finds, set_names}
 use Rattle.master_state.specs.Index.{LiesFound}
 use Rattle.versioned_map.specs.declared.command.Command.{Command}
 use Rattle.versioned_map.specs.declared.command.Command.TheVariants.{Get, Put, Delete}
@@ -271,8 +271,9 @@ module _ (images grown : ℕ → List Entry) (grow : Grow images grown) (each : 
 
   -- ---- other places
 
-  -- What is named and found elsewhere was named and found before.
+  -- What is named and found elsewhere was named and found before, by hashes of the same seed.
   pub record KeepsOthers : Type 0 where
+    pub seed : new.seed ≡ hs.seed
     pub named_on : (q : Key) (r : Place) → (r ≡ p → ⊥) → names new q r ≡ true → names hs q r ≡ true
     pub found_on : (q : Key) (r : Place) → (r ≡ p → ⊥) → found (keys_in grown) q new ≡ Some r
         → found (keys_in images) q hs ≡ Some r
@@ -282,6 +283,7 @@ module _ (images grown : ℕ → List Entry) (grow : Grow images grown) (each : 
 
   as_before : new ≡ hs → KeepsOthers
   as_before same = record {
+    seed = ap (λ (l : Places). l.seed) same;
     named_on = λ q r other is. subst (λ (l : Places). names l q r ≡ true) same is;
     found_on = λ q r other is. sym (found_before q) ∙ subst
         (λ (l : Places). found (keys_in grown) q l ≡ Some r) same is;
@@ -291,6 +293,7 @@ module _ (images grown : ℕ → List Entry) (grow : Grow images grown) (each : 
   set_to : (k : Key) (x : Option Place) → ((r : Place) → x ≡ Some r → r ≡ p)
       → IsSet (keys_in grown) hs k x new → KeepsOthers
   set_to k x here set = record {
+    seed = set.seed;
     named_on = λ q r other is. set_names (keys_in grown) hs new k x set kept q r is (λ own. other (here r own));
     found_on = λ q r other is. sym (found_before q) ∙ set_finds (keys_in grown) hs new k x set q r is
         (λ own. other (here r own));

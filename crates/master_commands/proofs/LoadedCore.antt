@@ -23,8 +23,7 @@ use Rattle.entry.specs.Tablet.{have_key}
 use Rattle.entry.specs.Text.{text_of}
 use Rattle.entry.proofs.BagLemmas.{among_either}
 use Rattle.places.specs.declared.place.Place.{Place}
-use Rattle.places.specs.Map.{found}
-use Rattle.places.specs.Relocation.{Places}
+use Rattle.places.specs.Map.{Places, found}
 use Rattle.images.specs.Images.{count_of}
 use Rattle.log_head.specs.declared.head.Roll.{Roll}
 use Rattle.log_head.specs.Head.{HeadValue, IsHeadValue, is_open}

@@ -22,7 +22,7 @@ use Rattle.master_state.specs.Causes.{is_empty, dead_segment}
 use Rattle.master_state.specs.Data.{MasterData}
 use Rattle.places.specs.declared.place.Held.{Held}
 use Rattle.places.specs.declared.place.Place.{Place}
-use Rattle.places.specs.Map.{hash_of}
+use Rattle.places.specs.Hashing.{hash_of}
 use Rattle.master_state.specs.Log.{state_now, held_now, find}
 use Rattle.master_state.specs.Steps.{IsFound}
 
@@ -67,6 +67,12 @@ is_nothing _ = false
 abbrev pub creates : Change → Bool
 creates (change.Create version) = true
 creates _ = false
+
+-- the key gets a new object
+abbrev pub puts : Change → Bool
+puts (change.Create version) = true
+puts (change.Replace dead version) = true
+puts _ = false
 
 -- from the safe version and what the key has, the change does what the command does
 pub record IsChangeOf (safe : ℕ) (x : Option Versioned) (command : Command) (change : Change) : Type 0 where
@@ -126,5 +132,5 @@ pub record IsJudged (d : MasterData) (command : Command) (change : Change) (dead
 
 -- the key's hash, and the place at which the key is found, if it is
 pub record IsSought (d : MasterData) (k : Key) (held : Held) : Type 0 where
-  pub hash : held.hash ≡ hash_of k
+  pub hash : held.hash ≡ hash_of d.index.seed k
   pub place : (p : Place) → find d k ≡ Some p → held.place ≡ p

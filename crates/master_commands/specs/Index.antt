@@ -2,8 +2,7 @@
 use Rattle.std.specs.Prelude.{◌≡◌, Option, Some, None}
 use Rattle.entry.specs.declared.key.Key.{Key}
 use Rattle.places.specs.declared.place.Place.{Place}
-use Rattle.places.specs.Map.{found, AreKept, IsSet}
-use Rattle.places.specs.Relocation.{Places}
+use Rattle.places.specs.Map.{Places, found, AreKept, IsSet}
 use Rattle.master_commands.specs.declared.change.Change.{Change}
 use Rattle.master_commands.specs.declared.change.Change.TheVariants as change
 

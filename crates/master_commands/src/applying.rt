@@ -6,7 +6,7 @@ ghost use Rattle.master_state.specs.Causes.{early_refusal, unit_refusal, command
 ghost use Rattle.master_state.specs.Index.{segment_at, place_found, object_found};
 ghost use Rattle.master_state.specs.Invariant.{IsCore};
 ghost use Rattle.places.specs.declared.place.Place.{Place as PlaceValue};
-ghost use Rattle.places.specs.Map.{hash_of};
+ghost use Rattle.places.specs.Hashing.{hash_of};
 ghost use Rattle.master_state.specs.Log.{held_now, find};
 ghost use Rattle.master_state.specs.Steps.{Applies, AppliesAs, MayApplyNow, reply_now, IsFound};
 ghost use Rattle.master_commands.specs.Change.{IsChangeNow, IsJudged, IsSought, RepliesFound, RepliesTo};
@@ -17,7 +17,7 @@ use crate::change::{Change, Judged, change_of, is_too_big};
 use crate::index::find_object;
 use crate::unit::{enact, unit_len};
 use entry::{NoMemory, ObjectRef};
-use hash_index::{Held, Place, hash_key};
+use hash_index::{Held, Place};
 use master_state::{Core, Refusal, StepAnswer, segments_for};
 use std::alloc::Global;
 use versioned_map::{Command, Record, Reply};
@@ -122,7 +122,7 @@ fn fit(core: &Core, command: &Command, change: &Change) -> Result<(), Refusal>
 
 /// The place and the object of the command's key, which has this hash.
 fn look_up<'a>(core: &'a Core, hash: u64, command: &Command) -> Option<(Place, ObjectRef<'a>)>
-    requires { hash ≡ hash_of (command_key command.now) }
+    requires { hash ≡ hash_of core.now.index.seed (command_key command.now) }
     ensures place { place_found result ≡ find core.entry.now (command_key command.now) }
     ensures object { object_found result ≡ held_now core.entry.now command.now }
 {
@@ -159,7 +159,7 @@ fn judge<'a>(
     ensures refused { IfErr result (λ r. command_refusal core.entry.now command.now ≡ Some r) }
 {
     admit(core, command)?;
-    let hash = hash_key(&command.key().view());
+    let hash = core.index.hash(&command.key().view());
     let found = look_up(core, hash, command);
     let version = match &found {
         None => None,

@@ -4,8 +4,9 @@ ghost use Rattle.std.specs.Prelude.{◌≡◌, ◌<◌, true};
 ghost use Rattle.std.specs.Option.{option_map};
 ghost use Rattle.entry.specs.View.{shown_key, shown_object};
 ghost use Rattle.entry.specs.declared.key.Key.{Key};
-ghost use Rattle.places.specs.Map.{hash_of, AreKept};
-ghost use Rattle.master_commands.specs.Change.{creates};
+ghost use Rattle.places.specs.Hashing.{hash_of};
+ghost use Rattle.places.specs.Map.{AreKept};
+ghost use Rattle.master_commands.specs.Change.{creates, puts};
 ghost use Rattle.master_state.specs.Images.{images_among};
 ghost use Rattle.compactor.specs.Places.{object_in, object_there, keys_in};
 ghost use Rattle.master_state.specs.Index.{FindsObject};
@@ -68,7 +69,7 @@ pub fn find_object<'a>(
     hash: u64,
     key: &KeyRef<'_>,
 ) -> Option<(Place, ObjectRef<'a>)>
-    requires { hash ≡ hash_of (shown_key key.now) }
+    requires { hash ≡ hash_of index.now.held.seed (shown_key key.now) }
     ensures { let images = images_among head.entry.now closed.entry.now.images in
         AreKept (keys_in images) index.now.held → FindsObject images index.now.held (shown_key key.now) result }
 {
@@ -94,7 +95,7 @@ fn find_by_keys<'a>(
     hash: u64,
     key: &KeyRef<'_>,
 ) -> Option<(Place, ObjectRef<'a>)>
-    requires { hash ≡ hash_of (shown_key key.now) }
+    requires { hash ≡ hash_of index.now.held.seed (shown_key key.now) }
     ensures { let images = images_among head.entry.now closed.entry.now.images in
         AreKept (keys_in images) index.now.held → FindsObject images index.now.held (shown_key key.now) result }
 {
@@ -109,8 +110,9 @@ fn find_by_keys<'a>(
 /// object, if there is one, is at `place`.
 #[inline(always)]
 pub fn move_object(index: &mut Index, change: &Change, held: Held, place: Place)
-    requires { creates change.now ≡ true → 0 < index.old.room }
-    ensures { (k : Key) → held.hash ≡ hash_of k
+    requires room { creates change.now ≡ true → 0 < index.old.room }
+    requires offset { puts change.now ≡ true → place.at < 8388608 }
+    ensures { (k : Key) → held.hash ≡ hash_of index.old.held.seed k
         → IsMoved index.old.held change.now k held.place place index.new.held }
 {
     match change {

@@ -14,7 +14,7 @@ ghost use Rattle.master_state.specs.Loading.{loaded_unit, is_object_too_big, loa
 
 use crate::unit::object_of;
 use entry::{NoMemory, OBJECT_LEN, Object, TOMBSTONE_LEN};
-use hash_index::{Held, Index, Place, hash_key};
+use hash_index::{Held, Index, Place};
 use log_head::Head;
 use master_state::{Core, Loaded, Refusal};
 use segment::AppendFault;
@@ -154,7 +154,7 @@ fn append_object(
         Err(AppendFault::Full) => unreachable!(),
         Err(AppendFault::NoMemory) => return Err(NoMemory),
     }
-    let hash = hash_key(&object.key.view());
+    let hash = index.hash(&object.key.view());
     index.insert(Held { hash, place });
     index.grow();
     Ok(())

@@ -1,6 +1,6 @@
 //! From a command and its change to the unit that the head takes.
 
-ghost use Rattle.std.specs.Prelude.{◌≡◌, false, ℕ, ◌+◌, ◌^◌, ◌<◌, ◌≤◌, List, [], ◌∷◌, ◌++◌, length, vec_len};
+ghost use Rattle.std.specs.Prelude.{◌≡◌, true, false, ℕ, ◌+◌, ◌^◌, ◌<◌, ◌≤◌, List, [], ◌∷◌, ◌++◌, length, vec_len};
 ghost use Rattle.std.specs.Prelude.{vec_capacity, OnOk, OnErr, IsErrOf};
 ghost use Rattle.entry.specs.declared.entry.Object.{Object};
 ghost use Rattle.entry.specs.declared.entry.Entry.{Entry};
@@ -8,11 +8,11 @@ ghost use Rattle.entry.specs.declared.entry.Entry.TheVariants as entry;
 ghost use Rattle.entry.specs.Text.{text_of};
 ghost use Rattle.entry.specs.View.{shown};
 ghost use Rattle.log_head.specs.Head.{IsHeadValue, len_with};
-ghost use Rattle.places.specs.Map.{hash_of};
+ghost use Rattle.places.specs.Hashing.{hash_of};
 ghost use Rattle.master_commands.specs.Index.{IsMoved};
 ghost use Rattle.versioned_map.specs.Command.{command_key};
 ghost use Rattle.versioned_map.specs.Units.{object_entry, tombstone_entry};
-ghost use Rattle.master_commands.specs.Change.{unit_of_change, BeginsAt};
+ghost use Rattle.master_commands.specs.Change.{unit_of_change, puts, BeginsAt};
 ghost use Rattle.master_state.specs.Causes.{is_empty};
 ghost use Rattle.master_state.specs.Steps.{appended};
 
@@ -139,7 +139,9 @@ pub fn enact(
     requires limit { limit ≤ 8388608 }
     requires fits { let unit = unit_of_change judged.now.held.place.segment command.now judged.now.change in
         is_empty unit ≡ false → len_with head.old.image unit ≤ limit }
-    requires hash { judged.now.held.hash ≡ hash_of (command_key command.now) }
+    requires put { let unit = unit_of_change judged.now.held.place.segment command.now judged.now.change in
+        puts judged.now.change ≡ true → is_empty unit ≡ false }
+    requires hash { judged.now.held.hash ≡ hash_of index.old.held.seed (command_key command.now) }
     ensures valid { OnOk result (IsHeadValue head.new) }
     ensures head { let unit = unit_of_change judged.now.held.place.segment command.now judged.now.change in
         OnOk result (head.new ≡ appended head.old (length history.old.items) unit) }

@@ -7,4 +7,4 @@ pub use cleaner::PassFault;
 pub use hash_index::Place;
 pub use master_commands::{Commands, Loads, loading_goes_on};
 pub use master_space::{Chooses, Cleans, Compacts, Measures, Rolls};
-pub use master_state::{Config, ConfigFault, Core, Refusal, Step, StepAnswer};
+pub use master_state::{Config, ConfigFault, Core, KeyHasher, Refusal, Secret, Step, StepAnswer};

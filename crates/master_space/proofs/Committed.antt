@@ -19,11 +19,8 @@ use Rattle.entry.specs.Meaning.{Versioned, Contents, object_at}
 use Rattle.entry.specs.Text.{text_of, IsSegment}
 use Rattle.places.specs.declared.place.Place.{Place}
 use Rattle.places.specs.Law.{AreToldAgain}
-use Rattle.places.specs.Map.{found}
-use Rattle.places.specs.Relocation.{Places}
-use Rattle.places.proofs.Again.{kept_again, found_again}
-use Rattle.places.proofs.Each.{HasKey, each_told}
-use Rattle.places.proofs.Going.{all_then}
+use Rattle.places.specs.Map.{Places, found}
+use Rattle.places.proofs.Words.{kept_again, found_again, HasKey, each_told, all_then}
 use Rattle.images.specs.declared.image.Image.{Image}
 use Rattle.images.specs.Images.{count_of}
 use Rattle.images.specs.Sorted.{segment_of, changed}

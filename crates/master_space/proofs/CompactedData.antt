@@ -8,7 +8,7 @@ use Rattle.std.proofs.lemmas.List.{length-map}
 use Rattle.std.proofs.lemmas.Option.{same_Some}
 use Rattle.entry.specs.declared.entry.Entry.{Entry}
 use Rattle.entry.specs.Text.{text_of}
-use Rattle.places.specs.Relocation.{Places}
+use Rattle.places.specs.Map.{Places}
 use Rattle.images.specs.declared.image.Image.{Image}
 use Rattle.images.specs.Images.{ImagesValue, IsImages, AreWithin, free_seglets, count_at}
 use Rattle.images.specs.Sorted.{AreRising, segment_of, changed}

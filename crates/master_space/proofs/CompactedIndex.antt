@@ -1,5 +1,5 @@
 -- What the index leads to once a segment is compacted.
-use Rattle.std.proofs.Common.{◌≡◌, ℕ, Bool, true, false, ◌==◌, List, [], ◌∷◌, refl, sym, ap, subst, ◌∙◌, if◌then◌else◌}
+use Rattle.std.proofs.Common.{◌≡◌, ℕ, Bool, true, false, ◌==◌, List, refl, sym, ap, subst, ◌∙◌, if◌then◌else◌}
 use Rattle.std.specs.Prelude.{Option, Some, None}
 use Rattle.std.proofs.lemmas.Bool.{eqb-true}
 use Rattle.std.proofs.lemmas.Option.{same_Some}
@@ -10,10 +10,8 @@ use Rattle.entry.specs.declared.entry.Entry.TheVariants as entry
 use Rattle.entry.specs.declared.entry.Object.{Object}
 use Rattle.entry.specs.Meaning.{Versioned, Contents}
 use Rattle.places.specs.declared.place.Place.{Place}
-use Rattle.places.specs.Map.{found, AreKept}
-use Rattle.places.specs.Relocation.{Places}
-use Rattle.places.proofs.Each.{HasKey, each_told}
-use Rattle.places.proofs.Going.{all_then}
+use Rattle.places.specs.Map.{Places, found, AreKept}
+use Rattle.places.proofs.Words.{HasKey, each_told, all_then}
 use Rattle.compactor.specs.Kept.{moved_at, moved_place, moved_all}
 use Rattle.compactor.specs.Laws.{compacted_images, LeadsOn, CompactionFollows}
 use Rattle.compactor.specs.Places.{IsAtPlace, keys_in, LieIn}

@@ -1,6 +1,6 @@
 -- An open pass when a segment is compacted that is no part of it.
 use Rattle.std.proofs.Common.{◌≡◌, inl, inr, ℕ, ◌≤◌, ◌<◌, Bool, true, false, ◌==◌, ◌||◌, List, [], ◌∷◌, ◌++◌, refl, sym}
-use Rattle.std.proofs.Common.{ap, subst, ◌∙◌, if◌then◌else◌, arith}
+use Rattle.std.proofs.Common.{ap, subst, ◌∙◌, arith}
 use Rattle.std.specs.Prelude.{Option, Some, None, IfSome, IsSome, IsSomeAnd, unwrap_or}
 use Rattle.std.specs.Option.{option_map, option_to_list}
 use Rattle.cleaner.specs.declared.pass.Pass.{Pass as OpenPass}
@@ -14,7 +14,7 @@ use Rattle.entry.specs.Bag.{IsAmong}
 use Rattle.entry.proofs.ListLemmas.{all_among, all_from_among}
 use Rattle.places.specs.declared.place.Place.{Place}
 use Rattle.places.specs.Relocation.{names}
-use Rattle.places.proofs.Moves.{named_gone}
+use Rattle.places.proofs.Words.{named_gone}
 use Rattle.images.specs.declared.image.Image.{Image}
 use Rattle.images.specs.Sorted.{segment_of}
 use Rattle.images.specs.Steps.{replaced_by}
@@ -99,7 +99,7 @@ module _ (follows : CompactionFollows) (d : MasterData) (core : IsCore d) (id : 
         (λ q m. same_at q.segment (rest_segment (images_in d.closed) p q m))))
         (kept_no_more (log_set_ids d) (log_set_ids d) d.index e.index (images_in d.closed) rest keeps_no_more)
 
-    pass_then : IsPass e.closed p
+    pass_then : IsPass e.index.seed e.closed p
     pass_then = record {
       victims = all_from_among (λ (s : ℕ). IsSome (segment_of e.closed s) × (s < p.survivor)) p.victims
           (λ s victim. (
@@ -114,7 +114,7 @@ module _ (follows : CompactionFollows) (d : MasterData) (core : IsCore d) (id : 
           (λ same. not_survivor (sym same)) d.closed))
           pass.pass.whole;
       within = pass.pass.within;
-      cursor = cursor_agrees (images_in d.closed) (images_in e.closed) p same_at pass.pass.cursor;
+      cursor = cursor_agrees d.index.seed (images_in d.closed) (images_in e.closed) p same_at pass.pass.cursor;
     }
 
     passes : GoesOn d e p

@@ -23,7 +23,7 @@ use Rattle.cleaner.proofs.Leaving.{left_room}
 use Rattle.compactor.specs.Kept.{kept}
 use Rattle.compactor.specs.Places.{LiesAt, IsAtPlace}
 use Rattle.places.specs.declared.place.Place.{Place}
-use Rattle.places.specs.Relocation.{Places}
+use Rattle.places.specs.Map.{Places}
 use Rattle.images.specs.declared.image.Image.{Image}
 use Rattle.images.specs.Sorted.{AreRising}
 use Rattle.log_head.specs.declared.head.Roll.{Roll}
@@ -55,6 +55,15 @@ last_other (x ∷ ids) z s is = go (x == s) is (last_other ids z s) where
       → (z == s) ≡ false
   go true is rest = absurd (cc)
   go false is rest = rest is
+
+-- what becomes of an object's place leaves the seed
+with_seed : (b : Bool) (p to : Place) (e : Entry) (held : Places) → (held_with b p to e held).seed ≡ held.seed
+with_seed false p to e held = refl
+with_seed true p to (entry.Header h) held = refl
+with_seed true p to (entry.Digest ids) held = refl
+with_seed true p to (entry.Safe version) held = refl
+with_seed true p to (entry.Object o) held = refl
+with_seed true p to (entry.Tombstone t) held = refl
 
 module _ (d : MasterData) (core : IsCore d) (p : Pass) (opened : d.pass ≡ Some p) (more : is_at_end p ≡ false)
     (rising : AreRising d.closed) where
@@ -146,7 +155,7 @@ module _ (d : MasterData) (core : IsCore d) (p : Pass) (opened : d.pass ≡ Some
 
     module _ (q : Pass) (same : q ≡ record p { cursor = q.cursor }) (rest : List Place)
         (first : rest_of (images_in d.closed) p ≡ place ∷ rest) (left : rest_of (images_in closed) q ≡ rest)
-        (is_pass : IsPass closed q)
+        (is_pass : IsPass d.index.seed closed q)
         (room : HasRoom d.config.segment (log_set_ids d) q closed held) where
       abbrev p' : Pass
       p' = record p { cursor = q.cursor }
@@ -199,7 +208,8 @@ module _ (d : MasterData) (core : IsCore d) (p : Pass) (opened : d.pass ≡ Some
 
       pass_then : IsOpenPass e p'
       pass_then = record {
-        pass = subst (IsPass closed) same is_pass;
+        pass = subst (λ (seed : List ℕ). IsPass seed closed p') (sym (with_seed b place to x d.index))
+            (subst (IsPass d.index.seed closed) same is_pass);
         victims = (let v = open_pass.victims in record {
           some = v.some;
           few = v.few;
@@ -286,17 +296,22 @@ module _ (d : MasterData) (core : IsCore d) (p : Pass) (opened : d.pass ≡ Some
 pub copied_core : (d : MasterData) → IsCore d → (p q : Pass) (copied : Copied) (closed_after : List Image)
     (held_after : Places)
     → d.pass ≡ Some p → is_at_end p ≡ false → AreRising d.closed
-    → CopiesOne (log_set_ids d) p d.closed d.index copied q closed_after held_after → IsPass closed_after q
+    → CopiesOne (log_set_ids d) p d.closed d.index copied q closed_after held_after
+    → IsPass held_after.seed closed_after q
     → IsCore (record d { closed = closed_after; index = held_after; pass = Some q })
 copied_core d core p q copied closed_after held_after opened more rising one valid =
     let is_open = open_pass d core p opened more rising in
     let room = left_room d.config.segment (log_set_ids d) p q d.closed closed_after d.index held_after copied
     is_open.pass one is_open.fits in
+    let seed : held_after.seed ≡ d.index.seed =
+    ap (λ (hs : Places). hs.seed) one.index
+    ∙ with_seed (kept (log_set_ids d) d.index one.place one.entry) one.place (copy_place p.survivor d.closed) one.entry
+    d.index in
     subst (λ (y : List Image × Places). IsCore (record d { closed = y.0; index = y.1; pass = Some q }))
     (λ i. (sym one.survivor i, sym one.index i))
     (core_then d core p opened more rising one.place one.entry one.victim one.stands one.valid one.of_data q one.pass
     one.later one.first
     (subst (λ (cs : List Image). rest_of (images_in cs) q ≡ one.later) one.survivor one.rest)
-    (subst (λ (cs : List Image). IsPass cs q) one.survivor valid)
+    (subst (λ (y : List Image × List ℕ). IsPass y.1 y.0 q) (λ i. (one.survivor i, seed i)) valid)
     (subst (λ (y : List Image × Places). HasRoom d.config.segment (log_set_ids d) q y.0 y.1)
     (λ i. (one.survivor i, one.index i)) room))

@@ -11,10 +11,9 @@ use Rattle.entry.specs.declared.entry.Entry.TheVariants as entry
 use Rattle.entry.specs.Format.{IsEntry}
 use Rattle.entry.specs.Meaning.{Versioned, Contents, object_at}
 use Rattle.places.specs.declared.place.Place.{Place}
-use Rattle.places.specs.Map.{found, IsSet}
-use Rattle.places.specs.Relocation.{Places, names, moved}
-use Rattle.places.proofs.Moves.{moved_set}
-use Rattle.places.proofs.Named.{named_found}
+use Rattle.places.specs.Map.{Places, found, IsSet}
+use Rattle.places.specs.Relocation.{names, moved}
+use Rattle.places.proofs.Words.{moved_set, named_found}
 use Rattle.versioned_map.specs.Versioned.{with_contents}
 use Rattle.versioned_map.proofs.Keys.{key_eq-tells}
 use Rattle.compactor.specs.Places.{IsAtPlace, keys_in}

@@ -12,10 +12,9 @@ use Rattle.entry.specs.Format.{IsEntry}
 use Rattle.entry.specs.Meaning.{Contents}
 use Rattle.entry.specs.Order.{key_eq}
 use Rattle.places.specs.declared.place.Place.{Place}
-use Rattle.places.specs.Map.{found}
-use Rattle.places.specs.Relocation.{Places, names}
-use Rattle.places.proofs.Finding.{found_is}
-use Rattle.places.proofs.Named.{found_named}
+use Rattle.places.specs.Map.{Places, found}
+use Rattle.places.specs.Relocation.{names}
+use Rattle.places.proofs.Words.{found_is, found_named}
 use Rattle.versioned_map.proofs.Keys.{key_eq-true}
 use Rattle.cleaner.specs.Passes.{held_with}
 use Rattle.compactor.specs.Kept.{kept}
@@ -76,7 +75,7 @@ module _ (images grown : ℕ → List Entry) (grow : Grow images grown)
         λ here. (
             let at : found (keys_in images) k hs ≡ Some from = before ∙ ap Some here in
             let object = found_object e k stands at in
-            let lives = found_named (keys_in images) k from (found_is (keys_in images) k hs from at) hs index.kept at in
+            let lives = found_named (keys_in images) k from hs index.kept at in
             let not = dead object.0 object.1 in
             let same : names hs k from ≡ false =
             subst (λ (q : Key). names hs q from ≡ false) object.2 not in

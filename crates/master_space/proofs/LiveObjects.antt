@@ -1,5 +1,5 @@
 -- The live objects of images: each object of a map that an index leads to, once.
-use Rattle.std.proofs.Common.{◌≡◌, ℕ, ◌+◌, ◌<◌, ◌≤◌, Bool, true, false, ◌||◌, List, [], ◌∷◌, ◌++◌, length, refl, sym}
+use Rattle.std.proofs.Common.{◌≡◌, ℕ, ◌+◌, ◌<◌, ◌≤◌, Bool, true, false, List, [], ◌∷◌, ◌++◌, length, refl, sym}
 use Rattle.std.proofs.Common.{ap, subst, ◌∙◌, ◌⊎◌, inl, inr, append_assoc, arith}
 use Rattle.std.specs.Prelude.{Option, Some, None, if◌then◌else◌}
 use Rattle.std.specs.List.{AllByRecursion}
@@ -19,10 +19,9 @@ use Rattle.entry.proofs.KeyOrder.{key_eq_tells}
 use Rattle.entry.proofs.TextLemmas.{spelling-some}
 use Rattle.segment.proofs.RowLemmas.{text_of-append}
 use Rattle.places.specs.declared.place.Place.{Place}
-use Rattle.places.specs.Map.{found}
-use Rattle.places.specs.Relocation.{Places, names}
-use Rattle.places.proofs.Finding.{found_is}
-use Rattle.places.proofs.Named.{named_found, found_named}
+use Rattle.places.specs.Map.{Places, found}
+use Rattle.places.specs.Relocation.{names}
+use Rattle.places.proofs.Words.{named_found, found_named}
 use Rattle.images.specs.declared.image.Image.{Image}
 use Rattle.compactor.specs.Places.{LiesAt, IsAtPlace, object_there, keys_in}
 use Rattle.master_state.specs.Index.{LiesFound}
@@ -213,7 +212,7 @@ module _ (images : ℕ → List Entry) (each : (s : ℕ) → AllByRecursion IsEn
       go (Some p) (Some v) is same lies = (
         p,
         subst (λ (w : Versioned). IsAtPlace images p (object_at k w)) (same_Some v x same) lies,
-        found_named (keys_in images) k p (found_is (keys_in images) k hs p is) hs index.kept is,
+        found_named (keys_in images) k p hs index.kept is,
       )
 
   -- ---- in segments

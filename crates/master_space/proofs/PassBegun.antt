@@ -138,7 +138,7 @@ module _ (d : MasterData) (core : IsCore d) (victims : List ℕ) (may : MayBegin
   module _ (cursor : Cursor) (begins : rest_of (images_in d.closed) (fresh_pass victims d.next cursor)
       ≡ places_of (images_in d.closed) victims)
       (within : cursor.victim ≤ length victims)
-      (at : IsCursorAt (images_in d.closed) (drop cursor.victim victims) cursor) where
+      (at : IsCursorAt d.index.seed (images_in d.closed) (drop cursor.victim victims) cursor) where
     abbrev pub pass : Pass
     pass = fresh_pass victims d.next cursor
 
@@ -151,12 +151,12 @@ module _ (d : MasterData) (core : IsCore d) (victims : List ℕ) (may : MayBegin
     pub rest_then : rest_of (images_in closed_then) pass ≡ row
     rest_then = rest_same (images_in d.closed) (images_in closed_then) pass victim_same ∙ begins
 
-    pub is_pass : IsPass closed_then pass
+    pub is_pass : IsPass d.index.seed closed_then pass
     is_pass = record {
       victims = all_from_among (λ (s : ℕ). IsSome (segment_of closed_then s) × (s < d.next)) victims each;
       whole = whole_then;
       within = within;
-      cursor = cursor_agrees (images_in d.closed) (images_in closed_then) pass victim_same at;
+      cursor = cursor_agrees d.index.seed (images_in d.closed) (images_in closed_then) pass victim_same at;
     } where
       each : (s : ℕ) → IsAmong s victims → IsSome (segment_of closed_then s) × (s < d.next)
       each s m = (

@@ -60,7 +60,7 @@ inserted_last (z ∷ ids) id all =
 module _ (d : MasterData) (core : IsCore d) (victims : List ℕ) (may : MayBegin d victims) (cursor : Cursor)
     (begins : rest_of (images_in d.closed) (fresh_pass victims d.next cursor) ≡ places_of (images_in d.closed) victims)
     (within : cursor.victim ≤ length victims)
-    (at : IsCursorAt (images_in d.closed) (drop cursor.victim victims) cursor) where
+    (at : IsCursorAt d.index.seed (images_in d.closed) (drop cursor.victim victims) cursor) where
   abbrev after : MasterData
   after = e d core victims may cursor begins within at
 

@@ -268,13 +268,14 @@ module _ (d : MasterData) (core : IsCore d) (r : Roll) (is : d.head.roll ≡ Som
       same_at : (s : ℕ) → IsAmong s p.victims → images_in old_closed.closed s ≡ images_in d.closed s
       same_at s m = same_in s (λ same. (let lt = victim_below d core p own s m in omega arith))
 
-      pass_kept : IsPass old_closed.closed p
+      pass_kept : IsPass d.index.seed old_closed.closed p
       pass_kept = record {
         victims = each p.victims own.pass.victims;
         whole = subst (λ (o : Option Image). IsSomeAnd o (λ (image : Image). image.is_whole ≡ true))
             (sym found_same) own.pass.whole;
         within = own.pass.within;
-        cursor = cursor_agrees (images_in d.closed) (images_in old_closed.closed) p same_at own.pass.cursor;
+        cursor = cursor_agrees d.index.seed (images_in d.closed) (images_in old_closed.closed) p same_at
+            own.pass.cursor;
       } where
         found_same : image_of old_closed.closed p.survivor ≡ image_of d.closed p.survivor
         found_same =

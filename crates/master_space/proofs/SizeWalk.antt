@@ -8,7 +8,7 @@ use Rattle.entry.specs.declared.entry.Entry.{Entry}
 use Rattle.entry.specs.declared.tablet.Size.{Size}
 use Rattle.entry.specs.Format.{spelling}
 use Rattle.entry.specs.Text.{text_of}
-use Rattle.places.specs.Relocation.{Places}
+use Rattle.places.specs.Map.{Places}
 use Rattle.compactor.proofs.Cutting.{IsCut, IsCut-start, cut_end}
 use Rattle.compactor.proofs.Walking.{IsHere, cut_behind}
 use Rattle.master_state.specs.Sizes.{size_of, live_at, live_from}

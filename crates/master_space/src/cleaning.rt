@@ -76,7 +76,7 @@ impl Cleans for Core {
         let mut survivor = Segment::begin_survivor(self.alloc, self.config.master, id)?;
         survivor.reserve(self.config.segment as usize)?;
         self.closed.reserve(2)?;
-        let pass = Pass::begin(victims, near, id, &self.closed);
+        let pass = Pass::begin(victims, near, id, &self.closed, &self.index);
         self.closed.add_reserved(id, survivor, true);
         self.next_id += 1;
         self.pass = Some(pass);

@@ -9,7 +9,7 @@ ghost use Rattle.master_state.specs.Log.{state_now};
 ghost use Rattle.master_state.specs.Sizes.{AreSizesOf, size_of, live_at, live_from, live_objects};
 
 use entry::{EntryRef, NoMemory, OBJECT_LEN, Size};
-use hash_index::{Held, Index, Place, hash_key};
+use hash_index::{Held, Index, Place};
 use master_state::Core;
 use segment::Segment;
 
@@ -55,7 +55,7 @@ fn live_size(entry: &EntryRef<'_>, place: Place, index: &Index) -> Option<Size>
         place: object.key.place(),
         bytes: (OBJECT_LEN + object.key.bytes.len() + object.value.len()) as u64,
     };
-    let hash = hash_key(&object.key);
+    let hash = index.hash(&object.key);
     if index.holds(Held { hash, place }) {
         Some(size)
     } else {

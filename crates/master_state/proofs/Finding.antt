@@ -12,8 +12,7 @@ use Rattle.entry.specs.Meaning.{Versioned, versioned, object_at}
 use Rattle.entry.specs.Text.{IsSegment}
 use Rattle.entry.specs.View.{shown_object}
 use Rattle.places.specs.declared.place.Place.{Place}
-use Rattle.places.specs.Map.{found}
-use Rattle.places.specs.Relocation.{Places}
+use Rattle.places.specs.Map.{Places, found}
 use Rattle.log_head.specs.declared.head.Roll.{Roll}
 use Rattle.log_head.specs.Head.{HeadValue, IsHeadValue, IsRollValue}
 use Rattle.images.specs.declared.image.Image.{Image}

@@ -4,7 +4,8 @@ use Rattle.entry.specs.declared.key.Key.{Key}
 use Rattle.entry.specs.declared.entry.Entry.{Entry}
 use Rattle.entry.specs.declared.entry.Entry.TheVariants as entry
 use Rattle.places.specs.declared.place.Place.{Place}
-use Rattle.places.specs.Relocation.{Places, names}
+use Rattle.places.specs.Map.{Places}
+use Rattle.places.specs.Relocation.{names}
 use Rattle.compactor.specs.Kept.{kept}
 
 -- an entry is kept only if it was before, if the index names its place only for keys for which it did before

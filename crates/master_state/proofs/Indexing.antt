@@ -18,11 +18,8 @@ use Rattle.segment.specs.Bytes.{standing_at}
 use Rattle.segment.proofs.RowLemmas.{text_of-append}
 use Rattle.places.specs.declared.place.Place.{Place}
 use Rattle.places.specs.Law.{AreToldAgain}
-use Rattle.places.specs.Map.{found, AreKept, IsSet}
-use Rattle.places.specs.Relocation.{Places}
-use Rattle.places.proofs.Again.{kept_again, found_again}
-use Rattle.places.proofs.Each.{HasKey, each_told}
-use Rattle.places.proofs.Going.{all_then}
+use Rattle.places.specs.Map.{Places, found, AreKept, IsSet}
+use Rattle.places.proofs.Words.{HasKey, all_then, each_told, found_again, kept_again}
 use Rattle.versioned_map.specs.Versioned.{with_contents}
 use Rattle.versioned_map.proofs.Keys.{key_eq-tells}
 use Rattle.compactor.specs.Places.{LiesAt, IsAtPlace, as_object, object_there, keys_in}

@@ -31,7 +31,7 @@ pub record GoesOn (d e : MasterData) (p : OpenPass) : Type 0 where
   pub start : (head_of e.head).start ≡ (head_of d.head).start
   pub roll : IfSome e.head.roll (λ (r : Roll). (r.id == p.survivor) ≡ false)
   pub next : d.next ≤ e.next
-  pub pass : IsPass e.closed p
+  pub pass : IsPass e.index.seed e.closed p
   pub survivor : images_in e.closed p.survivor ≡ images_in d.closed p.survivor
   pub rest : rest_of (images_in e.closed) p ≡ rest_of (images_in d.closed) p
   -- no more bytes are kept of what is still to be copied

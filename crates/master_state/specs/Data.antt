@@ -8,7 +8,9 @@ use Rattle.log_model.specs.Steps.{first_start}
 use Rattle.log_head.specs.Head.{HeadValue}
 use Rattle.log_head.specs.Steps.{fresh_head}
 use Rattle.master_state.specs.declared.config.Config.{Config}
-use Rattle.places.specs.Relocation.{Places}
+use Rattle.places.specs.Map.{Places}
+use Rattle.places.specs.Relocation.{no_places}
+use Rattle.places.specs.Secrets.{secret_seed}
 
 -- What a master began its history with: objects that were loaded, the last one first, and a safe version.
 pub record Origin : Type 0 where
@@ -48,7 +50,7 @@ fresh_data config = record {
   head = fresh_head config.master config.replicas first_start;
   closed = [];
   next = 2;
-  index = [];
+  index = no_places (secret_seed config.hasher.secret);
   safe = 1;
   history = [];
   pass = None;

@@ -7,8 +7,7 @@ use Rattle.entry.specs.declared.view.ObjectRef.{ObjectRef}
 use Rattle.entry.specs.Meaning.{Versioned, versioned, object_at}
 use Rattle.entry.specs.View.{shown_object}
 use Rattle.places.specs.declared.place.Place.{Place}
-use Rattle.places.specs.Map.{found}
-use Rattle.places.specs.Relocation.{Places}
+use Rattle.places.specs.Map.{Places, found}
 use Rattle.compactor.specs.Places.{IsAtPlace, object_there, keys_in}
 
 -- a key's object lies where it is found, and nothing is found of a key that has none

@@ -95,7 +95,7 @@ survivor_len d p =
     + kept_left (log_set_ids d) d.index (images_in d.closed) (rest_of (images_in d.closed) p)
 
 pub record IsOpenPass (d : MasterData) (p : OpenPass) : Type 0 where
-  pub pass : IsPass d.closed p
+  pub pass : IsPass d.index.seed d.closed p
   pub victims : AreVictims d p.victims
   pub survivor : IsSurvivor d p.survivor
   pub fits : survivor_len d p ≤ d.config.segment

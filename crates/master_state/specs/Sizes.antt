@@ -11,7 +11,8 @@ use Rattle.entry.specs.Format.{spelling}
 use Rattle.entry.specs.Key.{place_of}
 use Rattle.entry.specs.Meaning.{Contents, contents_of}
 use Rattle.places.specs.declared.place.Place.{Place}
-use Rattle.places.specs.Relocation.{Places, names}
+use Rattle.places.specs.Map.{Places}
+use Rattle.places.specs.Relocation.{names}
 use Rattle.images.specs.declared.image.Image.{Image}
 use Rattle.tablet_will.specs.Sizes.{are_in_order}
 use Rattle.master_state.specs.Data.{MasterData}

@@ -7,6 +7,7 @@ ghost use Rattle.master_state.specs.Log.{home};
 ghost use Rattle.master_state.specs.Names.{config_fault_name};
 
 use entry::Tablets;
+use hash_index::KeyHasher;
 use segment::MAX_SEGMENT_LEN;
 use std::error::Error;
 use std::fmt;
@@ -32,6 +33,9 @@ pub struct Config {
     pub tablets: Tablets,
     /// The most records that the history takes: 1 to 1,048,576.
     pub history: u64,
+    /// How the index hashes keys. With a secret, whoever picks keys can't make many of them fall into one bucket. No answer
+    /// depends on it.
+    pub hasher: KeyHasher,
 }
 
 /// What is wrong with a configuration.

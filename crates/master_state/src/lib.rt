@@ -18,6 +18,7 @@ mod step;
 
 pub use budget::segments_for;
 pub use config::{Config, ConfigFault};
+pub use hash_index::{KeyHasher, Secret};
 pub use image::image_of;
 pub use loaded::Loaded;
 pub use state::Core;

@@ -122,6 +122,7 @@ impl Core {
         ensures bare { IfOk result (λ core. IsBare core) }
     {
         let replicas = config.replicas as usize;
+        let hasher = config.hasher;
         let head = Head::begin(
             alloc,
             config.master,
@@ -141,7 +142,7 @@ impl Core {
             head,
             closed,
             next_id: 2,
-            index: Index::new(alloc),
+            index: Index::with_hasher(alloc, hasher),
             safe,
             history: Vec::new(alloc),
             pass: None,

@@ -31,6 +31,7 @@ fn copy_of(alloc: Global, config: &Config) -> Option<Config>
         seglets: config.seglets,
         tablets: Tablets::new(tablets),
         history: config.history,
+        hasher: config.hasher,
     })
 }
 

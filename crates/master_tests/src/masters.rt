@@ -6,7 +6,7 @@ ghost use Rattle.master_state.specs.Config.{config_fault};
 
 use backup::MemoryFleet;
 use entry::{Tablet, Tablets};
-use master::{Config, Master};
+use master::{Config, KeyHasher, Master};
 use std::alloc::Global;
 
 /// Four tables, each of one tablet.
@@ -50,6 +50,7 @@ pub fn config_of(alloc: Global, number: u64, seglets: u64) -> Option<Config>
         seglets,
         tablets: Tablets::new(tablets),
         history: 1_048_576,
+        hasher: KeyHasher::new(),
     };
     match config.check() {
         Ok(()) => Some(config),

@@ -4,6 +4,7 @@ use Rattle.entry.specs.declared.tablet.Tablet.{Tablet}
 use Rattle.tablet_will.specs.declared.part.Part.{Part}
 use Rattle.command_line.specs.declared.settings.Options.{Options}
 use Rattle.master_state.specs.declared.config.Config.{Config}
+use Rattle.places.specs.Secrets.{fast_hasher}
 
 -- a table as one tablet
 abbrev pub whole_table : ℕ → Tablet
@@ -14,6 +15,7 @@ abbrev pub tables_to : ℕ → List Tablet
 tables_to zero = []
 tables_to (suc n) = tables_to n ++ whole_table (suc n) ∷ []
 
+-- no secret: each run is the same
 abbrev pub config_of : Options → ℕ → Config
 config_of o master = record {
   master = master;
@@ -25,6 +27,7 @@ config_of o master = record {
   seglets = o.seglets;
   tablets = tables_to o.tables;
   history = o.history;
+  hasher = fast_hasher;
 }
 
 -- the will that is one partition over all tablets

@@ -8,7 +8,7 @@ ghost use Rattle.next_master.specs.Configuration.{one_partition};
 
 use command_line::Options;
 use entry::{NoMemory, Tablet, Tablets};
-use master::Config;
+use master::{Config, KeyHasher};
 use std::alloc::Global;
 use tablet_will::{Will, WillFault, make_will};
 
@@ -44,6 +44,7 @@ pub fn configuration(alloc: Global, options: &Options, master: u64) -> Result<Co
         seglets: options.seglets,
         tablets: Tablets::new(tablets),
         history: options.history,
+        hasher: KeyHasher::new(),
     })
 }
 

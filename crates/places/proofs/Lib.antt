@@ -1,3 +1,4 @@
+pub mod Listed
 pub mod Finding
 pub mod Again
 pub mod Each
@@ -6,3 +7,4 @@ pub mod FoundPlaces
 pub mod Going
 pub mod Moves
 pub mod Named
+pub mod Words

@@ -3,8 +3,8 @@ use Rattle.std.specs.Prelude.{◌≡◌, ◌↔◌, Bool, true, Option, Some}
 use Rattle.std.specs.Option.{option_map}
 use Rattle.entry.specs.declared.key.Key.{Key}
 use Rattle.places.specs.declared.place.Place.{Place}
-use Rattle.places.specs.Map.{found, AreKept, IsSet}
-use Rattle.places.specs.Relocation.{Places, names, moved, goes_all, AllPlaces}
+use Rattle.places.specs.Map.{Places, found, AreKept, IsSet}
+use Rattle.places.specs.Relocation.{names, moved, goes_all, AllPlaces}
 
 -- the one tells at each of the places what the other tells
 abbrev pub AreToldAgain : (Place → Option Key) → (Place → Option Key) → Places → Type 0

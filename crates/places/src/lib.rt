@@ -6,7 +6,8 @@
 //! Whoever stands above an index speaks of its places in few words, which know no hash and no order (*names*, *moved*,
 //! *goes_all*), in `specs/Relocation.antt`; laws tie them to the map.
 //!
-//! `hash_key` is the hash. It is the same in each run, so whoever picks the keys can make them all fall together.
+//! `KeyHash` is how an index hashes keys, and `KeyHasher` is the hash that it has unless it is given another one. An
+//! index keeps a piece of each hash (`piece`).
 #![tactic(auto)]
 
 mod hashing;
@@ -14,7 +15,7 @@ mod laws;
 mod place;
 mod resolve;
 
-pub use hashing::hash_key;
+pub use hashing::{KeyHash, KeyHasher, Secret, piece};
 pub use laws::{found_places_move, names_what_is_found, resolvers_agree};
 pub use place::{Held, Place};
 pub use resolve::{Resolve, stands};

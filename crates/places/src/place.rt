@@ -12,7 +12,7 @@ pub struct Place {
 /// A place, with the hash of the key that stands there.
 #[derive(Clone, Copy, Default)]
 pub struct Held {
-    /// As `hash_key` gives it.
+    /// As the index hashes the key that stands there.
     pub hash: u64,
     pub place: Place,
 }

@@ -5,7 +5,7 @@ ghost use Rattle.std.specs.Option.{option_map, option_map_or};
 ghost use Rattle.entry.specs.declared.key.Key.{Key};
 ghost use Rattle.entry.specs.View.{shown_key};
 ghost use Rattle.places.specs.declared.place.Place.{Place as PlaceValue};
-ghost use Rattle.places.specs.Map.{tells};
+ghost use Rattle.places.specs.Lists.{tells};
 
 use crate::place::Place;
 use entry::KeyRef;

@@ -78,6 +78,7 @@ fn numbered(alloc: Global, config: &Config, master: u64) -> Result<Config, NoMem
         seglets: config.seglets,
         tablets: Tablets::new(tablets),
         history: config.history,
+        hasher: config.hasher,
     })
 }
 

@@ -3,6 +3,7 @@ use Rattle.std.specs.Prelude.{ℕ, List, []}
 use Rattle.versioned_map.specs.declared.command.Record.{Record}
 use Rattle.master_state.specs.declared.config.Config.{Config}
 use Rattle.master_state.specs.Data.{Origin, no_origin}
+use Rattle.places.specs.Secrets.{fast_hasher}
 
 -- How many seats it has, the configuration of its master, what the history began with, and which records it had when
 -- the store was made, of which so many were durable.
@@ -27,6 +28,7 @@ nobody = record {
     seglets = 0;
     tablets = [];
     history = 0;
+    hasher = fast_hasher;
   };
   origin = no_origin;
   begun = [];

@@ -7,7 +7,7 @@ ghost use Rattle.master_state.specs.Config.{config_fault};
 use crate::slow::{SlowFleet, Watch};
 use backup::MemoryFleet;
 use entry::{Row, Tablet, Tablets};
-use master::{Config, Master, PassFault, Refusal, Step};
+use master::{Config, KeyHasher, Master, PassFault, Refusal, Step};
 use replica::Fleet;
 use std::alloc::Global;
 
@@ -50,6 +50,7 @@ fn small_config(alloc: Global) -> Option<Config>
         seglets: 64,
         tablets: Tablets::new(tablets),
         history: RECORDS,
+        hasher: KeyHasher::new(),
     };
     match config.check() {
         Ok(()) => Some(config),

@@ -16,21 +16,23 @@ unreachable-requires c =
 pub returns-in-Object-clause-seen : goal.returns-in-Object-clause-seen
 returns-in-Object-clause-seen c =
     let t = c.bytes-text.ensures in
+    let seed = c.args.index.now.held.seed in
     let e = shown c.in-Ok.entry in
-    let x = seen.Object c.hash_key.result c.in-Ok.len in
+    let x = seen.Object c.hash.result c.in-Ok.len in
     let is = ap shown c.in-Object.is in
     read_seen c.args.segment.now c.args.at c.bytes-text.result.now t.text t.valid c.if-at-text.false e c.in-Ok.len
-    c.in-Ok.ensures.complete x c.requires t.limit
-    (λ size. ap seen_of is ∙ (λ i. Some (seen.Object (sym c.hash_key.ensures i)
+    c.in-Ok.ensures.complete seed x c.requires t.limit
+    (λ size. ap (seen_of seed) is ∙ (λ i. Some (seen.Object (sym c.hash.ensures i)
     ((sym (size ∙ ap (λ (x : Entry). length (spelling x)) is)) i))))
 
 pub returns-in-Tombstone-clause-seen : goal.returns-in-Tombstone-clause-seen
 returns-in-Tombstone-clause-seen c =
     let t = c.bytes-text.ensures in
+    let seed = c.args.index.now.held.seed in
     let e = shown c.in-Ok.entry in
     let x = seen.Tombstone c.in-Tombstone.tombstone.segment c.in-Ok.len in
     let is = ap shown c.in-Tombstone.is in
     read_seen c.args.segment.now c.args.at c.bytes-text.result.now t.text t.valid c.if-at-text.false e c.in-Ok.len
-    c.in-Ok.ensures.complete x c.requires t.limit
-    (λ size. ap seen_of is ∙ ap (λ n. Some (seen.Tombstone c.in-Tombstone.tombstone.segment n))
+    c.in-Ok.ensures.complete seed x c.requires t.limit
+    (λ size. ap (seen_of seed) is ∙ ap (λ n. Some (seen.Tombstone c.in-Tombstone.tombstone.segment n))
     (sym (size ∙ ap (λ (x : Entry). length (spelling x)) is)))

@@ -6,18 +6,19 @@ use Rattle.cleaner.proofs.pass.go_on.Goals as goal
 
 pub overflow_add-at : goal.overflow_add-at
 overflow_add-at c =
-    let limit = own_limit (images_in c.args.images.now.images) c.args.victims.now c.args.cursor.now
-    c.args.len c.requires.within
-    c.requires.cursor c.requires.len in omega (arith, limit)
+    let limit =
+    own_limit c.args.index.now.held.seed (images_in c.args.images.now.images) c.args.victims.now c.args.cursor.now
+    c.args.len c.requires.within c.requires.cursor c.requires.len in
+    omega (arith, limit)
 
 pub go_to-requires-clause-between : goal.go_to-requires-clause-between
 go_to-requires-clause-between c =
-    own_between (images_in c.args.images.now.images) c.args.victims.now c.args.cursor.now c.args.len c.requires.within
-    c.requires.cursor c.requires.len
+    own_between c.args.index.now.held.seed (images_in c.args.images.now.images) c.args.victims.now c.args.cursor.now
+    c.args.len c.requires.within c.requires.cursor c.requires.len
 
 pub returns-then-pass : goal.returns-then-pass
 returns-then-pass c =
     let rest = c.pass.new.self in
-    own_next (images_in c.args.images.now.images) c.args.victims.now c.args.cursor.now c.args.len c.requires.within
-    c.requires.cursor c.requires.len rest c.pass.ensures.rest
+    own_next c.args.index.now.held.seed (images_in c.args.images.now.images) c.args.victims.now c.args.cursor.now
+    c.args.len c.requires.within c.requires.cursor c.requires.len rest c.pass.ensures.rest
     (ltb-true 0 (length rest) (sym c.pass.ensures.more ∙ c.if-pass.true))

@@ -32,7 +32,7 @@ copy-requires-clause-room c =
     let f = c.fate_of.ensures in
     copy_room images p (seen_len c.args.seen) f.0 c.requires.there f.1 ids held c.args.survivor
     c.args.images.now.segment
-    (object_kept p (kept ids held p f.0) f.0 c.in-Object.held (sym f.2 ∙ c.in-Object.is)) c.requires.room
+    (object_kept held p (kept ids held p f.0) f.0 c.in-Object.held (sym f.2 ∙ c.in-Object.is)) c.requires.room
 
 pub copy-requires-in-Tombstone-clause-room : goal.copy-requires-in-Tombstone-clause-room
 copy-requires-in-Tombstone-clause-room c =
@@ -43,7 +43,7 @@ copy-requires-in-Tombstone-clause-room c =
     let f = c.fate_of.ensures in
     copy_room images p (seen_len c.args.seen) f.0 c.requires.there f.1 ids held c.args.survivor
     c.args.images.now.segment
-    (tombstone_kept p (kept ids held p f.0) f.0 (sym f.2 ∙ c.in-Tombstone.is)) c.requires.room
+    (tombstone_kept held p (kept ids held p f.0) f.0 (sym f.2 ∙ c.in-Tombstone.is)) c.requires.room
 
 -- the object is appended to the survivor
 object_copied : (c : In_ok-to-in-Object) → c.copy.new.images ≡ record c.args.images.now {

@@ -6,7 +6,7 @@ use Rattle.master_commands.specs.declared.change.Change.{Change}
 use Rattle.log_head.specs.Head.{HeadValue, IsHeadValue}
 use Rattle.master_state.specs.declared.step.StepAnswer.TheVariants.{Applied}
 use Rattle.log_model.specs.Steps.{MayApply}
-use Rattle.master_state.specs.Causes.{command_refusal, dead_segment}
+use Rattle.master_state.specs.Causes.{command_refusal, dead_segment, is_empty}
 use Rattle.master_state.specs.Log.{log_of}
 use Rattle.master_commands.specs.Change.{unit_of_change, IsJudged, IsSought}
 use Rattle.master_state.specs.Steps.{appended, reply_now, record_now, Applies}
@@ -20,6 +20,8 @@ use Rattle.master_state.specs.Invariant.{IsCore}
 use Rattle.std.specs.Prelude.{IsSome}
 use Rattle.std.proofs.lemmas.Result.{err_from_is_err_and}
 use Rattle.master_state.proofs.Refusals.{sizes_of}
+use Rattle.places.specs.Hashing.{hash_of}
+use Rattle.master_commands.proofs.Changes.{put_is_some}
 use Rattle.master_commands.proofs.Adding.{same_appended, found_then, added, fits, may, added_core, added_applies}
 use Rattle.master_commands.proofs.applying.add.Goals as goal
 use Rattle.master_commands.proofs.applying.add.Goals.{After-push_reserved, Joined-accepted-2}
@@ -205,4 +207,13 @@ pub enact-requires-clause-limit : goal.enact-requires-clause-limit
 enact-requires-clause-limit c = (sizes_of c.core.inside.config c.core.invariant.2.config).most_segment
 
 pub enact-requires-clause-hash : goal.enact-requires-clause-hash
-enact-requires-clause-hash c = c.requires.sought.hash
+enact-requires-clause-hash c =
+    c.requires.sought.hash
+    ∙ ap (λ (m : MasterData). hash_of m.index.seed (command_key c.args.accepted.command)) (sym c.core.view_is)
+
+pub enact-requires-clause-put : goal.enact-requires-clause-put
+enact-requires-clause-put c = λ of_put.
+    let change = c.args.judged.now.change in
+    let dead = c.args.judged.now.held.place.segment in
+    let change_of = c.requires.judged.change_of in
+    ap is_empty (change_of.unit dead) ∙ sym (change_of.nothing dead) ∙ put_is_some change of_put

@@ -3,7 +3,7 @@ use Rattle.std.specs.Prelude.{Option}
 use Rattle.std.specs.Result.{result_err}
 use Rattle.std.proofs.lemmas.Result.{err_from_is_err_and}
 use Rattle.entry.specs.Meaning.{Versioned}
-use Rattle.places.specs.Map.{hash_of}
+use Rattle.places.specs.Hashing.{hash_of}
 use Rattle.versioned_map.specs.Versioned.{is_spent}
 use Rattle.master_state.specs.Causes.{early_refusal}
 use Rattle.master_commands.specs.Change.{version_in, IsChangeOf, IsChangeNow}
@@ -101,6 +101,6 @@ returns-clause-judged c =
 
 pub returns-clause-sought : goal.returns-clause-sought
 returns-clause-sought c = record {
-  hash = c.hash_key-hash.ensures ∙ ap hash_of (c.view.ensures ∙ c.key.ensures);
+  hash = c.hash-hash.ensures ∙ (λ i. hash_of (c.core.view_is i).index.seed ((c.view.ensures ∙ c.key.ensures) i));
   place = λ p is. c.place_of-place.ensures.place p (c.look_up-found.ensures.place ∙ is);
 }

@@ -3,7 +3,7 @@ use Rattle.std.specs.Prelude.{Some, None}
 use Rattle.std.specs.Option.{option_map}
 use Rattle.entry.specs.declared.entry.Object.{Object}
 use Rattle.entry.specs.View.{shown_key}
-use Rattle.places.proofs.Finding.{found_is}
+use Rattle.places.proofs.Words.{found_is}
 use Rattle.master_state.specs.Images.{images_among}
 use Rattle.compactor.specs.Places.{keys_in}
 use Rattle.master_commands.proofs.index.find_by_keys.Goals as goal

@@ -1,5 +1,4 @@
-use Rattle.places.proofs.Each.{set_grown}
-use Rattle.places.proofs.FoundPlaces.{relocated_set}
+use Rattle.places.proofs.Words.{relocated_set, set_grown}
 use Rattle.master_commands.proofs.index.move_object.Goals as goal
 
 pub returns-in-Create : goal.returns-in-Create

@@ -1,9 +1,9 @@
 use Rattle.std.proofs.Common.{◌≡◌, ℕ, List, length, ap, subst, ◌∙◌}
 use Rattle.entry.specs.declared.entry.Entry.{Entry}
 use Rattle.entry.specs.Text.{text_of}
-use Rattle.places.specs.Map.{hash_of}
-use Rattle.places.specs.Relocation.{Places}
-use Rattle.places.proofs.Each.{set_grown}
+use Rattle.places.specs.Hashing.{hash_of}
+use Rattle.places.specs.Map.{Places}
+use Rattle.places.proofs.Words.{set_grown}
 use Rattle.master_commands.specs.Index.{IsAdded}
 use Rattle.master_commands.proofs.loading.append_object.Goals as goal
 
@@ -19,5 +19,6 @@ returns-clause-index c =
     (subst (λ (hs : Places). IsAdded hs k (record { segment = c.id.result; at = length c.bytes.result.now }) new)
     c.reserve.ensures.same
     (λ keys kept none tells. set_grown keys c.reserve.new.self.held c.insert.new.self.held new k _
-    (c.insert.ensures.set keys k kept none tells (c.hash_key-hash.ensures ∙ ap hash_of c.view.ensures))
+    (c.insert.ensures.set keys k kept none tells
+    (c.hash-hash.ensures ∙ ap (hash_of c.reserve.new.self.held.seed) c.view.ensures))
     (c.grow.ensures.same keys))))

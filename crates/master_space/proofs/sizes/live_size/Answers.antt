@@ -17,7 +17,7 @@ by_index : (c : After-holds) (b : Bool) → c.holds.result ≡ b
 by_index c b is =
     ap (λ (e : EntryRef). option_map size_of (live_at c.args.index.now.held c.args.place (shown e))) c.in-Object.is
     ∙ ap (λ (h : ℕ). option_map size_of (if holds c.args.index.now.held (record { hash = h; place = c.args.place })
-    then Some (shown_object c.in-Object.object) else None)) (sym c.hash_key-hash.ensures)
+    then Some (shown_object c.in-Object.object) else None)) (sym c.hash-hash.ensures)
     ∙ ap (λ (t : Bool). option_map size_of (if t then Some (shown_object c.in-Object.object) else None))
     (sym c.holds.ensures ∙ is)
 

@@ -14,4 +14,5 @@ returns-clause-config c =
       seglets = options.seglets;
       tablets = (c.new.ensures ∙ c.in_ok-tablets.ensures.tables) i;
       history = options.history;
+      hasher = c.new-2.ensures i;
     }

@@ -1,5 +1,4 @@
-use Rattle.places.proofs.Going.{found_gone, kept_gone}
-use Rattle.places.proofs.Moves.{moved_set}
+use Rattle.places.proofs.Words.{found_gone, kept_gone, moved_set}
 use Rattle.places.proofs.laws.found_places_move.Goals as goal
 
 pub returns-clause-one : goal.returns-clause-one

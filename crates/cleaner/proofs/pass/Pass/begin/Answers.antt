@@ -8,6 +8,6 @@ pub returns-clause-rest : goal.returns-clause-rest
 returns-clause-rest c =
     let images = images_in c.args.images.now.images in
     let goes =
-    subst (λ (vs : List ℕ). GoesTo images vs (record { victim = 0; at = 0 }) c.go_to.new.cursor) c.as_slice.ensures
-    c.go_to.ensures in
+    subst (λ (vs : List ℕ). GoesTo c.args.index.now.held.seed images vs (record { victim = 0; at = 0 })
+    c.go_to.new.cursor) c.as_slice.ensures c.go_to.ensures in
     goes.rest ∙ on_start images c.args.victims

@@ -1,4 +1,4 @@
-use Rattle.std.proofs.Common.{ℕ, ◌+◌, List, get_or, subst}
+use Rattle.std.proofs.Common.{ℕ, ◌+◌, List, get_or, refl, subst}
 use Rattle.cleaner.specs.Passes.{images_in, ids_in, seen_len}
 use Rattle.cleaner.specs.Walks.{GoesTo, Treats}
 use Rattle.cleaner.proofs.Places.{place_at}
@@ -9,8 +9,9 @@ use Rattle.cleaner.proofs.pass.Pass.copy_one.Goals as goal
 pub treat-requires-clause-room : goal.treat-requires-clause-room
 treat-requires-clause-room c =
     let images = c.args.images.now.images in
-    rw c.as_slice-victims.ensures (own_room c.args.self.now images c.requires.pass c.requires.more
-    c.args.images.now.segment (ids_in images c.args.head c.args.new) c.args.index.now.held c.requires.room)
+    rw c.as_slice-victims.ensures (own_room c.args.index.now.held.seed c.args.self.now images c.requires.pass
+    c.requires.more c.args.images.now.segment (ids_in images c.args.head c.args.new) c.args.index.now.held
+    c.requires.room)
 
 -- the entry was treated
 treated : (c : In_ok-copied)
@@ -27,45 +28,49 @@ treated c =
 
 -- and the cursor goes on behind it
 gone : (c : After-go_on)
-    → GoesTo (images_in c.treat.new.images.images) c.args.self.now.victims
+    → GoesTo c.treat.new.index.held.seed (images_in c.treat.new.images.images) c.args.self.now.victims
     (record { victim = c.args.self.now.cursor.victim; at = c.args.self.now.cursor.at + seen_len c.in-Some.seen })
     c.go_on.new.cursor
 gone c =
     let p = c.args.self.now in
-    let from = subst (λ (n : ℕ). GoesTo (images_in c.treat.new.images.images) c.as_slice-victims.result.now
+    let seed = c.treat.new.index.held.seed in
+    let images = images_in c.treat.new.images.images in
+    let from = subst (λ (n : ℕ). GoesTo seed images c.as_slice-victims.result.now
     (record { victim = p.cursor.victim; at = p.cursor.at + n }) c.go_on.new.cursor) c.len.ensures c.go_on.ensures in
-    subst (λ (vs : List ℕ). GoesTo (images_in c.treat.new.images.images) vs
+    subst (λ (vs : List ℕ). GoesTo seed images vs
     (record { victim = p.cursor.victim; at = p.cursor.at + seen_len c.in-Some.seen }) c.go_on.new.cursor)
     c.as_slice-victims.ensures from
 
 pub go_on-requires-clause-there : goal.go_on-requires-clause-there
 go_on-requires-clause-there c =
     let images = c.args.images.now.images in
-    rw c.as_slice-victims.ensures (after_there c.args.self.now images c.requires.pass c.requires.more
-    (ids_in images c.args.head c.args.new) c.args.index.now.held c.in_ok-copied.copied (seen_len c.in-Some.seen)
+    let held = c.args.index.now.held in
+    rw c.as_slice-victims.ensures (after_there held.seed c.args.self.now images c.requires.pass c.requires.more
+    (ids_in images c.args.head c.args.new) held refl c.in_ok-copied.copied (seen_len c.in-Some.seen)
     c.treat.new.images.images c.treat.new.index.held (treated (goal.at.go_on-requires-clause-there c).In_ok-copied))
 
 pub go_on-requires-clause-cursor : goal.go_on-requires-clause-cursor
 go_on-requires-clause-cursor c =
     let images = c.args.images.now.images in
-    rw c.as_slice-victims.ensures (after_cursor c.args.self.now images c.requires.pass c.requires.more
-    (ids_in images c.args.head c.args.new) c.args.index.now.held c.in_ok-copied.copied (seen_len c.in-Some.seen)
+    let held = c.args.index.now.held in
+    rw c.as_slice-victims.ensures (after_cursor held.seed c.args.self.now images c.requires.pass c.requires.more
+    (ids_in images c.args.head c.args.new) held refl c.in_ok-copied.copied (seen_len c.in-Some.seen)
     c.treat.new.images.images c.treat.new.index.held (treated (goal.at.go_on-requires-clause-cursor c).In_ok-copied))
 
 pub returns-clause-copied : goal.returns-clause-copied
 returns-clause-copied c =
     let images = c.args.images.now.images in
-    copies c.args.self.now images c.requires.pass c.requires.more (ids_in images c.args.head c.args.new)
-    c.args.index.now.held c.in_ok-copied.copied (seen_len c.in-Some.seen) c.treat.new.images.images
-    c.treat.new.index.held
+    let held = c.args.index.now.held in
+    copies held.seed c.args.self.now images c.requires.pass c.requires.more (ids_in images c.args.head c.args.new)
+    held refl c.in_ok-copied.copied (seen_len c.in-Some.seen) c.treat.new.images.images c.treat.new.index.held
     (treated (goal.at.returns-clause-copied c).In_ok-copied) c.go_on.new.cursor
     (gone (goal.at.returns-clause-copied c).After-go_on)
 
 pub returns-clause-pass : goal.returns-clause-pass
 returns-clause-pass c =
     let images = c.args.images.now.images in
-    stays_pass c.args.self.now images c.requires.pass c.requires.more (ids_in images c.args.head c.args.new)
-    c.args.index.now.held c.in_ok-copied.copied (seen_len c.in-Some.seen) c.treat.new.images.images
-    c.treat.new.index.held
+    let held = c.args.index.now.held in
+    stays_pass held.seed c.args.self.now images c.requires.pass c.requires.more (ids_in images c.args.head c.args.new)
+    held refl c.in_ok-copied.copied (seen_len c.in-Some.seen) c.treat.new.images.images c.treat.new.index.held
     (treated (goal.at.returns-clause-pass c).In_ok-copied) c.go_on.new.cursor
     (gone (goal.at.returns-clause-pass c).After-go_on)

@@ -103,8 +103,8 @@ module _ (c : goal.Joined-self) where
       (λ i. (images i, begun i))
       c.begin-pass.ensures.rest
 
-  at : IsCursorAt (images_in d.closed) (drop cursor.victim victims) cursor
-  at = subst (λ (cs : List Image). IsCursorAt (images_in cs) (drop cursor.victim victims) cursor) images
+  at : IsCursorAt d.index.seed (images_in d.closed) (drop cursor.victim victims) cursor
+  at = subst (λ (cs : List Image). IsCursorAt d.index.seed (images_in cs) (drop cursor.victim victims) cursor) images
       c.begin-pass.ensures.cursor
 
   closed : c.add_reserved.new.self.images ≡ closed_then d core victims may

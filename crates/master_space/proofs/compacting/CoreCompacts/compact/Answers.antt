@@ -3,7 +3,7 @@ use Rattle.std.specs.Prelude.{Option, None}
 use Rattle.std.specs.Option.{option_map, option_to_list}
 use Rattle.std.specs.Result.{result_err}
 use Rattle.entry.specs.declared.entry.Entry.{Entry}
-use Rattle.places.specs.Relocation.{Places}
+use Rattle.places.specs.Map.{Places}
 use Rattle.compactor.specs.Kept.{moved_all}
 use Rattle.compactor.specs.Laws.{CompactionFollows}
 use Rattle.compactor.specs.Moved.{Follows}

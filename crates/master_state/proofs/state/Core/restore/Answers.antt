@@ -1,5 +1,8 @@
 use Rattle.std.proofs.Common.{◌≡◌, [], rules, ap, subst}
 use Rattle.images.specs.Images.{ImagesValue}
+use Rattle.places.specs.Map.{IndexValue}
+use Rattle.places.specs.Relocation.{no_places}
+use Rattle.places.specs.Secrets.{secret_seed}
 use Rattle.log_head.specs.Head.{HeadValue, IsHeadValue}
 use Rattle.log_head.specs.Steps.{lone_start, fresh_head}
 use Rattle.master_state.specs.Invariant.{AreImagesOf}
@@ -13,9 +16,10 @@ new-closed-requires c = sizes_of c.args.config c.requires
 pub invariant_of-core : goal.invariant_of-core
 invariant_of-core c =
     let nothing : c.nothing.result.objects ≡ [] = search rules in
-    let index : c.new.result.held ≡ [] = search rules in
-    let history : c.new-2.result.items ≡ [] = search rules in
-    let waiting : c.new-3.result.items ≡ [] = search rules in
+    let index : c.with_hasher.result.held ≡ no_places (secret_seed c.args.config.hasher.secret) =
+    ap (λ (v : IndexValue). v.held) c.with_hasher.ensures in
+    let history : c.new.result.items ≡ [] = search rules in
+    let waiting : c.new-2.result.items ≡ [] = search rules in
     let head : c.in_ok-head.head ≡ fresh_head c.args.config.master c.args.config.replicas
     (lone_start c.args.safe) = search rules in
     let made = c.new-closed.ensures in
@@ -36,7 +40,7 @@ invariant_of-core c =
 pub returns-clause-log : goal.returns-clause-log
 returns-clause-log c =
     let nothing : c.nothing.result.objects ≡ [] = search rules in
-    let history : c.new-2.result.items ≡ [] = search rules in
+    let history : c.new.result.items ≡ [] = search rules in
     let head : c.in_ok-head.head ≡ fresh_head c.args.config.master c.args.config.replicas
     (lone_start c.args.safe) = search rules in
     rw (head, history, nothing)

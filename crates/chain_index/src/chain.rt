@@ -1,0 +1,129 @@
+//! A chain of places.
+
+ghost use Rattle.std.specs.Prelude.{◌≡◌, ℕ, ◌∷◌, ◌++◌, [], Option, true, OnOk, OnErr};
+ghost use Rattle.entry.specs.declared.key.Key.{Key};
+ghost use Rattle.entry.specs.View.{shown_key};
+ghost use Rattle.places.specs.declared.place.Place.{Place as PlaceValue};
+ghost use Rattle.places.specs.Lists.{found_in, AreKeptIn, IsCandidateIn, holds_in, relocated_in, without};
+ghost use Rattle.place_index.specs.Steps.{BringsNoHash, IsShuffled};
+
+use crate::front::Front;
+use entry::{KeyRef, NoMemory};
+use place_index::{PlaceList, Table};
+use places::{Held, Place, Resolve};
+use std::alloc::Global;
+use std::marker::Model;
+
+/// The places of some hashes: the first few lie in the table itself, and the others in memory of their own. If one of
+/// the first is taken out, the next place that is pushed takes its room.
+#[derive(Drop)]
+pub(crate) struct Chain {
+    front: Front,
+    more: PlaceList,
+}
+
+impl Model for Chain {
+    ghost use Rattle.std.specs.Prelude.{◌++◌, List};
+    ghost use Rattle.places.specs.declared.place.Held.{Held};
+
+    ghost Value = { List Held };
+
+    ghost view = { λ c. c.front ++ c.more.held };
+}
+
+impl Chain {
+    /// A chain of no places. It takes no memory.
+    pub(crate) fn new(alloc: Global) -> Chain
+        ensures { result ≡ [] }
+    {
+        Chain {
+            front: Front::new(),
+            more: PlaceList::new(alloc),
+        }
+    }
+
+    /// The first places, and the others.
+    #[inline]
+    pub(crate) fn parts(&self) -> (&[Held], &[Held])
+        ensures { result.0.now ++ result.1.now ≡ self.now }
+    {
+        (self.front.as_slice(), self.more.as_slice())
+    }
+
+    /// The place of a key of this hash.
+    #[inline]
+    pub(crate) fn get<R: Resolve>(&self, hash: u64, resolver: &R, key: &KeyRef<'_>) -> Option<Place>
+        ensures { (hash_of : Key → ℕ) → hash ≡ hash_of (shown_key key.now)
+            → AreKeptIn hash_of (R.keys resolver.now) self.now
+            → result ≡ found_in (R.keys resolver.now) (shown_key key.now) self.now }
+    {
+        match self.front.get(hash, resolver, key) {
+            Some(place) => Some(place),
+            None => self.more.get(hash, resolver, key),
+        }
+    }
+
+    /// The first place that is held with a hash.
+    #[inline]
+    pub(crate) fn candidate(&self, hash: u64) -> Option<Place>
+        ensures { (hash_of : Key → ℕ) (keys : PlaceValue → Option Key) (k : Key) → hash ≡ hash_of k
+            → AreKeptIn hash_of keys self.now → IsCandidateIn keys k self.now result }
+    {
+        match self.front.candidate(hash) {
+            Some(place) => Some(place),
+            None => self.more.candidate(hash),
+        }
+    }
+
+    /// Whether it holds this place under this hash.
+    #[inline]
+    pub(crate) fn holds(&self, held: Held) -> bool
+        ensures { result ≡ holds_in self.now held }
+    {
+        self.front.holds(held) || self.more.holds(held)
+    }
+
+    /// Whether its first place is this one under this hash.
+    #[inline]
+    pub(crate) fn holds_first(&self, held: Held) -> bool
+        ensures { result ≡ true → holds_in self.now held ≡ true }
+    {
+        self.front.holds_first(held)
+    }
+
+    /// Prefetches the first place. The result is meaningless; it only keeps the compiler from removing the
+    /// load.
+    #[inline(always)]
+    pub(crate) fn touch(&self) -> u64 {
+        self.front.touch()
+    }
+
+    /// A place that it holds under this hash becomes another place. Whether it was there.
+    pub(crate) fn relocate(&mut self, held: Held, to: Place) -> bool
+        ensures had { result ≡ holds_in self.old held }
+        ensures moved { self.new ≡ relocated_in held to self.old }
+    {
+        self.front.relocate(held, to) || self.more.put(held, to)
+    }
+
+    /// A place that it holds under this hash is taken out. Whether it was there.
+    pub(crate) fn take_out(&mut self, held: Held) -> bool
+        ensures had { result ≡ holds_in self.old held }
+        ensures taken { self.new ≡ without held self.old }
+    {
+        self.front.take_out(held) || self.more.leave_out(held)
+    }
+
+    /// One more place: in the table if the chain has room there, or else in memory for just as many.
+    #[inline]
+    pub(crate) fn push(&mut self, held: Held) -> Result<(), NoMemory>
+        ensures ok { OnOk result (IsShuffled (self.old ++ held ∷ []) self.new) }
+        ensures hashes { OnOk result (BringsNoHash (self.old ++ held ∷ []) self.new) }
+        ensures err { OnErr result (self.new ≡ self.old) }
+    {
+        if self.front.fill(held) {
+            return Ok(());
+        }
+        self.more.push_exact(held)
+    }
+}

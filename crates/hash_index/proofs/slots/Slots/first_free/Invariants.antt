@@ -1,0 +1,14 @@
+use Rattle.std.proofs.Common.{◌≡◌, ◌+◌, ◌≤◌, drop, length}
+use Rattle.std.specs.List.{position_or_len}
+use Rattle.hash_index.specs.Packing.{is_free}
+use Rattle.hash_index.proofs.slots.Slots.first_free.Given as goal
+
+abbrev pub invariant-loop-slot : goal.invariant-loop-slot
+invariant-loop-slot l = record {
+  found : l.found ≡ l.slot + position_or_len is_free (drop l.slot l.self);
+  within : l.slot ≤ length l.self;
+  len : length l.self ≡ 8;
+}
+
+abbrev pub decreases-loop-slot : goal.decreases-loop-slot
+decreases-loop-slot l = l.slot

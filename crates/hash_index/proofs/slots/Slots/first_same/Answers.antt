@@ -1,0 +1,30 @@
+use Rattle.std.proofs.Common.{get_or, sym, ◌∙◌, arith}
+use Rattle.places.specs.Lists.{is_same}
+use Rattle.hash_index.proofs.Packing.{step_found, step_on}
+use Rattle.hash_index.proofs.slots.Slots.first_same.Goals as goal
+
+pub loop-slot-preserved-then-has : goal.loop-slot-preserved-then-has
+loop-slot-preserved-then-has c =
+    let hs = c.args.self.now in
+    let i = c.loop-slot.slot in
+    let d = get_or hs i (record { hash = 0; place = record { segment = 0; at = 0 } }) in
+    let p = is_same c.args.sought.now in
+    record {
+      found = step_found p hs i d c.loop-slot-test.true c.loop-slot.invariant.within
+          (sym (c.has.ensures d) ∙ c.if-has.true);
+      within = omega (arith, c.loop-slot.invariant.within);
+      len = c.loop-slot.invariant.len;
+    }
+
+pub loop-slot-preserved : goal.loop-slot-preserved
+loop-slot-preserved c =
+    let hs = c.args.self.now in
+    let i = c.loop-slot.slot in
+    let d = get_or hs i (record { hash = 0; place = record { segment = 0; at = 0 } }) in
+    let p = is_same c.args.sought.now in
+    record {
+      found = step_on p hs i d c.loop-slot-test.true c.loop-slot.invariant.within c.loop-slot.found
+          (sym (c.has.ensures d) ∙ c.if-has.false) c.loop-slot.invariant.found;
+      within = omega (arith, c.loop-slot.invariant.within);
+      len = c.loop-slot.invariant.len;
+    }

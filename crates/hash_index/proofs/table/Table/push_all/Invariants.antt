@@ -1,6 +1,0 @@
-use Rattle.std.proofs.Common.{◌++◌, take}
-use Rattle.hash_index.specs.Steps.{IsShuffled}
-use Rattle.hash_index.proofs.table.Table.push_all.Given as goal
-
-abbrev pub invariant-loop-held : goal.invariant-loop-held
-invariant-loop-held l = IsShuffled (l.initial.self ++ take l.held-index l.places) l.self

@@ -1,0 +1,34 @@
+-- How a bucket packs its places: as tags, offsets and segments.
+use Rattle.std.specs.Prelude.{ℕ, ◌+◌, ◌*◌, ◌/◌, ◌%◌, nat_lt, ◌<◌, List, [], ◌∷◌, Bool, not, filter}
+use Rattle.std.specs.List.{AllByRecursion}
+use Rattle.places.specs.declared.place.Held.{Held}
+
+-- The place that a slot packs. Its hash is the tag with the upper nine bits of the offset's word behind it.
+abbrev pub unpacked : ℕ → ℕ → ℕ → Held
+unpacked tag at segment = record {
+  hash = tag * 512 + at / 8388608;
+  place = record { segment = segment; at = at % 8388608 };
+}
+
+-- the slots of some tags, offsets and segments
+abbrev pub slots_of : List ℕ → List ℕ → List ℕ → List Held
+slots_of [] xs ss = []
+slots_of (t ∷ ts) [] ss = []
+slots_of (t ∷ ts) (x ∷ xs) [] = []
+slots_of (t ∷ ts) (x ∷ xs) (s ∷ ss) = unpacked t x s ∷ slots_of ts xs ss
+
+-- a slot is free if its tag is 0
+abbrev pub is_free : Held → Bool
+is_free slot = nat_lt slot.hash 512
+
+-- the places in slots that aren't free
+abbrev pub taken : List Held → List Held
+taken slots = filter (λ (slot : Held). not (is_free slot)) slots
+
+-- the hash and the offset are such as a slot can have
+abbrev pub IsPackable : Held → Type 0
+IsPackable h = (h.hash < 33554432) × (h.place.at < 8388608)
+
+-- each of the numbers is below this one
+abbrev pub AreWords : ℕ → List ℕ → Type 0
+AreWords most xs = AllByRecursion (λ (x : ℕ). x < most) xs

@@ -1,0 +1,210 @@
+//! The slots of a bucket.
+
+ghost use Rattle.std.specs.Prelude.{◌≡◌, ℕ, ◌+◌, ◌*◌, ◌<◌, length, get_or, set, replicate};
+ghost use Rattle.std.specs.List.{AllByRecursion, position_or_len};
+ghost use Rattle.places.specs.declared.place.Held.{Held as HeldValue};
+ghost use Rattle.places.specs.Lists.{has_hash, is_same};
+ghost use Rattle.hash_index.specs.Packing.{unpacked, is_free, IsPackable};
+
+use crate::packed::{LOWS, OFFSETS, Packed};
+use places::{Held, Place};
+use std::marker::Model;
+
+/// How many slots a bucket has.
+pub(crate) const SLOTS: usize = 8;
+
+/// Eight slots, as arrays by field. A contract sees a list of places, of which those with a hash below 512 are free
+/// slots.
+#[derive(Drop)]
+pub(crate) struct Slots {
+    /// The upper 16 bits of each piece of a hash; 0 in a free slot.
+    tags: [u16; SLOTS],
+    /// The offset of each place, below 2^23, and above it the lower nine bits of the piece.
+    ats: [u32; SLOTS],
+    /// The segment of each place.
+    segments: [u64; SLOTS],
+}
+
+impl Model for Slots {
+    ghost use Rattle.std.specs.Prelude.{List};
+    ghost use Rattle.places.specs.declared.place.Held.{Held};
+    ghost use Rattle.hash_index.specs.Packing.{slots_of, AreWords};
+
+    ghost Value = { List Held };
+
+    ghost view = { λ s. slots_of s.tags s.ats s.segments };
+
+    ghost invariant = { λ s. AreWords 65536 s.tags × AreWords 4294967296 s.ats };
+}
+
+impl Slots {
+    /// Nothing. Its clause says which hashes and offsets slots can have.
+    #[inline(always)]
+    pub(crate) fn show_valid(&self)
+        ensures { AllByRecursion IsPackable self.now }
+    {
+        let _tag = self.tags[0];
+    }
+
+    /// How many slots it has.
+    #[inline(always)]
+    pub(crate) fn len(&self) -> usize
+        ensures len { length self.now ≡ 8 }
+        ensures result { result ≡ 8 }
+    {
+        let _tag = self.tags[0];
+        SLOTS
+    }
+
+    /// Free slots.
+    pub(crate) fn new() -> Slots
+        ensures { result ≡ replicate 8 (unpacked 0 0 0) }
+    {
+        Slots {
+            tags: [0; SLOTS],
+            ats: [0; SLOTS],
+            segments: [0; SLOTS],
+        }
+    }
+
+    /// What a slot has.
+    #[inline(always)]
+    pub(crate) fn get(&self, slot: usize) -> Held
+        requires { slot < 8 }
+        ensures slot { result ≡ get_or self.now slot result }
+        ensures len { length self.now ≡ 8 }
+    {
+        let at = self.ats[slot];
+        Held {
+            hash: self.tags[slot] as u64 * LOWS + (at / OFFSETS) as u64,
+            place: Place {
+                segment: self.segments[slot],
+                at: (at % OFFSETS) as usize,
+            },
+        }
+    }
+
+    /// Whether a slot has this place under this hash. It makes no branch.
+    #[inline(always)]
+    fn has(&self, slot: usize, sought: &Packed) -> bool
+        requires { slot < 8 }
+        ensures { (d : HeldValue) → result ≡ is_same sought.now (get_or self.now slot d) }
+    {
+        (self.tags[slot] == sought.tag)
+            & (self.ats[slot] == sought.at)
+            & (self.segments[slot] == sought.segment)
+    }
+
+    /// The first slot that has this place under this hash; 8 if none has. It reads all slots and leaves early from
+    /// none, so that no branch has to be guessed.
+    #[inline(always)]
+    pub(crate) fn first_same(&self, sought: &Packed) -> usize
+        ensures slot { result ≡ position_or_len (is_same sought.now) self.now }
+        ensures len { length self.now ≡ 8 }
+    {
+        let mut found = self.len();
+        let mut slot = found;
+        while slot > 0 {
+            slot -= 1;
+            if self.has(slot, sought) {
+                found = slot;
+            }
+        }
+        found
+    }
+
+    /// Whether a slot has this hash. It makes no branch.
+    #[inline(always)]
+    fn is_hashed(&self, slot: usize, tag: u16, low: u32) -> bool
+        requires slot { slot < 8 }
+        requires low { low < 512 }
+        ensures { (d : HeldValue) → result ≡ has_hash (tag * 512 + low) (get_or self.now slot d) }
+    {
+        (self.tags[slot] == tag) & (self.ats[slot] / OFFSETS == low)
+    }
+
+    /// The first slot with this hash, as a tag and the other bits; 8 if none has it.
+    #[inline(always)]
+    pub(crate) fn first_hashed(&self, tag: u16, low: u32) -> usize
+        requires { low < 512 }
+        ensures slot { result ≡ position_or_len (has_hash (tag * 512 + low)) self.now }
+        ensures len { length self.now ≡ 8 }
+    {
+        let mut found = self.len();
+        let mut slot = found;
+        while slot > 0 {
+            slot -= 1;
+            if self.is_hashed(slot, tag, low) {
+                found = slot;
+            }
+        }
+        found
+    }
+
+    /// Whether a slot is free.
+    #[inline(always)]
+    fn is_free(&self, slot: usize) -> bool
+        requires { slot < 8 }
+        ensures { (d : HeldValue) → result ≡ is_free (get_or self.now slot d) }
+    {
+        self.tags[slot] == 0
+    }
+
+    /// The first free slot; 8 if none is free.
+    #[inline(always)]
+    pub(crate) fn first_free(&self) -> usize
+        ensures slot { result ≡ position_or_len is_free self.now }
+        ensures len { length self.now ≡ 8 }
+    {
+        let mut found = self.len();
+        let mut slot = found;
+        while slot > 0 {
+            slot -= 1;
+            if self.is_free(slot) {
+                found = slot;
+            }
+        }
+        found
+    }
+
+    /// A slot gets this place.
+    #[inline(always)]
+    pub(crate) fn put(&mut self, slot: usize, packed: &Packed)
+        requires { slot < 8 }
+        ensures { self.new ≡ set self.old slot packed.now }
+    {
+        self.tags[slot] = packed.tag;
+        self.ats[slot] = packed.at;
+        self.segments[slot] = packed.segment;
+    }
+
+    /// The place of a slot becomes another one, under the same hash.
+    #[inline(always)]
+    pub(crate) fn go_to(&mut self, slot: usize, packed: &Packed, to: Place)
+        requires slot { slot < 8 }
+        requires offset { to.at < 8388608 }
+        requires same { get_or self.old slot packed.now ≡ packed.now }
+        ensures { self.new ≡ set self.old slot (record { hash = packed.now.hash; place = to }) }
+    {
+        self.ats[slot] = packed.at / OFFSETS * OFFSETS + to.at as u32;
+        self.segments[slot] = to.segment;
+    }
+
+    /// A slot is free from now on.
+    #[inline(always)]
+    pub(crate) fn free(&mut self, slot: usize)
+        requires { slot < 8 }
+        ensures { self.new ≡ set self.old slot (unpacked 0 0 0) }
+    {
+        self.tags[slot] = 0;
+        self.ats[slot] = 0;
+        self.segments[slot] = 0;
+    }
+
+    /// Reads a slot near the begin and one near the end, so that all of it is in the cache soon. The result is
+    /// meaningless.
+    #[inline(always)]
+    pub(crate) fn touch(&self) -> u64 {
+        self.tags[0] as u64 ^ self.segments[SLOTS - 1]
+    }
+}

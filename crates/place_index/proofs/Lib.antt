@@ -1,0 +1,9 @@
+pub mod Slots
+pub mod Joining
+pub mod Parted
+pub mod Whole
+pub mod Relocating
+pub mod TwoLists
+pub mod TakingOut
+pub mod Adding
+pub mod Turns
