@@ -1,6 +1,7 @@
 -- The slots of a bucket as a list of places.
 use Rattle.std.proofs.Common.{◌≡◌, ℕ, zero, suc, ◌+◌, ◌-◌, ◌*◌, ◌/◌, ◌%◌, ◌<◌, ◌≤◌, Bool, true, false, ◌&&◌, ◌==◌, List}
-use Rattle.std.proofs.Common.{[], ◌∷◌, length, get_or, set, drop, refl, sym, ap, ◌∙◌, arith, cond, not, lt-ltb, le-ltb}
+use Rattle.std.proofs.Common.{[], ◌∷◌, length, get_or, set, drop, refl, sym, ap, ◌∙◌, arith, cond, not}
+use Rattle.std.proofs.Common.{ltb-true, ltb-false}
 use Rattle.std.proofs.Common.{if◌then◌else◌}
 use Rattle.std.specs.List.{AllByRecursion, position_or_len}
 use Rattle.std.proofs.lemmas.Bool.{and_parts, and_from}
@@ -8,7 +9,7 @@ use Rattle.std.proofs.Math.Dec.{eqb-suc-zero}
 use Rattle.std.proofs.lemmas.Bool.Decides.{Decides-eqb}
 use Rattle.places.specs.declared.place.Held.{Held}
 use Rattle.places.specs.Lists.{has_hash, is_same}
-use Rattle.hash_index.specs.Packing.{unpacked, slots_of, is_free, AreWords, IsPackable}
+use Rattle.hash_index.specs.Packing.{unpacked, slots_of, has_tag, has_low, is_free, AreWords, IsPackable}
 
 pub slots_len : (m : ℕ) (ts xs ss : List ℕ) → length ts ≡ m → length xs ≡ m → length ss ≡ m
     → length (slots_of ts xs ss) ≡ m
@@ -152,11 +153,107 @@ same_is t x s u y r a b =
     let is = same_words t u x y a b (hashes.0 parts.0) (ats.0 places.1) in
     (and_from (t == u) (x == y) (tags.1 is.0) (words.1 is.1), places.0)))
 
--- a slot without a tag is free, and no other is
-pub free_is : (t x s : ℕ) → x < 4294967296 → (t == 0) ≡ is_free (unpacked t x s)
-free_is zero x s a = sym (lt-ltb (0 * 512 + x / 8388608) 512 (omega (arith, a)))
-free_is (suc t) x s a =
-    eqb-suc-zero t ∙ sym (le-ltb (suc t * 512 + x / 8388608) 512 (omega arith))
+pub tagged_is : (t x s u : ℕ) → x < 4294967296 → (t == u) ≡ has_tag u (unpacked t x s)
+tagged_is t x s u a =
+    let tag : (t * 512 + x / 8388608) / 512 ≡ t = omega (arith, a) in
+    ap (λ (y : ℕ). y == u) (sym tag)
+
+-- the first of the tags is that of the first slot that has it
+pub tag_slot : (tag : ℕ) (ts xs ss : List ℕ) → AreWords 4294967296 xs → length xs ≡ length ts
+    → length ss ≡ length ts
+    → position_or_len (λ (t : ℕ). t == tag) ts ≡ position_or_len (has_tag tag) (slots_of ts xs ss)
+tag_slot tag [] xs ss all a b = refl
+tag_slot tag (t ∷ ts) [] ss all a b = absurd (omega (arith, a))
+tag_slot tag (t ∷ ts) (x ∷ xs) [] all a b = absurd (omega (arith, b))
+tag_slot tag (t ∷ ts) (x ∷ xs) (s ∷ ss) all a b =
+    ap (λ (c : Bool). cond (not c) (1 + position_or_len (λ (u : ℕ). u == tag) ts) 0) (tagged_is t x s tag all.0)
+    ∙ ap (λ (n : ℕ). cond (not (has_tag tag (unpacked t x s))) (1 + n) 0)
+    (tag_slot tag ts xs ss all.1 (omega (arith, a)) (omega (arith, b)))
+
+pub low_is : (t x s low : ℕ) → x < 4294967296 → (x / 8388608 == low) ≡ has_low low (unpacked t x s)
+low_is t x s low a =
+    let rest : (t * 512 + x / 8388608) % 512 ≡ x / 8388608 = omega (arith, a) in
+    ap (λ (y : ℕ). y == low) (sym rest)
+
+-- a slot of the tag and the other bits of a hash has that hash
+pub both_hashed : (tag low : ℕ) (h : Held) → has_tag tag h ≡ true → has_low low h ≡ true
+    → has_hash (tag * 512 + low) h ≡ true
+both_hashed tag low h is too =
+    let upper = (Decides-eqb (h.hash / 512) tag).0 is in
+    let rest = (Decides-eqb (h.hash % 512) low).0 too in
+    (Decides-eqb h.hash (tag * 512 + low)).1 (omega (arith, upper, rest))
+
+-- a slot of another tag has another place
+pub not_same : (tag : ℕ) (sought h : Held) → sought.hash / 512 ≡ tag → has_tag tag h ≡ false → is_same sought h ≡ false
+not_same tag sought h of isnt = go (h.hash == sought.hash) refl
+  where
+    go : (t : Bool) → (h.hash == sought.hash) ≡ t → is_same sought h ≡ false
+    go true so =
+        let hash = (Decides-eqb h.hash sought.hash).0 so in
+        let there = (Decides-eqb (h.hash / 512) tag).1 (ap (λ (n : ℕ). n / 512) hash ∙ of) in
+        absurd (cc)
+    go false not =
+        ap (λ (b : Bool). b && ((h.place.segment == sought.place.segment) && (h.place.at == sought.place.at))) not
+
+-- a slot of another tag has another hash
+pub untagged : (tag low : ℕ) (h : Held) → low < 512 → has_tag tag h ≡ false → has_hash (tag * 512 + low) h ≡ false
+untagged tag low h small isnt = go (has_hash (tag * 512 + low) h) refl
+  where
+    go : (t : Bool) → has_hash (tag * 512 + low) h ≡ t → has_hash (tag * 512 + low) h ≡ false
+    go true so =
+        let hash = (Decides-eqb h.hash (tag * 512 + low)).0 so in
+        let there = (Decides-eqb (h.hash / 512) tag).1 (omega (arith, hash, small)) in
+        absurd (cc)
+    go false not = not
+
+-- ---- the first slot of two tests
+
+-- if the first slot that passes one test passes a stricter one, it is the first to do so
+pub first_stays : (p q : Held → Bool) → ((h : Held) → p h ≡ false → q h ≡ false) → (hs : List Held) (d : Held)
+    → (position_or_len p hs < length hs → q (get_or hs (position_or_len p hs) d) ≡ true)
+    → position_or_len p hs ≡ position_or_len q hs
+first_stays p q less [] d met = refl
+first_stays p q less (h ∷ hs) d met = go (p h) refl (first_stays p q less hs d)
+  where
+    go : (t : Bool) → p h ≡ t
+        → ((position_or_len p hs < length hs → q (get_or hs (position_or_len p hs) d) ≡ true)
+        → position_or_len p hs ≡ position_or_len q hs)
+        → position_or_len p (h ∷ hs) ≡ position_or_len q (h ∷ hs)
+    go true so rest =
+        let first : position_or_len p (h ∷ hs) ≡ 0 =
+        ap (λ (b : Bool). cond (not b) (1 + position_or_len p hs) 0) so in
+        let here : q h ≡ true =
+        sym (ap (λ (i : ℕ). q (get_or (h ∷ hs) i d)) first) ∙ met (omega (arith, first)) in
+        first ∙ sym (ap (λ (b : Bool). cond (not b) (1 + position_or_len q hs) 0) here)
+    go false isnt rest =
+        let one : position_or_len p (h ∷ hs) ≡ 1 + position_or_len p hs =
+        ap (λ (b : Bool). cond (not b) (1 + position_or_len p hs) 0) isnt in
+        let other : position_or_len q (h ∷ hs) ≡ 1 + position_or_len q hs =
+        ap (λ (b : Bool). cond (not b) (1 + position_or_len q hs) 0) (less h isnt) in
+        let more : position_or_len p (h ∷ hs) ≡ suc (position_or_len p hs) = omega (arith, one) in
+        let same = rest (λ below. sym (ap (λ (i : ℕ). q (get_or (h ∷ hs) i d)) more)
+        ∙ met (omega (arith, below, one))) in
+        omega (arith, one, other, same)
+
+-- a slot of the tag 0 is free, and no other is
+free_tag : (h : Held) → has_tag 0 h ≡ is_free h
+free_tag h = go (is_free h) refl
+  where
+    go : (t : Bool) → is_free h ≡ t → has_tag 0 h ≡ t
+    go true is =
+        let small = ltb-true h.hash 512 is in
+        (Decides-eqb (h.hash / 512) 0).1 (omega (arith, small))
+    go false isnt =
+        let large = ltb-false h.hash 512 isnt in
+        let tag : suc (h.hash / 512 - 1) ≡ h.hash / 512 = omega (arith, large) in
+        ap (λ (n : ℕ). n == 0) (sym tag) ∙ eqb-suc-zero (h.hash / 512 - 1)
+
+-- the first slot of the tag 0 is the first that is free
+pub free_slot : (hs : List Held) → position_or_len (has_tag 0) hs ≡ position_or_len is_free hs
+free_slot [] = refl
+free_slot (h ∷ hs) =
+    ap (λ (c : Bool). cond (not c) (1 + position_or_len (has_tag 0) hs) 0) (free_tag h)
+    ∙ ap (λ (n : ℕ). cond (not (is_free h)) (1 + n) 0) (free_slot hs)
 
 -- ---- the slots as they are read
 

@@ -1,5 +1,5 @@
 -- How a bucket packs its places: as tags, offsets and segments.
-use Rattle.std.specs.Prelude.{ℕ, ◌+◌, ◌*◌, ◌/◌, ◌%◌, nat_lt, ◌<◌, List, [], ◌∷◌, Bool, not, filter}
+use Rattle.std.specs.Prelude.{ℕ, ◌+◌, ◌*◌, ◌/◌, ◌%◌, nat_lt, ◌<◌, ◌==◌, List, [], ◌∷◌, Bool, not, filter}
 use Rattle.std.specs.List.{AllByRecursion}
 use Rattle.places.specs.declared.place.Held.{Held}
 
@@ -16,6 +16,14 @@ slots_of [] xs ss = []
 slots_of (t ∷ ts) [] ss = []
 slots_of (t ∷ ts) (x ∷ xs) [] = []
 slots_of (t ∷ ts) (x ∷ xs) (s ∷ ss) = unpacked t x s ∷ slots_of ts xs ss
+
+-- the slot has the tag
+abbrev pub has_tag : ℕ → Held → Bool
+has_tag tag slot = slot.hash / 512 == tag
+
+-- the hash of the slot has these nine bits behind its tag
+abbrev pub has_low : ℕ → Held → Bool
+has_low low slot = slot.hash % 512 == low
 
 -- a slot is free if its tag is 0
 abbrev pub is_free : Held → Bool

@@ -79,6 +79,7 @@ impl Blocks {
     }
 
     /// A place that a bucket holds under this hash becomes another place. Whether it was there.
+    #[inline(always)]
     pub(crate) fn relocate(&mut self, at: usize, held: Held, to: Place) -> bool
         requires at { at < length self.old }
         requires offset { to.at < 8388608 }

@@ -17,8 +17,8 @@ use std::marker::Model;
 /// The places of some hashes, in 128 bytes: up to eight in slots, and what overflows.
 #[derive(Drop)]
 pub(crate) struct Bucket {
-    near: Near,
     overflow: Overflow,
+    near: Near,
 }
 
 impl Model for Bucket {
@@ -36,8 +36,8 @@ impl Bucket {
         ensures { result ≡ [] }
     {
         Bucket {
-            near: Near::new(),
             overflow: Overflow::new(),
+            near: Near::new(),
         }
     }
 

@@ -63,13 +63,19 @@ impl Near {
     {
         self.slots.show_valid();
         let (tag, low) = parts(hash)?;
-        for slot in self.slots.first_hashed(tag, low)..SLOTS {
-            let held = self.slots.get(slot);
-            if held.hash == hash && stands(resolver, key, held.place) {
-                return Some(held.place);
-            }
+        let slot = self.slots.first_hashed(tag, low);
+        if slot >= SLOTS {
+            return None;
         }
-        None
+        let place = self.slots.get(slot).place;
+        if stands(resolver, key, place) {
+            return Some(place);
+        }
+        let slot = self.slots.first_of(hash, resolver, key);
+        if slot >= SLOTS {
+            return None;
+        }
+        Some(self.slots.get(slot).place)
     }
 
     /// The first place that is held with this hash.
@@ -116,7 +122,7 @@ impl Near {
         let Some(packed) = Packed::of(held) else {
             return false;
         };
-        let slot = self.slots.first_same(&packed);
+        let slot = self.slots.first_by_tag(&packed);
         if slot >= SLOTS {
             return false;
         }
@@ -134,7 +140,7 @@ impl Near {
         let Some(packed) = Packed::of(held) else {
             return false;
         };
-        let slot = self.slots.first_same(&packed);
+        let slot = self.slots.first_by_tag(&packed);
         if slot >= SLOTS {
             return false;
         }

@@ -48,26 +48,26 @@ impl Overflow {
     }
 
     /// The place of a key of this hash.
-    #[inline]
+    #[inline(always)]
     pub(crate) fn get<R: Resolve>(&self, hash: u64, resolver: &R, key: &KeyRef<'_>) -> Option<Place>
         ensures { (hash_of : Key → ℕ) → hash ≡ hash_of (shown_key key.now)
             → AreKeptIn hash_of (R.keys resolver.now) self.now
             → result ≡ found_in (R.keys resolver.now) (shown_key key.now) self.now }
     {
         match &self.list {
-            Some(list) => list.get(hash, resolver, key),
+            Some(list) => list.get_rarely(hash, resolver, key),
             None => None,
         }
     }
 
     /// The first place that is held with a hash.
-    #[inline]
+    #[inline(always)]
     pub(crate) fn candidate(&self, hash: u64) -> Option<Place>
         ensures { (hash_of : Key → ℕ) (keys : PlaceValue → Option Key) (k : Key) → hash ≡ hash_of k
             → AreKeptIn hash_of keys self.now → IsCandidateIn keys k self.now result }
     {
         match &self.list {
-            Some(list) => list.candidate(hash),
+            Some(list) => list.candidate_rarely(hash),
             None => None,
         }
     }

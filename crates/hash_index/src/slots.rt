@@ -1,14 +1,18 @@
 //! The slots of a bucket.
 
-ghost use Rattle.std.specs.Prelude.{◌≡◌, ℕ, ◌+◌, ◌*◌, ◌<◌, length, get_or, set, replicate};
+ghost use Rattle.std.specs.Prelude.{◌≡◌, ℕ, ◌+◌, ◌*◌, ◌<◌, length, get_or, set, replicate, ◌==◌, if◌then◌else◌};
+ghost use Rattle.std.specs.Int.{w64, trailing_zeros};
 ghost use Rattle.std.specs.List.{AllByRecursion, position_or_len};
+ghost use Rattle.entry.specs.View.{shown_key};
 ghost use Rattle.places.specs.declared.place.Held.{Held as HeldValue};
-ghost use Rattle.places.specs.Lists.{has_hash, is_same};
-ghost use Rattle.hash_index.specs.Packing.{unpacked, is_free, IsPackable};
+ghost use Rattle.places.specs.Lists.{has_hash, is_of, is_same};
+ghost use Rattle.hash_index.specs.Packing.{unpacked, has_tag, has_low, is_free, IsPackable};
 
 use crate::packed::{LOWS, OFFSETS, Packed};
-use places::{Held, Place};
+use entry::KeyRef;
+use places::{Held, Place, Resolve, stands};
 use std::marker::Model;
+use std::simd::prelude::*;
 
 /// How many slots a bucket has.
 pub(crate) const SLOTS: usize = 8;
@@ -35,6 +39,18 @@ impl Model for Slots {
     ghost view = { λ s. slots_of s.tags s.ats s.segments };
 
     ghost invariant = { λ s. AreWords 65536 s.tags × AreWords 4294967296 s.ats };
+}
+
+/// The lowest bit of a word that is set; 8 if none is.
+#[inline(always)]
+fn lowest(bits: u64) -> usize
+    ensures { result ≡ if bits == 0 then 8 else trailing_zeros w64 bits }
+{
+    if bits == 0 {
+        SLOTS
+    } else {
+        bits.trailing_zeros() as usize
+    }
 }
 
 impl Slots {
@@ -95,8 +111,25 @@ impl Slots {
             & (self.segments[slot] == sought.segment)
     }
 
-    /// The first slot that has this place under this hash; 8 if none has. It reads all slots and leaves early from
-    /// none, so that no branch has to be guessed.
+    /// The first slot that has this tag; 8 if none has. It compares all tags at once.
+    #[inline(always)]
+    fn first_tagged(&self, tag: u16) -> usize
+        ensures slot { result ≡ position_or_len (has_tag tag) self.now }
+        ensures len { length self.now ≡ 8 }
+    {
+        let same = u16x8::from_array(self.tags).simd_eq(u16x8::splat(tag));
+        lowest(same.to_bitmask())
+    }
+
+    /// Whether the first slot or the last one has the last segment. None does: whoever asks wants memory near both read
+    /// early, since the slot that it looks for isn't known yet.
+    #[inline(always)]
+    fn has_last_segment(&self) -> bool {
+        (self.segments[0] == u64::MAX) | (self.segments[SLOTS - 1] == u64::MAX)
+    }
+
+    /// The first slot that has this place under this hash; 8 if none has. It compares all of each slot and leaves early
+    /// from none, so that no branch has to be guessed.
     #[inline(always)]
     pub(crate) fn first_same(&self, sought: &Packed) -> usize
         ensures slot { result ≡ position_or_len (is_same sought.now) self.now }
@@ -113,6 +146,44 @@ impl Slots {
         found
     }
 
+    /// Whether the hash of a slot has these nine bits behind its tag.
+    #[inline(always)]
+    fn is_low(&self, slot: usize, low: u32) -> bool
+        requires { slot < 8 }
+        ensures { (d : HeldValue) → result ≡ has_low low (get_or self.now slot d) }
+    {
+        self.ats[slot] / OFFSETS == low
+    }
+
+    /// What `first_same` finds, for whoever changes the slot: mostly one tag tells it, and a store to a slot that isn't
+    /// known yet holds up what comes behind it.
+    #[inline(always)]
+    pub(crate) fn first_by_tag(&self, sought: &Packed) -> usize
+        ensures slot { result ≡ position_or_len (is_same sought.now) self.now }
+        ensures len { length self.now ≡ 8 }
+    {
+        let slot = self.first_tagged(sought.tag);
+        if slot >= SLOTS {
+            return slot;
+        }
+        if self.has_last_segment() {
+            return self.search_same(sought);
+        }
+        if self.has(slot, sought) {
+            return slot;
+        }
+        self.search_same(sought)
+    }
+
+    /// `first_same`, out of line: few tags are those of two slots.
+    #[cold]
+    fn search_same(&self, sought: &Packed) -> usize
+        ensures slot { result ≡ position_or_len (is_same sought.now) self.now }
+        ensures len { length self.now ≡ 8 }
+    {
+        self.first_same(sought)
+    }
+
     /// Whether a slot has this hash. It makes no branch.
     #[inline(always)]
     fn is_hashed(&self, slot: usize, tag: u16, low: u32) -> bool
@@ -123,9 +194,9 @@ impl Slots {
         (self.tags[slot] == tag) & (self.ats[slot] / OFFSETS == low)
     }
 
-    /// The first slot with this hash, as a tag and the other bits; 8 if none has it.
-    #[inline(always)]
-    pub(crate) fn first_hashed(&self, tag: u16, low: u32) -> usize
+    /// `first_hashed`, by a look at all slots. It is out of line: few tags are those of two slots.
+    #[cold]
+    fn search_hashed(&self, tag: u16, low: u32) -> usize
         requires { low < 512 }
         ensures slot { result ≡ position_or_len (has_hash (tag * 512 + low)) self.now }
         ensures len { length self.now ≡ 8 }
@@ -141,13 +212,43 @@ impl Slots {
         found
     }
 
-    /// Whether a slot is free.
+    /// The first slot with this hash, as a tag and the other bits; 8 if none has it.
     #[inline(always)]
-    fn is_free(&self, slot: usize) -> bool
-        requires { slot < 8 }
-        ensures { (d : HeldValue) → result ≡ is_free (get_or self.now slot d) }
+    pub(crate) fn first_hashed(&self, tag: u16, low: u32) -> usize
+        requires { low < 512 }
+        ensures slot { result ≡ position_or_len (has_hash (tag * 512 + low)) self.now }
+        ensures len { length self.now ≡ 8 }
     {
-        self.tags[slot] == 0
+        let slot = self.first_tagged(tag);
+        if slot >= SLOTS {
+            return slot;
+        }
+        if self.has_last_segment() {
+            return self.search_hashed(tag, low);
+        }
+        if self.is_low(slot, low) {
+            return slot;
+        }
+        self.search_hashed(tag, low)
+    }
+
+    /// The first slot with the hash at whose place the key stands; 8 if none has it. It is for the few keys that have
+    /// the hash of another one.
+    #[cold]
+    pub(crate) fn first_of<R: Resolve>(&self, hash: u64, resolver: &R, key: &KeyRef<'_>) -> usize
+        ensures slot { result ≡ position_or_len (is_of (R.keys resolver.now) (shown_key key.now) hash) self.now }
+        ensures len { length self.now ≡ 8 }
+    {
+        let mut found = self.len();
+        let mut slot = found;
+        while slot > 0 {
+            slot -= 1;
+            let held = self.get(slot);
+            if held.hash == hash && stands(resolver, key, held.place) {
+                found = slot;
+            }
+        }
+        found
     }
 
     /// The first free slot; 8 if none is free.
@@ -156,15 +257,7 @@ impl Slots {
         ensures slot { result ≡ position_or_len is_free self.now }
         ensures len { length self.now ≡ 8 }
     {
-        let mut found = self.len();
-        let mut slot = found;
-        while slot > 0 {
-            slot -= 1;
-            if self.is_free(slot) {
-                found = slot;
-            }
-        }
-        found
+        self.first_tagged(0)
     }
 
     /// A slot gets this place.

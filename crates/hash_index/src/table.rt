@@ -13,8 +13,14 @@ use places::{Held, Place, Resolve};
 use std::alloc::{AllocError, Global};
 use std::marker::Model;
 
-/// How many keys there may be for each two buckets before there is one bucket more.
-const KEYS_FOR_TWO: usize = 13;
+/// How many keys there may be for each bucket before there is one bucket more.
+const KEYS_PER_BUCKET: usize = 6;
+
+/// How many there may be in a small table: memory costs little there, and fewer places overflow.
+const KEYS_IF_SMALL: usize = 4;
+
+/// A table of fewer buckets is small.
+const SMALL: usize = 1024;
 
 /// Places as buckets: a place is in the bucket of its hash. A contract sees the buckets' places one after another.
 #[derive(Drop)]
@@ -113,6 +119,7 @@ impl Table for BucketTable {
         self.buckets.get(at).touch()
     }
 
+    #[inline(always)]
     fn relocate(&mut self, held: Held, to: Place) -> bool {
         if self.buckets.len() == 0 {
             return false;
@@ -140,7 +147,13 @@ impl Table for BucketTable {
 
     /// One bucket more, if so many keys want one.
     fn grow(&mut self, keys: usize) {
-        if keys / KEYS_FOR_TWO < self.buckets.len() / 2 {
+        let buckets = self.buckets.len();
+        let most = if buckets < SMALL {
+            KEYS_IF_SMALL
+        } else {
+            KEYS_PER_BUCKET
+        };
+        if keys / most < buckets {
             return;
         }
         let _ = self.add_bucket();

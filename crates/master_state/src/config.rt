@@ -33,8 +33,8 @@ pub struct Config {
     pub tablets: Tablets,
     /// The most records that the history takes: 1 to 1,048,576.
     pub history: u64,
-    /// How the index hashes keys. With a secret, whoever picks keys can't make many of them fall into one bucket. No answer
-    /// depends on it.
+    /// How the index hashes keys. With a secret, whoever picks keys can't make many of them fall into one bucket. No
+    /// answer depends on it.
     pub hasher: KeyHasher,
 }
 

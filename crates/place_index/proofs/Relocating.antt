@@ -1,4 +1,4 @@
--- A place that moves: in a list, in two lists as one, and in the chains of a table.
+-- A place that moves: in a list, in two lists as one, and in the parts of a table.
 use Rattle.std.proofs.Common.{◌≡◌, ℕ, zero, suc, ◌+◌, ◌<◌, ◌≤◌, Bool, true, false, ◌&&◌, ◌||◌, not, cond, List}
 use Rattle.std.proofs.Common.{[], ◌∷◌, ◌++◌, length, get_or, set, refl, sym, ap, subst, ◌∙◌, arith}
 use Rattle.std.proofs.Common.{if◌then◌else◌}

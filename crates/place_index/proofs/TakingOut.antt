@@ -1,4 +1,4 @@
--- A place that is taken out: of a list, of two lists as one, and of the chains of a table.
+-- A place that is taken out: of a list, of two lists as one, and of the parts of a table.
 use Rattle.std.proofs.Common.{◌≡◌, ℕ, zero, suc, ◌+◌, ◌<◌, Bool, true, false, ◌||◌, not, cond, List, [], ◌∷◌, ◌++◌}
 use Rattle.std.proofs.Common.{length}
 use Rattle.std.proofs.Common.{refl, sym, ap, subst, ◌∙◌, arith, if◌then◌else◌}

@@ -1,4 +1,4 @@
--- A chain: its first place and the others as one list.
+-- Two lists of places as one.
 use Rattle.std.proofs.Common.{◌≡◌, true, false, List, [], ◌∷◌, ◌++◌, append_assoc, sym, ap, subst, ◌∙◌}
 use Rattle.std.specs.Prelude.{Result, Ok, Err, OnOk}
 use Rattle.entry.proofs.ListLemmas.{all_append, all_split}
@@ -70,7 +70,7 @@ module _ (h : Held) (xs ys new : List Held) where
       subst (λ (zs : List Held). BringsNoHash ((xs ++ ys) ++ h ∷ []) zs) (pushed_is others same pushed) (λ p all. all)
   pushed_brings others (Err e) same pushed = pushed
 
--- ---- all places of a chain, one part after the other
+-- ---- all places of both, one list after the other
 
 pub shuffled_parts : {E : Type 0} (start mid new xs ys all : List Held) (r : Result (Unit {0}) E) → xs ++ ys ≡ all
     → IsShuffled (start ++ xs) mid → OnOk r (IsShuffled (mid ++ ys) new) → OnOk r (IsShuffled (start ++ all) new)

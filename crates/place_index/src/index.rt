@@ -101,7 +101,7 @@ impl<H: KeyHash, T: Table> PlaceIndex<H, T> {
     }
 
     /// The place of a key of this hash.
-    #[inline]
+    #[inline(always)]
     pub fn get_hashed<R: Resolve>(&self, hash: u64, resolver: &R, key: &KeyRef<'_>) -> Option<Place>
         requires { hash ≡ pieces H.hash_of self.now.held.seed (shown_key key.now) }
         ensures { AreKeptBy H.hash_of (R.keys resolver.now) self.now.held
@@ -109,20 +109,20 @@ impl<H: KeyHash, T: Table> PlaceIndex<H, T> {
     {
         match self.table.get(hash, resolver, key) {
             Some(place) => Some(place),
-            None => self.waiting.get(hash, resolver, key),
+            None => self.waiting.get_rarely(hash, resolver, key),
         }
     }
 
     /// The one place that a key of this hash may have, without a look at a key: the first held with the hash. It is the
     /// key's if the key stands there. If another key does, only `get` can tell.
-    #[inline]
+    #[inline(always)]
     pub fn candidate(&self, hash: u64) -> Option<Place>
         ensures { (keys : PlaceValue → Option Key) (k : Key) → hash ≡ pieces H.hash_of self.now.held.seed k
             → AreKeptBy H.hash_of keys self.now.held → IsCandidate keys k self.now.held result }
     {
         match self.table.candidate(hash) {
             Some(place) => Some(place),
-            None => self.waiting.candidate(hash),
+            None => self.waiting.candidate_rarely(hash),
         }
     }
 
@@ -173,7 +173,7 @@ impl<H: KeyHash, T: Table> PlaceIndex<H, T> {
     }
 
     /// Whether it holds this place under this hash. No key is read.
-    #[inline]
+    #[inline(always)]
     pub fn holds(&self, held: Held) -> bool
         ensures { result ≡ holds self.now.held held }
     {
@@ -198,6 +198,7 @@ impl<H: KeyHash, T: Table> PlaceIndex<H, T> {
 
     /// A place that it holds under this hash becomes another place. Whether it was there. It takes no memory, and no
     /// key is read.
+    #[inline(always)]
     pub fn relocate(&mut self, held: Held, to: Place) -> bool
         requires { to.at < 8388608 }
         ensures had { result ≡ holds self.old.held held }

@@ -1,11 +1,12 @@
 //! Places as a list that is walked.
 
 ghost use Rattle.std.specs.Prelude.{◌≡◌, ℕ, ◌+◌, ◌<◌, ◌≤◌, ◌∷◌, ◌++◌, [], Option, true, false, length, OnOk, OnErr};
-ghost use Rattle.std.specs.List.{remove};
+ghost use Rattle.std.specs.List.{position, remove};
 ghost use Rattle.entry.specs.declared.key.Key.{Key};
 ghost use Rattle.entry.specs.View.{shown_key};
 ghost use Rattle.places.specs.declared.place.Place.{Place as PlaceValue};
-ghost use Rattle.places.specs.Lists.{found_in, AreKeptIn, IsCandidateIn, holds_in, relocated_in, without};
+ghost use Rattle.places.specs.Lists.{found_in, has_hash, is_of, AreKeptIn, IsCandidateIn, holds_in, relocated_in};
+ghost use Rattle.places.specs.Lists.{without};
 ghost use Rattle.place_index.specs.Steps.{IsShuffled};
 
 use crate::table::Table;
@@ -43,6 +44,49 @@ impl PlaceList {
         ensures { result.now ≡ self.now.held }
     {
         self.held.as_slice()
+    }
+
+    /// Which of the places is the key's. It is out of line, so that whoever rarely asks has a short path for all else.
+    #[cold]
+    fn seek<R: Resolve>(&self, hash: u64, resolver: &R, key: &KeyRef<'_>) -> Option<usize>
+        ensures { result ≡ position (is_of (R.keys resolver.now) (shown_key key.now) hash) self.now.held }
+    {
+        slot_of(&self.held, hash, resolver, key)
+    }
+
+    /// What `get` finds, for whoever mostly finds keys elsewhere.
+    #[inline(always)]
+    pub fn get_rarely<R: Resolve>(&self, hash: u64, resolver: &R, key: &KeyRef<'_>) -> Option<Place>
+        ensures { (hash_of : Key → ℕ) → hash ≡ hash_of (shown_key key.now)
+            → AreKeptIn hash_of (R.keys resolver.now) self.now.held
+            → result ≡ found_in (R.keys resolver.now) (shown_key key.now) self.now.held }
+    {
+        if self.held.is_empty() {
+            return None;
+        }
+        let slot = self.seek(hash, resolver, key)?;
+        Some(self.held[slot].place)
+    }
+
+    /// Which of the places is the first with this hash. It is out of line, as `seek` is.
+    #[cold]
+    fn seek_hash(&self, hash: u64) -> Option<usize>
+        ensures { result ≡ position (has_hash hash) self.now.held }
+    {
+        first_slot(&self.held, hash)
+    }
+
+    /// What `candidate` finds, for whoever mostly finds one elsewhere.
+    #[inline(always)]
+    pub fn candidate_rarely(&self, hash: u64) -> Option<Place>
+        ensures { (hash_of : Key → ℕ) (keys : PlaceValue → Option Key) (k : Key) → hash ≡ hash_of k
+            → AreKeptIn hash_of keys self.now.held → IsCandidateIn keys k self.now.held result }
+    {
+        if self.held.is_empty() {
+            return None;
+        }
+        let slot = self.seek_hash(hash)?;
+        Some(self.held[slot].place)
     }
 
     /// Takes memory for `more` further places. On `Err` nothing changed.

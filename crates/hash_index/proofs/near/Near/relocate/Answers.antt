@@ -24,10 +24,10 @@ pub returns-then-slot-ge-SLOTS-clause-had : goal.returns-then-slot-ge-SLOTS-clau
 returns-then-slot-ge-SLOTS-clause-had c =
     let h = c.args.held in
     let slots = c.self.inside.slots in
-    let first = c.first_same-slot.ensures.slot
+    let first = c.first_by_tag-slot.ensures.slot
     ∙ ap (λ (x : Held). position_or_len (is_same x) slots) c.in-Some.ensures.same in
-    sym (lacks h slots c.first_same-slot.result first
-    (omega (arith, c.first_same-slot.ensures.len, c.if-slot-ge-SLOTS.true)))
+    sym (lacks h slots c.first_by_tag-slot.result first
+    (omega (arith, c.first_by_tag-slot.ensures.len, c.if-slot-ge-SLOTS.true)))
     ∙ ap (λ (hs : List Held). holds_in hs h) c.self.view_is
 
 pub returns-then-slot-ge-SLOTS-clause-moved : goal.returns-then-slot-ge-SLOTS-clause-moved
@@ -35,26 +35,26 @@ returns-then-slot-ge-SLOTS-clause-moved c =
     let h = c.args.held in
     let to = c.args.to in
     let slots = c.self.inside.slots in
-    let first = c.first_same-slot.ensures.slot
+    let first = c.first_by_tag-slot.ensures.slot
     ∙ ap (λ (x : Held). position_or_len (is_same x) slots) c.in-Some.ensures.same in
-    let isnt = lacks h slots c.first_same-slot.result first
-    (omega (arith, c.first_same-slot.ensures.len, c.if-slot-ge-SLOTS.true)) in
+    let isnt = lacks h slots c.first_by_tag-slot.result first
+    (omega (arith, c.first_by_tag-slot.ensures.len, c.if-slot-ge-SLOTS.true)) in
     sym (relocated_none h to c.args.self.now (subst (λ (hs : List Held). holds_in hs h ≡ false) c.self.view_is isnt))
 
 pub go_to-requires-clause-same : goal.go_to-requires-clause-same
 go_to-requires-clause-same c =
     let slots = c.self.inside.slots in
-    same_at c.in-Some.packed slots c.first_same-slot.result c.first_same-slot.ensures.slot
-    (omega (arith, c.first_same-slot.ensures.len, c.if-slot-ge-SLOTS.false)) c.in-Some.packed
+    same_at c.in-Some.packed slots c.first_by_tag-slot.result c.first_by_tag-slot.ensures.slot
+    (omega (arith, c.first_by_tag-slot.ensures.len, c.if-slot-ge-SLOTS.false)) c.in-Some.packed
 
 pub returns-clause-had : goal.returns-clause-had
 returns-clause-had c =
     let h = c.args.held in
     let slots = c.self.inside.slots in
-    let i = c.first_same-slot.result in
-    let first = c.first_same-slot.ensures.slot
+    let i = c.first_by_tag-slot.result in
+    let first = c.first_by_tag-slot.ensures.slot
     ∙ ap (λ (x : Held). position_or_len (is_same x) slots) c.in-Some.ensures.same in
-    let below : i < length slots = omega (arith, c.first_same-slot.ensures.len, c.if-slot-ge-SLOTS.false) in
+    let below : i < length slots = omega (arith, c.first_by_tag-slot.ensures.len, c.if-slot-ge-SLOTS.false) in
     let isnt = not_free h (subst (λ (x : Held). 512 ≤ x.hash) c.in-Some.ensures.same c.in-Some.ensures.hash) in
     sym (has h slots i first below isnt) ∙ ap (λ (hs : List Held). holds_in hs h) c.self.view_is
 
@@ -63,10 +63,10 @@ returns-clause-moved c =
     let h = c.args.held in
     let to = c.args.to in
     let slots = c.self.inside.slots in
-    let i = c.first_same-slot.result in
-    let first = c.first_same-slot.ensures.slot
+    let i = c.first_by_tag-slot.result in
+    let first = c.first_by_tag-slot.ensures.slot
     ∙ ap (λ (x : Held). position_or_len (is_same x) slots) c.in-Some.ensures.same in
-    let below : i < length slots = omega (arith, c.first_same-slot.ensures.len, c.if-slot-ge-SLOTS.false) in
+    let below : i < length slots = omega (arith, c.first_by_tag-slot.ensures.len, c.if-slot-ge-SLOTS.false) in
     let isnt = not_free h (subst (λ (x : Held). 512 ≤ x.hash) c.in-Some.ensures.same c.in-Some.ensures.hash) in
     let put = ap (λ (x : Held). set slots i (record { hash = x.hash; place = to })) c.in-Some.ensures.same in
     ap (λ (hs : List Held). taken hs) (c.go_to.ensures ∙ put)

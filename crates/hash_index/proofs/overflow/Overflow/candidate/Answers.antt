@@ -13,4 +13,4 @@ returns-in-Some c =
     let here =
     ap (λ (v : ListValue). v.held) c.deref.ensures ∙ sym (ap (λ o. listed o) c.in-Some.is) ∙ c.self.view_is in
     subst (λ (hs : List Held). (hash_of : Key → ℕ) (keys : Place → Option Key) (k : Key) → c.args.hash ≡ hash_of k
-    → AreKeptIn hash_of keys hs → IsCandidateIn keys k hs c.candidate.result) here c.candidate.ensures
+    → AreKeptIn hash_of keys hs → IsCandidateIn keys k hs c.candidate_rarely.result) here c.candidate_rarely.ensures

@@ -14,4 +14,4 @@ returns-in-Some g c =
     let here =
     ap (λ (v : ListValue). v.held) c.deref.ensures ∙ sym (ap (λ o. listed o) c.in-Some.is) ∙ c.self.view_is in
     subst (λ (hs : List Held). (hash_of : Key → ℕ) → c.args.hash ≡ hash_of k → AreKeptIn hash_of keys hs
-    → c.get.result ≡ found_in keys k hs) here c.get.ensures
+    → c.get_rarely.result ≡ found_in keys k hs) here c.get_rarely.ensures

@@ -25,10 +25,10 @@ returns-in-None g c = λ keys k.
     let here = pieces hash_of (g.H.KeyHash.seed c.self.inside.hasher) in
     let table = g.T.Table.places c.self.inside.table in
     let waiting = c.self.inside.waiting.held in
-    let o = c.candidate-in-None.result in
+    let o = c.candidate_rarely.result in
     subst (λ (v : IndexValue). c.args.hash ≡ pieces hash_of v.held.seed k → AreKeptBy hash_of keys v.held
     → IsCandidate keys k v.held o) c.self.view_is
     (λ of all.
     candidate_same keys k c.args.hash waiting (table ++ waiting) o
     (found_waiting keys k table waiting (c.in-None.ensures here keys k of (kept_left keys table waiting all)))
-    (c.candidate-in-None.ensures here keys k of (kept_right keys table waiting all)))
+    (c.candidate_rarely.ensures here keys k of (kept_right keys table waiting all)))

@@ -29,8 +29,8 @@ returns-in-None g c =
     let table = g.T.Table.places c.self.inside.table in
     let waiting = c.self.inside.waiting.held in
     subst (λ (v : IndexValue). c.args.hash ≡ pieces hash_of v.held.seed k → AreKeptBy hash_of keys v.held
-    → c.get-in-None.result ≡ found keys k v.held) c.self.view_is
+    → c.get_rarely.result ≡ found keys k v.held) c.self.view_is
     (λ of all.
-    c.get-in-None.ensures here of (kept_right keys table waiting all)
+    c.get_rarely.ensures here of (kept_right keys table waiting all)
     ∙ sym (found_waiting keys k table waiting (sym (c.in-None.ensures here of (kept_left keys table waiting all)))))
     c.requires

@@ -1,7 +1,7 @@
 use Rattle.std.proofs.Common.{◌≡◌, ◌+◌, ◌*◌, ◌≤◌, drop, length}
 use Rattle.std.specs.List.{position_or_len}
 use Rattle.places.specs.Lists.{has_hash}
-use Rattle.hash_index.proofs.slots.Slots.first_hashed.Given as goal
+use Rattle.hash_index.proofs.slots.Slots.search_hashed.Given as goal
 
 abbrev pub invariant-loop-slot : goal.invariant-loop-slot
 invariant-loop-slot l = record {
