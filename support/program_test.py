@@ -251,7 +251,8 @@ class Change:
     lines: str
     # Of images: a head and the survivor of an open pass have a whole segment, others their length.
     images: int
-    # Of replicas. They grow as they are written, and may have up to twice their length.
+    # Of replicas. They grow as they are written, and may have up to twice their length. One that is opened takes as much as the
+    # longest that its backup closed, and one that is freed leaves its memory there for the next.
     replicas: int = 0
     # Of values in the history of the master. Each may take some bytes more.
     values: int = 0
@@ -273,15 +274,18 @@ CHANGES = [
     Change("roll\n", TEXT),
     # One object lives, and tombstones stay.
     Change("compact 4\n", G - TEXT),
-    Change("clean 4\n", 0, -2 * TEXT),
+    # The new head's replicas take as much as the old one's have, and these leave theirs.
+    Change("clean 4\n", 0, 2 * TEXT),
     Change(PUTS, 0, 2 * TEXT, N * VALUE),
     # The images of the head and of four short segments go, and the whole history.
     Change("crash\n", -S - 4 * G, 0, -2 * N * VALUE),
     Change("lose 1\n", 0, -TEXT),
-    # The new master has one object, and the last replica of the old head is freed.
-    Change("recover\n", S, -TEXT),
+    # The new master has one object. Its replicas have the memory of freed ones, and the last one of the old head leaves its own.
+    Change("recover\n", S),
     Change("crash\n", -S),
 ]
+# So many long replicas were freed.
+FREED = 3
 
 
 def bytes_of(process):
@@ -306,8 +310,8 @@ def memory_is_taken_and_given_back(program):
                 before = after
         finally:
             process.kill()
-    if before > SMALL:
-        raise AssertionError(f"wanted all memory back at the end, and {before} bytes are left")
+    if before > SMALL + 2 * FREED * TEXT:
+        raise AssertionError(f"wanted no more at the end than {FREED} freed replicas leave, and {before} bytes are left")
 
 
 TESTS = [

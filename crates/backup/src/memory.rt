@@ -1,6 +1,6 @@
 //! What one backup holds.
 
-ghost use Rattle.std.specs.Prelude.{◌≡◌, ℕ, ◌++◌, OnOk, None};
+ghost use Rattle.std.specs.Prelude.{◌≡◌, ℕ, ◌++◌, [], OnOk, IfOk, None};
 ghost use Rattle.replica.specs.Op.{shown_act, Extend, Close, Free};
 ghost use Rattle.backup.specs.Acts.{adding};
 ghost use Rattle.backup.specs.Retire.{spots_of_others};
@@ -12,10 +12,17 @@ use replica::{Act, Holding, Op, Spot, TakeFault};
 use std::alloc::Global;
 use std::collections::BTreeMap;
 
+/// How many freed replicas leave their memory for the next ones.
+const SPARES: usize = 8;
+
 /// A backup in memory: its replicas by master, then by segment.
 #[derive(Drop)]
 pub struct MemoryBackup {
     replicas: BTreeMap<(u64, u64), Stored>,
+    /// The most bytes that a closed replica has had here. An open one mostly comes to as many.
+    longest: usize,
+    /// Memory of replicas that were freed. The bytes in it mean nothing.
+    spares: Vec<Vec<u8>>,
 }
 
 impl MemoryBackup {
@@ -25,6 +32,8 @@ impl MemoryBackup {
     {
         MemoryBackup {
             replicas: BTreeMap::new(alloc),
+            longest: 0,
+            spares: Vec::new(alloc),
         }
     }
 
@@ -43,6 +52,46 @@ impl MemoryBackup {
         }
     }
 
+    /// Memory for a replica: that of a freed one, or else as much as one here has come to if it is to grow. If that is
+    /// refused, it is none.
+    fn room(&mut self, alloc: Global, is_open: bool) -> Vec<u8>
+        ensures room { result.items ≡ [] }
+        ensures same { self.new.replicas ≡ self.old.replicas }
+    {
+        if let Some(mut spare) = self.spares.pop() {
+            spare.clear();
+            return spare;
+        }
+        if is_open {
+            if let Ok(room) = Vec::with_capacity(alloc, self.longest) {
+                return room;
+            }
+        }
+        Vec::new(alloc)
+    }
+
+    /// A copy of the bytes of a new replica.
+    fn copy(&mut self, alloc: Global, bytes: &[u8], is_open: bool) -> Result<Vec<u8>, NoMemory>
+        ensures copy { IfOk result (λ copy. copy.items ≡ bytes.now) }
+        ensures same { self.new.replicas ≡ self.old.replicas }
+    {
+        if self.spares.capacity() == 0 {
+            let _ = self.spares.reserve_exact(SPARES);
+        }
+        let mut copy = self.room(alloc, is_open);
+        copy.extend_from_slice(bytes)?;
+        Ok(copy)
+    }
+
+    /// Keeps memory for the next replicas, as long as few are kept. It takes none.
+    fn spare(&mut self, bytes: Vec<u8>)
+        ensures { self.new.replicas ≡ self.old.replicas }
+    {
+        if self.spares.len() < self.spares.capacity() {
+            self.spares.push_reserved(bytes);
+        }
+    }
+
     fn add(
         &mut self,
         alloc: Global,
@@ -56,10 +105,10 @@ impl MemoryBackup {
         if self.replicas.contains_key(&place) {
             return Err(TakeFault::Wrong);
         }
-        let Ok(bytes) = Vec::from_slice(alloc, bytes) else {
+        let Ok(copy) = self.copy(alloc, bytes, is_open) else {
             return Err(TakeFault::NoMemory);
         };
-        match self.replicas.insert(place, Stored::new(bytes, is_open)) {
+        match self.replicas.insert(place, Stored::new(copy, is_open)) {
             Ok(_) => Ok(()),
             Err(_) => Err(TakeFault::NoMemory),
         }
@@ -80,7 +129,10 @@ impl MemoryBackup {
         ensures others { KeepsOthers place.0 place.1 self.old self.new }
     {
         match self.replicas.get_mut(&place) {
-            Some(stored) => stored.close(),
+            Some(stored) => {
+                self.longest = self.longest.max(stored.len());
+                stored.close()
+            }
             None => Err(TakeFault::Wrong),
         }
     }
@@ -90,7 +142,10 @@ impl MemoryBackup {
         ensures others { KeepsOthers place.0 place.1 self.old self.new }
     {
         match self.replicas.remove(&place) {
-            Some(_) => Ok(()),
+            Some(stored) => {
+                self.spare(stored.into_bytes());
+                Ok(())
+            }
             None => Err(TakeFault::Wrong),
         }
     }

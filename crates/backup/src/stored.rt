@@ -33,6 +33,16 @@ impl Stored {
         Stored { bytes, is_open }
     }
 
+    /// How many bytes it has.
+    pub fn len(&self) -> usize {
+        self.bytes.len()
+    }
+
+    /// Its bytes, in their memory.
+    pub fn into_bytes(self) -> Vec<u8> {
+        self.bytes
+    }
+
     /// The replica as its backup shows it.
     pub fn show(
         &self,

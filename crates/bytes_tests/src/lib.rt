@@ -1,5 +1,5 @@
 //! The tests of the lower crates: vectors of entries and of segments, images in memory, compaction, a pass, heads,
-//! wills, and the lines of scripts.
+//! packed histories, wills, and the lines of scripts.
 //!
 //! What a test does is data: a table of calls, each with its answer, or of inputs, each with what comes of it. A
 //! function owns one thing at most and lends it to the next, and a test asserts that no row is answered otherwise. So a
@@ -12,6 +12,8 @@ mod compactions;
 mod entries;
 #[cfg(test)]
 mod heads;
+#[cfg(test)]
+mod histories;
 #[cfg(test)]
 mod lines_of_scripts;
 #[cfg(test)]

@@ -2,10 +2,11 @@
 
 ghost use Rattle.std.specs.Prelude.{◌≡◌};
 ghost use Rattle.std.specs.Borrow.{ftrue};
+ghost use Rattle.history.specs.View.{shown_record};
 ghost use Rattle.versioned_map.specs.declared.command.Record.{Record};
 
+use history::RecordRef;
 use std::marker::Model;
-use versioned_map::Record;
 
 /// A record as clauses see it. It takes no bytes: the record itself is in the history.
 #[derive(Drop)]
@@ -24,8 +25,8 @@ unsafe impl Sync for Kept {}
 
 impl Kept {
     /// What is known of a record.
-    pub fn of(_record: &Record) -> Kept
-        ensures { result.what ≡ _record.now }
+    pub fn of(_record: &RecordRef<'_>) -> Kept
+        ensures { result.what ≡ shown_record _record.now }
     {
         Kept {}
     }

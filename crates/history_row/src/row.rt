@@ -2,6 +2,7 @@
 
 ghost use Rattle.std.specs.Prelude.{◌≡◌, ◌<◌, List, length, slice_get, slice_set, Some, None, IfOk, MatchBool};
 ghost use Rattle.std.specs.Prelude.{replicate};
+ghost use Rattle.history.specs.View.{shown_record};
 ghost use Rattle.history_row.specs.Rows.{IsRowOf};
 ghost use Rattle.versioned_map.specs.declared.command.Record.{Record};
 
@@ -9,9 +10,9 @@ use crate::kept::Kept;
 use crate::labels::Labels;
 use crate::receipt::Receipt;
 use crate::slot::Slot;
+use history::RecordRef;
 use std::alloc::{AllocError, Global};
 use std::marker::{Model, PhantomData};
-use versioned_map::Record;
 
 /// Cells that no type names yet. Contracts see what they are called, and which record each is known to have.
 #[derive(Drop)]
@@ -82,9 +83,9 @@ impl<B: Labels> Row<B> {
     }
 
     /// Sets a cell to this record, and answers whether it took it. If it did not, nothing changes.
-    pub fn set(&mut self, alloc: Global, place: usize, what: &Record) -> bool
+    pub fn set(&mut self, alloc: Global, place: usize, what: &RecordRef<'_>) -> bool
         requires { place < length self.old }
-        ensures { MatchBool result (self.new ≡ slice_set self.old place (Some what.now)) (self.new ≡ self.old) }
+        ensures { MatchBool result (self.new ≡ slice_set self.old place (Some (shown_record what.now))) (self.new ≡ self.old) }
     {
         // A box of no bytes takes no memory, so this is never refused.
         let Ok(kept) = Box::new(alloc, Kept::of(what)) else {

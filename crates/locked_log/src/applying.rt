@@ -35,7 +35,9 @@ impl<F: Fleet, B: Naming> State<F, B> {
             Ok(applied) => applied,
             Err(refusal) => return Err(CallFault::Refused(refusal)),
         };
-        let what = &self.master.history()[place as usize];
+        let Some(what) = self.master.history().get(place as usize) else {
+            unreachable!()
+        };
         if !file(
             self.alloc,
             &mut self.row,
@@ -44,7 +46,7 @@ impl<F: Fleet, B: Naming> State<F, B> {
             &mut self.is_refused,
             seat,
             place,
-            what,
+            &what,
         ) {
             return Err(CallFault::CellRefused);
         }

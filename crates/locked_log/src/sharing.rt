@@ -11,7 +11,7 @@ use crate::state::State;
 use crate::store::Store;
 use entry::NoMemory;
 use history_row::Row;
-use master::{Master, Record};
+use master::{History, Master};
 use replica::Fleet;
 use std::alloc::{AllocError, Global};
 use std::sync::ledger::Book;
@@ -98,7 +98,7 @@ impl<F: Fleet, B: Naming> Store<F, B> {
 /// Files all records of a history.
 fn file_all<B: Naming>(
     alloc: Global,
-    history: &[Record],
+    history: &History,
     count: u64,
     row: &mut Row<B>,
     book: &mut Vec<Account>,
@@ -106,12 +106,15 @@ fn file_all<B: Naming>(
     seats: &mut Vec<Seat<B>>,
 ) -> Result<(), ShareFault>
     requires count { count ≡ B.made.seats }
-    requires room { (length history.now ≤ B.made.config.history) × (length history.now < 2 ^ 62) }
-    requires none { AreFiled B.made (take 0 history.now) row.old book.old.items total.old.total seats.old.items }
-    ensures { OnOk result (AreFiled B.made history.now row.new book.new.items total.new.total seats.new.items) }
+    requires room { (length history.now.records ≤ B.made.config.history) × (length history.now.records < 2 ^ 62) }
+    requires none { AreFiled B.made (take 0 history.now.records) row.old book.old.items total.old.total seats.old.items }
+    ensures { OnOk result (AreFiled B.made history.now.records row.new book.new.items total.new.total seats.new.items) }
 {
     for i in 0..history.len() {
-        if history[i].seat >= count {
+        let Some(what) = history.get(i) else {
+            unreachable!()
+        };
+        if what.seat >= count {
             return Err(ShareFault::StrangeSeat);
         }
         if !file_next(alloc, history, i, row, book, total, seats) {
@@ -124,21 +127,23 @@ fn file_all<B: Naming>(
 /// Files the next record of a history. Answers whether its cell took it.
 fn file_next<B: Naming>(
     alloc: Global,
-    history: &[Record],
+    history: &History,
     i: usize,
     row: &mut Row<B>,
     book: &mut Vec<Account>,
     total: &mut Book<B>,
     seats: &mut Vec<Seat<B>>,
 ) -> bool
-    requires within { i < length history.now }
-    requires seat { IfSome (slice_get history.now i) (λ r. r.seat < B.made.seats) }
-    requires room { (length history.now ≤ B.made.config.history) × (length history.now < 2 ^ 62) }
-    requires filed { AreFiled B.made (take i history.now) row.old book.old.items total.old.total seats.old.items }
+    requires within { i < length history.now.records }
+    requires seat { IfSome (slice_get history.now.records i) (λ r. r.seat < B.made.seats) }
+    requires room { (length history.now.records ≤ B.made.config.history) × (length history.now.records < 2 ^ 62) }
+    requires filed { AreFiled B.made (take i history.now.records) row.old book.old.items total.old.total seats.old.items }
     ensures { result ≡ true →
-        AreFiled B.made (take (i + 1) history.now) row.new book.new.items total.new.total seats.new.items }
+        AreFiled B.made (take (i + 1) history.now.records) row.new book.new.items total.new.total seats.new.items }
 {
-    let what = &history[i];
+    let Some(what) = history.get(i) else {
+        unreachable!()
+    };
     let seat = &mut seats[what.seat as usize];
     let mut is_refused = false;
     file(
@@ -149,6 +154,6 @@ fn file_next<B: Naming>(
         &mut is_refused,
         seat,
         i as u64,
-        what,
+        &what,
     )
 }

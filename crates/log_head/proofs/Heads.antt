@@ -1,13 +1,14 @@
 -- Heads: where units end, and what replicas have taken.
-use Rattle.std.proofs.Common.{◌≡◌, ℕ, zero, suc, ◌+◌, ◌-◌, ◌<◌, ◌≤◌, true, false, List, [], ◌∷◌, ◌++◌, length, take}
-use Rattle.std.proofs.Common.{drop, get_or, Some, None, refl}
-use Rattle.std.proofs.Common.{sym, ◌∙◌, add-one, arith}
-use Rattle.std.specs.Prelude.{slice_get, slice_set, nat_lt}
+use Rattle.std.proofs.Common.{◌≡◌, ℕ, zero, suc, ◌+◌, ◌<◌, ◌≤◌, true, false, List, [], ◌∷◌, ◌++◌, length, take}
+use Rattle.std.proofs.Common.{get_or, Some, None, refl, subst}
+use Rattle.std.proofs.Common.{sym, ap, ◌∙◌, add-one, arith}
+use Rattle.std.specs.Prelude.{slice_get, slice_set, nat_lt, Option, IfSome, IfNone}
 use Rattle.std.specs.List.{AllByRecursion}
-use Rattle.std.proofs.Common.{sub-one}
+use Rattle.std.proofs.Math.Seq.{take-append_seam, take-suc}
 use Rattle.std.proofs.lemmas.Bool.Decides.{nat_tests}
-use Rattle.std.proofs.lemmas.List.{length-append, take_all}
-use Rattle.std.proofs.lemmas.Option.{same_Some, slice_get-get_or, slice_get_within}
+use Rattle.std.proofs.lemmas.List.{length-append, length-take-le, take-append-le}
+use Rattle.std.proofs.lemmas.Option.{same_Some, slice_get_within}
+use Rattle.entry.proofs.ListLemmas.{all_append, slice_get_last, slice_get_left}
 use Rattle.entry.specs.declared.entry.Entry.{Entry}
 use Rattle.entry.specs.Text.{text_of}
 use Rattle.segment.proofs.RowLemmas.{text_of-append}
@@ -71,59 +72,84 @@ text_more xs ys = rw (text_of-append xs ys, length-append) refl
 
 -- ---- the replica that lags
 
-rest_of : (n : ℕ) (ns : List ℕ) → take (length (n ∷ ns) - 1) (drop 1 (n ∷ ns)) ≡ ns
-rest_of n ns = rw sub-one (take_all (length ns) ns (omega arith))
-
--- all but the first
-abbrev pub rest_in : List ℕ → List ℕ
-rest_in ns = take (length ns - 1) (drop 1 ns)
-
 all_above : (ns : List ℕ) (a b : ℕ) → a ≤ b → AllByRecursion (λ m. b ≤ m) ns → AllByRecursion (λ m. a ≤ m) ns
 all_above [] a b le all = tt
 all_above (n ∷ ns) a b le all = let here = all.0 in (omega arith, all_above ns a b le all.1)
 
-pub lagging_first : (units : ℕ) (ns : List ℕ) → 1 ≤ length ns → IsLagging units (rest_in ns) None
-    → get_or ns 0 0 < units
-    → IsLagging units ns (Some 0)
-lagging_first units [] some rest lt = absurd (omega arith)
-lagging_first units (n ∷ ns) some rest lt = (
-  n,
-  refl,
-  lt,
-  (omega arith, all_above ns n units (omega arith) (rw rest_of at rest)),
-  tt,
-)
+all_over : (ns : List ℕ) (a b : ℕ) → a < b → AllByRecursion (λ m. b ≤ m) ns → AllByRecursion (λ m. a < m) ns
+all_over [] a b lt all = tt
+all_over (n ∷ ns) a b lt all = let here = all.0 in (omega arith, all_over ns a b lt all.1)
 
-pub lagging_none : (units : ℕ) (ns : List ℕ) → 1 ≤ length ns → IsLagging units (rest_in ns) None → units ≤ get_or ns 0 0
-    → IsLagging units ns None
-lagging_none units [] some rest le = absurd (omega arith)
-lagging_none units (n ∷ ns) some rest le = (le, rw rest_of at rest)
+-- the replica that lags among some, and how many units it has: all, if none lags
+pub record Lags (units least : ℕ) (found : Option ℕ) (ns : List ℕ) : Type 0 where
+  pub lags : IsLagging units ns found
+  pub some : IfSome found (λ j. slice_get ns j ≡ Some least)
+  pub none : IfNone found (least ≡ units)
+  pub most : least ≤ units
+  pub all : AllByRecursion (λ m. least ≤ m) ns
 
-pub lagging_before : (units place : ℕ) (ns : List ℕ) → 1 ≤ length ns → IsLagging units (rest_in ns) (Some place)
-    → get_or ns 0 0 ≤ get_or (rest_in ns) place 0
-    → IsLagging units ns (Some 0)
-lagging_before units place [] some rest le = absurd (omega arith)
-lagging_before units place (n ∷ ns) some rest le =
-    let later = rw rest_of at rest in
-    let within = slice_get_within ns place later.0 later.1 in
-    let value : get_or ns place 0 ≡ later.0 = same_Some (get_or ns place 0) later.0
-    (sym (slice_get-get_or ns place 0 within) ∙ later.1) in
-    let order : n ≤ get_or ns place 0 = rw rest_of at le in
-    let below : later.0 < units = later.2 in
-    (n, refl, omega arith, (omega arith, all_above ns n later.0 (omega arith) later.3), tt)
+pub lags_new : (units least n : ℕ) (found : Option ℕ) (ns : List ℕ) → Lags units least found ns → n < least
+    → Lags units n (Some (length ns)) (ns ++ n ∷ [])
+lags_new units least n found ns before lt =
+    let all = all_append (λ m. n ≤ m) ns (n ∷ []) (all_above ns n least (omega (arith, lt)) before.all) (omega arith, tt) in
+    record {
+      lags = (
+        n,
+        slice_get_last ns n,
+        omega (arith, lt, before.most),
+        all,
+        subst (AllByRecursion (λ m. n < m)) (sym (take-append_seam ns (n ∷ []))) (all_over ns n least lt before.all),
+      );
+      some = slice_get_last ns n;
+      none = tt;
+      most = omega (arith, lt, before.most);
+      all = all;
+    }
 
-pub lagging_later : (units place : ℕ) (ns : List ℕ) → 1 ≤ length ns → IsLagging units (rest_in ns) (Some place)
-    → get_or (rest_in ns) place 0 < get_or ns 0 0
-    → IsLagging units ns (Some (place + 1))
-lagging_later units place [] some rest le = absurd (omega arith)
-lagging_later units place (n ∷ ns) some rest le =
-    let later = rw rest_of at rest in
-    let within = slice_get_within ns place later.0 later.1 in
-    let value : get_or ns place 0 ≡ later.0 = same_Some (get_or ns place 0) later.0
-    (sym (slice_get-get_or ns place 0 within) ∙ later.1) in
-    let order : get_or ns place 0 < n = rw rest_of at le in
-    let below : later.0 < units = later.2 in
-    rw add-one (later.0, later.1, below, (omega arith, later.3), (omega arith, later.4))
+pub lags_on : (units least n : ℕ) (found : Option ℕ) (ns : List ℕ) → Lags units least found ns → least ≤ n
+    → Lags units least found (ns ++ n ∷ [])
+lags_on units least n None ns before le =
+    let all = all_append (λ m. least ≤ m) ns (n ∷ []) before.all (le, tt) in
+    record {
+      lags = subst (λ (u : ℕ). AllByRecursion (λ m. u ≤ m) (ns ++ n ∷ [])) before.none all;
+      some = tt;
+      none = before.none;
+      most = before.most;
+      all = all;
+    }
+lags_on units least n (Some j) ns before le =
+    let is = before.lags in
+    let within = slice_get_within ns j is.0 is.1 in
+    let same : is.0 ≡ least = same_Some is.0 least (sym is.1 ∙ before.some) in
+    record {
+      lags = (
+        is.0,
+        slice_get_left ns (n ∷ []) j is.0 is.1,
+        is.2,
+        all_append (λ m. is.0 ≤ m) ns (n ∷ []) is.3 (omega (arith, same, le), tt),
+        subst (AllByRecursion (λ m. is.0 < m)) (sym (take-append-le j ns (n ∷ []) (omega (arith, within)))) is.4,
+      );
+      some = slice_get_left ns (n ∷ []) j least before.some;
+      none = tt;
+      most = before.most;
+      all = all_append (λ m. least ≤ m) ns (n ∷ []) before.all (le, tt);
+    }
+
+module _ (units least : ℕ) (found : Option ℕ) (ns : List ℕ) (i : ℕ) (below : i < length ns)
+    (before : Lags units least found (take i ns)) where
+  next : take i ns ++ get_or ns i 0 ∷ [] ≡ take (i + 1) ns
+  next = sym (take-suc ns i 0 below) ∙ ap (λ (n : ℕ). take n ns) (sym (add-one i))
+
+  pub lags_here : get_or ns i 0 < least → Lags units (get_or ns i 0) (Some i) (take (i + 1) ns)
+  lags_here lt =
+      let there = lags_new units least (get_or ns i 0) found (take i ns) before lt in
+      let place : length (take i ns) ≡ i = length-take-le i ns (omega (arith, below)) in
+      subst (λ (xs : List ℕ). Lags units (get_or ns i 0) (Some i) xs) next
+      (subst (λ (j : ℕ). Lags units (get_or ns i 0) (Some j) (take i ns ++ get_or ns i 0 ∷ [])) place there)
+
+  pub lags_before : least ≤ get_or ns i 0 → Lags units least found (take (i + 1) ns)
+  lags_before le = subst (λ (xs : List ℕ). Lags units least found xs) next
+      (lags_on units least (get_or ns i 0) found (take i ns) before le)
 
 pub fewest_all : (units : ℕ) (ns : List ℕ) → AllByRecursion (λ m. units ≤ m) ns → fewest units ns ≡ units
 fewest_all units [] all = refl

@@ -308,17 +308,19 @@ fn first_image(alloc: Global, master: u64, safe: SafeVersion) -> Result<Segment,
     Segment::begin_head(alloc, master, 1, &Ids::new(ids), safe)
 }
 
-/// The first place of the least number, if that is below `units`. There are at most 64 numbers, so it calls itself.
+/// The first place of the least number, if that is below `units`.
 fn lagging(taken: &[usize], units: usize) -> Option<usize>
     ensures { IsLagging units taken.now result }
 {
-    match taken {
-        [] => None,
-        [first, rest @ ..] => match lagging(rest, units) {
-            None if *first < units => Some(0),
-            None => None,
-            Some(place) if *first <= rest[place] => Some(0),
-            Some(place) => Some(place + 1),
-        },
+    let mut found = None;
+    let mut least = units;
+    let mut place = 0;
+    while place < taken.len() {
+        if taken[place] < least {
+            least = taken[place];
+            found = Some(place);
+        }
+        place += 1;
     }
+    found
 }

@@ -18,6 +18,7 @@ mod master;
 mod pushing;
 mod showing;
 
+pub use history::{CommandRef, History, RecordRef, ReplyRef};
 pub use loading::Loading;
 pub use master::Master;
 pub use master_core::{

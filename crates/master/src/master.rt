@@ -16,11 +16,12 @@ ghost use Rattle.master.specs.World.{world};
 
 use crate::pushing;
 use entry::{NoMemory, Tablet};
+use history::History;
 use master_core::{Commands, Compacts, Config, Core, Refusal, Rolls, Step, StepAnswer};
 use replica::{Bench, Fleet, TakeFault};
 use std::alloc::Global;
 use std::marker::Model;
-use versioned_map::{Command, Record, Reply};
+use versioned_map::{Command, Reply};
 
 /// One master of a log-structured store, and the fleet of backups that holds its replicas.
 ///
@@ -140,8 +141,8 @@ impl<F: Fleet> Master<F> {
     }
 
     /// The accepted commands, with their replies.
-    pub fn history(&self) -> &[Record]
-        ensures { result.now ≡ self.now.knows.history }
+    pub fn history(&self) -> &History
+        ensures { result.now.records ≡ self.now.knows.history }
     {
         self.core.history()
     }

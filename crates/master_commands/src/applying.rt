@@ -18,6 +18,7 @@ use crate::index::find_object;
 use crate::unit::{enact, unit_len};
 use entry::{NoMemory, ObjectRef};
 use hash_index::{Held, Place};
+use history::{len_of, replies_have_one_value};
 use master_state::{Core, Refusal, StepAnswer, segments_for};
 use std::alloc::Global;
 use versioned_map::{Command, Record, Reply};
@@ -69,14 +70,14 @@ impl Commands for Core {
             ⊎ ((command_refusal self.old command ≡ None) × (r ≡ Refusal.NoMemory))) }
         ensures err { OnErr result (self.new ≡ self.old) }
     {
-        let (judged, reply, answer) = consider(self, &command)?;
-        let record = Record {
+        let (judged, reply) = consider(self, &command)?;
+        let accepted = Record {
             seat,
             command,
             reply,
         };
-        let place = add(self, record, &judged)?;
-        Ok(StepAnswer::Applied(place, answer))
+        let place = add(self, &accepted, &judged)?;
+        Ok(StepAnswer::Applied(place, accepted.reply))
     }
 }
 
@@ -174,15 +175,14 @@ fn judge<'a>(
     Ok((Judged { change, held }, found))
 }
 
-/// What the tests of a command found, and the reply twice: for the history and for the client.
-fn consider(core: &Core, command: &Command) -> Result<(Judged, Reply, Reply), Refusal>
+/// What the tests of a command found, and the reply.
+fn consider(core: &Core, command: &Command) -> Result<(Judged, Reply), Refusal>
     ensures passed { IfOk result (λ _. command_refusal core.now command.now ≡ None) }
     ensures judged { IfOk result (λ considered.
         IsJudged core.now command.now considered.0.change considered.0.held.place.segment) }
     ensures sought { IfOk result (λ considered.
         IsSought core.now (command_key command.now) considered.0.held) }
     ensures reply { IfOk result (λ considered. considered.1 ≡ reply_now core.now command.now) }
-    ensures answer { IfOk result (λ considered. considered.2 ≡ considered.1) }
     ensures refused { IfErr result (λ r. (command_refusal core.now command.now ≡ Some r)
         ⊎ ((command_refusal core.now command.now ≡ None) × (r ≡ Refusal.NoMemory))) }
 {
@@ -190,20 +190,19 @@ fn consider(core: &Core, command: &Command) -> Result<(Judged, Reply, Reply), Re
         Err(refusal) => Err(refusal),
         Ok((judged, found)) => {
             let reply = reply_from(core.alloc, command, &judged.change, &found)?;
-            let answer = reply_from(core.alloc, command, &judged.change, &found)?;
-            Ok((judged, reply, answer))
+            Ok((judged, reply))
         }
     }
 }
 
 /// Adds the record of a command that passed all tests, and appends the unit of its change. The place of the record.
-fn add(core: &mut Core, accepted: Record, judged: &Judged) -> Result<u64, NoMemory>
-    requires passed { command_refusal core.old accepted.command ≡ None }
-    requires judged { IsJudged core.old accepted.command judged.now.change judged.now.held.place.segment }
-    requires sought { IsSought core.old (command_key accepted.command) judged.now.held }
-    requires reply { accepted.reply ≡ reply_now core.old accepted.command }
-    ensures added { IfOk result (λ place. AppliesAs core.old accepted place core.new) }
-    ensures may { OnOk result (MayApplyNow core.old accepted.seat accepted.command) }
+fn add(core: &mut Core, accepted: &Record, judged: &Judged) -> Result<u64, NoMemory>
+    requires passed { command_refusal core.old accepted.now.command ≡ None }
+    requires judged { IsJudged core.old accepted.now.command judged.now.change judged.now.held.place.segment }
+    requires sought { IsSought core.old (command_key accepted.now.command) judged.now.held }
+    requires reply { accepted.now.reply ≡ reply_now core.old accepted.now.command }
+    ensures added { IfOk result (λ place. AppliesAs core.old accepted.now place core.new) }
+    ensures may { OnOk result (MayApplyNow core.old accepted.now.seat accepted.now.command) }
     ensures valid { OnOk result (IsCore core.new) }
     ensures refused { OnErr result (core.new ≡ core.old) }
 {
@@ -212,12 +211,14 @@ fn add(core: &mut Core, accepted: Record, judged: &Judged) -> Result<u64, NoMemo
         &mut core.head,
         &mut core.index,
         &mut core.history,
+        len_of(accepted),
         &accepted.command,
         judged,
         core.config.segment as usize,
     )?;
     core.safe = judged.change.safe_after(core.safe);
-    core.history.push_reserved(accepted);
+    replies_have_one_value();
+    core.history.push_record(accepted);
     Ok(place)
 }
 

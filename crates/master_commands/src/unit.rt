@@ -1,7 +1,7 @@
 //! From a command and its change to the unit that the head takes.
 
-ghost use Rattle.std.specs.Prelude.{◌≡◌, true, false, ℕ, ◌+◌, ◌^◌, ◌<◌, ◌≤◌, List, [], ◌∷◌, ◌++◌, length, vec_len};
-ghost use Rattle.std.specs.Prelude.{vec_capacity, OnOk, OnErr, IsErrOf};
+ghost use Rattle.std.specs.Prelude.{◌≡◌, true, false, ℕ, ◌+◌, ◌^◌, ◌<◌, ◌≤◌, List, [], ◌∷◌, ◌++◌, length};
+ghost use Rattle.std.specs.Prelude.{OnOk, OnErr, IsErrOf};
 ghost use Rattle.entry.specs.declared.entry.Object.{Object};
 ghost use Rattle.entry.specs.declared.entry.Entry.{Entry};
 ghost use Rattle.entry.specs.declared.entry.Entry.TheVariants as entry;
@@ -22,9 +22,10 @@ use entry::{
     EntryRef, Key, NoMemory, OBJECT_LEN, ObjectRef, TOMBSTONE_LEN, TombstoneRef, Value, Version,
 };
 use hash_index::{Index, Place};
+use history::History;
 use log_head::Head;
 use segment::AppendFault;
-use versioned_map::{Command, Record};
+use versioned_map::Command;
 
 /// The object that a put makes, as it lies in the command.
 pub(crate) fn object_of<'a>(key: &'a Key, version: Version, value: &'a Value) -> EntryRef<'a>
@@ -126,12 +127,13 @@ fn append_change(
     }
 }
 
-/// Appends the unit of a command's change, which fits, and changes the index. The history gets room for the record. On
-/// `Err` only memory was taken.
+/// Appends the unit of a command's change, which fits, and changes the index. The history gets room for the record, of
+/// which so many bytes are key and value. On `Err` only memory was taken.
 pub fn enact(
     head: &mut Head,
     index: &mut Index,
-    history: &mut Vec<Record>,
+    history: &mut History,
+    bytes: usize,
     command: &Command,
     judged: &Judged,
     limit: usize,
@@ -144,12 +146,12 @@ pub fn enact(
     requires hash { judged.now.held.hash ≡ hash_of index.old.held.seed (command_key command.now) }
     ensures valid { OnOk result (IsHeadValue head.new) }
     ensures head { let unit = unit_of_change judged.now.held.place.segment command.now judged.now.change in
-        OnOk result (head.new ≡ appended head.old (length history.old.items) unit) }
+        OnOk result (head.new ≡ appended head.old (length history.old.records) unit) }
     ensures index { OnOk result ((at : ℕ) × BeginsAt head.old.image command.now judged.now.change at
         × IsMoved index.old.held judged.now.change (command_key command.now) judged.now.held.place
         (record { segment = head.old.id; at = at }) index.new.held) }
-    ensures history { history.new.items ≡ history.old.items }
-    ensures room { OnOk result (vec_len history.new < vec_capacity history.new) }
+    ensures history { history.new.records ≡ history.old.records }
+    ensures room { OnOk result (history.new.room ≡ bytes) }
     ensures err { OnErr result ((head.new ≡ head.old) × (index.new.held ≡ index.old.held)) }
 {
     let change = &judged.change;
@@ -158,7 +160,7 @@ pub fn enact(
         segment: head.id(),
         at: head.image().bytes().len() + object_offset(command, change),
     };
-    history.reserve(1)?;
+    history.reserve(bytes)?;
     if change.creates() {
         index.reserve(1)?;
     }

@@ -20,12 +20,12 @@ use crate::step::Refusal;
 use cleaner::Pass;
 use entry::{NoMemory, Row, SafeVersion, Tablet};
 use hash_index::Index;
+use history::History;
 use images::Images;
 use log_head::Head;
 use replica::{Bytes, TakeFault};
 use std::alloc::Global;
 use std::marker::Model;
-use versioned_map::Record;
 
 /// What a master knows: its configuration, its images, where the live objects lie, the safe version, its history, and
 /// how far it has cleaned. The crates above read and change its fields, and what they leave is held to the invariant.
@@ -44,7 +44,7 @@ pub struct Core {
     /// The version that the next new key gets.
     pub safe: SafeVersion,
     /// The accepted commands, with their replies.
-    pub history: Vec<Record>,
+    pub history: History,
     /// The open pass of cleaning.
     pub pass: Option<Pass>,
     /// Victims of earlier passes, in the order in which their replicas are freed.
@@ -73,7 +73,7 @@ impl Model for Core {
       next = m.next_id;
       index = m.index.held;
       safe = m.safe;
-      history = m.history.items;
+      history = m.history.records;
       pass = m.pass;
       waiting = m.waiting.items;
       freed = m.freed;
@@ -91,7 +91,7 @@ impl Model for Core {
           next = m.next_id;
           index = m.index.held;
           safe = m.safe;
-          history = m.history.items;
+          history = m.history.records;
           pass = m.pass;
           waiting = m.waiting.items;
           freed = m.freed;
@@ -144,7 +144,7 @@ impl Core {
             next_id: 2,
             index: Index::with_hasher(alloc, hasher),
             safe,
-            history: Vec::new(alloc),
+            history: History::new(alloc),
             pass: None,
             waiting: Vec::new(alloc),
             freed: 0,
@@ -208,10 +208,10 @@ impl Core {
     }
 
     /// The accepted commands, with their replies.
-    pub fn history(&self) -> &[Record]
-        ensures { result.now ≡ self.now.history }
+    pub fn history(&self) -> &History
+        ensures { result.now.records ≡ self.now.history }
     {
-        self.history.as_slice()
+        &self.history
     }
 
     /// How many of the first records have units that every replica of the head took.

@@ -5,7 +5,7 @@ use crate::comparisons::{is_the_plain_map, value};
 use crate::masters::new_master;
 use backup::MemoryFleet;
 use entry::Size;
-use master::{Command, Look, Master, Record, Refusal, Reply, Shown, Step, StepAnswer};
+use master::{Command, History, Look, Master, Record, Refusal, Reply, Shown, Step, StepAnswer};
 use replica::Holding;
 use std::alloc::Global;
 
@@ -221,11 +221,11 @@ fn says(record: &Record, want: &Said) -> bool {
     record.seat == SEAT && is_key && is_put && is_found && told(&record.reply) == *reply
 }
 
-fn is_copied(records: &[Record], place: usize, want: &Said) -> bool {
+fn is_copied(alloc: Global, records: &History, place: usize, want: &Said) -> bool {
     let Some(record) = records.get(place) else {
         return false;
     };
-    match &record.copy() {
+    match &record.to_record(alloc) {
         Ok(copy) => says(copy, want),
         Err(_) => false,
     }
@@ -246,7 +246,7 @@ fn is_answered(alloc: Global, master: &mut Master<MemoryFleet>, call: &Call) -> 
         Call::Sizes(want) => has_sizes(master, want),
         Call::Retires => master.retire().is_ok(),
         Call::Holds(want) => holds(master, want),
-        Call::Copy(place, want) => is_copied(master.history(), *place, want),
+        Call::Copy(place, want) => is_copied(alloc, master.history(), *place, want),
         Call::Compares(asks) => is_the_plain_map(alloc, master, asks),
     }
 }

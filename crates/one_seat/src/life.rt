@@ -4,7 +4,7 @@ use backup::MemoryFleet;
 use entry::NoMemory;
 use lines::Line;
 use locked_log::{CallFault, Naming, Receipt, Row, Seat, Store};
-use master::{Command, Record, Refusal, Reply};
+use master::{Command, History, Refusal, Reply, ReplyRef};
 use script::{Answer, Options};
 use std::alloc::Global;
 use std::io::{BufRead, Write};
@@ -173,7 +173,7 @@ fn compare<B: Naming, I: BufRead + Drop, O: Write + Drop>(
     receipts: &mut [Receipt<B>],
     replies: &[Reply],
     calls: usize,
-    history: &[Record],
+    history: &History,
 ) {
     if history.len() != calls {
         dialogue.say("history differs");
@@ -191,7 +191,7 @@ fn is_told<B: Naming>(
     row: &mut Row<B>,
     receipt: &mut Receipt<B>,
     reply: Option<&Reply>,
-    history: &[Record],
+    history: &History,
 ) -> bool {
     let place = receipt.place() as usize;
     if place >= row.len() {
@@ -205,30 +205,30 @@ fn is_told<B: Naming>(
 }
 
 /// Whether the reply is the printed one, if that is known.
-fn is_reply(reply: &Reply, printed: Option<&Reply>) -> bool {
+fn is_reply(reply: &ReplyRef<'_>, printed: Option<&Reply>) -> bool {
     match printed {
         Some(printed) => is_same(reply, printed),
         None => true,
     }
 }
 
-fn is_same(reply: &Reply, other: &Reply) -> bool {
+fn is_same(reply: &ReplyRef<'_>, other: &Reply) -> bool {
     match reply {
-        Reply::Found(version, value) => match other {
+        ReplyRef::Found(version, value) => match other {
             Reply::Found(same, bytes) => {
-                version.get() == same.get() && value.as_slice() == bytes.as_slice()
+                version.get() == same.get() && value.bytes == bytes.as_slice()
             }
             _ => false,
         },
-        Reply::None => matches!(other, Reply::None),
-        Reply::Ok(version) => match other {
+        ReplyRef::None => matches!(other, Reply::None),
+        ReplyRef::Ok(version) => match other {
             Reply::Ok(same) => version.get() == same.get(),
             _ => false,
         },
-        Reply::Mismatch(Some(version)) => match other {
+        ReplyRef::Mismatch(Some(version)) => match other {
             Reply::Mismatch(Some(same)) => version.get() == same.get(),
             _ => false,
         },
-        Reply::Mismatch(None) => matches!(other, Reply::Mismatch(None)),
+        ReplyRef::Mismatch(None) => matches!(other, Reply::Mismatch(None)),
     }
 }

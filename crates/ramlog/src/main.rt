@@ -17,6 +17,9 @@ use until_end::UntilEnd;
 /// The exit status of a bad command line.
 const MISUSE: u8 = 2;
 
+/// How many bytes the program reads or writes at once.
+const BLOCK: usize = 65_536;
+
 /// Writes the line of a fault to standard error, and answers the exit status.
 fn fail(rt: &HostRuntime, fault: ScriptFault) -> ExitCode {
     let mut errors = ErrorOutput::new(rt.stderr().lock(), rt.stderr().is_terminal());
@@ -61,10 +64,11 @@ fn run<H: Threads + Wait + Sync>(
     words: &[&str],
 ) -> Result<u8, Error> {
     let mut errors = ErrorOutput::new(rt.stderr().lock(), rt.stderr().is_terminal());
-    let Ok(mut reader) = BufReader::new(rt.alloc(), UntilEnd::new(rt.reader())) else {
+    let Ok(mut reader) = BufReader::with_capacity(rt.alloc(), BLOCK, UntilEnd::new(rt.reader()))
+    else {
         return Ok(report(&ScriptFault::NoMemory, &mut errors));
     };
-    let Ok(mut writer) = BufWriter::new(rt.alloc(), rt.stdout().lock()) else {
+    let Ok(mut writer) = BufWriter::with_capacity(rt.alloc(), BLOCK, rt.stdout().lock()) else {
         return Ok(report(&ScriptFault::NoMemory, &mut errors));
     };
     run_program(

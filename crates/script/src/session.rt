@@ -131,6 +131,27 @@ impl Session {
         ensures refused { IfErr result (RefusesLine self.old.options.backups (shown_line line.entry)) }
     {
         match line {
+            Line::Command(command) => self.run_command(command),
+            other => self.run_any(rt, other),
+        }
+    }
+
+    /// Runs one line, as `run_line` does, but a command by a longer way. It is out of line, since a command would make
+    /// room for the results of all other lines too.
+    #[inline(never)]
+    fn run_any<H: Threads + Wait + Sync>(
+        &mut self,
+        rt: &H,
+        line: Line<'_>,
+    ) -> Result<Answer, LineFault>
+        requires line { IsLine (shown_line line) }
+        requires value { HasValue (shown_line line) }
+        requires stands { Stands self.old }
+        ensures ran { IfOk result (λ answer. RunsLine self.old (shown_line line.entry) self.new answer) }
+        ensures of_fleet { IfOk result (λ _. IsOfFleet self.old.options.backups (shown_line line.entry)) }
+        ensures refused { IfErr result (RefusesLine self.old.options.backups (shown_line line.entry)) }
+    {
+        match line {
             Line::Idle => Ok(Answer::Silent),
             Line::Command(command) => self.run_command(command),
             Line::Hex { segment } => Ok(self.node.hex(segment)),

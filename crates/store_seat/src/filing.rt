@@ -2,15 +2,16 @@
 
 ghost use Rattle.std.specs.Prelude.{◌≡◌, ◌<◌, ◌≤◌, ◌+◌, ◌^◌, length, true, Some, MatchBool, slice_set};
 ghost use Rattle.store_seat.specs.Accounts.{account, Knows, SettlesIn, SettlesNothingIn};
+ghost use Rattle.history.specs.View.{shown_record};
 ghost use Rattle.store_seat.specs.Seats.{told, noted, unnoted, answered};
 
 use crate::account::{Account, is_known};
 use crate::naming::Naming;
 use crate::seat::Seat;
+use history::RecordRef;
 use history_row::Row;
 use std::alloc::Global;
 use std::sync::ledger::Book;
-use versioned_map::Record;
 
 /// Files a record: in its cell, in the book and in the ledger. Answers whether the cell took it; then the seat has a
 /// receipt of it. If it did not, the store is marked as refused.
@@ -22,17 +23,17 @@ pub fn file<B: Naming>(
     is_refused: &mut bool,
     seat: &mut Seat<B>,
     place: u64,
-    what: &Record,
+    what: &RecordRef<'_>,
 ) -> bool
     requires cell { place < length row.old }
     requires known { Knows book.old.items seat.old }
     requires room { seat.old.count + 1 < 2 ^ 64 }
-    ensures row { MatchBool result (row.new ≡ slice_set row.old place (Some what.now)) (row.new ≡ row.old) }
+    ensures row { MatchBool result (row.new ≡ slice_set row.old place (Some (shown_record what.now))) (row.new ≡ row.old) }
     ensures book { book.new.items
         ≡ slice_set book.old.items seat.old.number (account seat.old.first (seat.old.count + 1)) }
     ensures total { total.new.total ≡ total.old.total + 1 }
     ensures refused { MatchBool result (is_refused.new ≡ is_refused.old) (is_refused.new ≡ true) }
-    ensures seat { MatchBool result (seat.new ≡ noted seat.old (told place what.now)) (seat.new ≡ unnoted seat.old) }
+    ensures seat { MatchBool result (seat.new ≡ noted seat.old (told place (shown_record what.now))) (seat.new ≡ unnoted seat.old) }
 {
     let at = place as usize;
     let took = row.set(alloc, at, what);

@@ -6,7 +6,7 @@ use crate::slow::Watch;
 use gate::{Gate, NoGate};
 use holding::Holding;
 use locked_log::CallFault;
-use master::{Master, Refusal, Reply};
+use master::{Master, Refusal, ReplyRef};
 use replica::Fleet;
 use std::alloc::Global;
 use std::sync::Wait;
@@ -36,15 +36,19 @@ const DAYS: &[Day] = &[
 
 /// Whether the last record found this value. Without records it is nothing.
 fn has_found<F: Fleet>(master: &Master<F>, value: &[u8]) -> bool {
-    match master.history().last() {
+    let history = master.history();
+    if history.is_empty() {
+        return value.is_empty();
+    }
+    match history.get(history.len() - 1) {
         Some(record) => is_found(&record.reply, value),
-        None => value.is_empty(),
+        None => false,
     }
 }
 
-fn is_found(reply: &Reply, value: &[u8]) -> bool {
+fn is_found(reply: &ReplyRef<'_>, value: &[u8]) -> bool {
     match reply {
-        Reply::Found(_, found) => found.as_slice() == value,
+        ReplyRef::Found(_, found) => found.bytes == value,
         _ => false,
     }
 }

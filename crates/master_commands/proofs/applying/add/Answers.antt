@@ -22,14 +22,16 @@ use Rattle.std.proofs.lemmas.Result.{err_from_is_err_and}
 use Rattle.master_state.proofs.Refusals.{sizes_of}
 use Rattle.places.specs.Hashing.{hash_of}
 use Rattle.master_commands.proofs.Changes.{put_is_some}
+use Rattle.history.specs.Packing.{IsReplyTo}
+use Rattle.master_state.specs.Log.{state_now}
 use Rattle.master_commands.proofs.Adding.{same_appended, found_then, added, fits, may, added_core, added_applies}
 use Rattle.master_commands.proofs.applying.add.Goals as goal
-use Rattle.master_commands.proofs.applying.add.Goals.{After-push_reserved, Joined-accepted-2}
+use Rattle.master_commands.proofs.applying.add.Goals.{After-push_record, After-from_residual}
 
 pub enact-requires-clause-fits : goal.enact-requires-clause-fits
 enact-requires-clause-fits c =
     let d : MasterData = the_view c.core.inside in
-    let command = c.args.accepted.command in
+    let command = c.args.accepted.now.command in
     let passed : command_refusal d command ≡ None = rw (← c.core.view_is) at c.requires.passed in
     let judged : IsJudged d command c.args.judged.now.change c.args.judged.now.held.place.segment =
     rw (← c.core.view_is) at c.requires.judged in
@@ -37,12 +39,12 @@ enact-requires-clause-fits c =
 
 -- ---- the core with the record, where memory was given
 
-module _ (c : goal.After-push_reserved) where
+module _ (c : goal.After-push_record) where
   abbrev d : MasterData
   d = the_view c.core.inside
 
   abbrev command : Command
-  command = c.args.accepted.command
+  command = c.args.accepted.now.command
 
   abbrev change : Change
   change = c.args.judged.now.change
@@ -56,7 +58,7 @@ module _ (c : goal.After-push_reserved) where
   judged : IsJudged d command change dead
   judged = rw (← c.core.view_is) at c.requires.judged
 
-  reply : c.args.accepted.reply ≡ reply_now d command
+  reply : c.args.accepted.now.reply ≡ reply_now d command
   reply = rw (← c.core.view_is) at c.requires.reply
 
   head : IsHeadValue (appended d.head (length d.history) (unit_of_change dead command change))
@@ -82,13 +84,13 @@ module _ (c : goal.After-push_reserved) where
       ap (λ (h : HeadValue). h.roll) c.in_ok-enact.ensures.head
       ∙ (same_appended d.head (length d.history) (unit_of_change dead command change)).2
 
-  items : c.push_reserved.new.self.items ≡ d.history ++ c.args.accepted ∷ []
-  items = rw (c.push_reserved.ensures.items, c.enact.ensures.history) refl
+  items : c.push_record.new.self.records ≡ d.history ++ c.args.accepted.now ∷ []
+  items = rw (c.push_record.ensures.records, c.enact.ensures.history) refl
 
   abbrev e : MasterData
   e =
       let there = c.in_ok-enact.ensures.index in
-      added d c.core.invariant.2 command change dead judged c.args.accepted.seat there.0 c.enact.new.index.held passed
+      added d c.core.invariant.2 command change dead judged c.args.accepted.now.seat there.0 c.enact.new.index.held passed
       there.1 moved head
 
   abbrev left : MasterData
@@ -99,7 +101,7 @@ module _ (c : goal.After-push_reserved) where
     next = d.next;
     index = c.enact.new.index.held;
     safe = c.safe_after-core-inside.result;
-    history = c.push_reserved.new.self.items;
+    history = c.push_record.new.self.records;
     pass = d.pass;
     waiting = d.waiting;
     freed = d.freed;
@@ -108,7 +110,7 @@ module _ (c : goal.After-push_reserved) where
   }
 
   abbrev with_reply : Reply → List Record
-  with_reply r = d.history ++ record { seat = c.args.accepted.seat; command = command; reply = r } ∷ []
+  with_reply r = d.history ++ record { seat = c.args.accepted.now.seat; command = command; reply = r } ∷ []
 
   knows : e ≡ left
   knows = λ i. record {
@@ -130,58 +132,58 @@ module _ (c : goal.After-push_reserved) where
   core =
       let there = c.in_ok-enact.ensures.index in
       subst IsCore knows
-      (added_core d c.core.invariant.2 command change dead judged c.args.accepted.seat there.0 c.enact.new.index.held
+      (added_core d c.core.invariant.2 command change dead judged c.args.accepted.now.seat there.0 c.enact.new.index.held
       passed there.1 moved head)
 
-  applies : Applies d c.args.accepted.seat command (Applied (length d.history) c.args.accepted.reply) left
+  applies : Applies d c.args.accepted.now.seat command (Applied (length d.history) c.args.accepted.now.reply) left
   applies =
       let there = c.in_ok-enact.ensures.index in
-      let seat = c.args.accepted.seat in
-      subst (λ (m : MasterData). Applies d seat command (Applied (length d.history) c.args.accepted.reply) m) knows
+      let seat = c.args.accepted.now.seat in
+      subst (λ (m : MasterData). Applies d seat command (Applied (length d.history) c.args.accepted.now.reply) m) knows
       (subst (λ (r : Reply). Applies d seat command (Applied (length d.history) r) e) (sym reply)
       (added_applies d c.core.invariant.2 command change dead judged seat there.0 c.enact.new.index.held passed
       there.1 moved head))
 
-  may_apply : MayApply (log_of d) (dead_segment d command) (record_now d c.args.accepted.seat command)
+  may_apply : MayApply (log_of d) (dead_segment d command) (record_now d c.args.accepted.now.seat command)
   may_apply =
       let there = c.in_ok-enact.ensures.index in
-      may d c.core.invariant.2 command change dead judged c.args.accepted.seat there.0 c.enact.new.index.held passed
+      may d c.core.invariant.2 command change dead judged c.args.accepted.now.seat there.0 c.enact.new.index.held passed
       there.1 moved head
 
 pub invariant_of-core-2 : goal.invariant_of-core-2
 invariant_of-core-2 c =
-    let t = (goal.at.invariant_of-core-2 c).After-push_reserved in
+    let t = (goal.at.invariant_of-core-2 c).After-push_record in
     (λ some. c.core.invariant.0 (subst IsSome (roll_then t) some), c.core.invariant.1, core t, c.core.invariant.3)
 
 pub returns-clause-added : goal.returns-clause-added
 returns-clause-added c =
-    let t = (goal.at.returns-clause-added c).After-push_reserved in
+    let t = (goal.at.returns-clause-added c).After-push_record in
     let number : c.len-place.result ≡ length (d t).history = search rules in
-    let seat = c.args.accepted.seat in
+    let seat = c.args.accepted.now.seat in
     rw (← c.core.view_is)
-    (subst (λ (n : ℕ). Applies (d t) seat (command t) (Applied n c.args.accepted.reply) (left t))
+    (subst (λ (n : ℕ). Applies (d t) seat (command t) (Applied n c.args.accepted.now.reply) (left t))
     (sym number) (applies t))
 
 pub returns-clause-may : goal.returns-clause-may
 returns-clause-may c =
-    let t = (goal.at.returns-clause-may c).After-push_reserved in
+    let t = (goal.at.returns-clause-may c).After-push_record in
     subst (λ (m : MasterData). MayApply (log_of m) (dead_segment m (command t))
-    (record_now m c.args.accepted.seat (command t)))
+    (record_now m c.args.accepted.now.seat (command t)))
     c.core.view_is (may_apply t)
 
 pub returns-clause-valid : goal.returns-clause-valid
-returns-clause-valid c = core (goal.at.returns-clause-valid c).After-push_reserved
+returns-clause-valid c = core (goal.at.returns-clause-valid c).After-push_record
 
 -- ---- the core as it was, where memory was refused
 
-module _ (c : goal.Joined-accepted-2) where
+module _ (c : goal.After-from_residual) where
   abbrev was : MasterData
   was = the_view c.core.inside
 
   unchanged : was ≡ record was {
     head = c.enact.new.head;
     index = c.enact.new.index.held;
-    history = c.enact.new.history.items;
+    history = c.enact.new.history.records;
   }
   unchanged =
       let kept = c.in_err-enact.ensures.err in
@@ -209,7 +211,7 @@ enact-requires-clause-limit c = (sizes_of c.core.inside.config c.core.invariant.
 pub enact-requires-clause-hash : goal.enact-requires-clause-hash
 enact-requires-clause-hash c =
     c.requires.sought.hash
-    ∙ ap (λ (m : MasterData). hash_of m.index.seed (command_key c.args.accepted.command)) (sym c.core.view_is)
+    ∙ ap (λ (m : MasterData). hash_of m.index.seed (command_key c.args.accepted.now.command)) (sym c.core.view_is)
 
 pub enact-requires-clause-put : goal.enact-requires-clause-put
 enact-requires-clause-put c = λ of_put.
@@ -217,3 +219,8 @@ enact-requires-clause-put c = λ of_put.
     let dead = c.args.judged.now.held.place.segment in
     let change_of = c.requires.judged.change_of in
     ap is_empty (change_of.unit dead) ∙ sym (change_of.nothing dead) ∙ put_is_some change of_put
+
+pub push_record-requires-clause-value : goal.push_record-requires-clause-value
+push_record-requires-clause-value c =
+    subst (λ (r : Reply). IsReplyTo c.args.accepted.now.command r) (sym c.requires.reply)
+    (c.replies_have_one_value.ensures (state_now c.args.core.now) c.args.accepted.now.command)

@@ -7,6 +7,7 @@ use Rattle.store_seat.specs.Seats.{SeatValue, told, noted}
 use Rattle.store_seat.specs.Accounts.{account, Knows}
 use Rattle.std.proofs.lemmas.Option.{same_Some}
 use Rattle.store_seat.proofs.Places.{get_there, set_there}
+use Rattle.history.specs.View.{shown_record}
 use Rattle.store_seat.proofs.filing.file.Goals as goal
 
 -- the account of a seat that the book knows, with one record more
@@ -28,7 +29,7 @@ told_is row new place what t within is at there =
 
 pub returns-then-took-clause-seat : goal.returns-then-took-clause-seat
 returns-then-took-clause-seat g c =
-    let is = told_is c.args.row.now c.set-took.new.self c.args.place c.args.what.now c.receipt.result c.requires.cell
+    let is = told_is c.args.row.now c.set-took.new.self c.args.place (shown_record c.args.what.now) c.receipt.result c.requires.cell
     c.if-took.ensures c.receipt.ensures.receipt.0 c.receipt.ensures.receipt.1 in
     let here : c.match-seat.seat ≡ record {
       number = c.seat.inside.number;
@@ -52,7 +53,7 @@ returns-then-took-clause-seat g c =
       mark =
           c.seat.inside.pen.me.0;
     })
-    ∙ ap (λ (m : SeatValue). noted m (told c.args.place c.args.what.now)) c.seat.view_is)
+    ∙ ap (λ (m : SeatValue). noted m (told c.args.place (shown_record c.args.what.now))) c.seat.view_is)
 
 pub returns-then-took-clause-book : goal.returns-then-took-clause-book
 returns-then-took-clause-book g c = booked c.args.book.now.items _ c.args.seat.now c.index_mut.result.now c.seat.view_is

@@ -9,7 +9,7 @@ use prog.Memory.{Memory}
 use prog.Routine.{Routine}
 use prog.Wp.{Calls, Loops, WpFn, Tables}
 use types.Logic.{Logic}
-use contract.Lifetimes.{Lfts, Shares}
+use contract.Lifetimes.{Lfts, Shares, AllOutlive}
 use contract.Monad.{Fun}
 use contract.Running.{tables, tables_of}
 use sound.WpLaws.{WpFn-mono}
@@ -18,10 +18,10 @@ use types.Run.{no_more, returns, enter}
 use types.Part.{agg}
 use types.ByLocal.{alloc_all, pass_all, free_all, look_at, sets}
 use denote.Exit.{yes}
-use denote.RattleType.{owns}
+use denote.RattleType.{RattleType, owns}
 use denote.Ref.{shr_vals, shr_Tells}
 use denote.Shadow.{pure_i}
-use denote.Signature.{plain, types_at}
+use denote.Signature.{plain, types_at, named_lft}
 use denote.Triple.Entry.{on_entry, alive, Args}
 use denote.Triple.Spec.{Meets, triple_of}
 use denote.Triple.Table.{entered}
@@ -31,21 +31,27 @@ use Rattle.history_row.specs.contracts.kept.Kept.of as f
 use Rattle.history_row.proofs.kept.Kept.of.Statement as stated
 use Rattle.history_row.proofs.kept.Kept.of.Code as code
 use Rattle.history_row.specs.contracts.kept.Kept as kept
-use Rattle.versioned_map.specs.contracts.command.Record as entered_record
+use Rattle.history.specs.View.{shown_record}
+use Rattle.history.specs.contracts.view.RecordRef as entered_record
+
+-- a record that lies in memory of the second lifetime
+abbrev entered_row : Lfts 2 → RattleType
+entered_row κs = entered_record.the_row (named_lft 2 1 tt κs)
 
 abbrev stayed : Stays (f.ended).signature.params (f.ended).kept
-stayed = (stay_none_ref (0 ∷ []) tt (plain (λ _. entered_record.the_row)) yes, tt)
+stayed = (stay_none_ref (0 ∷ []) tt (plain entered_row) yes, tt)
 
 module _ {M : Type 1} {𝓤 : Ura M} (𝓛 : Logic 𝓤) (mem : Memory → SProp 𝓤) (run : Routine → Fun 𝓤) (C : Calls 𝓤 𝓛.H)
     (Λ : Loops 𝓤 𝓛.H) where
   open 𝓛 use {H}
 
-  module _ (κs : Lfts 1) (qs : Shares 1) (a : Args f.signature κs) where
+  module _ (κs : Lfts 2) (qs : Shares 2)
+      (bounds : AllOutlive (f.ended).signature.lifetimes (f.ended).signature.outlives κs) (a : Args f.signature κs) where
     abbrev lent : Val
     lent = vptr a.0.ref_ptr.0 a.0.ref_ptr.1
 
     abbrev bound : (walk_of 𝓛 f.ended stayed (f.clauses 𝓛 mem run)).Ghost
-    bound = ((κs, qs, tt, a, (lent ∷ [], tt)), tt)
+    bound = ((κs, qs, bounds, a, (lent ∷ [], tt)), tt)
 
     abbrev passed : Fml
     passed = owns (types_at f.signature.params κs) a (lent ∷ [], tt)
@@ -56,22 +62,22 @@ module _ {M : Type 1} {𝓤 : Ura M} (𝓛 : Logic 𝓤) (mem : Memory → SProp
         qed 𝓛 (raw (alive 𝓛 f.signature κs qs) ∷ ‵ passed ∷ []) ∵ enter ! C Λ code.function (lent ∷ []) _ $
         alloc_all ! (λ l. pass_all ! refl ((tt, tt), tt) $ sets ! (agg ! (no_more !)) refl (tt, tt) $
         returns ! (look_at ! 0 refl) $ free_all ! refl $
-        suffices ! _ (ends_at 𝓛 f.ended stayed (f.clauses 𝓛 mem run) bound (vstruct vnil) (record { what = a.0.now })
+        suffices ! _ (ends_at 𝓛 f.ended stayed (f.clauses 𝓛 mem run) bound (vstruct vnil) (record { what = shown_record a.0.now })
         (tt, tt) (tt, tt)) $
-        says ! refl $ pure_i ! (kept.the_row.own_val (record { what = a.0.now }) (vstruct vnil ∷ []))
+        says ! refl $ pure_i ! (kept.the_row.own_val (record { what = shown_record a.0.now }) (vstruct vnil ∷ []))
         ((λ vss. (tt, tt)), tt) ((tt, (refl, tt)), tt) $
         move ! (1 ∷ 2 ∷ 0 ∷ []) $ done !)
 
   walks : Walks 𝓛 f.ended stayed (WpFn 𝓤 H C Λ code.function) (f.clauses 𝓛 mem run)
   walks =
       walked 𝓛 f.ended stayed (f.clauses 𝓛 mem run) (WpFn 𝓤 H C Λ code.function) (λ κs. (shr_vals, tt))
-      (λ κs. (shr_Tells (named 0) κs.0 entered_record.the_row, tt))
-      (λ κs qs bounds a g are. via 𝓤 _ (fst∗ 𝓤 _ (emp 𝓤)) (walk κs qs a))
+      (λ κs. (shr_Tells (named 0) κs.0 (entered_row κs), tt))
+      (λ κs qs bounds a g are. via 𝓤 _ (fst∗ 𝓤 _ (emp 𝓤)) (walk κs qs bounds a))
 
 meets : {M : Type 1} {𝓤 : Ura M} (𝓛 : Logic 𝓤) (mem : Memory → SProp 𝓤) (run : Routine → Fun 𝓤) (𝓣 : Tables 𝓤 𝓛.H)
     → Meets 𝓛 f.signature (WpFn 𝓤 𝓛.H 𝓣.C 𝓣.Λ code.function) (f.spec 𝓛 mem run)
 meets {𝓤 = 𝓤} 𝓛 mem run 𝓣 =
-    walk_Meets 𝓛 f.ended stayed (Goes-none_ref 𝓛 1 (0 ∷ []) tt (plain (λ _. entered_record.the_row)) yes, tt)
+    walk_Meets 𝓛 f.ended stayed (Goes-none_ref 𝓛 2 (0 ∷ []) tt (plain entered_row) yes, tt)
     (f.clauses 𝓛 mem run) (WpFn 𝓤 𝓛.H 𝓣.C 𝓣.Λ code.function)
     (WpFn-mono 𝓤 𝓛.H 𝓛.laws 𝓣 code.function) (walks 𝓛 mem run 𝓣.C 𝓣.Λ)
 

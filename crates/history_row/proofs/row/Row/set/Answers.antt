@@ -5,6 +5,7 @@ use Rattle.versioned_map.specs.declared.command.Record.{Record}
 use Rattle.history_row.specs.declared.kept.Kept.{Kept}
 use Rattle.history_row.specs.Rows.{row_of}
 use Rattle.history_row.proofs.Slots.{put_slot}
+use Rattle.history.specs.View.{shown_record}
 use Rattle.history_row.proofs.row.Row.set.Goals as goal
 
 pub invariant_of-self : goal.invariant_of-self
@@ -16,9 +17,9 @@ pub returns : goal.returns
 returns g c =
     let xs = c.self.inside.slots.items in
     let row = row_of (slice_set xs c.args.place c.set.new.self) in
-    let what : c.in-Ok.kept.value.what ≡ c.args.what.now =
+    let what : c.in-Ok.kept.value.what ≡ (shown_record c.args.what.now) =
     ap (λ (k : Kept). k.what) c.in-Ok.ensures.ok ∙ c.of.ensures in
-    subst (λ l. MatchBool c.set.result (row ≡ slice_set l c.args.place (Some c.args.what.now)) (row ≡ l)) c.self.view_is
+    subst (λ l. MatchBool c.set.result (row ≡ slice_set l c.args.place (Some (shown_record c.args.what.now))) (row ≡ l)) c.self.view_is
     (subst (λ (w : Record). MatchBool c.set.result (row ≡ slice_set (row_of xs) c.args.place (Some w))
     (row ≡ row_of xs)) what
     (put_slot c.set.result xs c.args.place c.index_mut-slot.result.now c.set.new.self c.in-Ok.kept.value

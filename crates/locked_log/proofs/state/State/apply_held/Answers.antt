@@ -1,5 +1,6 @@
 use Rattle.std.proofs.Common.{◌≡◌, rules, refl, ap, sym, ◌∙◌, Ok, Err, ◌≤◌, List, [], ◌∷◌, length, length-append}
-use Rattle.std.proofs.Common.{get_or, subst, inl, arith}
+use Rattle.std.proofs.Common.{get_or, subst, inl, arith, ◌<◌}
+use Rattle.std.specs.Prelude.{slice_get}
 use Rattle.versioned_map.specs.declared.command.Record.{Record}
 use Rattle.master.specs.World.{World, world}
 use Rattle.store_seat.specs.declared.fault.CallFault.TheVariants.{CellRefused}
@@ -13,6 +14,8 @@ use Rattle.locked_log.proofs.Applied.{Done, declines_at, took, missed}
 use Rattle.locked_log.proofs.Few.{small}
 use Rattle.locked_log.proofs.Lasting.{lasts_same}
 use Rattle.locked_log.proofs.state.State.apply_held.Given.{Over}
+use Rattle.history.specs.View.{shown_record}
+use Rattle.std.proofs.lemmas.Option.{get_or_from_slice_get, slice_get-get_or}
 use Rattle.locked_log.proofs.state.State.apply_held.Goals as goal
 
 pub returns-in-Err-clause-applies : goal.returns-in-Err-clause-applies
@@ -95,12 +98,13 @@ done-missed : (g : Over) (c : goal.Joined-reply g)
     c.file.new.seat g.B.Naming.made
 done-missed g c =
     let known : Knows c.args.self.now.book c.args.seat.now = c.knows.ensures.0 (search rules) in
+    let what = shown_record c.in-Some.what in
     missed g.F.Fleet.state _ c.args.self.now c.self.view_is c.args.seat.now c.number.result c.number.ensures
-    c.args.command c.in-Ok.applied.0 c.in-Ok.applied.1 _ g.B.Naming.made c.index-history-place.result
+    c.args.command c.in-Ok.applied.0 c.in-Ok.applied.1 _ g.B.Naming.made what
     c.self.invariant known c.if-self.false c.in-Ok.ensures.gives c.apply_command.ensures.keeps
     c.apply_command.ensures.valid
-    (c.index-history-place.is ∙ ap (λ (h : List Record). get_or h c.in-Ok.applied.0 c.index-history-place.result)
-    c.history.ensures)
+    (sym (get_or_from_slice_get _ c.in-Ok.applied.0 what what (sym (c.in-Some.ensures
+    ∙ ap (λ (h : List Record). slice_get h c.in-Ok.applied.0) c.history.ensures))))
     c.file.ensures.book c.file.ensures.total c.file.new.seat c.if-not-file.ensures.row c.if-not-file.ensures.refused
     c.if-not-file.ensures.seat
 
@@ -129,12 +133,13 @@ done-took : (g : Over) (c : goal.Else-not-file g)
     c.file.new.seat g.B.Naming.made
 done-took g c =
     let known : Knows c.args.self.now.book c.args.seat.now = c.knows.ensures.0 (search rules) in
+    let what = shown_record c.in-Some.what in
     took g.F.Fleet.state _ c.args.self.now c.self.view_is c.args.seat.now c.number.result c.number.ensures
-    c.args.command c.in-Ok.applied.0 c.in-Ok.applied.1 _ g.B.Naming.made c.index-history-place.result
+    c.args.command c.in-Ok.applied.0 c.in-Ok.applied.1 _ g.B.Naming.made what
     c.self.invariant known c.if-self.false c.in-Ok.ensures.gives c.apply_command.ensures.keeps
     c.apply_command.ensures.valid
-    (c.index-history-place.is ∙ ap (λ (h : List Record). get_or h c.in-Ok.applied.0 c.index-history-place.result)
-    c.history.ensures)
+    (sym (get_or_from_slice_get _ c.in-Ok.applied.0 what what (sym (c.in-Some.ensures
+    ∙ ap (λ (h : List Record). slice_get h c.in-Ok.applied.0) c.history.ensures))))
     c.file.ensures.book c.file.ensures.total c.file.new.seat c.if-not-file.ensures.row c.if-not-file.ensures.refused
     c.if-not-file.ensures.seat
 
@@ -184,15 +189,21 @@ returns-then-not-knows-clause-valid g c =
 
 -- ---- the place of the record
 
-pub bounds-history-place : goal.bounds-history-place
-bounds-history-place g c =
+pub unreachable-requires : goal.unreachable-requires
+unreachable-requires g c =
     let old = world g.F.Fleet.state c.self.inside.master in
     let new = world g.F.Fleet.state c.apply_command.new.master in
     let accepted = c.in-Ok.ensures.gives in
     let at_end = place_is old new c.number.result c.args.command c.in-Ok.applied.0 c.in-Ok.applied.1 accepted in
     let more = history_is old new c.number.result c.args.command c.in-Ok.applied.0 c.in-Ok.applied.1 accepted in
-    let one = length-append old.knows.history (record_by c.number.result c.args.command c.in-Ok.applied.1 ∷ []) in
-    omega (arith, at_end, ap length more, one, ap length c.history.ensures)
+    let mine = record_by c.number.result c.args.command c.in-Ok.applied.1 in
+    let one = length-append old.knows.history (mine ∷ []) in
+    let below : c.in-Ok.applied.0 < length new.knows.history = omega (arith, at_end, ap length more, one) in
+    let some = slice_get-get_or new.knows.history c.in-Ok.applied.0 mine below in
+    let none = c.in_default.ensures
+    ∙ ap (λ (h : List Record). slice_get h c.in-Ok.applied.0) c.history.ensures in
+    let never = none ∙ some in
+    cc
 
 pub file-requires-clause-cell : goal.file-requires-clause-cell
 file-requires-clause-cell g c =

@@ -1,9 +1,10 @@
-use Rattle.std.proofs.Common.{List, None, replicate, refl, ap, ◌∙◌, subst}
+use Rattle.std.proofs.Common.{List, None, length, replicate, refl, ap, ◌∙◌, subst, arith}
 use Rattle.versioned_map.specs.declared.command.Record.{Record}
 use Rattle.master_state.specs.declared.config.Config.{Config}
 use Rattle.locked_log.specs.Ends.{BlankValue, fresh_book}
 use Rattle.store_seat.specs.Seats.{fresh_seats}
 use Rattle.locked_log.specs.Sharing.{AreFiled}
+use Rattle.locked_log.proofs.Few.{few_records}
 use Rattle.locked_log.proofs.Refiling.{filed_none, shares}
 use Rattle.locked_log.proofs.store.Store.share.Goals as goal
 
@@ -14,6 +15,14 @@ file_all-requires-clause-none g c =
     (c.named-row.ensures ∙ ap (λ (b : BlankValue). b.row) c.blank.view_is ∙ c.requires.empty
     ∙ ap (λ (x : Config). replicate x.history None) c.requires.made.config)
     (c.in-Ok.ensures ∙ ap fresh_book seats) c.open-total.ensures.total (c.in-Ok-seat_all.ensures ∙ ap fresh_seats seats)
+
+pub file_all-requires-clause-room : goal.file_all-requires-clause-room
+file_all-requires-clause-room g c =
+    let long = ap (λ (l : List Record). length l) c.history.ensures in
+    let most = c.show_valid.ensures.history in
+    let made = ap (λ (x : Config). x.history) c.requires.made.config in
+    let few = few_records c.args.master.knows.config c.show_valid.ensures.config in
+    (omega (arith, long, most, made), omega (arith, long, most, few))
 
 pub invariant_of-state : goal.invariant_of-state
 invariant_of-state g c =

@@ -18,7 +18,7 @@ invariant_of-core c =
     let nothing : c.nothing.result.objects ≡ [] = search rules in
     let index : c.with_hasher.result.held ≡ no_places (secret_seed c.args.config.hasher.secret) =
     ap (λ (v : IndexValue). v.held) c.with_hasher.ensures in
-    let history : c.new.result.items ≡ [] = search rules in
+    let history : c.new.result.records ≡ [] = search rules in
     let waiting : c.new-2.result.items ≡ [] = search rules in
     let head : c.in_ok-head.head ≡ fresh_head c.args.config.master c.args.config.replicas
     (lone_start c.args.safe) = search rules in
@@ -40,7 +40,7 @@ invariant_of-core c =
 pub returns-clause-log : goal.returns-clause-log
 returns-clause-log c =
     let nothing : c.nothing.result.objects ≡ [] = search rules in
-    let history : c.new.result.items ≡ [] = search rules in
+    let history : c.new.result.records ≡ [] = search rules in
     let head : c.in_ok-head.head ≡ fresh_head c.args.config.master c.args.config.replicas
     (lone_start c.args.safe) = search rules in
     rw (head, history, nothing)

@@ -2,7 +2,7 @@ use Rattle.std.proofs.Common.{inl, inr, refl}
 use Rattle.lines.specs.Grammar.{Idle}
 use Rattle.answers.specs.declared.answer.Answer.TheVariants.{Silent}
 use Rattle.node.proofs.Standing.{stays_told}
-use Rattle.script.proofs.session.Session.run_line.Goals as goal
+use Rattle.script.proofs.session.Session.run_any.Goals as goal
 
 pub returns-in-Idle-clause-ran : goal.returns-in-Idle-clause-ran
 returns-in-Idle-clause-ran g c = rw c.in-Idle.is (inl (record {

@@ -1,0 +1,6 @@
+pub mod View
+pub mod Packing
+pub mod Texts
+pub mod Rows
+pub mod Records
+pub mod Replies

@@ -1,0 +1,123 @@
+//! The history of accepted commands.
+
+ghost use Rattle.std.specs.Prelude.{◌≡◌, ◌==◌, ◌≤◌, ◌∷◌, ◌++◌, [], length, slice_get, OnOk, OnErr};
+ghost use Rattle.std.specs.Option.{option_map};
+ghost use Rattle.history.specs.View.{shown_record};
+ghost use Rattle.history.specs.Packing.{HasOneValue};
+ghost use Rattle.history.specs.Records.{len_of};
+
+use crate::owning::{view_command, view_reply};
+use crate::packing::{key_of, pack, unpack, value_of};
+use crate::rows::Rows;
+use crate::texts::Texts;
+use crate::view::RecordRef;
+use entry::NoMemory;
+use std::alloc::Global;
+use std::marker::Model;
+use versioned_map::Record;
+
+/// The accepted commands, in order, each with its seat and its reply. A contract sees a list of records, and how many
+/// bytes of a key and a value one more may have (*room*): memory for it was taken.
+///
+/// A record takes 48 bytes, and those of its key and its value. Memory is taken for 1,024 records at a time, and for
+/// 262,144 bytes of keys and values, or for those of one record if it has more. What doesn't fit into the rest of a
+/// block begins the next one. What is there never moves.
+#[derive(Drop)]
+pub struct History {
+    rows: Rows,
+    texts: Texts,
+    alloc: Global,
+}
+
+impl Model for History {
+    ghost use Rattle.std.specs.Prelude.{◌<◌};
+    ghost use Rattle.history.specs.Records.{HistoryValue, records_in, AreRows};
+
+    ghost Value = { HistoryValue };
+
+    ghost view = { λ h. record { records = records_in h.texts h.rows.rows; room = h.texts.room } };
+
+    ghost invariant = { λ h. AreRows h.texts h.rows.rows × (0 < h.texts.room → 0 < h.rows.room) };
+}
+
+impl History {
+    /// A history without records. It takes no memory.
+    pub fn new(alloc: Global) -> History
+        ensures { result ≡ record { records = []; room = 0 } }
+    {
+        History {
+            rows: Rows::new(alloc),
+            texts: Texts::new(alloc),
+            alloc,
+        }
+    }
+
+    /// How many records there are.
+    pub fn len(&self) -> usize
+        ensures { result ≡ length self.now.records }
+    {
+        self.rows.len()
+    }
+
+    /// Whether there is no record.
+    pub fn is_empty(&self) -> bool
+        ensures { result ≡ (length self.now.records == 0) }
+    {
+        self.rows.len() == 0
+    }
+
+    /// Takes memory for one more record with at most so many bytes of a key and a value. Mostly enough is left from
+    /// earlier calls, and it takes none. It fails only if memory runs out, or with some 2^42 records or 2^32 blocks of
+    /// text; then nothing changed.
+    pub fn reserve(&mut self, bytes: usize) -> Result<(), NoMemory>
+        ensures room { OnOk result (self.new.room ≡ bytes) }
+        ensures records { self.new.records ≡ self.old.records }
+        ensures err { OnErr result (self.new ≡ self.old) }
+    {
+        self.rows.reserve(self.alloc)?;
+        self.texts.reserve(bytes, self.alloc)
+    }
+
+    /// One more record, for which memory was taken: it takes none and can't fail. It uses up the room.
+    pub fn push(&mut self, accepted: &RecordRef<'_>)
+        requires value { HasOneValue (shown_record accepted.now) }
+        requires room { len_of (shown_record accepted.now) ≤ self.old.room }
+        ensures records { self.new.records ≡ self.old.records ++ shown_record accepted.now ∷ [] }
+        ensures room { self.new.room ≡ 0 }
+    {
+        let key = key_of(&accepted.command);
+        let value = value_of(&accepted.command, &accepted.reply);
+        let (block, start) = self.texts.push(key.bytes, value);
+        self.rows.push(pack(accepted, block, start));
+    }
+
+    /// `push` of a record that is not in a history yet.
+    pub fn push_record(&mut self, accepted: &Record)
+        requires value { HasOneValue accepted.now }
+        requires room { len_of accepted.now ≤ self.old.room }
+        ensures records { self.new.records ≡ self.old.records ++ accepted.now ∷ [] }
+        ensures room { self.new.room ≡ 0 }
+    {
+        self.push(&RecordRef {
+            seat: accepted.seat,
+            command: view_command(&accepted.command),
+            reply: view_reply(&accepted.reply),
+        });
+    }
+
+    /// The record at a place, which counts from 0; `None` if there are not so many. It takes no memory, and its time
+    /// depends neither on the place nor on how many records there are.
+    pub fn get(&self, place: usize) -> Option<RecordRef<'_>>
+        ensures { option_map shown_record result ≡ slice_get self.entry.now.records place }
+    {
+        if place >= self.rows.len() {
+            return None;
+        }
+        let row = self.rows.get(place);
+        let start = row.start as usize;
+        let len = row.key_len as usize + row.value_len as usize;
+        let bytes = self.texts.part(row.block as usize, start, len);
+        let (key, value) = bytes.split_at(row.key_len as usize);
+        Some(unpack(&row, key, value))
+    }
+}

@@ -1,0 +1,109 @@
+//! The bytes of keys and values, in blocks of text.
+
+ghost use Rattle.std.specs.Prelude.{◌≡◌, ◌+◌, ◌<◌, ◌≤◌, [], length, OnOk, OnErr};
+ghost use Rattle.history.specs.Texts.{text_at, part, IsWithin, KeepsParts};
+
+use entry::NoMemory;
+use std::alloc::{AllocError, Global};
+use std::marker::Model;
+use std::mem::replace;
+
+/// How many bytes an allocation takes memory for, unless one record needs more.
+const TEXT: usize = 262_144;
+
+/// What the numbers of blocks and of bytes in one are below.
+const LIMIT: usize = 4_294_967_296;
+
+/// Texts that grow without a move: only the last one grows, and a further one begins where it has no room left.
+#[derive(Drop)]
+pub(crate) struct Texts {
+    full: Vec<Vec<u8>>,
+    last: Vec<u8>,
+    /// For how many more bytes at the end of the last one memory was taken.
+    room: usize,
+}
+
+impl Model for Texts {
+    ghost use Rattle.std.specs.Prelude.{◌+◌, ◌<◌, ◌≤◌, map, length, vec_len, vec_capacity};
+    ghost use Rattle.history.specs.Texts.{TextsValue, HasRoom};
+
+    ghost Value = { TextsValue };
+
+    ghost view = { λ t. record { full = map (λ b. b.items) t.full.items; last = t.last.items; room = t.room } };
+
+    ghost invariant = { λ t. HasRoom (vec_len t.full) (vec_len t.last) (vec_capacity t.last) t.room };
+}
+
+impl Texts {
+    /// No text. It takes no memory.
+    pub(crate) fn new(alloc: Global) -> Texts
+        ensures { result ≡ record { full = []; last = []; room = 0 } }
+    {
+        Texts {
+            full: Vec::new(alloc),
+            last: Vec::new(alloc),
+            room: 0,
+        }
+    }
+
+    /// The text of this number; the last one, if no full one has it.
+    fn text(&self, block: usize) -> &[u8]
+        ensures { result.now ≡ text_at self.entry.now block }
+    {
+        if block < self.full.len() {
+            self.full[block].as_slice()
+        } else {
+            self.last.as_slice()
+        }
+    }
+
+    /// A part of a text: so many bytes, behind so many others.
+    pub(crate) fn part(&self, block: usize, start: usize, len: usize) -> &[u8]
+        requires { IsWithin self.now block start len }
+        ensures { result.now ≡ part self.entry.now block start len }
+    {
+        let text = self.text(block);
+        &text[start..start + len]
+    }
+
+    /// Takes memory for so many bytes in a row. On `Err` nothing changed.
+    pub(crate) fn reserve(&mut self, bytes: usize, alloc: Global) -> Result<(), NoMemory>
+        ensures room { OnOk result (self.new.room ≡ bytes) }
+        ensures parts { KeepsParts self.old self.new }
+        ensures err { OnErr result (self.new ≡ self.old) }
+    {
+        let len = self.last.len();
+        if len >= LIMIT || bytes > self.last.capacity() - len {
+            if self.full.len() >= LIMIT - 1 {
+                return Err(AllocError);
+            }
+            self.full.reserve(1)?;
+            let next = Vec::with_capacity(alloc, bytes.max(TEXT))?;
+            let last = replace(&mut self.last, next);
+            if !last.is_empty() {
+                self.full.push_reserved(last);
+            }
+        }
+        self.room = bytes;
+        Ok(())
+    }
+
+    /// The bytes of a key and of a value, one behind the other, for which memory was taken. The number of their text,
+    /// and how many of its bytes come before them.
+    pub(crate) fn push(&mut self, key: &[u8], value: &[u8]) -> (u32, u32)
+        requires some { 0 < length key.now }
+        requires room { length key.now + length value.now ≤ self.old.room }
+        ensures room { self.new.room ≡ 0 }
+        ensures parts { KeepsParts self.old self.new }
+        ensures within { IsWithin self.new result.0 result.1 (length key.now + length value.now) }
+        ensures key { part self.new result.0 result.1 (length key.now) ≡ key.now }
+        ensures value { part self.new result.0 (result.1 + length key.now) (length value.now) ≡ value.now }
+    {
+        let block = self.full.len() as u32;
+        let start = self.last.len() as u32;
+        self.last.extend_from_slice(key).unwrap();
+        self.last.extend_from_slice(value).unwrap();
+        self.room = 0;
+        (block, start)
+    }
+}
