@@ -251,8 +251,8 @@ class Change:
     lines: str
     # Of images: a head and the survivor of an open pass have a whole segment, others their length.
     images: int
-    # Of replicas. They grow as they are written, and may have up to twice their length. One that is opened takes as much as the
-    # longest that its backup closed, and one that is freed leaves its memory there for the next.
+    # Of replicas. They grow as they are written, and may have up to twice their length. One that is opened takes an eighth more than
+    # the longest that its backup closed, and one that is freed leaves its memory there for the next.
     replicas: int = 0
     # Of values in the history of the master. Each may take some bytes more.
     values: int = 0
@@ -274,18 +274,19 @@ CHANGES = [
     Change("roll\n", TEXT),
     # One object lives, and tombstones stay.
     Change("compact 4\n", G - TEXT),
-    # The new head's replicas take as much as the old one's have, and these leave theirs.
+    # The new head's replicas take a little more than the old one's have, and these leave theirs. So the new ones don't grow.
     Change("clean 4\n", 0, 2 * TEXT),
-    Change(PUTS, 0, 2 * TEXT, N * VALUE),
+    Change(PUTS, 0, 0, N * VALUE),
     # The images of the head and of four short segments go, and the whole history.
     Change("crash\n", -S - 4 * G, 0, -2 * N * VALUE),
-    Change("lose 1\n", 0, -TEXT),
-    # The new master has one object. Its replicas have the memory of freed ones, and the last one of the old head leaves its own.
-    Change("recover\n", S),
+    # A replica goes, and the memory of a freed one.
+    Change("lose 1\n", 0, -2 * TEXT),
+    # The new master has one object. One of its replicas has the memory of a freed one, and one takes its own.
+    Change("recover\n", S, TEXT),
     Change("crash\n", -S),
 ]
-# So many long replicas were freed.
-FREED = 3
+# So many long pieces are left: what a freed replica had, and the two of the last head.
+LEFT = 3
 
 
 def bytes_of(process):
@@ -310,8 +311,8 @@ def memory_is_taken_and_given_back(program):
                 before = after
         finally:
             process.kill()
-    if before > SMALL + 2 * FREED * TEXT:
-        raise AssertionError(f"wanted no more at the end than {FREED} freed replicas leave, and {before} bytes are left")
+    if before > SMALL + 2 * LEFT * TEXT:
+        raise AssertionError(f"wanted no more at the end than {LEFT} long replicas have, and {before} bytes are left")
 
 
 TESTS = [

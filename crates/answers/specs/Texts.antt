@@ -5,7 +5,7 @@ use Rattle.std.specs.List.{flat_map}
 use Rattle.std.specs.Fmt.{decimal, digit_glyph}
 use Rattle.std.specs.Int.{w64, to_be_bytes}
 use Rattle.entry.specs.declared.entry.Object.{Object}
-use Rattle.replica.specs.declared.holding.Holding.{Holding}
+use Rattle.replica.specs.declared.label.Label.{Label}
 use Rattle.replica.specs.declared.op.TakeFault.{TakeFault}
 use Rattle.replica.specs.declared.op.TakeFault.TheVariants as take_fault
 use Rattle.claims.specs.declared.rebuilt.Rebuilt.{Rebuilt}
@@ -69,10 +69,9 @@ state_text true = codes " open\n"
 state_text false = codes " closed\n"
 
 -- backup, master, segment, length and state of a replica
-abbrev pub holding_text : Holding → List ℕ
-holding_text h =
-    decimal h.backup ++ 32 ∷ decimal h.master ++ 32 ∷ decimal h.segment ++ 32 ∷ decimal (length h.bytes)
-    ++ state_text h.is_open
+abbrev pub label_text : Label → List ℕ
+label_text l =
+    decimal l.backup ++ 32 ∷ decimal l.master ++ 32 ∷ decimal l.segment ++ 32 ∷ decimal l.len ++ state_text l.is_open
 
 -- the name of a fault
 abbrev pub take_fault_text : TakeFault → List ℕ
@@ -126,7 +125,7 @@ answer_text (answer.Log ids) = log_text ids
 answer_text (answer.Room used free) = room_text used free
 answer_text (answer.Will parts limits) = will_text parts
 answer_text (answer.BadLimits limits) = codes "refused BadLimits" ++ 10 ∷ []
-answer_text (answer.Holdings hs) = flat_map holding_text hs
+answer_text (answer.Holdings labels) = flat_map label_text labels
 answer_text answer.Down = codes "refused Down" ++ 10 ∷ []
 answer_text (answer.NotRetired fault) = codes "refused " ++ take_fault_text fault ++ 10 ∷ []
 answer_text answer.NumbersSpent = codes "refused NumbersSpent" ++ 10 ∷ []

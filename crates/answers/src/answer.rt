@@ -6,15 +6,18 @@ ghost use Rattle.std.specs.Io.KnownBytes.{Appends};
 ghost use Rattle.tablet_will.specs.Parts.{partitions_of};
 ghost use Rattle.answers.specs.Texts.{answer_text, hex_digits, hex_text, object_text, rebuilt_text, reply_text};
 ghost use Rattle.answers.specs.Texts.{part_text, place_text, will_text, take_fault_text};
-ghost use Rattle.answers.specs.Texts.{op_text, log_text, room_text, spaced_text, holding_text};
+ghost use Rattle.answers.specs.Texts.{op_text, log_text, room_text, spaced_text, label_text};
 ghost use Rattle.std.specs.List.{flat_map};
+ghost use Rattle.entry.specs.View.{shown_object};
+ghost use Rattle.history.specs.View.{shown_reply};
 
 use crate::limits::Limits;
-use entry::{Object, Row, Value, Version};
+use entry::{ObjectRef, Row, Version};
+use history::{ReplyRef, view_reply};
 use itoa::write_digits;
 use master::{Refusal, Reply};
 use recovery::{Rebuilt, RecoveryFault};
-use replica::{Bytes, Holding, Inventory, TakeFault};
+use replica::{Label, Labels, TakeFault};
 use std::io::{self, Write};
 use tablet_will::Part;
 
@@ -26,7 +29,7 @@ pub enum Answer {
     Reply(Reply),
     Refused(Refusal),
     /// The image of a segment.
-    Hex(Bytes),
+    Hex(Row<u8>),
     /// There is no image of this segment.
     NotInLog(u64),
     /// How many more ops the fleet takes.
@@ -79,7 +82,7 @@ pub enum Answer {
     /// No will was made: a partition may have no byte, or no object.
     BadLimits(Limits),
     /// What the backups hold.
-    Holdings(Inventory),
+    Holdings(Labels),
     /// The line was refused: there is no master.
     Down,
     /// The line was refused: there is a master.
@@ -100,7 +103,7 @@ pub fn write_answer<W: Write>(writer: &mut W, answer: &Answer) -> io::Result<()>
 {
     match answer {
         Answer::Silent => Ok(()),
-        Answer::Reply(reply) => write_reply(writer, reply),
+        Answer::Reply(reply) => write_reply(writer, &view_reply(reply)),
         Answer::Refused(refusal) => writeln!(writer, "refused {refusal}"),
         Answer::Hex(bytes) => write_hex(writer, bytes.as_slice()),
         Answer::NotInLog(segment) => write_number(writer, b"refused NotInLog ", *segment, b'\n'),
@@ -132,7 +135,7 @@ pub fn write_answer<W: Write>(writer: &mut W, answer: &Answer) -> io::Result<()>
         Answer::Room(used, free) => write_room(writer, *used, *free),
         Answer::Will(parts, _) => write_will(writer, parts.as_slice()),
         Answer::BadLimits(_) => writer.write_all(b"refused BadLimits\n"),
-        Answer::Holdings(inventory) => write_holdings(writer, inventory.as_slice()),
+        Answer::Holdings(labels) => write_labels(writer, labels.as_slice()),
         Answer::Down => writer.write_all(b"refused Down\n"),
         Answer::Up => writer.write_all(b"refused Up\n"),
         Answer::SeatUnknown => writer.write_all(b"refused SeatUnknown\n"),
@@ -140,16 +143,20 @@ pub fn write_answer<W: Write>(writer: &mut W, answer: &Answer) -> io::Result<()>
     }
 }
 
+/// Writes the line of a reply, whose value may lie anywhere.
 #[inline(always)]
-fn write_reply<W: Write>(writer: &mut W, reply: &Reply) -> io::Result<()>
-    ensures { OnOk result (Appends (W.contents writer.old) (W.contents writer.new) (reply_text reply.now)) }
+pub fn write_reply<W: Write>(writer: &mut W, reply: &ReplyRef<'_>) -> io::Result<()>
+    ensures { OnOk result (Appends (W.contents writer.old) (W.contents writer.new)
+        (reply_text (shown_reply reply.now))) }
 {
     match reply {
-        Reply::Found(version, value) => write_versioned(writer, *version, value),
-        Reply::None => writer.write_all(b"none\n"),
-        Reply::Ok(version) => write_number(writer, b"ok ", version.get(), b'\n'),
-        Reply::Mismatch(None) => writer.write_all(b"mismatch none\n"),
-        Reply::Mismatch(Some(version)) => write_number(writer, b"mismatch ", version.get(), b'\n'),
+        ReplyRef::Found(version, value) => write_versioned(writer, *version, value.bytes),
+        ReplyRef::None => writer.write_all(b"none\n"),
+        ReplyRef::Ok(version) => write_number(writer, b"ok ", version.get(), b'\n'),
+        ReplyRef::Mismatch(None) => writer.write_all(b"mismatch none\n"),
+        ReplyRef::Mismatch(Some(version)) => {
+            write_number(writer, b"mismatch ", version.get(), b'\n')
+        }
     }
 }
 
@@ -183,11 +190,10 @@ fn write_number<W: Write>(writer: &mut W, words: &[u8], number: u64, last: u8) -
 
 /// Writes the end of a line that shows a version and a value.
 #[inline(always)]
-fn write_versioned<W: Write>(writer: &mut W, version: Version, value: &Value) -> io::Result<()>
+fn write_versioned<W: Write>(writer: &mut W, version: Version, value: &[u8]) -> io::Result<()>
     ensures { OnOk result (Appends (W.contents writer.old) (W.contents writer.new)
         (decimal version ++ 32 ∷ value.now ++ 10 ∷ [])) }
 {
-    let value = value.as_slice();
     if value.len() <= SHORT_VALUE_LEN {
         return write_short(writer, version.get(), value);
     }
@@ -322,14 +328,14 @@ fn write_ids<W: Write>(writer: &mut W, ids: &[u64]) -> io::Result<()>
 }
 
 /// Writes the line of a replica.
-fn write_holding<W: Write>(writer: &mut W, holding: &Holding) -> io::Result<()>
-    ensures { OnOk result (Appends (W.contents writer.old) (W.contents writer.new) (holding_text holding.now)) }
+fn write_label<W: Write>(writer: &mut W, label: &Label) -> io::Result<()>
+    ensures { OnOk result (Appends (W.contents writer.old) (W.contents writer.new) (label_text label.now)) }
 {
-    write_number(writer, b"", holding.backup, b' ')?;
-    write_number(writer, b"", holding.master, b' ')?;
-    write_number(writer, b"", holding.segment, b' ')?;
-    let len = holding.bytes.as_slice().len();
-    if holding.is_open {
+    write_number(writer, b"", label.backup, b' ')?;
+    write_number(writer, b"", label.master, b' ')?;
+    write_number(writer, b"", label.segment, b' ')?;
+    let len = label.len;
+    if label.is_open {
         writeln!(writer, "{len} open")
     } else {
         writeln!(writer, "{len} closed")
@@ -338,24 +344,25 @@ fn write_holding<W: Write>(writer: &mut W, holding: &Holding) -> io::Result<()>
 
 /// Writes a line for each replica, in order.
 #[inline(never)]
-fn write_holdings<W: Write>(writer: &mut W, holdings: &[Holding]) -> io::Result<()>
+fn write_labels<W: Write>(writer: &mut W, labels: &[Label]) -> io::Result<()>
     ensures { OnOk result (Appends (W.contents writer.old) (W.contents writer.new)
-        (flat_map holding_text holdings.now)) }
+        (flat_map label_text labels.now)) }
 {
-    for holding in holdings {
-        write_holding(writer, holding)?;
+    for label in labels {
+        write_label(writer, label)?;
     }
     Ok(())
 }
 
 /// Writes the line of an object.
-fn write_object<W: Write>(writer: &mut W, object: &Object) -> io::Result<()>
-    ensures { OnOk result (Appends (W.contents writer.old) (W.contents writer.new) (object_text object.now)) }
+fn write_object<W: Write>(writer: &mut W, object: &ObjectRef<'_>) -> io::Result<()>
+    ensures { OnOk result (Appends (W.contents writer.old) (W.contents writer.new)
+        (object_text (shown_object object.now))) }
 {
     write_number(writer, b"", object.key.table, b' ')?;
-    writer.write_all(object.key.bytes.as_slice())?;
+    writer.write_all(object.key.bytes)?;
     writer.write_all(b" ")?;
-    write_versioned(writer, object.version, &object.value)
+    write_versioned(writer, object.version, object.value)
 }
 
 /// Writes a line for each object, in order, and a line with their number.
@@ -364,7 +371,7 @@ fn write_rebuilt<W: Write>(writer: &mut W, rebuilt: &Rebuilt) -> io::Result<()>
     ensures { OnOk result (Appends (W.contents writer.old) (W.contents writer.new) (rebuilt_text rebuilt.now)) }
 {
     for object in rebuilt.objects.iter() {
-        write_object(writer, object)?;
+        write_object(writer, &object)?;
     }
     write_number(writer, b"recovered ", rebuilt.objects.len() as u64, b'\n')
 }

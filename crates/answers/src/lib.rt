@@ -1,6 +1,7 @@
 //! What a script prints: the answers of its lines, and the lines that say how a run ended.
 //!
-//! `write_answer` promises that with Ok it wrote the text of its answer, and nothing else. `report` and
+//! `write_answer` promises that with Ok it wrote the text of its answer, and nothing else; `write_reply` does so for a
+//! reply that lies elsewhere. `report` and
 //! `report_config` promise the lines of a fault and the program's exit status, on an `ErrorOutput`, which writes no
 //! more once writing has failed. `specs/Texts.antt` is what each answer, refusal and fault is printed as. The crate
 //! does nothing with a master.
@@ -11,7 +12,7 @@ mod errors;
 mod fault;
 mod limits;
 
-pub use answer::{Answer, write_answer};
+pub use answer::{Answer, write_answer, write_reply};
 pub use errors::ErrorOutput;
 pub use fault::{ScriptFault, report, report_config};
 pub use limits::Limits;

@@ -6,7 +6,7 @@ use Rattle.std.specs.Map.{lookup}
 use Rattle.std.specs.List.{All, AllByRecursion, slice_get}
 use Rattle.std.specs.BTreeMap.{is_at}
 use Rattle.std.proofs.lemmas.List.Elements.{All-contains, All-map}
-use Rattle.std.proofs.lemmas.Map.Views.{All-found, tells_apart}
+use Rattle.std.proofs.lemmas.Map.Views.{tells_apart}
 use Rattle.std.proofs.lemmas.Option.{same_Some}
 use Rattle.std.proofs.lemmas.List.{at_drop_more, get_or_default}
 use Rattle.std.proofs.lemmas.Bool.{ltb-true, ltb-false}
@@ -15,9 +15,11 @@ use Rattle.entry.proofs.BagLemmas.{among_place, among_left, among_right, among_e
 use Rattle.replica.specs.Picture.{Replica, IsHeld}
 use Rattle.replica.specs.declared.holding.Holding.{Holding}
 use Rattle.backup.specs.declared.memory.MemoryBackup.{MemoryBackup}
-use Rattle.backup.specs.Shelf.{place_cmp, replica_at, holding_of, holdings_of, IsInOrder}
+use Rattle.backup.specs.Shelf.{replica_at, holding_of, holdings_of, IsInOrder}
+use Rattle.backup.specs.Slots.{place_cmp}
 use Rattle.backup.specs.State.{replica_on, picture_of}
-use Rattle.backup.proofs.Places.{place_total, place_exact}
+use Rattle.backup.proofs.Places.{place_exact}
+use Rattle.backup.proofs.Shelves.{all_found}
 
 -- what holds of each element's image holds of each member of the images
 pub image_has : {A B : Type 0} (f : A → B) (Q : B → Type 0) (xs : List A) → All (λ x. Q (f x)) xs → (y : B)
@@ -48,9 +50,8 @@ shown_value h = record { bytes = h.bytes; is_open = h.is_open }
 pub among_held : (b : ℕ) (memory : MemoryBackup) → IsInOrder memory → (h : Holding) → IsAmong h (holdings_of b memory)
     → (h.backup ≡ b) × (replica_at memory h.master h.segment ≡ Some (shown_value h))
 among_held b memory ordered =
-    let found = All-found place_total memory.replicas ordered in
     image_has (holding_of b) (λ h. (h.backup ≡ b) × (replica_at memory h.master h.segment ≡ Some (shown_value h)))
-    memory.replicas.entries (λ k d l. (refl, found k d l))
+    memory.replicas (λ k d l. (refl, all_found memory.replicas ordered k d l))
 
 pub held_among : (b : ℕ) (memory : MemoryBackup) → (h : Holding) → h.backup ≡ b
     → replica_at memory h.master h.segment ≡ Some (shown_value h) → IsAmong h (holdings_of b memory)
@@ -62,7 +63,7 @@ held_among b memory h at held =
       bytes = h.bytes;
       is_open = h.is_open;
     }) (holdings_of b memory)) (sym at)
-    (found_among b memory.replicas.entries (h.master, h.segment) (shown_value h) held)
+    (found_among b memory.replicas (h.master, h.segment) (shown_value h) held)
 
 -- a list of backups, each in order
 abbrev pub AreInOrder : List MemoryBackup → Type 0
@@ -154,15 +155,3 @@ module _ (seen backups : List MemoryBackup) (i : ℕ) (x : MemoryBackup) (same :
             found ∙ get_or_default backups i x d within ∙ ap (λ n. get_or backups n d) last in
             subst IsInOrder is here
       ] refl
-
--- one replica more of a backup is shown
-pub entry_shown : (b : ℕ) (es left : List ((ℕ × ℕ) × Replica)) (x : (ℕ × ℕ) × Replica) (h : Holding)
-    (old new all : List Holding) → es ≡ x ∷ left →
-    h ≡ holding_of b x → new ≡ old ++ h ∷ [] →
-    old ++ map (holding_of b) es ≡ all →
-    new ++ map (holding_of b) left ≡ all
-entry_shown b es left x h old new all first is pushed held =
-    ap (λ (hs : List Holding). hs ++ map (holding_of b) left) (pushed ∙ ap (λ (g : Holding). old ++ g ∷ []) is)
-    ∙ append_assoc old (holding_of b x ∷ []) (map (holding_of b) left)
-    ∙ ap (λ (es : List ((ℕ × ℕ) × Replica)). old ++ map (holding_of b) es) (sym first)
-    ∙ held

@@ -1,4 +1,6 @@
 mod Places
+mod Shelves
+mod Acting
 mod Pictures
 mod Held
 mod Rising

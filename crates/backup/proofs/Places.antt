@@ -3,7 +3,7 @@ use Rattle.std.proofs.Common.{◌≡◌, ℕ, ◌==◌, ◌&&◌, refl, sym, ◌
 use Rattle.std.specs.Ordering.{is_eq, nat_cmp, ordering_then}
 use Rattle.std.specs.Cmp.{IsTotalOrder, unsigned_tied, tied_then, nat_cmp_total, then_total, on_total}
 use Rattle.std.proofs.lemmas.Map.Lookups.{CmpEqualImpliesEq, exact_pairs, exact_unsigned}
-use Rattle.backup.specs.Shelf.{place_cmp}
+use Rattle.backup.specs.Slots.{place_cmp}
 
 -- two places tie if both numbers are the same
 pub is_eq-place_cmp : (a b m s : ℕ) → is_eq (ordering_then (nat_cmp a m) (nat_cmp b s)) ≡ ((a == m) && (b == s))

@@ -8,11 +8,12 @@ use Rattle.std.specs.Cmp.{nat_cmp_total}
 use Rattle.std.proofs.lemmas.Bool.{lt-ltb}
 use Rattle.std.proofs.lemmas.Cmp.{tied_itself}
 use Rattle.entry.proofs.ListLemmas.{all_append, all_weaker, all_among}
-use Rattle.replica.specs.Picture.{Replica, IsOnce}
+use Rattle.replica.specs.Picture.{Replica, IsOnce, label_of}
 use Rattle.replica.specs.declared.holding.Holding.{Holding}
 use Rattle.backup.specs.declared.memory.MemoryBackup.{MemoryBackup}
-use Rattle.backup.specs.Shelf.{place_cmp, holding_of, holdings_of}
-use Rattle.backup.specs.Inventory.{holding_cmp, IsRising}
+use Rattle.backup.specs.Shelf.{holding_of, holdings_of}
+use Rattle.backup.specs.Slots.{place_cmp}
+use Rattle.backup.specs.Inventory.{holding_cmp, label_cmp, IsRising, AreRising}
 use Rattle.backup.proofs.Held.{AreInOrder, inventory_of}
 
 all_backups : (b : ℕ) (es : List ((ℕ × ℕ) × Replica)) → AllByRecursion (λ h. h.backup ≡ b) (map (holding_of b) es)
@@ -56,7 +57,7 @@ all_from b [] = tt
 all_from b (x ∷ xs) =
     all_append (λ h. b ≤ h.backup) (holdings_of b x) (inventory_of (suc b) xs)
     (all_weaker (λ h. h.backup ≡ b) (λ h. b ≤ h.backup) (λ h e. omega (arith, e)) (holdings_of b x)
-    (all_backups b x.replicas.entries))
+    (all_backups b x.replicas))
     (all_weaker (λ h. suc b ≤ h.backup) (λ h. b ≤ h.backup) (λ h l. omega (arith, l)) (inventory_of (suc b) xs)
     (all_from (suc b) xs))
 
@@ -65,8 +66,8 @@ pub rising_inventory : (b : ℕ) (backups : List MemoryBackup) → AreInOrder ba
 unfolding IsStrictlySortedBy
 rising_inventory b [] ordered = tt
 rising_inventory b (x ∷ xs) ordered =
-    rising_append b (holdings_of b x) (inventory_of (suc b) xs) (all_backups b x.replicas.entries) (all_from (suc b) xs)
-    (rising_images b x.replicas.entries ordered.0) (rising_inventory (suc b) xs ordered.1)
+    rising_append b (holdings_of b x) (inventory_of (suc b) xs) (all_backups b x.replicas) (all_from (suc b) xs)
+    (rising_images b x.replicas ordered.0) (rising_inventory (suc b) xs ordered.1)
 
 not_above_itself : (h : Holding) → holding_cmp h h ≡ Less → ⊥
 not_above_itself h above =
@@ -83,3 +84,16 @@ IsOnce-from_rising (h ∷ hs) rising = (
   λ among. not_above_itself h (all_among (λ g. holding_cmp h g ≡ Less) hs h rising.0 among),
   IsOnce-from_rising hs rising.1,
 )
+
+-- ---- labels
+
+above_labels : (x : Holding) (xs : List Holding) → AllByRecursion (λ y. holding_cmp x y ≡ Less) xs
+    → AllByRecursion (λ l. label_cmp (label_of x) l ≡ Less) (map label_of xs)
+above_labels x [] all = tt
+above_labels x (y ∷ ys) all = (all.0, above_labels x ys all.1)
+
+-- labels rise as their replicas do
+pub rising_labels : (hs : List Holding) → IsRising hs → AreRising (map label_of hs)
+unfolding IsStrictlySortedBy
+rising_labels [] rising = tt
+rising_labels (x ∷ xs) rising = (above_labels x xs rising.0, rising_labels xs rising.1)

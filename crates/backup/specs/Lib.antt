@@ -2,4 +2,5 @@ pub mod Acts
 pub mod Inventory
 pub mod Retire
 pub mod Shelf
+pub mod Slots
 pub mod State

@@ -1,22 +1,16 @@
 -- What one backup holds.
 use Rattle.std.specs.Prelude.{◌≡◌, ℕ, ◌==◌, ◌&&◌, List, map, false, Option, Result}
-use Rattle.std.specs.Ordering.{nat_cmp, ordering_then}
-use Rattle.std.specs.declared.cmp.Ordering.{Ordering}
-use Rattle.std.specs.BTreeMap.{get, IsOrdered}
 use Rattle.replica.specs.declared.op.TakeFault.{TakeFault}
 use Rattle.replica.specs.Op.{ActValue}
 use Rattle.replica.specs.Picture.{Replica}
 use Rattle.replica.specs.declared.holding.Holding.{Holding}
 use Rattle.backup.specs.declared.memory.MemoryBackup.{MemoryBackup}
 use Rattle.backup.specs.Acts.{Acts}
-
--- by master, then by segment
-abbrev pub place_cmp : ℕ × ℕ → ℕ × ℕ → Ordering
-place_cmp p q = ordering_then (nat_cmp p.0 q.0) (nat_cmp p.1 q.1)
+use Rattle.backup.specs.Slots.{AreOrdered, found_in}
 
 -- the replica of a master's segment
 abbrev pub replica_at : MemoryBackup → ℕ → ℕ → Option Replica
-replica_at memory m s = get place_cmp memory.replicas (m, s)
+replica_at memory m s = found_in memory.replicas (m, s)
 
 -- an act on the replica of a master's segment, by its answer
 abbrev pub ActsAt : ActValue → ℕ → ℕ → MemoryBackup → Result Unit TakeFault → MemoryBackup → Type 0
@@ -27,9 +21,9 @@ abbrev pub KeepsOthers : ℕ → ℕ → MemoryBackup → MemoryBackup → Type 
 KeepsOthers master segment old new =
     (m s : ℕ) → ((master == m) && (segment == s)) ≡ false → replica_at new m s ≡ replica_at old m s
 
--- the map keeps its order
+-- the replicas are in order
 abbrev pub IsInOrder : MemoryBackup → Type 0
-IsInOrder memory = IsOrdered place_cmp memory.replicas
+IsInOrder memory = AreOrdered memory.replicas
 
 -- a replica, as the backup of this number shows it
 abbrev pub holding_of : ℕ → (ℕ × ℕ) × Replica → Holding
@@ -38,4 +32,4 @@ holding_of b (place, r) =
 
 -- all replicas, as the backup of this number shows them
 abbrev pub holdings_of : ℕ → MemoryBackup → List Holding
-holdings_of b memory = map (holding_of b) memory.replicas.entries
+holdings_of b memory = map (holding_of b) memory.replicas

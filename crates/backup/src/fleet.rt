@@ -4,7 +4,7 @@ ghost use Rattle.std.specs.Prelude.{◌≤◌};
 
 use crate::memory::MemoryBackup;
 use entry::NoMemory;
-use replica::{Act, Bench, Fleet, Holding, Inventory, Op, Spot, TakeFault};
+use replica::{Act, Bench, Fleet, Holding, Inventory, Labels, Op, Spot, TakeFault, add_labels};
 use std::alloc::Global;
 
 /// Backups in memory, numbered from 0.
@@ -20,9 +20,9 @@ pub struct MemoryFleet {
 
 impl MemoryFleet {
     ghost use Rattle.std.specs.Prelude.{◌≡◌, ◌≤◌, IfOk};
-    ghost use Rattle.replica.specs.Picture.{AreHeld};
+    ghost use Rattle.replica.specs.Picture.{AreHeld, AreLabelsOf};
     ghost use Rattle.replica.specs.Retire.{AreOthers};
-    ghost use Rattle.backup.specs.Inventory.{IsRising};
+    ghost use Rattle.backup.specs.Inventory.{IsRising, AreRising};
     ghost use Rattle.backup.specs.State.{fleet_state, new_fleet, lost};
 
     /// A fleet of so many backups, which hold nothing. It isn't limited.
@@ -60,16 +60,27 @@ impl MemoryFleet {
         }
     }
 
-    /// All replicas of all backups, by backup, then by master, then by segment.
-    pub fn inventory(&self, alloc: Global) -> Result<Inventory, NoMemory>
-        ensures shown { IfOk result (λ hs. AreHeld hs (fleet_state self.now).picture) }
+    /// All replicas of all backups, by backup, then by master, then by segment. Their bytes stay with the backups.
+    pub fn inventory(&self, alloc: Global) -> Result<Inventory<'_>, NoMemory>
+        ensures shown { IfOk result (λ hs. AreHeld hs (fleet_state self.entry.now).picture) }
         ensures rising { IfOk result (λ hs. IsRising hs) }
     {
         let mut list = Vec::new(alloc);
         for (backup, memory) in self.backups.iter().enumerate() {
-            memory.show(alloc, backup as u64, &mut list)?;
+            memory.show(backup as u64, &mut list)?;
         }
         Ok(Inventory::new(list))
+    }
+
+    /// The labels of all replicas of all backups, by backup, then by master, then by segment.
+    pub fn labels(&self, alloc: Global) -> Result<Labels, NoMemory>
+        ensures shown { IfOk result (AreLabelsOf (fleet_state self.now).picture) }
+        ensures rising { IfOk result AreRising }
+    {
+        let inventory = self.inventory(alloc)?;
+        let mut labels = Vec::with_capacity(alloc, inventory.as_slice().len())?;
+        add_labels(&mut labels, inventory.as_slice())?;
+        Ok(Labels::new(labels))
     }
 
     /// Where the replicas of other masters than `keep` are, by backup, then by master, then by segment.
@@ -115,18 +126,18 @@ impl Fleet for MemoryFleet {
         Ok(())
     }
 
-    /// All replicas of one backup, by master, then by segment.
-    fn holdings(&self, alloc: Global, backup: u64) -> Result<Vec<Holding>, NoMemory>
-        ensures shown { IfOk result (λ hs. AreHeldBy hs.items (fleet_state self.now).picture backup) }
+    /// All replicas of one backup, by master, then by segment. Their bytes stay with the backup.
+    fn holdings(&self, alloc: Global, backup: u64) -> Result<Vec<Holding<'_>>, NoMemory>
+        ensures shown { IfOk result (λ hs. AreHeldBy hs.items (fleet_state self.entry.now).picture backup) }
         ensures once { IfOk result (λ hs. IsOnce hs.items) }
-        ensures none { IfOk result (λ hs. (fleet_state self.now).backups ≤ backup → hs.items ≡ []) }
+        ensures none { IfOk result (λ hs. (fleet_state self.entry.now).backups ≤ backup → hs.items ≡ []) }
         ensures rising { IfOk result (λ hs. IsRising hs.items) }
     {
         let mut list = Vec::new(alloc);
         let Some(memory) = self.backups.as_slice().get(backup as usize) else {
             return Ok(list);
         };
-        memory.show(alloc, backup, &mut list)?;
+        memory.show(backup, &mut list)?;
         Ok(list)
     }
 

@@ -7,6 +7,8 @@
 
 mod fleet;
 mod memory;
+mod shelf;
+mod slots;
 mod stored;
 
 pub use division::{DivideFault, Group, divide};

@@ -6,11 +6,11 @@ ghost use Rattle.backup.specs.Acts.{adding};
 ghost use Rattle.backup.specs.Retire.{spots_of_others};
 ghost use Rattle.backup.specs.Shelf.{replica_at, holdings_of, ActsAt, KeepsOthers, IsInOrder};
 
+use crate::shelf::Shelf;
 use crate::stored::Stored;
 use entry::NoMemory;
 use replica::{Act, Holding, Op, Spot, TakeFault};
 use std::alloc::Global;
-use std::collections::BTreeMap;
 
 /// How many freed replicas leave their memory for the next ones.
 const SPARES: usize = 8;
@@ -18,7 +18,7 @@ const SPARES: usize = 8;
 /// A backup in memory: its replicas by master, then by segment.
 #[derive(Drop)]
 pub struct MemoryBackup {
-    replicas: BTreeMap<(u64, u64), Stored>,
+    replicas: Shelf,
     /// The most bytes that a closed replica has had here. An open one mostly comes to as many.
     longest: usize,
     /// Memory of replicas that were freed. The bytes in it mean nothing.
@@ -31,7 +31,7 @@ impl MemoryBackup {
         ensures { (m s : ℕ) → replica_at result m s ≡ None }
     {
         MemoryBackup {
-            replicas: BTreeMap::new(alloc),
+            replicas: Shelf::new(alloc),
             longest: 0,
             spares: Vec::new(alloc),
         }
@@ -52,8 +52,8 @@ impl MemoryBackup {
         }
     }
 
-    /// Memory for a replica: that of a freed one, or else as much as one here has come to if it is to grow. If that is
-    /// refused, it is none.
+    /// Memory for a replica: that of a freed one, or else a little more than one here has come to if it is to grow. If
+    /// that is refused, it is none.
     fn room(&mut self, alloc: Global, is_open: bool) -> Vec<u8>
         ensures room { result.items ≡ [] }
         ensures same { self.new.replicas ≡ self.old.replicas }
@@ -63,7 +63,8 @@ impl MemoryBackup {
             return spare;
         }
         if is_open {
-            if let Ok(room) = Vec::with_capacity(alloc, self.longest) {
+            let enough = self.longest.saturating_add(self.longest / 8);
+            if let Ok(room) = Vec::with_capacity(alloc, enough) {
                 return room;
             }
         }
@@ -102,14 +103,14 @@ impl MemoryBackup {
         ensures named { ActsAt (adding bytes.now is_open) place.0 place.1 self.old result self.new }
         ensures others { KeepsOthers place.0 place.1 self.old self.new }
     {
-        if self.replicas.contains_key(&place) {
+        let Err(at) = self.replicas.find(place) else {
             return Err(TakeFault::Wrong);
-        }
+        };
         let Ok(copy) = self.copy(alloc, bytes, is_open) else {
             return Err(TakeFault::NoMemory);
         };
-        match self.replicas.insert(place, Stored::new(copy, is_open)) {
-            Ok(_) => Ok(()),
+        match self.replicas.insert(at, place, Stored::new(copy, is_open)) {
+            Ok(()) => Ok(()),
             Err(_) => Err(TakeFault::NoMemory),
         }
     }
@@ -118,9 +119,9 @@ impl MemoryBackup {
         ensures named { ActsAt (Extend at bytes.now) place.0 place.1 self.old result self.new }
         ensures others { KeepsOthers place.0 place.1 self.old self.new }
     {
-        match self.replicas.get_mut(&place) {
-            Some(stored) => stored.extend(at, bytes),
-            None => Err(TakeFault::Wrong),
+        match self.replicas.find(place) {
+            Ok(found) => self.replicas.stored_mut(found).extend(at, bytes),
+            Err(_) => Err(TakeFault::Wrong),
         }
     }
 
@@ -128,12 +129,13 @@ impl MemoryBackup {
         ensures named { ActsAt Close place.0 place.1 self.old result self.new }
         ensures others { KeepsOthers place.0 place.1 self.old self.new }
     {
-        match self.replicas.get_mut(&place) {
-            Some(stored) => {
+        match self.replicas.find(place) {
+            Ok(found) => {
+                let stored = self.replicas.stored_mut(found);
                 self.longest = self.longest.max(stored.len());
                 stored.close()
             }
-            None => Err(TakeFault::Wrong),
+            Err(_) => Err(TakeFault::Wrong),
         }
     }
 
@@ -141,30 +143,33 @@ impl MemoryBackup {
         ensures named { ActsAt Free place.0 place.1 self.old result self.new }
         ensures others { KeepsOthers place.0 place.1 self.old self.new }
     {
-        match self.replicas.remove(&place) {
-            Some(stored) => {
+        match self.replicas.find(place) {
+            Ok(found) => {
+                let stored = self.replicas.remove(found);
                 self.spare(stored.into_bytes());
                 Ok(())
             }
-            None => Err(TakeFault::Wrong),
+            Err(_) => Err(TakeFault::Wrong),
         }
     }
 
-    /// Forgets every replica.
+    /// Forgets every replica, and hands back the memory that freed ones left.
     pub fn clear(&mut self)
         ensures { (m s : ℕ) → replica_at self.new m s ≡ None }
     {
         self.replicas.clear();
+        self.spares.clear();
     }
 
-    /// Appends all replicas to a list, by master, then by segment, as those of the backup of this number. After
-    /// NoMemory some have been appended.
-    pub fn show(&self, alloc: Global, backup: u64, list: &mut Vec<Holding>) -> Result<(), NoMemory>
-        ensures shown { OnOk result (list.new.items ≡ list.old.items ++ holdings_of backup self.now) }
-        ensures ordered { IsInOrder self.now }
+    /// Appends all replicas to a list, by master, then by segment, as those of the backup of this number. Their bytes
+    /// stay here. After NoMemory some have been appended.
+    pub fn show<'a>(&'a self, backup: u64, list: &mut Vec<Holding<'a>>) -> Result<(), NoMemory>
+        ensures shown { OnOk result (list.new.items ≡ list.old.items ++ holdings_of backup self.entry.now) }
+        ensures ordered { IsInOrder self.entry.now }
     {
-        for (place, stored) in &self.replicas {
-            list.push(stored.show(alloc, backup, place.0, place.1)?)?;
+        for (place, stored) in self.replicas.as_slice() {
+            let holding = stored.show(backup, place.0, place.1);
+            list.push(holding)?;
         }
         Ok(())
     }
@@ -176,7 +181,7 @@ impl MemoryBackup {
             (list.new.items ≡ list.old.items ++ spots_of_others keep (holdings_of backup self.now)) }
         ensures ordered { IsInOrder self.now }
     {
-        for (place, _) in &self.replicas {
+        for (place, _) in self.replicas.as_slice() {
             if place.0 != keep {
                 list.push(Spot {
                     backup,

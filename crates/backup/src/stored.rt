@@ -1,13 +1,11 @@
 //! A replica in memory.
 
-ghost use Rattle.std.specs.Prelude.{◌≡◌, Some, IfOk};
+ghost use Rattle.std.specs.Prelude.{◌≡◌, Some};
 ghost use Rattle.replica.specs.Op.{Extend, Close};
 ghost use Rattle.backup.specs.Acts.{Acts};
 ghost use Rattle.backup.specs.Shelf.{holding_of};
 
-use entry::NoMemory;
 use replica::{Bytes, Holding, TakeFault};
-use std::alloc::Global;
 use std::marker::Model;
 
 /// A replica that a backup holds.
@@ -43,23 +41,17 @@ impl Stored {
         self.bytes
     }
 
-    /// The replica as its backup shows it.
-    pub fn show(
-        &self,
-        alloc: Global,
-        backup: u64,
-        master: u64,
-        segment: u64,
-    ) -> Result<Holding, NoMemory>
-        ensures { IfOk result (λ h. h ≡ holding_of backup ((master, segment), self.now)) }
+    /// The replica as its backup shows it. Its bytes stay here.
+    pub fn show(&self, backup: u64, master: u64, segment: u64) -> Holding<'_>
+        ensures { result ≡ holding_of backup ((master, segment), self.entry.now) }
     {
-        Ok(Holding {
+        Holding {
             backup,
             master,
             segment,
-            bytes: Bytes::new(Vec::from_slice(alloc, &self.bytes)?),
+            bytes: Bytes::new(&self.bytes),
             is_open: self.is_open,
-        })
+        }
     }
 
     /// Appends bytes to an open replica of the length `at`.

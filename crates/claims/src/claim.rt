@@ -1,14 +1,13 @@
 //! What an object or a tombstone claims of its key.
 
-ghost use Rattle.std.specs.Prelude.{◌≡◌, IfOk};
+ghost use Rattle.std.specs.Prelude.{◌≡◌};
 ghost use Rattle.std.specs.Option.{option_map};
 ghost use Rattle.entry.specs.Format.{IsObject};
 ghost use Rattle.entry.specs.Limits.{IsValue};
-ghost use Rattle.entry.specs.View.{shown};
+ghost use Rattle.entry.specs.View.{shown, shown_object};
 
 use crate::placed::PlacedKey;
-use entry::{EntryRef, NoMemory, Object, ObjectRef, Version};
-use std::alloc::Global;
+use entry::{EntryRef, ObjectRef, Version};
 
 /// A key's value as of a version, or its end. Claims are ordered by key, then by version, and of one version the
 /// tombstone's is last.
@@ -71,17 +70,16 @@ impl<'a> Claim<'a> {
         !self.dead && !other.dead && !same_value
     }
 
-    /// The object of a claim that is not a tombstone's.
-    pub fn to_object(&self, alloc: Global) -> Result<Object, NoMemory>
-        ensures object { IfOk result (λ object. object ≡ object_of (claimed self.now)) }
+    /// The object of a claim that is not a tombstone's. It is not copied.
+    pub fn object(&self) -> ObjectRef<'a>
+        ensures object { shown_object result ≡ object_of (claimed self.now) }
         ensures valid { IsObject (object_of (claimed self.now)) }
     {
         self.version.get();
-        let object = ObjectRef {
+        ObjectRef {
             key: self.key.key(),
             version: self.version,
             value: self.value,
-        };
-        object.to_object(alloc)
+        }
     }
 }

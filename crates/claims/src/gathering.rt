@@ -7,11 +7,11 @@ ghost use Rattle.claims.specs.Bags.{segments_bag};
 use crate::claim::Claim;
 use division::GroupEntries;
 use entry::NoMemory;
-use segment::Segment;
+use segment::SegmentRef;
 use std::alloc::Global;
 
 /// The claims of the segments' objects and tombstones.
-pub fn claims_in<'a>(alloc: Global, segments: &'a [Segment]) -> Result<Vec<Claim<'a>>, NoMemory>
+pub fn claims_in<'a>(alloc: Global, segments: &[SegmentRef<'a>]) -> Result<Vec<Claim<'a>>, NoMemory>
     ensures { IfOk result (λ claims. map claimed claims.items ≡ claims_of (segments_bag segments.entry.now)) }
 {
     let mut claims = Vec::new(alloc);

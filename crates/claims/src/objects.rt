@@ -1,10 +1,12 @@
 //! The objects that a log is rebuilt to, in one list or in several behind one another.
 
 ghost use Rattle.std.specs.Prelude.{◌≡◌, ◌++◌, ◌∷◌, [], List, length, IsNone, IfSome, OnOk, OnErr};
-ghost use Rattle.std.specs.Iterator.{YieldsFirstRef, at_most};
-ghost use Rattle.entry.specs.declared.entry.Object.{Object as ObjectValue};
+ghost use Rattle.std.specs.Iterator.{YieldsFirstBy, at_most};
+ghost use Rattle.entry.specs.declared.entry.Object.{Object};
+ghost use Rattle.entry.specs.View.{shown_object};
 
-use entry::{NoMemory, Object, Row};
+use entry::{NoMemory, ObjectRef};
+use object_list::{ObjectList, ObjectsIn};
 use std::alloc::Global;
 use std::marker::Model;
 
@@ -12,18 +14,18 @@ use std::marker::Model;
 /// partitions, so that nothing is copied to put them behind one another. A contract sees one list.
 #[derive(Drop)]
 pub struct Objects {
-    first: Row<Object>,
-    others: Vec<Row<Object>>,
+    first: ObjectList,
+    others: Vec<ObjectList>,
     // How many there are in all.
     count: usize,
 }
 
 impl Model for Objects {
     ghost use Rattle.std.specs.Prelude.{◌≡◌, List, length};
-    ghost use Rattle.entry.specs.declared.entry.Object.{Object as ObjectValue};
+    ghost use Rattle.entry.specs.declared.entry.Object.{Object};
     ghost use Rattle.claims.specs.Objects.{behind};
 
-    ghost Value = { List ObjectValue };
+    ghost Value = { List Object };
 
     ghost view = { λ o. behind o.first o.others.items };
 
@@ -33,43 +35,43 @@ impl Model for Objects {
 /// The objects that are still to come.
 #[derive(Drop)]
 pub struct ObjectsLeft<'a> {
-    part: &'a [Object],
-    others: &'a [Row<Object>],
+    part: ObjectsIn<'a>,
+    others: &'a [ObjectList],
 }
 
 impl<'a> Model for ObjectsLeft<'a> {
     ghost use Rattle.std.specs.Prelude.{List};
-    ghost use Rattle.entry.specs.declared.entry.Object.{Object as ObjectValue};
+    ghost use Rattle.entry.specs.declared.entry.Object.{Object};
     ghost use Rattle.claims.specs.Objects.{behind};
 
-    ghost Value = { List ObjectValue };
+    ghost Value = { List Object };
 
-    ghost view = { λ it. behind it.part.now it.others.now };
+    ghost view = { λ it. behind it.part it.others.now };
 }
 
 impl Objects {
     /// These objects. It takes no memory.
-    pub fn new(alloc: Global, objects: Vec<Object>) -> Objects
-        ensures { result ≡ objects.items }
+    pub fn new(alloc: Global, objects: ObjectList) -> Objects
+        ensures { result ≡ objects }
     {
         let count = objects.len();
         Objects {
-            first: Row::new(objects),
+            first: objects,
             others: Vec::new(alloc),
             count,
         }
     }
 
     /// Puts a list behind the others. It is not copied. If memory runs out, nothing changes.
-    pub fn add(&mut self, objects: Vec<Object>) -> Result<(), NoMemory>
-        ensures ok { OnOk result (self.new ≡ self.old ++ objects.items) }
+    pub fn add(&mut self, objects: ObjectList) -> Result<(), NoMemory>
+        ensures ok { OnOk result (self.new ≡ self.old ++ objects) }
         ensures err { OnErr result (self.new ≡ self.old) }
     {
         let Some(count) = self.count.checked_add(objects.len()) else {
             return Err(NoMemory);
         };
         self.others.reserve(1)?;
-        self.others.push_reserved(Row::new(objects));
+        self.others.push_reserved(objects);
         self.count = count;
         Ok(())
     }
@@ -82,18 +84,18 @@ impl Objects {
     }
 
     /// The last object. It looks back over the lists that are empty.
-    pub fn last(&self) -> Option<&Object>
-        ensures some { IfSome result (λ o. (front : List ObjectValue) × (self.now ≡ front ++ o.now ∷ [])) }
-        ensures none { IsNone result → self.now ≡ [] }
+    pub fn last(&self) -> Option<ObjectRef<'_>>
+        ensures some { IfSome result (λ o. (front : List Object) × (self.entry.now ≡ front ++ shown_object o ∷ [])) }
+        ensures none { IsNone result → self.entry.now ≡ [] }
     {
         let mut n = self.others.len();
         while n > 0 {
             n -= 1;
-            if let Some(object) = self.others[n].as_slice().last() {
+            if let Some(object) = self.others[n].last() {
                 return Some(object);
             }
         }
-        self.first.as_slice().last()
+        self.first.last()
     }
 
     /// The objects in order.
@@ -101,31 +103,27 @@ impl Objects {
         ensures { result ≡ self.entry.now }
     {
         ObjectsLeft {
-            part: self.first.as_slice(),
+            part: self.first.iter(),
             others: self.others.as_slice(),
         }
     }
 }
 
 impl<'a> Iterator for ObjectsLeft<'a> {
-    type Item = &'a Object;
+    type Item = ObjectRef<'a>;
 
-    ghost next_gives = { YieldsFirstRef (λ os. os) };
+    ghost next_gives = { YieldsFirstBy shown_object (λ os. os) };
 
     ghost remaining = { λ os. at_most (length os) };
 
-    fn next(&mut self) -> Option<&'a Object> {
+    fn next(&mut self) -> Option<ObjectRef<'a>> {
         while self.part.is_empty() {
             let Some((next, rest)) = self.others.split_first() else {
                 return None;
             };
-            self.part = next.as_slice();
+            self.part = next.iter();
             self.others = rest;
         }
-        let Some((object, rest)) = self.part.split_first() else {
-            return None;
-        };
-        self.part = rest;
-        Some(object)
+        self.part.next()
     }
 }

@@ -7,7 +7,8 @@ ghost use Rattle.claims.specs.Claims.{objects_in, tops, IsRefusedFor};
 
 use crate::claim::Claim;
 use crate::fault::ReplayFault;
-use entry::{Object, SafeVersion};
+use entry::SafeVersion;
+use object_list::ObjectList;
 use std::alloc::Global;
 
 /// The least safe version that is no less than this one and above the version of each claim.
@@ -39,9 +40,9 @@ pub fn is_last(claim: &Claim<'_>, later: &[Claim<'_>]) -> Result<bool, ReplayFau
     }
 }
 
-/// How many objects are left, for room.
-fn count_winners(claims: &[Claim<'_>]) -> usize {
-    let mut count: usize = 0;
+/// How many bytes the spellings of the objects that are left have together, for room.
+fn winners_len(claims: &[Claim<'_>]) -> usize {
+    let mut len: usize = 0;
     let mut left = claims;
     while let [claim, rest @ ..] = left {
         let is_last = match rest.first() {
@@ -49,26 +50,26 @@ fn count_winners(claims: &[Claim<'_>]) -> usize {
             None => true,
         };
         if is_last && !claim.dead {
-            count = count.saturating_add(1);
+            len = len.saturating_add(claim.object().spelled_len());
         }
         left = rest;
     }
-    count
+    len
 }
 
-/// The objects of the last claims of their keys, if no two neighbours clash.
-pub fn winners(alloc: Global, claims: &[Claim<'_>]) -> Result<Vec<Object>, ReplayFault>
-    ensures objects { IfOk result (λ objects. objects.items ≡ objects_in (tops (map claimed claims.now))) }
-    ensures valid { IfOk result (λ objects. All IsObject objects.items) }
+/// The objects of the last claims of their keys, if no two neighbours clash. Memory for them is taken once.
+pub fn winners(alloc: Global, claims: &[Claim<'_>]) -> Result<ObjectList, ReplayFault>
+    ensures objects { IfOk result (λ objects. objects ≡ objects_in (tops (map claimed claims.now))) }
+    ensures valid { IfOk result (λ objects. All IsObject objects) }
     ensures clean { OnOk result (has_clash (map claimed claims.now) ≡ false) }
     ensures err { IfErr result (IsRefusedFor (has_clash (map claimed claims.now))) }
 {
-    let mut objects = Vec::with_capacity(alloc, count_winners(claims))?;
+    let mut objects = ObjectList::with_capacity(alloc, winners_len(claims))?;
     let mut left = claims;
     while let [claim, rest @ ..] = left {
         let last = is_last(claim, rest)?;
         if last && !claim.dead {
-            objects.push(claim.to_object(alloc)?)?;
+            objects.push(&claim.object())?;
         }
         left = rest;
     }

@@ -12,7 +12,7 @@ use crate::gathered::Gathered;
 use crate::group::Group;
 use crate::placed::GroupEntries;
 use entry::{EntryRef, KeyRef, NoMemory};
-use segment::Segment;
+use segment::SegmentRef;
 use std::alloc::Global;
 use tablet_will::Will;
 
@@ -74,7 +74,11 @@ fn make_room(places: &mut Vec<u32>) -> Result<(), NoMemory>
 }
 
 /// The places of the objects and tombstones of a segment, for each partition of the will.
-fn gather(alloc: Global, segment: &Segment, will: &Will) -> Result<Vec<Gathered>, DivideFault>
+fn gather(
+    alloc: Global,
+    segment: &SegmentRef<'_>,
+    will: &Will,
+) -> Result<Vec<Gathered>, DivideFault>
     ensures ok { IfOk result (λ all. AreGathered will.now segment.now all.items) }
     ensures covered { OnOk result (AreCovered will.now segment.now) }
     ensures fault { IfErr result (IsDivideFault will.now segment.now) }
@@ -100,7 +104,7 @@ fn gather(alloc: Global, segment: &Segment, will: &Will) -> Result<Vec<Gathered>
 fn groups_at<'a>(
     alloc: Global,
     id: u64,
-    segment: &'a Segment,
+    segment: &SegmentRef<'a>,
     all: Vec<Gathered>,
 ) -> Result<Vec<Group<'a>>, NoMemory>
     requires { ArePlaces (text_of segment.now) all.items }
@@ -112,7 +116,7 @@ fn groups_at<'a>(
         let group = Group {
             segment: id,
             partition: gathered.partition,
-            entries: GroupEntries::at_places(segment, gathered.places),
+            entries: GroupEntries::at_places(segment.copy(), gathered.places),
         };
         groups.push(group)?;
     }
@@ -124,7 +128,7 @@ fn groups_at<'a>(
 /// besides. A key that is in no partition is named by Stray.
 pub fn divide<'a>(
     alloc: Global,
-    segment: &'a Segment,
+    segment: &SegmentRef<'a>,
     will: &Will,
 ) -> Result<Vec<Group<'a>>, DivideFault>
     ensures ok { IfOk result (λ groups. IsDivision will.now segment.entry.now (map grouped groups.items)) }
@@ -132,6 +136,6 @@ pub fn divide<'a>(
     ensures fault { IfErr result (IsDivideFault will.now segment.entry.now) }
 {
     let all = gather(alloc, segment, will)?;
-    let id = segment.view().header().segment;
+    let id = segment.header().segment;
     Ok(groups_at(alloc, id, segment, all)?)
 }

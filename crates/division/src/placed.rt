@@ -7,14 +7,14 @@ ghost use Rattle.entry.specs.View.{shown};
 ghost use Rattle.division.specs.Placed.{AllStand, entries_at};
 
 use entry::EntryRef;
-use segment::Segment;
+use segment::SegmentRef;
 use std::marker::Model;
 
 /// Some entries of one segment, in its order. Each takes 4 bytes: the offset at which it lies in the segment's bytes. A
 /// contract sees the list of the entries.
 #[derive(Drop)]
 pub struct GroupEntries<'a> {
-    segment: &'a Segment,
+    segment: SegmentRef<'a>,
     places: Vec<u32>,
 }
 
@@ -26,15 +26,15 @@ impl<'a> Model for GroupEntries<'a> {
 
     ghost Value = { List Entry };
 
-    ghost view = { λ g. entries_at (text_of g.segment.now) g.places.items };
+    ghost view = { λ g. entries_at (text_of g.segment) g.places.items };
 
-    ghost invariant = { λ g. AllStand (text_of g.segment.now) g.places.items };
+    ghost invariant = { λ g. AllStand (text_of g.segment) g.places.items };
 }
 
 /// The entries of a group that are still to come. Each is read from the segment's bytes when it is asked for.
 #[derive(Drop)]
 pub struct EntriesLeft<'a, 'g> {
-    segment: &'a Segment,
+    segment: SegmentRef<'a>,
     places: &'g [u32],
 }
 
@@ -46,16 +46,16 @@ impl<'a, 'g> Model for EntriesLeft<'a, 'g> {
 
     ghost Value = { List Entry };
 
-    ghost view = { λ it. entries_at (text_of it.segment.now) it.places.now };
+    ghost view = { λ it. entries_at (text_of it.segment) it.places.now };
 
-    ghost invariant = { λ it. AllStand (text_of it.segment.now) it.places.now };
+    ghost invariant = { λ it. AllStand (text_of it.segment) it.places.now };
 }
 
 impl<'a> GroupEntries<'a> {
     /// The entries at these places of the segment.
-    pub(crate) fn at_places(segment: &'a Segment, places: Vec<u32>) -> GroupEntries<'a>
-        requires { AllStand (text_of segment.now) places.items }
-        ensures { result ≡ entries_at (text_of segment.entry.now) places.items }
+    pub(crate) fn at_places(segment: SegmentRef<'a>, places: Vec<u32>) -> GroupEntries<'a>
+        requires { AllStand (text_of segment) places.items }
+        ensures { result ≡ entries_at (text_of segment.entry) places.items }
     {
         GroupEntries { segment, places }
     }
@@ -67,13 +67,13 @@ impl<'a> GroupEntries<'a> {
         self.places.len()
     }
 
-    /// The entries in order. Each is read again from the segment's bytes, which takes no memory. They borrow from the
-    /// segment alone, and may outlive the group.
+    /// The entries in order. Each is read again from the segment's bytes, which takes no memory. They borrow from those
+    /// bytes alone, and may outlive the group.
     pub fn iter<'g>(&'g self) -> EntriesLeft<'a, 'g>
         ensures { result ≡ self.entry.now }
     {
         EntriesLeft {
-            segment: self.segment,
+            segment: self.segment.copy(),
             places: self.places.as_slice(),
         }
     }

@@ -1,5 +1,5 @@
 -- What a driven master goes on with: the records that were added, and what became of a command.
-use Rattle.std.specs.Prelude.{◌≡◌, ◌⊎◌, ◌<◌, ◌≤◌, ℕ, List, [], ◌∷◌, ◌++◌, Bool, true, false, Some, length}
+use Rattle.std.specs.Prelude.{◌≡◌, ◌⊎◌, ◌<◌, ◌≤◌, ℕ, List, [], ◌∷◌, ◌++◌, Bool, true, false, Some, Ok, length}
 use Rattle.replica.specs.Picture.{FleetState}
 use Rattle.versioned_map.specs.declared.command.Command.{Command}
 use Rattle.versioned_map.specs.declared.command.Record.{Record}
@@ -13,7 +13,7 @@ use Rattle.master_state.specs.Data.{MasterData}
 use Rattle.master_state.specs.Log.{log_of}
 use Rattle.master.specs.Valid.{IsValid}
 use Rattle.master.specs.World.{World}
-use Rattle.driving.specs.Commands.{StopsShort}
+use Rattle.driving.specs.Commands.{StopsShort, Tries}
 
 -- the refusals that a push may give while something waits to be pushed
 abbrev pub is_of_push : Refusal → Bool
@@ -45,6 +45,13 @@ IsSpent f = f.takes ≡ f.end
 abbrev pub IsServed : MasterData → MasterData → Command → Reply → Type 0
 IsServed old new command reply =
     LivesOn old new (record_of command reply) × (length old.history < durable_of (log_of new))
+
+-- The command was served, by these steps and no other, and its record, which has the reply, is at this place.
+pub record IsServedAt (old : World) (command : Command) (at : ℕ) (new : World) : Type 0 where
+  pub reply : Reply
+  pub served : IsServed old.knows new.knows command reply
+  pub tried : Tries old command (Ok reply) new
+  pub place : at ≡ length old.knows.history
 
 -- The command's record was added, and pushes were taken until one was refused, though something waited.
 pub record IsUnpushed (old : MasterData) (command : Command) (r : Refusal) (new : World) : Type 0 where

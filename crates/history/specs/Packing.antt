@@ -70,6 +70,7 @@ IsFree said.None = Unit {0}
 IsFree (said.Ok version) = Unit {0}
 IsFree (said.Mismatch version) = Unit {0}
 
+-- a put's reply has no value; a get and a delete may be answered with one
 abbrev pub IsReplyTo : Command → Reply → Type 0
 IsReplyTo (asked.Get k) r = Unit {0}
 IsReplyTo (asked.Put k value condition) r = IsFree r

@@ -14,6 +14,7 @@ mod texts;
 mod view;
 
 pub use laws::replies_have_one_value;
-pub use owning::{len_of, view_command, view_record, view_reply};
+pub use owning::{len_of, view_command, view_reply};
+pub use packing::key_of;
 pub use records::History;
 pub use view::{CommandRef, RecordRef, ReplyRef, ValueRef};

@@ -5,6 +5,7 @@ ghost use Rattle.history.specs.View.{shown_command, shown_reply, shown_record};
 ghost use Rattle.history.specs.Packing.{value_of_reply, value_in};
 ghost use Rattle.history.specs.Records.{len_of};
 
+use crate::packing::{key_of, value_of};
 use crate::view::{CommandRef, RecordRef, ReplyRef, ValueRef};
 use entry::{NoMemory, Value};
 use std::alloc::Global;
@@ -45,6 +46,13 @@ impl<'a> ReplyRef<'a> {
 }
 
 impl<'a> RecordRef<'a> {
+    /// How many bytes of a key and a value it has.
+    pub fn byte_len(&self) -> usize
+        ensures { result ≡ len_of (shown_record self.now) }
+    {
+        key_of(&self.command).bytes.len() + value_of(&self.command, &self.reply).len()
+    }
+
     /// A record of its own. It takes memory for a key above 15 bytes, and for each value above 15 bytes.
     pub fn to_record(&self, alloc: Global) -> Result<Record, NoMemory>
         ensures { IfOk result (λ own. own ≡ shown_record self.now) }
@@ -88,17 +96,6 @@ pub fn view_reply(reply: &Reply) -> ReplyRef<'_>
         Reply::None => ReplyRef::None,
         Reply::Ok(version) => ReplyRef::Ok(*version),
         Reply::Mismatch(version) => ReplyRef::Mismatch(*version),
-    }
-}
-
-/// The record as it lies here, without a copy.
-pub fn view_record(accepted: &Record) -> RecordRef<'_>
-    ensures { shown_record result ≡ accepted.entry.now }
-{
-    RecordRef {
-        seat: accepted.seat,
-        command: view_command(&accepted.command),
-        reply: view_reply(&accepted.reply),
     }
 }
 

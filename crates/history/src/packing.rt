@@ -57,7 +57,7 @@ pub(crate) struct Row {
 const _: () = prove!(size_of::<Row>() == 48);
 
 /// The key of a command.
-pub(crate) fn key_of<'a>(command: &CommandRef<'a>) -> KeyRef<'a>
+pub fn key_of<'a>(command: &CommandRef<'a>) -> KeyRef<'a>
     ensures { shown_key result ≡ command_key (shown_command command.now) }
 {
     match command {

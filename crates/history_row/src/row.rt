@@ -87,7 +87,7 @@ impl<B: Labels> Row<B> {
         requires { place < length self.old }
         ensures { MatchBool result (self.new ≡ slice_set self.old place (Some (shown_record what.now))) (self.new ≡ self.old) }
     {
-        // A box of no bytes takes no memory, so this is never refused.
+        // A box of no bytes asks for memory too.
         let Ok(kept) = Box::new(alloc, Kept::of(what)) else {
             return false;
         };

@@ -25,11 +25,6 @@ use Rattle.locked_log.proofs.Writing.{row_push, empty_row}
 
 -- ---- places of a list
 
-pub get_at : {X : Type 0} (xs : List X) (i : ℕ) (x : X) → i < length xs → x ≡ get_or xs i x → slice_get xs i ≡ Some x
-get_at [] i x l h = absurd (omega arith)
-get_at (y ∷ ys) zero x l h = ap Some (sym h)
-get_at (y ∷ ys) (suc i) x l h = get_at ys i x (omega (arith, l)) h
-
 set_other : {X : Type 0} (xs : List X) (i j : ℕ) (a : X) → j ≢ i → slice_get (set xs i a) j ≡ slice_get xs j
 set_other [] i j a n = refl
 set_other (x ∷ xs) zero zero a n = absurd (n refl)

@@ -1,14 +1,16 @@
 -- The replicas of the first backups, one backup after another.
-use Rattle.std.proofs.Common.{◌≡◌, ℕ, ◌+◌, inl, inr, Bool, true, false, refl, arith, List, [], ◌++◌}
+use Rattle.std.proofs.Common.{◌≡◌, ◌∙◌, ap, sym, ℕ, ◌+◌, inl, inr, Bool, true, false, refl, arith, List, [], ◌++◌, map}
 use Rattle.std.specs.Prelude.{◌⊎◌, Option, Some, None, nat_lt, if◌then◌else◌}
 use Rattle.std.proofs.lemmas.Bool.Decides.{nat_tests}
 use Rattle.entry.specs.Bag.{IsAmong}
 use Rattle.entry.proofs.BagLemmas.{among_either, among_left, among_right}
 use Rattle.replica.specs.declared.holding.Holding.{Holding}
-use Rattle.replica.specs.Picture.{Picture, Replica, AreHeld, AreHeldBy, left_on}
+use Rattle.replica.specs.declared.label.Label.{Label}
+use Rattle.replica.specs.Picture.{Picture, Replica, AreHeld, AreHeldBy, AreLabelsOf, label_of, left_on}
+use Rattle.std.proofs.lemmas.List.{map-append}
 
 -- just what the backups below this number hold
-abbrev pub AreHeldBelow : ℕ → Picture → List Holding → Type 0
+abbrev AreHeldBelow : ℕ → Picture → List Holding → Type 0
 AreHeldBelow n p hs = AreHeld hs (left_on (λ b. nat_lt b n) p)
 
 picked : (b : Bool) (r : Option Replica) (x : Replica) → (if b then r else None) ≡ Some x → (b ≡ true) × (r ≡ Some x)
@@ -35,17 +37,17 @@ below_or_at a n lt = by_test (nat_lt a n) refl
 below_none : (a : ℕ) → nat_lt a 0 ≡ true → ⊥
 below_none a lt = grind (arith, nat_tests)
 
-pub none_below : (p : Picture) → AreHeldBelow 0 p []
-none_below p h = (
+none_held : (p : Picture) → AreHeldBelow 0 p []
+none_held p h = (
   λ among. absurd among,
   λ held. below_none h.backup
       (picked (nat_lt h.backup 0) (p h.backup h.master h.segment)
       (record { bytes = h.bytes; is_open = h.is_open }) held).0,
 )
 
-pub more_below : (p : Picture) (n : ℕ) (hs more both : List Holding) → both ≡ hs ++ more → AreHeldBy more p n
+more_held : (p : Picture) (n : ℕ) (hs more both : List Holding) → both ≡ hs ++ more → AreHeldBy more p n
     → AreHeldBelow n p hs → AreHeldBelow (n + 1) p both
-more_below p n hs more both joined shown old h = rw joined (forth, back)
+more_held p n hs more both joined shown old h = rw joined (forth, back)
   where
     there : Option Replica
     there = p h.backup h.master h.segment
@@ -66,3 +68,22 @@ more_below p n hs more both joined shown old h = rw joined (forth, back)
           | inl lt ↦ among_left h hs more ((old h).1 (kept (nat_lt h.backup n) there its lt is.1))
           | inr at ↦ among_right h hs more ((shown h).1 (at, is.1))
         ]
+
+-- ---- labels
+
+-- the labels of just what the backups below this number hold
+abbrev pub AreLabelsBelow : ℕ → Picture → List Label → Type 0
+AreLabelsBelow n p labels = AreLabelsOf (left_on (λ b. nat_lt b n) p) labels
+
+pub none_below : (p : Picture) → AreLabelsBelow 0 p []
+none_below p = ([], none_held p, refl)
+
+pub more_below : (p : Picture) (n : ℕ) (labels both : List Label) (more : List Holding)
+    → both ≡ labels ++ map label_of more → AreHeldBy more p n
+    → AreLabelsBelow n p labels → AreLabelsBelow (n + 1) p both
+more_below p n labels both more joined shown old =
+    let hs = old.0 in (
+      hs ++ more,
+      more_held p n hs more (hs ++ more) refl shown old.1,
+      joined ∙ ap (λ (ls : List Label). ls ++ map label_of more) old.2 ∙ sym (map-append label_of hs more),
+    )

@@ -24,6 +24,7 @@ pub mod Sealed
 pub mod Freed
 pub mod Keeping
 pub mod KeptLoading
+pub mod Accepted
 pub mod Runs
 pub mod Validity
 mod Retired

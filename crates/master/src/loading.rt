@@ -1,6 +1,7 @@
 //! A master that is loaded with recovered objects before its history begins.
 
 ghost use Rattle.std.specs.Prelude.{◌≡◌, ◌≤◌, ℕ, None, true, false, IfOk, IfErr, OnOk, OnErr};
+ghost use Rattle.entry.specs.View.{shown_object};
 ghost use Rattle.master_state.specs.Causes.{is_pushed};
 ghost use Rattle.master_state.specs.Config.{config_fault};
 ghost use Rattle.master_state.specs.Loading.{restored_data, IsNewObject, Loads, Settles};
@@ -11,7 +12,7 @@ ghost use Rattle.master.specs.World.{world};
 
 use crate::master::Master;
 use crate::pushing;
-use entry::{Entry, NoMemory, Object, SafeVersion};
+use entry::{Entry, NoMemory, ObjectRef, SafeVersion};
 use master_core::{Config, Core, Loads, Refusal, Rolls, Step, StepAnswer};
 use replica::Fleet;
 use std::alloc::Global;
@@ -71,17 +72,24 @@ impl<F: Fleet> Loading<F> {
         ensures fleet { self.new.fleet ≡ self.old.fleet }
     {
         match entry {
-            Entry::Object(object) => self.load_object(object),
+            Entry::Object(object) => {
+                let key = object.key.view();
+                self.load_object(&ObjectRef {
+                    key,
+                    version: object.version,
+                    value: object.value.as_slice(),
+                })
+            }
             _ => unreachable!(),
         }
     }
 
-    /// Loads an object as `load` does. The object isn't copied to be handed over.
-    pub fn load_object(&mut self, object: &Object) -> Result<(), Refusal>
-        requires object { IsNewObject self.old.knows object.now }
-        ensures loaded { OnOk result (Loads self.old.knows object.now self.new.knows) }
+    /// Loads an object as `load` does. The object may lie anywhere, and is copied once, into the head.
+    pub fn load_object(&mut self, object: &ObjectRef<'_>) -> Result<(), Refusal>
+        requires object { IsNewObject self.old.knows (shown_object object.now) }
+        ensures loaded { OnOk result (Loads self.old.knows (shown_object object.now) self.new.knows) }
         ensures refused { IfErr result (λ r.
-            DeclinesLoad self.old.knows (Entry.Object object.now) r self.new.knows) }
+            DeclinesLoad self.old.knows (Entry.Object (shown_object object.now)) r self.new.knows) }
         ensures fleet { self.new.fleet ≡ self.old.fleet }
     {
         self.core.load(object)

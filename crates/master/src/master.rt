@@ -1,7 +1,9 @@
 //! One master over a fleet of backups.
 
-ghost use Rattle.std.specs.Prelude.{List, ◌⊎◌, ◌≡◌, ◌≤◌, ◌<◌, ℕ, None, length, IfOk, IfErr, IfSome, OnOk, OnErr};
+ghost use Rattle.std.specs.Prelude.{List, ◌⊎◌, ◌≡◌, ◌≤◌, ◌<◌, ℕ, None, Ok, Err, length, IfOk, IfErr, IfSome};
+ghost use Rattle.std.specs.Prelude.{OnOk, OnErr};
 ghost use Rattle.std.specs.Result.{result_err};
+ghost use Rattle.history.specs.View.{shown_command};
 ghost use Rattle.log_model.specs.Data.{durable_of};
 ghost use Rattle.master_state.specs.Causes.{command_refusal};
 ghost use Rattle.master_state.specs.Steps.{IsFound, reply_now};
@@ -16,7 +18,7 @@ ghost use Rattle.master.specs.World.{world};
 
 use crate::pushing;
 use entry::{NoMemory, Tablet};
-use history::History;
+use history::{CommandRef, History};
 use master_core::{Commands, Compacts, Config, Core, Refusal, Rolls, Step, StepAnswer};
 use replica::{Bench, Fleet, TakeFault};
 use std::alloc::Global;
@@ -28,7 +30,8 @@ use versioned_map::{Command, Reply};
 /// The master has its log in memory, an index of the live objects, the history of its commands, and at most one open
 /// pass of cleaning. `step` does one thing: a command, the begin of a roll or of a pass, the compaction of a segment,
 /// the copy of an entry, or one op that one backup takes. An accepted command is answered at once, and is durable when
-/// `durable` is above its place: until then its unit waits for pushes. Whoever answers a client pushes first.
+/// `durable` is above its place: until then its unit waits for pushes. Whoever answers a client pushes first. `accept`
+/// is the step of a command that lies elsewhere.
 ///
 /// - What holds: `show_valid`, after each step. Stop after any step, drop the master, lose backups: a recovery finds
 ///   each durable command, or names the head or the segment that is lost.
@@ -187,6 +190,42 @@ impl<F: Fleet> Master<F> {
         };
         self.show_valid();
         outcome
+    }
+
+    /// Makes the step Apply with a command that may lie anywhere, for whoever reads the reply from the history. Beside
+    /// the command's unit and its record, which has the reply, nothing is copied. The answer is the place of the
+    /// record.
+    #[inline(always)]
+    pub fn accept(&mut self, seat: u64, command: &CommandRef<'_>) -> Result<u64, Refusal>
+        ensures was_valid { IsValid self.old.knows (F.state self.old.fleet) }
+        ensures applied { IfOk result (λ place.
+            Steps (world F.state self.old) (Step.Apply seat (shown_command command.now))
+            (Ok (StepAnswer.Applied place (reply_now self.old.knows (shown_command command.now))))
+            (world F.state self.new)) }
+        ensures refused { IfErr result (λ r.
+            Steps (world F.state self.old) (Step.Apply seat (shown_command command.now)) (Err r)
+            (world F.state self.new)) }
+        ensures keeps { Keeps 1 (world F.state self.old) (world F.state self.new) }
+        ensures valid { IsValid self.new.knows (F.state self.new.fleet) }
+    {
+        self.show_valid();
+        self.show_kept();
+        let place = self.add(seat, command);
+        self.show_valid();
+        place
+    }
+
+    /// Applies a command, and answers with the place of its record.
+    fn add(&mut self, seat: u64, command: &CommandRef<'_>) -> Result<u64, Refusal>
+        ensures accepted { IfOk result (λ place.
+            Accepts (world F.state self.old) (Step.Apply seat (shown_command command.now))
+            (StepAnswer.Applied place (reply_now self.old.knows (shown_command command.now)))
+            (world F.state self.new)) }
+        ensures refused { IfErr result (λ r.
+            Declines (world F.state self.old) (Step.Apply seat (shown_command command.now)) r
+            (world F.state self.new)) }
+    {
+        self.core.accept(seat, command)
     }
 
     /// Applies a command.

@@ -1,14 +1,14 @@
 //! What a master shows of itself and of its fleet.
 
 ghost use Rattle.std.specs.Prelude.{IfOk, OnErr, nat_lt};
-ghost use Rattle.replica.specs.Picture.{AreHeld, left_on};
+ghost use Rattle.replica.specs.Picture.{AreLabelsOf, left_on};
 ghost use Rattle.master.specs.Shown.{IsShown, NeedsMemory};
 ghost use Rattle.master.specs.World.{world};
 
 use crate::master::Master;
 use entry::{NoMemory, Row, Size};
 use master_core::Measures;
-use replica::{Bytes, Fleet, Inventory};
+use replica::{Fleet, Labels, add_labels};
 use std::alloc::Global;
 
 /// What is to be shown of a master.
@@ -34,11 +34,11 @@ pub enum Shown {
     /// The seglets of memory that are counted, and those that are free.
     Room(u64, u64),
     /// The bytes of the image, or `None` if there is no such image.
-    Image(Option<Bytes>),
+    Image(Option<Row<u8>>),
     /// The sizes of the live objects, by table, then by place. Each is the length of the object's entry.
     Sizes(Row<Size>),
-    /// The replicas, backup by backup.
-    Holdings(Inventory),
+    /// The replicas without their bytes, backup by backup.
+    Holdings(Labels),
 }
 
 impl<F: Fleet> Master<F> {
@@ -54,20 +54,20 @@ impl<F: Fleet> Master<F> {
             Look::Sizes => Ok(Shown::Sizes(Row::new(self.core.sizes()?))),
             Look::Holdings => {
                 let backups = self.core.backups();
-                Ok(Shown::Holdings(holdings(self.alloc, &self.fleet, backups)?))
+                Ok(Shown::Holdings(labels(self.alloc, &self.fleet, backups)?))
             }
         }
     }
 }
 
-/// All replicas that the first backups hold, backup by backup.
-fn holdings<F: Fleet>(alloc: Global, fleet: &F, backups: u64) -> Result<Inventory, NoMemory>
-    ensures { IfOk result (λ hs. AreHeld hs (left_on (λ b. nat_lt b backups) (F.state fleet.now).picture)) }
+/// The labels of all replicas that the first backups hold, backup by backup.
+fn labels<F: Fleet>(alloc: Global, fleet: &F, backups: u64) -> Result<Labels, NoMemory>
+    ensures { IfOk result (AreLabelsOf (left_on (λ b. nat_lt b backups) (F.state fleet.now).picture)) }
 {
     let mut list = Vec::new(alloc);
     for backup in 0..backups {
-        let mut more = fleet.holdings(alloc, backup)?;
-        list.append(&mut more)?;
+        let holdings = fleet.holdings(alloc, backup)?;
+        add_labels(&mut list, holdings.as_slice())?;
     }
-    Ok(Inventory::new(list))
+    Ok(Labels::new(list))
 }

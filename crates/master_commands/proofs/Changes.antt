@@ -56,8 +56,6 @@ length_replacing k dead version segment value =
     (length-tombstone (record { key = k; version = dead; segment = segment }))
     ∙ ap (λ n. 27 + length k.bytes + n) (length-object (record { key = k; version = version; value = value }))
 
-pub ruleset unit_lengths = (length_object_entry, length_tombstone_entry, length_replacing)
-
 -- the front of a unit that ends in an object
 front_of_two : (k : Key) (dead segment : ℕ) (e : Entry) (front : List Entry) (o : Object)
     → tombstone_entry k dead segment ∷ e ∷ [] ≡ front ++ entry.Object o ∷ []
@@ -69,7 +67,7 @@ front_of_two k dead segment e (t ∷ []) o is =
 front_of_two k dead segment e (t ∷ u ∷ []) o is = cc
 front_of_two k dead segment e (t ∷ u ∷ v ∷ front) o is = cc
 
-front_of_none : (front : List Entry) (e : Entry) → [] ≡ front ++ e ∷ [] → ⊥
+pub front_of_none : (front : List Entry) (e : Entry) → [] ≡ front ++ e ∷ [] → ⊥
 front_of_none [] e is = cc
 front_of_none (d ∷ front) e is = cc
 

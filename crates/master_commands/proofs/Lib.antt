@@ -3,3 +3,5 @@ pub mod Indexed
 pub mod AllPushed
 pub mod Adding
 pub mod LoadedCore
+pub mod Found
+pub mod Gets

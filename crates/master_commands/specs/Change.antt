@@ -1,18 +1,16 @@
 -- Changes: what they append to the head, and which one a command makes.
 use Rattle.std.specs.Prelude.{◌≡◌, ℕ, ◌+◌, max, List, [], ◌∷◌, ◌++◌, Bool, true, false, Option, Some, None}
-use Rattle.std.specs.Borrow.{Bor}
-use Rattle.std.specs.Option.{option_map, option_copied}
+use Rattle.std.specs.Option.{option_map}
 use Rattle.entry.specs.declared.key.Key.{Key}
 use Rattle.entry.specs.declared.entry.Object.{Object}
 use Rattle.entry.specs.declared.entry.Entry.{Entry}
 use Rattle.entry.specs.declared.entry.Entry.TheVariants as entry
 use Rattle.entry.specs.Meaning.{Versioned, versioned}
-use Rattle.entry.specs.declared.view.ObjectRef.{ObjectRef}
-use Rattle.entry.specs.View.{shown_object}
+use Rattle.compactor.specs.Places.{object_there}
 use Rattle.master_commands.specs.declared.change.Change.{Change}
 use Rattle.master_commands.specs.declared.change.Change.TheVariants as change
 use Rattle.versioned_map.specs.declared.command.Command.{Command}
-use Rattle.versioned_map.specs.declared.command.Command.TheVariants.{Put, Delete}
+use Rattle.versioned_map.specs.declared.command.Command.TheVariants.{Get, Put, Delete}
 use Rattle.log_head.specs.Head.{len_with}
 use Rattle.versioned_map.specs.declared.command.If.{If}
 use Rattle.versioned_map.specs.declared.command.Reply.{Reply}
@@ -23,7 +21,7 @@ use Rattle.master_state.specs.Data.{MasterData}
 use Rattle.places.specs.declared.place.Held.{Held}
 use Rattle.places.specs.declared.place.Place.{Place}
 use Rattle.places.specs.Hashing.{hash_of}
-use Rattle.master_state.specs.Log.{state_now, held_now, find}
+use Rattle.master_state.specs.Log.{state_now, held_now, find, images_of}
 use Rattle.master_state.specs.Steps.{IsFound}
 
 -- what a command appends whose change this is, where the dead object lies in this segment
@@ -50,13 +48,6 @@ safe_of_change safe (change.Delete dead) = max safe (dead + 1)
 
 abbrev pub version_in : Option Versioned → Option ℕ
 version_in x = option_map (λ (v : Versioned). v.version) x
-
--- what a key has whose object this is
-abbrev pub shown_versioned : Option ObjectRef → Option Versioned
-shown_versioned present = option_map (λ (o : ObjectRef). versioned (shown_object o)) present
-
-abbrev pub versioned_in : Option (Bor ObjectRef) → Option Versioned
-versioned_in present = shown_versioned (option_copied present)
 
 -- the command does nothing to the map
 abbrev pub is_nothing : Change → Bool
@@ -115,6 +106,17 @@ abbrev pub RepliesTo : Option Versioned → Command → Change → Reply → Typ
 RepliesTo x command change answer =
     (safe : ℕ) → IsChangeOf safe x command change → answer ≡ reply_given safe x command
 
+-- the command is a put or a delete
+abbrev pub IsNoGet : Command → Type 0
+IsNoGet (Get k) = ⊥
+IsNoGet (Put k value when) = Unit {0}
+IsNoGet (Delete k) = Unit {0}
+
+-- so it is for a command other than a get, whatever its key has of this version
+abbrev pub RepliesFrom : Option ℕ → Command → Change → Reply → Type 0
+RepliesFrom version command change answer =
+    (x : Option Versioned) → version_in x ≡ version → IsNoGet command → RepliesTo x command change answer
+
 -- the map's reply to such a command shows a value
 abbrev pub RepliesFound : Option Versioned → Command → Change → Type 0
 RepliesFound x command change = (safe : ℕ) → IsChangeOf safe x command change → IsFound (reply_given safe x command)
@@ -134,3 +136,13 @@ pub record IsJudged (d : MasterData) (command : Command) (change : Change) (dead
 pub record IsSought (d : MasterData) (k : Key) (held : Held) : Type 0 where
   pub hash : held.hash ≡ hash_of d.index.seed k
   pub place : (p : Place) → find d k ≡ Some p → held.place ≡ p
+
+-- what a key has, if it has an object of a version, by the object that stands at this place
+abbrev pub found_at : (ℕ → List Entry) → Option ℕ → Place → Option Versioned
+found_at images None p = None
+found_at images (Some version) p = option_map versioned (object_there images p)
+
+-- the command's key has this version, and its object, if there is one, stands at this place
+pub record IsPresent (d : MasterData) (command : Command) (present : Option ℕ) (p : Place) : Type 0 where
+  pub version : version_in (held_now d command) ≡ present
+  pub stands : found_at (images_of d) present p ≡ held_now d command

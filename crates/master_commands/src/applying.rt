@@ -2,26 +2,26 @@
 
 ghost use Rattle.std.specs.Prelude.{◌⊎◌, ◌≡◌, None, Some, IfOk, IfErr, OnOk, OnErr};
 ghost use Rattle.std.specs.Result.{result_err};
-ghost use Rattle.master_state.specs.Causes.{early_refusal, unit_refusal, command_refusal, unit_now};
-ghost use Rattle.master_state.specs.Index.{segment_at, place_found, object_found};
+ghost use Rattle.history.specs.View.{shown_command, shown_reply, shown_record};
+ghost use Rattle.master_state.specs.Causes.{command_refusal};
+ghost use Rattle.master_state.specs.Index.{object_found};
 ghost use Rattle.master_state.specs.Invariant.{IsCore};
-ghost use Rattle.places.specs.declared.place.Place.{Place as PlaceValue};
-ghost use Rattle.places.specs.Hashing.{hash_of};
-ghost use Rattle.master_state.specs.Log.{held_now, find};
-ghost use Rattle.master_state.specs.Steps.{Applies, AppliesAs, MayApplyNow, reply_now, IsFound};
-ghost use Rattle.master_commands.specs.Change.{IsChangeNow, IsJudged, IsSought, RepliesFound, RepliesTo};
+ghost use Rattle.master_state.specs.Steps.{Applies, AppliesAs, MayApplyNow, reply_now, record_now, IsFound};
+ghost use Rattle.master_commands.specs.Change.{IsJudged, IsSought, IsPresent, IsNoGet, RepliesTo, RepliesFound};
+ghost use Rattle.master_commands.specs.Change.{version_in};
 ghost use Rattle.versioned_map.specs.Command.{command_key};
 ghost use Rattle.versioned_map.specs.declared.command.Command.{Command as CommandValue};
 
-use crate::change::{Change, Judged, change_of, is_too_big};
-use crate::index::find_object;
-use crate::unit::{enact, unit_len};
-use entry::{NoMemory, ObjectRef};
-use hash_index::{Held, Place};
-use history::{len_of, replies_have_one_value};
-use master_state::{Core, Refusal, StepAnswer, segments_for};
+use crate::change::Judged;
+use crate::getting::add_get;
+use crate::judging::{judge, weigh};
+use crate::unit::enact;
+use entry::{NoMemory, ObjectRef, Value};
+use hash_index::Place;
+use history::{CommandRef, RecordRef, replies_have_one_value, view_command, view_reply};
+use master_state::{Core, Refusal, StepAnswer};
 use std::alloc::Global;
-use versioned_map::{Command, Record, Reply};
+use versioned_map::{Command, Reply};
 
 /// What a command does to a core.
 pub trait Commands {
@@ -37,6 +37,10 @@ pub trait Commands {
 
     /// One command: it is answered, and its record and its unit are added; or it is refused, and nothing changes.
     fn apply(&mut self, seat: u64, command: Command) -> Result<StepAnswer, Refusal>;
+
+    /// One command, as `apply` does it, wherever it lies. Beside its unit and its record, which has the reply, nothing
+    /// is copied. The answer is the place of the record.
+    fn accept(&mut self, seat: u64, command: &CommandRef<'_>) -> Result<u64, Refusal>;
 }
 
 impl Commands for Core {
@@ -45,7 +49,7 @@ impl Commands for Core {
     fn would(&self, command: &Command) -> Result<(), Refusal>
         ensures { result_err result ≡ command_refusal self.now command.now }
     {
-        match judge(self, command) {
+        match judge(self, &view_command(command)) {
             Ok(_) => Ok(()),
             Err(refusal) => Err(refusal),
         }
@@ -56,8 +60,10 @@ impl Commands for Core {
         ensures reply { IfOk result (λ reply. reply ≡ reply_now self.now command.now) }
         ensures refused { OnErr result (IsFound (reply_now self.now command.now)) }
     {
-        match judge(self, command) {
-            Ok((judged, found)) => reply_from(self.alloc, command, &judged.change, &found),
+        match judge(self, &view_command(command)) {
+            Ok((judged, found)) => {
+                reply_from(self.alloc, &view_command(command), &judged, &found)
+            }
             Err(_) => unreachable!(),
         }
     }
@@ -70,139 +76,62 @@ impl Commands for Core {
             ⊎ ((command_refusal self.old command ≡ None) × (r ≡ Refusal.NoMemory))) }
         ensures err { OnErr result (self.new ≡ self.old) }
     {
-        let (judged, reply) = consider(self, &command)?;
-        let accepted = Record {
+        let (judged, reply) = consider(self, &view_command(&command))?;
+        let accepted = RecordRef {
             seat,
-            command,
-            reply,
+            command: view_command(&command),
+            reply: view_reply(&reply),
         };
         let place = add(self, &accepted, &judged)?;
-        Ok(StepAnswer::Applied(place, accepted.reply))
+        Ok(StepAnswer::Applied(place, reply))
     }
-}
 
-/// The tests that come before the key is looked up.
-fn admit(core: &Core, command: &Command) -> Result<(), Refusal>
-    ensures { result_err result ≡ early_refusal core.now command.now }
-{
-    if core.is_halted {
-        return Err(Refusal::Halted);
+    fn accept(&mut self, seat: u64, command: &CommandRef<'_>) -> Result<u64, Refusal>
+        ensures accepted { IfOk result (λ place.
+            AppliesAs self.old (record_now self.old seat (shown_command command.now)) place self.new) }
+        ensures may { OnOk result (MayApplyNow self.old seat (shown_command command.now)) }
+        ensures valid { OnOk result (IsCore self.new) }
+        ensures refused { IfErr result (λ r. (command_refusal self.old (shown_command command.now) ≡ Some r)
+            ⊎ ((command_refusal self.old (shown_command command.now) ≡ None) × (r ≡ Refusal.NoMemory))) }
+        ensures err { OnErr result (self.new ≡ self.old) }
+    {
+        match weigh(self, command) {
+            Ok(judged) => Ok(add_judged(self, seat, command, &judged)?),
+            Err(refusal) => Err(refusal),
+        }
     }
-    if is_too_big(command, core.config.segment) {
-        return Err(Refusal::TooBig);
-    }
-    if !core.config.tablets.have(&command.key().view()) {
-        return Err(Refusal::NoTablet);
-    }
-    if core.history.len() as u64 >= core.config.history {
-        return Err(Refusal::HistoryFull);
-    }
-    Ok(())
-}
-
-/// Whether the unit of a change, if it makes one, can be appended.
-fn fit(core: &Core, command: &Command, change: &Change) -> Result<(), Refusal>
-    ensures { IsChangeNow core.now command.now change.now →
-        result_err result ≡ unit_refusal core.now command.now (unit_now core.now command.now) }
-{
-    if change.is_nothing() {
-        return Ok(());
-    }
-    if !core.head.is_open() {
-        return Err(Refusal::Rolling);
-    }
-    let limit = core.config.segment as usize;
-    if core.head.fits(unit_len(command, change), limit) {
-        return Ok(());
-    }
-    if core.may_roll(segments_for(command)) {
-        return Err(Refusal::Rolling);
-    }
-    Err(Refusal::Full)
-}
-
-/// The place and the object of the command's key, which has this hash.
-fn look_up<'a>(core: &'a Core, hash: u64, command: &Command) -> Option<(Place, ObjectRef<'a>)>
-    requires { hash ≡ hash_of core.now.index.seed (command_key command.now) }
-    ensures place { place_found result ≡ find core.entry.now (command_key command.now) }
-    ensures object { object_found result ≡ held_now core.entry.now command.now }
-{
-    find_object(
-        &core.head,
-        &core.closed,
-        &core.index,
-        hash,
-        &command.key().view(),
-    )
-}
-
-/// The place that was found; 0 of segment 0 if there is none.
-fn place_of(found: &Option<(Place, ObjectRef<'_>)>) -> Place
-    ensures segment { result.segment ≡ segment_at (place_found found.now) }
-    ensures place { (p : PlaceValue) → place_found found.now ≡ Some p → result ≡ p }
-{
-    match found {
-        None => Place { segment: 0, at: 0 },
-        Some((place, _)) => *place,
-    }
-}
-
-/// Makes all tests, in order. What they found, and what the command's key has.
-fn judge<'a>(
-    core: &'a Core,
-    command: &Command,
-) -> Result<(Judged, Option<(Place, ObjectRef<'a>)>), Refusal>
-    ensures passed { IfOk result (λ _. command_refusal core.entry.now command.now ≡ None) }
-    ensures judged { IfOk result (λ found.
-        IsJudged core.entry.now command.now found.0.change found.0.held.place.segment) }
-    ensures sought { IfOk result (λ found. IsSought core.entry.now (command_key command.now) found.0.held) }
-    ensures object { IfOk result (λ found. object_found found.1 ≡ held_now core.entry.now command.now) }
-    ensures refused { IfErr result (λ r. command_refusal core.entry.now command.now ≡ Some r) }
-{
-    admit(core, command)?;
-    let hash = core.index.hash(&command.key().view());
-    let found = look_up(core, hash, command);
-    let version = match &found {
-        None => None,
-        Some((_, object)) => Some(object.version),
-    };
-    let Ok(change) = change_of(command, core.safe, version) else {
-        return Err(Refusal::VersionsSpent);
-    };
-    fit(core, command, &change)?;
-    let place = place_of(&found);
-    let held = Held { hash, place };
-    Ok((Judged { change, held }, found))
 }
 
 /// What the tests of a command found, and the reply.
-fn consider(core: &Core, command: &Command) -> Result<(Judged, Reply), Refusal>
-    ensures passed { IfOk result (λ _. command_refusal core.now command.now ≡ None) }
+fn consider(core: &Core, command: &CommandRef<'_>) -> Result<(Judged, Reply), Refusal>
+    ensures passed { IfOk result (λ _. command_refusal core.now (shown_command command.now) ≡ None) }
     ensures judged { IfOk result (λ considered.
-        IsJudged core.now command.now considered.0.change considered.0.held.place.segment) }
+        IsJudged core.now (shown_command command.now) considered.0.change considered.0.held.place.segment) }
     ensures sought { IfOk result (λ considered.
-        IsSought core.now (command_key command.now) considered.0.held) }
-    ensures reply { IfOk result (λ considered. considered.1 ≡ reply_now core.now command.now) }
-    ensures refused { IfErr result (λ r. (command_refusal core.now command.now ≡ Some r)
-        ⊎ ((command_refusal core.now command.now ≡ None) × (r ≡ Refusal.NoMemory))) }
+        IsSought core.now (command_key (shown_command command.now)) considered.0.held) }
+    ensures reply { IfOk result (λ considered. considered.1 ≡ reply_now core.now (shown_command command.now)) }
+    ensures refused { IfErr result (λ r. (command_refusal core.now (shown_command command.now) ≡ Some r)
+        ⊎ ((command_refusal core.now (shown_command command.now) ≡ None) × (r ≡ Refusal.NoMemory))) }
 {
     match judge(core, command) {
         Err(refusal) => Err(refusal),
         Ok((judged, found)) => {
-            let reply = reply_from(core.alloc, command, &judged.change, &found)?;
+            let reply = reply_from(core.alloc, command, &judged, &found)?;
             Ok((judged, reply))
         }
     }
 }
 
 /// Adds the record of a command that passed all tests, and appends the unit of its change. The place of the record.
-fn add(core: &mut Core, accepted: &Record, judged: &Judged) -> Result<u64, NoMemory>
-    requires passed { command_refusal core.old accepted.now.command ≡ None }
-    requires judged { IsJudged core.old accepted.now.command judged.now.change judged.now.held.place.segment }
-    requires sought { IsSought core.old (command_key accepted.now.command) judged.now.held }
-    requires reply { accepted.now.reply ≡ reply_now core.old accepted.now.command }
-    ensures added { IfOk result (λ place. AppliesAs core.old accepted.now place core.new) }
-    ensures may { OnOk result (MayApplyNow core.old accepted.now.seat accepted.now.command) }
+fn add(core: &mut Core, accepted: &RecordRef<'_>, judged: &Judged) -> Result<u64, NoMemory>
+    requires passed { command_refusal core.old (shown_command accepted.now.command) ≡ None }
+    requires judged { IsJudged core.old (shown_command accepted.now.command) judged.now.change
+        judged.now.held.place.segment }
+    requires sought { IsSought core.old (command_key (shown_command accepted.now.command)) judged.now.held }
+    requires reply { shown_reply accepted.now.reply ≡ reply_now core.old (shown_command accepted.now.command) }
+    ensures added { IfOk result (λ place. AppliesAs core.old
+        (record_now core.old accepted.now.seat (shown_command accepted.now.command)) place core.new) }
+    ensures may { OnOk result (MayApplyNow core.old accepted.now.seat (shown_command accepted.now.command)) }
     ensures valid { OnOk result (IsCore core.new) }
     ensures refused { OnErr result (core.new ≡ core.old) }
 {
@@ -211,29 +140,89 @@ fn add(core: &mut Core, accepted: &Record, judged: &Judged) -> Result<u64, NoMem
         &mut core.head,
         &mut core.index,
         &mut core.history,
-        len_of(accepted),
+        accepted.byte_len(),
         &accepted.command,
         judged,
         core.config.segment as usize,
     )?;
     core.safe = judged.change.safe_after(core.safe);
     replies_have_one_value();
-    core.history.push_record(accepted);
+    core.history.push(accepted);
     Ok(place)
 }
 
-/// The reply to a command with this change, if the index found this for its key.
+/// Adds a command other than a get that passed all tests, with the reply that its change tells.
+fn add_change(
+    core: &mut Core,
+    seat: u64,
+    command: &CommandRef<'_>,
+    judged: &Judged,
+) -> Result<u64, NoMemory>
+    requires no_get { IsNoGet (shown_command command.now) }
+    requires passed { command_refusal core.old (shown_command command.now) ≡ None }
+    requires judged { IsJudged core.old (shown_command command.now) judged.now.change judged.now.held.place.segment }
+    requires sought { IsSought core.old (command_key (shown_command command.now)) judged.now.held }
+    requires present { IsPresent core.old (shown_command command.now) judged.now.present judged.now.held.place }
+    ensures added { IfOk result (λ place.
+        AppliesAs core.old (record_now core.old seat (shown_command command.now)) place core.new) }
+    ensures may { OnOk result (MayApplyNow core.old seat (shown_command command.now)) }
+    ensures valid { OnOk result (IsCore core.new) }
+    ensures refused { OnErr result (core.new ≡ core.old) }
+{
+    let reply = judged.change.reply(command, judged.present);
+    let accepted = RecordRef {
+        seat,
+        command: *command,
+        reply: view_reply(&reply),
+    };
+    add(core, &accepted, judged)
+}
+
+/// Adds a command that passed all tests, with its reply. The place of its record.
+fn add_judged(
+    core: &mut Core,
+    seat: u64,
+    command: &CommandRef<'_>,
+    judged: &Judged,
+) -> Result<u64, NoMemory>
+    requires passed { command_refusal core.old (shown_command command.now) ≡ None }
+    requires judged { IsJudged core.old (shown_command command.now) judged.now.change judged.now.held.place.segment }
+    requires sought { IsSought core.old (command_key (shown_command command.now)) judged.now.held }
+    requires present { IsPresent core.old (shown_command command.now) judged.now.present judged.now.held.place }
+    ensures added { IfOk result (λ place.
+        AppliesAs core.old (record_now core.old seat (shown_command command.now)) place core.new) }
+    ensures may { OnOk result (MayApplyNow core.old seat (shown_command command.now)) }
+    ensures valid { OnOk result (IsCore core.new) }
+    ensures refused { OnErr result (core.new ≡ core.old) }
+{
+    match command {
+        CommandRef::Get(key) => add_get(core, seat, key, judged),
+        CommandRef::Put(_, _, _) => add_change(core, seat, command, judged),
+        CommandRef::Delete(_) => add_change(core, seat, command, judged),
+    }
+}
+
+/// The reply to a command, if the index found this for its key. Only a value takes memory.
 fn reply_from(
     alloc: Global,
-    command: &Command,
-    change: &Change,
+    command: &CommandRef<'_>,
+    judged: &Judged,
     found: &Option<(Place, ObjectRef<'_>)>,
 ) -> Result<Reply, NoMemory>
-    ensures reply { IfOk result (λ reply. RepliesTo (object_found found.now) command.now change.now reply) }
-    ensures refused { OnErr result (RepliesFound (object_found found.now) command.now change.now) }
+    ensures reply { IfOk result (λ reply. version_in (object_found found.now) ≡ judged.now.present →
+        RepliesTo (object_found found.now) (shown_command command.now) judged.now.change reply) }
+    ensures refused { OnErr result
+        (RepliesFound (object_found found.now) (shown_command command.now) judged.now.change) }
 {
-    match found {
-        None => change.reply(alloc, command, None),
-        Some((_, object)) => change.reply(alloc, command, Some(object)),
+    match command {
+        CommandRef::Get(_) => match found {
+            None => Ok(Reply::None),
+            Some((_, object)) => {
+                let value = Value::from_slice(alloc, object.value)?;
+                Ok(Reply::Found(object.version, value))
+            }
+        },
+        CommandRef::Put(_, _, _) => Ok(judged.change.reply(command, judged.present)),
+        CommandRef::Delete(_) => Ok(judged.change.reply(command, judged.present)),
     }
 }

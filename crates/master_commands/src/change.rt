@@ -1,19 +1,21 @@
 //! What a command does, from what its key has.
 
-ghost use Rattle.std.specs.Prelude.{◌≡◌, ℕ, List, Option, None, Some, true, IfOk, IfErr, OnErr};
+ghost use Rattle.std.specs.Prelude.{◌≡◌, ◌≤◌, ℕ, List, Option, None, Some, true, IfOk, IfErr};
 ghost use Rattle.entry.specs.declared.key.Key.{Key};
 ghost use Rattle.entry.specs.Meaning.{Versioned};
+ghost use Rattle.history.specs.View.{shown_command};
 ghost use Rattle.versioned_map.specs.Versioned.{reply_given};
 ghost use Rattle.versioned_map.specs.Versioned.{is_spent};
-ghost use Rattle.master_commands.specs.Change.{versioned_in, is_nothing, creates, safe_of_change};
+ghost use Rattle.master_commands.specs.Change.{is_nothing, creates, safe_of_change};
+ghost use Rattle.master_state.specs.Budget.{segments_for};
 ghost use Rattle.master_state.specs.Causes.{is_too_big};
 ghost use Rattle.master_commands.specs.Change.{Creates, CreatesSpent, Replaces, ReplacesSpent, IsChangeFrom};
-ghost use Rattle.master_commands.specs.Change.{IsSpentFrom, RepliesFound, RepliesTo};
+ghost use Rattle.master_commands.specs.Change.{IsSpentFrom, RepliesFrom};
 
-use entry::{OBJECT_LEN, ObjectRef, SafeVersion, TOMBSTONE_LEN, Value, Version};
+use entry::{OBJECT_LEN, SafeVersion, TOMBSTONE_LEN, Version};
 use hash_index::Held;
-use std::alloc::{AllocError, Global};
-use versioned_map::{Command, If, Reply};
+use history::CommandRef;
+use versioned_map::{If, Reply};
 
 /// What a command does to the map, and so what it appends.
 #[derive(Clone, Copy)]
@@ -35,6 +37,8 @@ pub struct Judged {
     pub change: Change,
     /// The hash of the command's key, and the place of the key's object. Without an object the place is 0 of segment 0.
     pub held: Held,
+    /// The version of the key's object, if there is one.
+    pub present: Option<Version>,
 }
 
 /// No version is left for a put.
@@ -76,22 +80,22 @@ fn replace(when: &If, dead: Version) -> Result<Change, VersionsSpent>
 
 /// What a command does if its key has this version.
 pub fn change_of(
-    command: &Command,
+    command: &CommandRef<'_>,
     safe: SafeVersion,
     present: Option<Version>,
 ) -> Result<Change, VersionsSpent>
-    ensures done { IfOk result (λ change. IsChangeFrom safe present command.now change) }
-    ensures spent { IfErr result (λ _. IsSpentFrom safe present command.now) }
+    ensures done { IfOk result (λ change. IsChangeFrom safe present (shown_command command.now) change) }
+    ensures spent { IfErr result (λ _. IsSpentFrom safe present (shown_command command.now)) }
 {
     match present {
         None => match command {
-            Command::Get(_) | Command::Delete(_) => Ok(Change::Nothing),
-            Command::Put(_, _, when) => create(when, safe),
+            CommandRef::Get(_) | CommandRef::Delete(_) => Ok(Change::Nothing),
+            CommandRef::Put(_, _, when) => create(when, safe),
         },
         Some(dead) => match command {
-            Command::Get(_) => Ok(Change::Nothing),
-            Command::Delete(_) => Ok(Change::Delete(dead)),
-            Command::Put(_, _, when) => replace(when, dead),
+            CommandRef::Get(_) => Ok(Change::Nothing),
+            CommandRef::Delete(_) => Ok(Change::Delete(dead)),
+            CommandRef::Put(_, _, when) => replace(when, dead),
         },
     }
 }
@@ -121,62 +125,50 @@ impl Change {
         }
     }
 
-    /// The reply to the command, if its key has this object.
-    pub fn reply(
-        &self,
-        alloc: Global,
-        command: &Command,
-        present: Option<&ObjectRef<'_>>,
-    ) -> Result<Reply, AllocError>
-        ensures reply { IfOk result (λ reply. RepliesTo (versioned_in present.entry) command.now self.now reply) }
-        ensures refused { OnErr result (RepliesFound (versioned_in present.entry) command.now self.now) }
+    /// The reply to a command other than a get, if its key has an object of this version. It has no value.
+    pub fn reply(&self, command: &CommandRef<'_>, present: Option<Version>) -> Reply
+        ensures { RepliesFrom present (shown_command command.now) self.now result }
     {
         match self {
-            Change::Nothing => unchanged_reply(alloc, command, present),
-            Change::Create(version) => Ok(Reply::Ok(*version)),
-            Change::Replace(_, version) => Ok(Reply::Ok(*version)),
-            Change::Delete(dead) => Ok(Reply::Ok(*dead)),
+            Change::Nothing => unchanged_reply(command, present),
+            Change::Create(version) => Reply::Ok(*version),
+            Change::Replace(_, version) => Reply::Ok(*version),
+            Change::Delete(dead) => Reply::Ok(*dead),
         }
     }
 }
 
-/// The reply to a command that changes nothing, if its key has this object.
-fn unchanged_reply(
-    alloc: Global,
-    command: &Command,
-    present: Option<&ObjectRef<'_>>,
-) -> Result<Reply, AllocError>
-    ensures reply { IfOk result (λ reply. RepliesTo (versioned_in present.entry) command.now Change.Nothing reply) }
-    ensures refused { OnErr result (RepliesFound (versioned_in present.entry) command.now Change.Nothing) }
+/// The reply to a command that is no get and changes nothing, if its key has an object of this version.
+fn unchanged_reply(command: &CommandRef<'_>, present: Option<Version>) -> Reply
+    ensures { RepliesFrom present (shown_command command.now) Change.Nothing result }
 {
     match command {
-        Command::Get(_) => match present {
-            None => Ok(Reply::None),
-            Some(object) => {
-                let value = Value::from_slice(alloc, object.value)?;
-                Ok(Reply::Found(object.version, value))
-            }
-        },
-        Command::Delete(_) => Ok(Reply::None),
-        Command::Put(_, _, _) => match present {
-            None => Ok(Reply::Mismatch(None)),
-            Some(object) => Ok(Reply::Mismatch(Some(object.version))),
-        },
+        CommandRef::Get(_) => Reply::None,
+        CommandRef::Delete(_) => Reply::None,
+        CommandRef::Put(_, _, _) => Reply::Mismatch(present),
     }
 }
 
 /// Whether the key and the value of a put are too big for a quarter of a segment of this many bytes.
-pub fn is_too_big(command: &Command, segment: u64) -> bool
-    ensures { result ≡ is_too_big command.now segment }
+pub fn is_too_big(command: &CommandRef<'_>, segment: u64) -> bool
+    ensures { result ≡ is_too_big (shown_command command.now) segment }
 {
     match command {
-        Command::Put(key, value, _) => {
-            let bytes = OBJECT_LEN
-                + TOMBSTONE_LEN
-                + 2 * key.bytes.as_slice().len()
-                + value.as_slice().len();
+        CommandRef::Put(key, value, _) => {
+            let bytes = OBJECT_LEN + TOMBSTONE_LEN + 2 * key.bytes.len() + value.bytes.len();
             bytes as u64 > segment / 4
         }
         _ => false,
+    }
+}
+
+/// How many whole segments have to be free when a roll begins for a command.
+pub fn segments_for(command: &CommandRef<'_>) -> u64
+    ensures needed { result ≡ segments_for (shown_command command.now) }
+    ensures few { result ≤ 3 }
+{
+    match command {
+        CommandRef::Get(_) | CommandRef::Delete(_) => 2,
+        CommandRef::Put(_, _, _) => 3,
     }
 }

@@ -52,7 +52,11 @@ fn object_in(image: &Segment, at: usize) -> Option<ObjectRef<'_>>
 
 /// The object at a place of the images.
 #[inline(always)]
-fn object_there<'a>(head: &'a Head, closed: &'a Images, place: Place) -> Option<ObjectRef<'a>>
+pub(crate) fn object_there<'a>(
+    head: &'a Head,
+    closed: &'a Images,
+    place: Place,
+) -> Option<ObjectRef<'a>>
     ensures { option_map shown_object result ≡
         object_there (images_among head.entry.now closed.entry.now.images) place }
 {

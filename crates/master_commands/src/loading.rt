@@ -3,7 +3,9 @@
 ghost use Rattle.std.specs.Prelude.{◌⊎◌, ◌≡◌, ◌≤◌, ◌^◌, length, true, None, Some, IfErr, OnOk, OnErr};
 ghost use Rattle.std.specs.Result.{result_err};
 ghost use Rattle.entry.specs.declared.entry.Object.{Object as ObjectValue};
+ghost use Rattle.entry.specs.declared.entry.Entry.TheVariants as entry;
 ghost use Rattle.entry.specs.Text.{text_of};
+ghost use Rattle.entry.specs.View.{shown, shown_object};
 ghost use Rattle.log_head.specs.Head.{IsHeadValue, len_with};
 ghost use Rattle.log_head.specs.Steps.{with_unit_end};
 ghost use Rattle.master_state.specs.Causes.{is_pushed};
@@ -12,8 +14,7 @@ ghost use Rattle.master_state.specs.Invariant.{IsCore};
 ghost use Rattle.master_state.specs.Loading.{IsBare, IsNewObject, Loads, MayLoadNow, Settles};
 ghost use Rattle.master_state.specs.Loading.{loaded_unit, is_object_too_big, load_refusal};
 
-use crate::unit::object_of;
-use entry::{NoMemory, OBJECT_LEN, Object, TOMBSTONE_LEN};
+use entry::{EntryRef, NoMemory, OBJECT_LEN, ObjectRef, TOMBSTONE_LEN};
 use hash_index::{Held, Index, Place};
 use log_head::Head;
 use master_state::{Core, Loaded, Refusal};
@@ -28,8 +29,8 @@ pub trait Loads {
 
     /// Loads an object with its own version: it is appended to the head, and the history begins with it. Or it is
     /// refused, and nothing changes. Its key was not loaded before, and its version is below the safe one.
-    fn load(&mut self, object: &Object) -> Result<(), Refusal>
-        requires { may_load self.old object.now };
+    fn load(&mut self, object: &ObjectRef<'_>) -> Result<(), Refusal>
+        requires { may_load self.old (shown_object object.now) };
 
     /// Whether the loading may end: no roll is under way, and each replica has all that was loaded.
     fn can_finish(&self) -> bool;
@@ -44,15 +45,15 @@ impl Loads for Core {
 
     ghost may_begin = { λ core. IsBare core × (is_pushed core.head ≡ true) };
 
-    fn load(&mut self, object: &Object) -> Result<(), Refusal>
+    fn load(&mut self, object: &ObjectRef<'_>) -> Result<(), Refusal>
         requires bare { IsBare self.old }
-        requires new { IsNewObject self.old object.now }
-        ensures loaded { OnOk result (Loads self.old object.now self.new) }
-        ensures may { OnOk result (MayLoadNow self.old object.now) }
+        requires new { IsNewObject self.old (shown_object object.now) }
+        ensures loaded { OnOk result (Loads self.old (shown_object object.now) self.new) }
+        ensures may { OnOk result (MayLoadNow self.old (shown_object object.now)) }
         ensures valid { OnOk result (IsCore self.new) }
         ensures bare { OnOk result (IsBare self.new) }
-        ensures refused { IfErr result (λ r. (load_refusal self.old object.now ≡ Some r)
-            ⊎ ((load_refusal self.old object.now ≡ None) × (r ≡ Refusal.NoMemory))) }
+        ensures refused { IfErr result (λ r. (load_refusal self.old (shown_object object.now) ≡ Some r)
+            ⊎ ((load_refusal self.old (shown_object object.now) ≡ None) × (r ≡ Refusal.NoMemory))) }
         ensures err { OnErr result (self.new ≡ self.old) }
     {
         admit_object(self, object)?;
@@ -86,13 +87,13 @@ impl Loads for Core {
 }
 
 /// The tests of an object that is to be loaded.
-fn admit_object(core: &Core, object: &Object) -> Result<(), Refusal>
-    ensures { result_err result ≡ load_refusal core.now object.now }
+fn admit_object(core: &Core, object: &ObjectRef<'_>) -> Result<(), Refusal>
+    ensures { result_err result ≡ load_refusal core.now (shown_object object.now) }
 {
     if is_object_too_big(object, core.config.segment) {
         return Err(Refusal::TooBig);
     }
-    if !core.config.tablets.have(&object.key.view()) {
+    if !core.config.tablets.have(&object.key) {
         return Err(Refusal::NoTablet);
     }
     if !core.head.is_open() {
@@ -109,37 +110,44 @@ fn admit_object(core: &Core, object: &Object) -> Result<(), Refusal>
 }
 
 /// Whether a put of the object would be too big for a quarter of a segment of this many bytes.
-fn is_object_too_big(object: &Object, segment: u64) -> bool
-    ensures { result ≡ is_object_too_big object.now segment }
+fn is_object_too_big(object: &ObjectRef<'_>, segment: u64) -> bool
+    ensures { result ≡ is_object_too_big (shown_object object.now) segment }
 {
-    let bytes = OBJECT_LEN
-        + TOMBSTONE_LEN
-        + 2 * object.key.bytes.as_slice().len()
-        + object.value.as_slice().len();
+    let bytes = OBJECT_LEN + TOMBSTONE_LEN + 2 * object.key.bytes.len() + object.value.len();
     bytes as u64 > segment / 4
 }
 
 /// How many bytes the object has in a segment.
-#[tactic(auto, using(crate::proofs::Changes::unit_lengths))]
-fn object_len(object: &Object) -> usize
-    ensures len { result ≡ length (text_of (loaded_unit object.now)) }
+fn object_len(object: &ObjectRef<'_>) -> usize
+    ensures len { result ≡ length (text_of (loaded_unit (shown_object object.now))) }
     ensures small { result ≤ 2 ^ 32 }
 {
-    OBJECT_LEN + object.key.bytes.as_slice().len() + object.value.as_slice().len()
+    OBJECT_LEN + object.key.bytes.len() + object.value.len()
+}
+
+/// The object as an entry.
+fn entry_of<'a>(object: &ObjectRef<'a>) -> EntryRef<'a>
+    ensures { shown result ≡ entry.Object (shown_object object.entry.now) }
+{
+    EntryRef::Object(ObjectRef {
+        key: object.key,
+        version: object.version,
+        value: object.value,
+    })
 }
 
 /// Appends an object that fits, and sets its place in the index. On `Err` only memory was taken.
 fn append_object(
     head: &mut Head,
     index: &mut Index,
-    object: &Object,
+    object: &ObjectRef<'_>,
     limit: usize,
 ) -> Result<(), NoMemory>
     requires limit { limit ≤ 8388608 }
-    requires fits { len_with head.old.image (loaded_unit object.now) ≤ limit }
+    requires fits { len_with head.old.image (loaded_unit (shown_object object.now)) ≤ limit }
     ensures valid { OnOk result (IsHeadValue head.new) }
-    ensures head { OnOk result (head.new ≡ with_unit_end head.old 0 (loaded_unit object.now)) }
-    ensures index { OnOk result (IsAdded index.old.held object.now.key
+    ensures head { OnOk result (head.new ≡ with_unit_end head.old 0 (loaded_unit (shown_object object.now))) }
+    ensures index { OnOk result (IsAdded index.old.held (shown_object object.now).key
         (record { segment = head.old.id; at = length (text_of head.old.image) }) index.new.held) }
     ensures err { OnErr result ((head.new ≡ head.old) × (index.new.held ≡ index.old.held)) }
 {
@@ -148,13 +156,13 @@ fn append_object(
         at: head.image().bytes().len(),
     };
     index.reserve(1)?;
-    let entry = object_of(&object.key, object.version, &object.value);
+    let entry = entry_of(object);
     match head.append(&[entry], 0, limit) {
         Ok(()) => {}
         Err(AppendFault::Full) => unreachable!(),
         Err(AppendFault::NoMemory) => return Err(NoMemory),
     }
-    let hash = index.hash(&object.key.view());
+    let hash = index.hash(&object.key);
     index.insert(Held { hash, place });
     index.grow();
     Ok(())

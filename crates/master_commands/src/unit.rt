@@ -6,7 +6,8 @@ ghost use Rattle.entry.specs.declared.entry.Object.{Object};
 ghost use Rattle.entry.specs.declared.entry.Entry.{Entry};
 ghost use Rattle.entry.specs.declared.entry.Entry.TheVariants as entry;
 ghost use Rattle.entry.specs.Text.{text_of};
-ghost use Rattle.entry.specs.View.{shown};
+ghost use Rattle.entry.specs.View.{shown, shown_key};
+ghost use Rattle.history.specs.View.{shown_command};
 ghost use Rattle.log_head.specs.Head.{IsHeadValue, len_with};
 ghost use Rattle.places.specs.Hashing.{hash_of};
 ghost use Rattle.master_commands.specs.Index.{IsMoved};
@@ -19,33 +20,30 @@ ghost use Rattle.master_state.specs.Steps.{appended};
 use crate::change::{Change, Judged};
 use crate::index::move_object;
 use entry::{
-    EntryRef, Key, NoMemory, OBJECT_LEN, ObjectRef, TOMBSTONE_LEN, TombstoneRef, Value, Version,
+    EntryRef, KeyRef, NoMemory, OBJECT_LEN, ObjectRef, TOMBSTONE_LEN, TombstoneRef, Version,
 };
 use hash_index::{Index, Place};
-use history::History;
+use history::{CommandRef, History, ValueRef, key_of};
 use log_head::Head;
 use segment::AppendFault;
-use versioned_map::Command;
 
 /// The object that a put makes, as it lies in the command.
-pub(crate) fn object_of<'a>(key: &'a Key, version: Version, value: &'a Value) -> EntryRef<'a>
-    ensures { shown result ≡ object_entry key.entry.now version value.entry.now }
+fn object_of<'a>(key: &KeyRef<'a>, version: Version, value: &ValueRef<'a>) -> EntryRef<'a>
+    ensures { shown result ≡ object_entry (shown_key key.now) version value.now.bytes.now }
 {
-    let key = key.view();
     EntryRef::Object(ObjectRef {
-        key,
+        key: *key,
         version,
-        value: value.as_slice(),
+        value: value.bytes,
     })
 }
 
 /// The tombstone of the key's object of this version, which lies in this segment.
-fn tombstone_of(key: &Key, version: Version, segment: u64) -> EntryRef<'_>
-    ensures { shown result ≡ tombstone_entry key.entry.now version segment }
+fn tombstone_of<'a>(key: &KeyRef<'a>, version: Version, segment: u64) -> EntryRef<'a>
+    ensures { shown result ≡ tombstone_entry (shown_key key.now) version segment }
 {
-    let key = key.view();
     EntryRef::Tombstone(TombstoneRef {
-        key,
+        key: *key,
         version,
         segment,
     })
@@ -53,32 +51,33 @@ fn tombstone_of(key: &Key, version: Version, segment: u64) -> EntryRef<'_>
 
 /// Where in the unit of a change its object begins.
 #[tactic(auto, using(crate::proofs::Changes::front_of_replacing))]
-fn object_offset(command: &Command, change: &Change) -> usize
+fn object_offset(command: &CommandRef<'_>, change: &Change) -> usize
     ensures behind { (segment : ℕ) (front : List Entry) (o : Object) →
-        unit_of_change segment command.now change.now ≡ front ++ entry.Object o ∷ [] → result ≡ length (text_of front) }
+        unit_of_change segment (shown_command command.now) change.now ≡ front ++ entry.Object o ∷ []
+        → result ≡ length (text_of front) }
     ensures small { result ≤ 2 ^ 32 }
 {
     match change {
-        Change::Replace(_, _) => TOMBSTONE_LEN + command.key().bytes.as_slice().len(),
+        Change::Replace(_, _) => TOMBSTONE_LEN + key_of(command).bytes.len(),
         _ => 0,
     }
 }
 
 /// How many bytes the unit of a change has.
-#[tactic(auto, using(crate::proofs::Changes::unit_lengths))]
-pub fn unit_len(command: &Command, change: &Change) -> usize
-    ensures len { (segment : ℕ) → result ≡ length (text_of (unit_of_change segment command.now change.now)) }
+pub fn unit_len(command: &CommandRef<'_>, change: &Change) -> usize
+    ensures len { (segment : ℕ) →
+        result ≡ length (text_of (unit_of_change segment (shown_command command.now) change.now)) }
     ensures small { result ≤ 2 ^ 32 }
 {
     match command {
-        Command::Get(_) => 0,
-        Command::Delete(key) => match change {
-            Change::Delete(_) => TOMBSTONE_LEN + key.bytes.as_slice().len(),
+        CommandRef::Get(_) => 0,
+        CommandRef::Delete(key) => match change {
+            Change::Delete(_) => TOMBSTONE_LEN + key.bytes.len(),
             _ => 0,
         },
-        Command::Put(key, value, _) => {
-            let key_len = key.bytes.as_slice().len();
-            let object_len = OBJECT_LEN + key_len + value.as_slice().len();
+        CommandRef::Put(key, value, _) => {
+            let key_len = key.bytes.len();
+            let object_len = OBJECT_LEN + key_len + value.bytes.len();
             match change {
                 Change::Create(_) => object_len,
                 Change::Replace(_, _) => TOMBSTONE_LEN + key_len + object_len,
@@ -91,29 +90,30 @@ pub fn unit_len(command: &Command, change: &Change) -> usize
 /// Appends the unit of a change to the head. The dead object, if there is one, lies in this segment.
 fn append_change(
     head: &mut Head,
-    command: &Command,
+    command: &CommandRef<'_>,
     change: &Change,
     segment: u64,
     number: usize,
     limit: usize,
 ) -> Result<(), AppendFault>
     requires { limit ≤ 8388608 }
-    ensures ok { OnOk result (head.new ≡ appended head.old number (unit_of_change segment command.now change.now)) }
-    ensures full { let unit = unit_of_change segment command.now change.now in
+    ensures ok { let unit = unit_of_change segment (shown_command command.now) change.now in
+        OnOk result (head.new ≡ appended head.old number unit) }
+    ensures full { let unit = unit_of_change segment (shown_command command.now) change.now in
         IsErrOf result AppendFault.Full → (is_empty unit ≡ false) × (limit < len_with head.old.image unit) }
     ensures err { OnErr result (head.new ≡ head.old) }
     ensures valid { OnOk result (IsHeadValue head.new) }
 {
     head.show_valid();
     match command {
-        Command::Get(_) => Ok(()),
-        Command::Delete(key) => match change {
+        CommandRef::Get(_) => Ok(()),
+        CommandRef::Delete(key) => match change {
             Change::Delete(dead) => {
                 head.append(&[tombstone_of(key, *dead, segment)], number, limit)
             }
             _ => Ok(()),
         },
-        Command::Put(key, value, _) => match change {
+        CommandRef::Put(key, value, _) => match change {
             Change::Create(version) => {
                 head.append(&[object_of(key, *version, value)], number, limit)
             }
@@ -134,21 +134,24 @@ pub fn enact(
     index: &mut Index,
     history: &mut History,
     bytes: usize,
-    command: &Command,
+    command: &CommandRef<'_>,
     judged: &Judged,
     limit: usize,
 ) -> Result<(), NoMemory>
     requires limit { limit ≤ 8388608 }
-    requires fits { let unit = unit_of_change judged.now.held.place.segment command.now judged.now.change in
+    requires fits { let asked = shown_command command.now in
+        let unit = unit_of_change judged.now.held.place.segment asked judged.now.change in
         is_empty unit ≡ false → len_with head.old.image unit ≤ limit }
-    requires put { let unit = unit_of_change judged.now.held.place.segment command.now judged.now.change in
+    requires put { let asked = shown_command command.now in
+        let unit = unit_of_change judged.now.held.place.segment asked judged.now.change in
         puts judged.now.change ≡ true → is_empty unit ≡ false }
-    requires hash { judged.now.held.hash ≡ hash_of index.old.held.seed (command_key command.now) }
+    requires hash { judged.now.held.hash ≡ hash_of index.old.held.seed (command_key (shown_command command.now)) }
     ensures valid { OnOk result (IsHeadValue head.new) }
-    ensures head { let unit = unit_of_change judged.now.held.place.segment command.now judged.now.change in
+    ensures head { let asked = shown_command command.now in
+        let unit = unit_of_change judged.now.held.place.segment asked judged.now.change in
         OnOk result (head.new ≡ appended head.old (length history.old.records) unit) }
-    ensures index { OnOk result ((at : ℕ) × BeginsAt head.old.image command.now judged.now.change at
-        × IsMoved index.old.held judged.now.change (command_key command.now) judged.now.held.place
+    ensures index { OnOk result ((at : ℕ) × BeginsAt head.old.image (shown_command command.now) judged.now.change at
+        × IsMoved index.old.held judged.now.change (command_key (shown_command command.now)) judged.now.held.place
         (record { segment = head.old.id; at = at }) index.new.held) }
     ensures history { history.new.records ≡ history.old.records }
     ensures room { OnOk result (history.new.room ≡ bytes) }

@@ -3,8 +3,9 @@
 ghost use Rattle.std.specs.Prelude.{◌≡◌, List, [], ◌∷◌};
 ghost use Rattle.std.specs.Borrow.{ftrue};
 ghost use Rattle.entry.specs.declared.entry.Object.{Object};
+ghost use Rattle.entry.specs.View.{shown_object};
 
-use entry::Object;
+use entry::ObjectRef;
 use std::marker::Model;
 
 /// The objects that were loaded, the last one first. It takes no bytes.
@@ -31,8 +32,8 @@ impl Loaded {
     }
 
     /// One object more was loaded.
-    pub fn with(_before: &Loaded, _object: &Object) -> Loaded
-        ensures { result.objects ≡ _object.now ∷ _before.now.objects }
+    pub fn with(_before: &Loaded, _object: &ObjectRef<'_>) -> Loaded
+        ensures { result.objects ≡ shown_object _object.now ∷ _before.now.objects }
     {
         Loaded {}
     }

@@ -23,7 +23,7 @@ use hash_index::Index;
 use history::History;
 use images::Images;
 use log_head::Head;
-use replica::{Bytes, TakeFault};
+use replica::TakeFault;
 use std::alloc::Global;
 use std::marker::Model;
 
@@ -254,7 +254,7 @@ impl Core {
     }
 
     /// The bytes of a segment's image; `None` if there is no such image. Nothing changes.
-    pub fn bytes_of(&self, id: u64) -> Result<Option<Bytes>, NoMemory>
+    pub fn bytes_of(&self, id: u64) -> Result<Option<Row<u8>>, NoMemory>
         ensures image { IfOk result (λ image. image ≡ option_map text_of (image_of self.now id)) }
         ensures refused { OnErr result (IsSome (image_of self.now id)) }
     {
@@ -262,6 +262,6 @@ impl Core {
             return Ok(None);
         };
         let bytes = Vec::from_slice(self.alloc, image.bytes())?;
-        Ok(Some(Bytes::new(bytes)))
+        Ok(Some(Row::new(bytes)))
     }
 }

@@ -18,7 +18,7 @@ use replica::{Bench, Holding};
 use std::alloc::Global;
 
 /// Whether one of these replicas is of the master.
-fn has_replica(holdings: &[Holding], master: u64) -> bool
+fn has_replica(holdings: &[Holding<'_>], master: u64) -> bool
     ensures { result ≡ list_any (λ (h : HoldingValue). h.master == master) holdings.now }
 {
     holdings.iter().any(|holding| holding.master == master)

@@ -6,7 +6,7 @@ use crate::masters::new_master;
 use backup::MemoryFleet;
 use entry::Size;
 use master::{Command, History, Look, Master, Record, Refusal, Reply, Shown, Step, StepAnswer};
-use replica::Holding;
+use replica::Label;
 use std::alloc::Global;
 
 /// What a step did, and its two numbers: backup and segment, segment and length, or place in the history and 0.
@@ -189,18 +189,17 @@ fn has_sizes(master: &Master<MemoryFleet>, want: &[(u64, u64, u64)]) -> bool {
     }
 }
 
-fn are_replicas(holdings: &[Holding], want: &[Replica]) -> bool {
-    let mut are_same = holdings.len() == want.len();
-    for (holding, want) in holdings.iter().zip(want) {
-        let bytes = holding.bytes.as_slice().len();
-        are_same = are_same && (holding.backup, holding.master, holding.segment, bytes) == *want;
+fn are_replicas(labels: &[Label], want: &[Replica]) -> bool {
+    let mut are_same = labels.len() == want.len();
+    for (label, want) in labels.iter().zip(want) {
+        are_same = are_same && (label.backup, label.master, label.segment, label.len) == *want;
     }
     are_same
 }
 
 fn holds(master: &Master<MemoryFleet>, want: &[Replica]) -> bool {
     match &master.look(Look::Holdings) {
-        Ok(Shown::Holdings(inventory)) => are_replicas(inventory.as_slice(), want),
+        Ok(Shown::Holdings(labels)) => are_replicas(labels.as_slice(), want),
         _ => false,
     }
 }

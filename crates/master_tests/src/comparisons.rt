@@ -4,7 +4,7 @@ use crate::answers::{reply, told};
 use crate::asks::{Ask, command_of};
 use crate::drills::will_of;
 use backup::MemoryFleet;
-use entry::{Entry, EntryRef, Object};
+use entry::{Entry, EntryRef, Object, ObjectRef};
 use master::{Command, Look, Master, Reply, Shown, Step};
 use recovery::{GroupOrder, recover};
 use replay::{Objects, Rebuilt};
@@ -62,10 +62,17 @@ fn has(objects: &[Object], want: &Object) -> bool {
     is_found
 }
 
+fn is_same_as(left: &ObjectRef<'_>, right: &Object) -> bool {
+    let is_table = left.key.table == right.key.table;
+    let is_key = is_table && left.key.bytes == right.key.bytes.as_slice();
+    let is_version = left.version.get() == right.version.get();
+    is_key && is_version && left.value == right.value.as_slice()
+}
+
 fn has_rebuilt(objects: &Objects, want: &Object) -> bool {
     let mut is_found = false;
     for object in objects.iter() {
-        is_found = is_found || is_same_object(object, want);
+        is_found = is_found || is_same_as(&object, want);
     }
     is_found
 }

@@ -58,7 +58,7 @@ pub type Recovered = Result<(&'static [(&'static [u8], u64)], u64), &'static str
 fn are_keys(objects: &Objects, want: &[(&'static [u8], u64)]) -> bool {
     let mut are_same = objects.len() == want.len();
     for (object, (key, version)) in objects.iter().zip(want) {
-        let is_key = object.key.table == 1 && object.key.bytes.as_slice() == *key;
+        let is_key = object.key.table == 1 && object.key.bytes == *key;
         are_same = are_same && is_key && object.version.get() == *version;
     }
     are_same

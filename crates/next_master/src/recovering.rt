@@ -56,7 +56,7 @@ struct Inheritance {
 
 /// The least number above this one and above those of all masters in the inventory. None if there is none.
 /// It reads each replica's label once.
-pub fn next_number(inventory: &[Holding], master: u64) -> Option<u64>
+pub fn next_number(inventory: &[Holding<'_>], master: u64) -> Option<u64>
     ensures next { IfSome result (λ n. n ≡ suc (max master (greatest_of inventory.now))) }
     ensures spent { result ≡ None → max master (greatest_of inventory.now) ≡ 2 ^ 64 - 1 }
 {
@@ -92,7 +92,7 @@ fn groups_in(order: ReplayOrder) -> GroupOrder
 fn recover_by<H: Threads + Wait + Sync>(
     rt: &H,
     alloc: Global,
-    inventory: &Inventory,
+    inventory: &Inventory<'_>,
     master: u64,
     will: &Will,
     order: ReplayOrder,

@@ -6,9 +6,9 @@ use Rattle.std.specs.Option.{option_map}
 use Rattle.lines.specs.Grammar.{LineValue, Idle, Roll, BeginRoll, Compact, Push, Clean, Begin, Copy, Seal, Free, Will}
 use Rattle.lines.specs.Grammar.{Hex, Log, Room, Holdings, Stop, Crash, Lose, Recover, Clients}
 use Rattle.std.specs.declared.alloc.AllocError.{AllocError}
-use Rattle.replica.specs.declared.holding.Holding.{Holding}
-use Rattle.backup.specs.Inventory.{IsRising}
-use Rattle.replica.specs.Picture.{FleetState, AreHeld}
+use Rattle.replica.specs.declared.label.Label.{Label}
+use Rattle.backup.specs.Inventory.{AreRising}
+use Rattle.replica.specs.Picture.{FleetState, AreLabelsOf}
 use Rattle.versioned_map.specs.declared.command.Command.{Command}
 use Rattle.replica.specs.Take.{limited, no_limit}
 use Rattle.master_state.specs.declared.config.Config.{Config}
@@ -169,21 +169,21 @@ command_makes old line new a command asks makes =
 -- ---- what backups hold
 
 -- what is shown is all that the fleet holds
-pub held_shows : (node : Node) (f : FleetState) (result : Result (List Holding) AllocError) → fleet_of node ≡ Some f
-    → IfOk result (λ hs. AreHeld hs f.picture) → ShowsFleet node (held_answer result)
+pub held_shows : (node : Node) (f : FleetState) (result : Result (List Label) AllocError) → fleet_of node ≡ Some f
+    → IfOk result (AreLabelsOf f.picture) → ShowsFleet node (held_answer result)
 held_shows node f (Err fault) fleet shown = tt
-held_shows node f (Ok hs) fleet shown =
-    subst (λ (o : Option FleetState). IfSome o (λ (x : FleetState). AreHeld hs x.picture)) (sym fleet) shown
+held_shows node f (Ok labels) fleet shown =
+    subst (λ (o : Option FleetState). IfSome o (λ (x : FleetState). AreLabelsOf x.picture labels)) (sym fleet) shown
 
 -- what the fleet of a master holds is shown, or memory ran out
-pub held_up : (config : Config) (life : Life) (at : Position) (result : Result (List Holding) AllocError)
+pub held_up : (config : Config) (life : Life) (at : Position) (result : Result (List Label) AllocError)
     (d : MasterData) (f : FleetState) → at.left ≡ None
-    → HasLived config (life_to life at.made) d f → IfOk result (λ hs. AreHeld hs f.picture) → IfOk result IsRising
+    → HasLived config (life_to life at.made) d f → IfOk result (AreLabelsOf f.picture) → IfOk result AreRising
     → Tells config life at Holdings (held_answer result) at
 held_up config life at (Err fault) d f none has shown rising = inr (inl (refl, refl, refl))
-held_up config life at (Ok hs) d f none has shown rising = (
+held_up config life at (Ok labels) d f none has shown rising = (
   refl,
-  subst (λ (o : Option Left). AreHeldAt config (life_to life at.made) o hs) (sym none)
+  subst (λ (o : Option Left). AreHeldAt config (life_to life at.made) o labels) (sym none)
       (d, f, has, shown),
   rising,
   refl,

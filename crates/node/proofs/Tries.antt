@@ -1,15 +1,18 @@
 -- The steps of a command's line, one after another.
-use Rattle.std.proofs.Common.{◌≡◌, Bool, true, false, refl, sym, ap, subst, inl, inr, ◌∙◌}
-use Rattle.std.specs.Prelude.{Option, Some, None, Result, Ok, Err, unwrap_or, if◌then◌else◌}
+use Rattle.std.proofs.Common.{◌≡◌, ℕ, List, [], ◌∷◌, ◌++◌, length, Bool, true, false, refl, sym, ap, subst, inl, inr, ◌∙◌}
+use Rattle.std.specs.Prelude.{Option, Some, None, Result, Ok, Err, unwrap_or, slice_get, if◌then◌else◌}
+use Rattle.std.specs.Option.{option_map}
 use Rattle.backup.specs.State.{fleet_state}
 use Rattle.backup.specs.declared.fleet.MemoryFleet.{MemoryFleet}
 use Rattle.lines.specs.Grammar.{LineValue}
 use Rattle.versioned_map.specs.declared.command.Command.{Command}
+use Rattle.versioned_map.specs.declared.command.Record.{Record}
 use Rattle.versioned_map.specs.declared.command.Reply.{Reply}
 use Rattle.master_state.specs.declared.step.Refusal.{Refusal}
 use Rattle.master_state.specs.declared.step.Refusal.TheVariants as refusal
 use Rattle.master_state.specs.declared.step.Step.TheVariants.{Apply, Push}
 use Rattle.master_state.specs.Causes.{is_pushed}
+use Rattle.master_state.specs.Data.{MasterData}
 use Rattle.master.specs.Steps.{Declines}
 use Rattle.master.specs.World.{MasterValue, World, world}
 use Rattle.answers.specs.declared.answer.Answer.{Answer}
@@ -17,9 +20,10 @@ use Rattle.answers.specs.declared.answer.Answer.TheVariants as answer
 use Rattle.node.specs.declared.node.Node.{Node}
 use Rattle.node.specs.declared.node.Node.TheVariants.{Up, Down, Changing}
 use Rattle.driving.specs.Commands.{Tries, TriesAfterRoll}
+use Rattle.driving.specs.Served.{IsServed}
 use Rattle.node.specs.Served.{MakesCommand, Refuses}
 use Rattle.node.specs.Told.{command_of}
-use Rattle.node.specs.Waits.{MakesOpen, MakesTry, MakesTryAfterRoll}
+use Rattle.node.specs.Waits.{MakesOpen, MakesTry, MakesTryAfterRoll, IsReplyAt}
 use Rattle.node.proofs.Steps.{refused_left}
 
 -- ---- one try
@@ -52,6 +56,35 @@ pub not_tried : (node : Node) (command : Command) → ((m : MasterValue MemoryFl
 not_tried (Up m) command other = absurd (other m refl)
 not_tried (Down f) command other = (refl, refl)
 not_tried Changing command other = (refl, refl)
+
+-- the record that a command added is the last one, and has its reply
+last_there : (rs : List Record) (r : Record) → slice_get (rs ++ r ∷ []) (length rs) ≡ Some r
+last_there [] r = refl
+last_there (x ∷ rs) r = last_there rs r
+
+pub replied_at : (m : MasterValue MemoryFleet) (old : MasterData) (command : Command) (place : ℕ) (reply : Reply)
+    → IsServed old m.knows command reply → place ≡ length old.history → IsReplyAt (Up m) place reply
+replied_at m old command place reply served at =
+    let last : Record = record { seat = 0; command = command; reply = reply } in
+    ap (option_map (λ (r : Record). r.reply))
+    (ap (λ (rs : List Record). slice_get rs place) served.0.history
+    ∙ ap (slice_get (old.history ++ last ∷ [])) at
+    ∙ last_there old.history last)
+
+-- only a node that is up has a reply
+pub no_reply : (node : Node) (place : ℕ) (reply : Reply) → ((m : MasterValue MemoryFleet) → node ≡ Up m → ⊥)
+    → IsReplyAt node place reply → ⊥
+no_reply (Up m) place reply other at = other m refl
+no_reply (Down f) place reply other at = at
+no_reply Changing place reply other at = at
+
+-- what is found at the place has the reply
+pub reply_found : (node : Node) (m : MasterValue MemoryFleet) (place : ℕ) (reply : Reply) (found : Option Record)
+    → node ≡ Up m → found ≡ slice_get m.knows.history place → IsReplyAt node place reply
+    → option_map (λ (r : Record). r.reply) found ≡ Some reply
+reply_found node m place reply found up there at =
+    ap (option_map (λ (r : Record). r.reply)) there
+    ∙ subst (λ (n : Node). IsReplyAt n place reply) up at
 
 pub replied_try : (node : Node) (up m : MasterValue MemoryFleet) → node ≡ Up up → (command : Command) (reply : Reply)
     → Tries (world fleet_state up) command (Ok reply) (world fleet_state m)

@@ -4,13 +4,14 @@ use Rattle.std.proofs.Common.{arith}
 use Rattle.std.specs.declared.alloc.AllocError.{AllocError}
 use Rattle.std.proofs.lemmas.List.{append-nil}
 use Rattle.std.specs.Prelude.{ℕ, Option, Some, None, not, ◌==◌, ◌||◌, ◌↔◌, Result, Ok, Err, IfOk}
-use Rattle.backup.specs.Inventory.{IsRising}
+use Rattle.backup.specs.Inventory.{AreRising}
 use Rattle.backup.specs.State.{fleet_state, lost}
 use Rattle.backup.specs.declared.fleet.MemoryFleet.{MemoryFleet}
 use Rattle.lines.specs.Grammar.{LineValue, Crash, Lose, Holdings}
 use Rattle.entry.specs.Bag.{IsAmong}
 use Rattle.replica.specs.declared.holding.Holding.{Holding}
-use Rattle.replica.specs.Picture.{Replica, FleetState, left_on, AreHeld}
+use Rattle.replica.specs.declared.label.Label.{Label}
+use Rattle.replica.specs.Picture.{Replica, FleetState, left_on, AreHeld, AreLabelsOf}
 use Rattle.master_state.specs.declared.config.Config.{Config}
 use Rattle.master_state.specs.Data.{MasterData}
 use Rattle.master.specs.Valid.{IsValid}
@@ -40,16 +41,16 @@ held_of_left config d l f hs same of shown h its =
     subst (λ (r : Option Replica). IsAmong h hs ↔ (r ≡ Some
     (record { bytes = h.bytes; is_open = h.is_open }))) there (shown h)
 
-pub held_down : (config : Config) (life : Life) (at : Position) (result : Result (List Holding) AllocError)
+pub held_down : (config : Config) (life : Life) (at : Position) (result : Result (List Label) AllocError)
     (d : MasterData) (l : Left) (f : FleetState)
-    → d.config ≡ config → at.left ≡ Some l → IsLeftOf d l f → IfOk result (λ hs. AreHeld hs f.picture)
-    → IfOk result IsRising
+    → d.config ≡ config → at.left ≡ Some l → IsLeftOf d l f → IfOk result (AreLabelsOf f.picture)
+    → IfOk result AreRising
     → Tells config life at Holdings (held_answer result) at
 held_down config life at (Err fault) d l f same left of shown rising = inr (inl (refl, refl, refl))
-held_down config life at (Ok hs) d l f same left of shown rising = (
+held_down config life at (Ok labels) d l f same left of shown rising = (
   refl,
-  subst (λ (o : Option Left). AreHeldAt config (life_to life at.made) o hs) (sym left)
-      (held_of_left config d l f hs same of shown),
+  subst (λ (o : Option Left). AreHeldAt config (life_to life at.made) o labels) (sym left)
+      (shown.0, held_of_left config d l f shown.0 same of shown.1, shown.2),
   rising,
   refl,
 )

@@ -9,8 +9,8 @@ use Rattle.store_seat.specs.declared.fault.CallFault.{CallFault}
 use Rattle.store_seat.specs.declared.fault.CallFault.TheVariants as call_fault
 use Rattle.std.specs.Option.{option_map}
 use Rattle.std.specs.declared.alloc.AllocError.{AllocError}
-use Rattle.replica.specs.declared.holding.Holding.{Holding}
-use Rattle.replica.specs.Picture.{FleetState, AreHeld, left_on}
+use Rattle.replica.specs.declared.label.Label.{Label}
+use Rattle.replica.specs.Picture.{FleetState, AreLabelsOf, left_on}
 use Rattle.replica.specs.Take.{limited, no_limit}
 use Rattle.versioned_map.specs.declared.command.Command.{Command}
 use Rattle.versioned_map.specs.declared.command.Record.{Record}
@@ -267,7 +267,7 @@ LosesOne old backup new =
 
 -- what is shown is what the node's backups hold, of all masters
 abbrev pub ShowsFleet : Node → Answer → Type 0
-ShowsFleet node (Holdings hs) = IfSome (fleet_of node) (λ (f : FleetState). AreHeld hs f.picture)
+ShowsFleet node (Holdings labels) = IfSome (fleet_of node) (λ (f : FleetState). AreLabelsOf f.picture labels)
 ShowsFleet node answer = Unit {0}
 
 -- What a line makes of the node: just the steps of its command, its step, its roll, its cleaning, or the rounds of its
@@ -311,6 +311,6 @@ DividesAnew node old new = (config : Config) (d : MasterData) (at : Position) �
 -- ---- sessions
 
 -- the answer that shows what backups hold
-abbrev pub held_answer : Result (List Holding) AllocError → Answer
-held_answer (Ok hs) = Holdings hs
+abbrev pub held_answer : Result (List Label) AllocError → Answer
+held_answer (Ok labels) = Holdings labels
 held_answer (Err fault) = Refused NoMemory

@@ -11,11 +11,12 @@ use Rattle.lines.specs.Grammar.{LineValue, Idle, Put, New, Cas, Get, Del, Compac
 use Rattle.lines.specs.Grammar.{Hex, Stop, Crash, Lose, Will, Recover, Holdings, Clean, Begin, Copy, Seal, Free}
 use Rattle.lines.specs.Grammar.{Clients}
 use Rattle.lines.specs.declared.line.ReplayOrder.{ReplayOrder}
-use Rattle.backup.specs.Inventory.{IsRising}
+use Rattle.backup.specs.Inventory.{AreRising}
 use Rattle.replica.specs.Choice.{Choice, IsShownChoice, bag_of}
 use Rattle.entry.specs.Bag.{IsAmong}
 use Rattle.replica.specs.declared.holding.Holding.{Holding}
-use Rattle.replica.specs.Picture.{FleetState, left_on, IsHeld, AreHeld, shown_by, survivors}
+use Rattle.replica.specs.declared.label.Label.{Label}
+use Rattle.replica.specs.Picture.{FleetState, left_on, IsHeld, AreLabelsOf, label_of, shown_by, survivors}
 use Rattle.replica.specs.Survival.{BothSurvive}
 use Rattle.versioned_map.specs.declared.command.Command.{Command}
 use Rattle.versioned_map.specs.declared.command.Command.TheVariants as command
@@ -193,9 +194,10 @@ AreLeft config l hs = (h : Holding) → h.master ≡ config.master
     → IsAmong h hs ↔ IsHeld (left_on (is_left l.lost) l.picture) h
 
 -- what the backups hold: of a master that has lived this life, or what is left of it
-abbrev pub AreHeldAt : Config → Life → Option Left → List Holding → Type 0
-AreHeldAt config life None hs = (d : MasterData) × (f : FleetState) × HasLived config life d f × AreHeld hs f.picture
-AreHeldAt config life (Some l) hs = AreLeft config l hs
+abbrev pub AreHeldAt : Config → Life → Option Left → List Label → Type 0
+AreHeldAt config life None labels =
+    (d : MasterData) × (f : FleetState) × HasLived config life d f × AreLabelsOf f.picture labels
+AreHeldAt config life (Some l) labels = (hs : List Holding) × AreLeft config l hs × (labels ≡ map label_of hs)
 
 -- ---- wills
 
@@ -360,8 +362,8 @@ Tells config life at line (answer.Will parts limits) next = (at.left ≡ None) �
     × IsWillAt config (life_to life at.made) limits parts × (next ≡ at)
 Tells config life at line (answer.BadLimits limits) next = (at.left ≡ None) × (line ≡ Will)
     × (are_limits limits.bytes limits.objects ≡ false) × (next ≡ at)
-Tells config life at line (answer.Holdings hs) next = (line ≡ Holdings)
-    × AreHeldAt config (life_to life at.made) at.left hs × IsRising hs × (next ≡ at)
+Tells config life at line (answer.Holdings labels) next = (line ≡ Holdings)
+    × AreHeldAt config (life_to life at.made) at.left labels × AreRising labels × (next ≡ at)
 Tells config life at line (answer.Hex bytes) next = (at.left ≡ None)
     × ((segment : ℕ) × (line ≡ Hex segment) × IsImageAt config (life_to life at.made) segment (Some bytes))
     × (next ≡ at)

@@ -1,8 +1,10 @@
 -- Commands that wait for a roll, and the roll that they wait for.
-use Rattle.std.specs.Prelude.{◌≡◌, ℕ, true, Option, Some, None, Result, Ok, Err}
+use Rattle.std.specs.Prelude.{◌≡◌, ℕ, true, Option, Some, None, Result, Ok, Err, slice_get}
+use Rattle.std.specs.Option.{option_map}
 use Rattle.backup.specs.State.{fleet_state}
 use Rattle.lines.specs.Grammar.{LineValue, Roll}
 use Rattle.versioned_map.specs.declared.command.Command.{Command}
+use Rattle.versioned_map.specs.declared.command.Record.{Record}
 use Rattle.versioned_map.specs.declared.command.Reply.{Reply}
 use Rattle.log_head.specs.Head.{is_open}
 use Rattle.master_state.specs.declared.config.Config.{Config}
@@ -16,6 +18,8 @@ use Rattle.answers.specs.declared.answer.Answer.{Answer}
 use Rattle.answers.specs.declared.answer.Answer.TheVariants as answers
 use Rattle.node.specs.declared.node.Node.{Node}
 use Rattle.node.specs.declared.node.Node.TheVariants.{Up}
+use Rattle.node.specs.declared.tried.Tried.{Tried}
+use Rattle.node.specs.declared.tried.Tried.TheVariants as tried
 use Rattle.driving.specs.Commands.{Tries, TriesAfterRoll}
 use Rattle.node.specs.Lives.{life_to, Position}
 use Rattle.driving.specs.Rolls.{Rolls}
@@ -61,6 +65,18 @@ MakesTry (Up m) command new (Some answer) = (result : Result Reply Refusal) × (
 MakesTry (Up m) command new None = Declines (world fleet_state m) (Apply 0 command) Rolling (world fleet_state m)
     × (world_of new ≡ Some (world fleet_state m))
 MakesTry old command new answer = (new ≡ old) × (answer ≡ Some answers.Down)
+
+-- the node's record at this place has this reply
+abbrev pub IsReplyAt : Node → ℕ → Reply → Type 0
+IsReplyAt (Up m) place reply = option_map (λ (r : Record). r.reply) (slice_get m.knows.history place) ≡ Some reply
+IsReplyAt node place reply = ⊥
+
+-- What a try comes to: an answer, or to wait for a roll. With the place of a record the answer is the record's reply.
+abbrev pub TriesLine : Node → Command → Node → Tried → Type 0
+TriesLine old command new (tried.Replied place) = (reply : Reply) × IsReplyAt new place reply
+    × Serves old command new (Some (answers.Reply reply)) × MakesTry old command new (Some (answers.Reply reply))
+TriesLine old command new tried.Waits = Serves old command new None × MakesTry old command new None
+TriesLine old command new (tried.Answered a) = Serves old command new (Some a) × MakesTry old command new (Some a)
 
 -- A node that is up just makes a roll. An answer is why it was refused. Any other node does nothing.
 abbrev pub MakesOpen : Node → Node → Option Answer → Type 0

@@ -10,7 +10,9 @@
 
 mod clients;
 mod node;
+mod tried;
 mod will;
 
 pub use clients::Served;
 pub use node::Node;
+pub use tried::Tried;

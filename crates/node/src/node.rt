@@ -1,20 +1,28 @@
 //! A fleet, and the master over it if there is one.
 
-ghost use Rattle.std.specs.Prelude.{◌≡◌, true, false, None, Some, Ok};
+ghost use Rattle.std.specs.Prelude.{◌≡◌, true, false, None, Some, Ok, OnOk};
+ghost use Rattle.std.specs.Io.KnownBytes.{Appends};
+ghost use Rattle.versioned_map.specs.declared.command.Reply.{Reply as ReplyValue};
+ghost use Rattle.std.specs.Option.{option_map};
+ghost use Rattle.versioned_map.specs.declared.command.Record.{Record as RecordValue};
+ghost use Rattle.history.specs.View.{shown_command, shown_record};
+ghost use Rattle.answers.specs.Texts.{reply_text};
 ghost use Rattle.master_state.specs.declared.config.Config.{Config};
 ghost use Rattle.node.specs.Served.{IsDropped, fleet_of, is_up};
 ghost use Rattle.node.specs.Served.{AnswersLine, LimitsFleet, LosesMaster, LosesOne, MakesStep, MakesRoll, Refuses};
 ghost use Rattle.node.specs.Served.{AnswersStep, MakesClean, ShowsFleet, held_answer, step_told};
 ghost use Rattle.node.specs.Shows.{ShowsDigest, ShowsImage, ShowsRoom};
-ghost use Rattle.node.specs.Waits.{Serves, MakesRoom, MakesOpen, MakesTry};
+ghost use Rattle.node.specs.Waits.{MakesRoom, MakesOpen, TriesLine, IsReplyAt};
 
-use answers::Answer;
+use crate::tried::Tried;
+use answers::{Answer, write_reply};
 use backup::MemoryFleet;
 use driving::{clean_all, roll_all, serve};
 use entry::{NoMemory, Row};
-use master::{Command, Look, Master, Refusal, Shown, Step, StepAnswer};
-use replica::{Bench, Fleet, Inventory};
+use master::{CommandRef, Look, Master, RecordRef, Refusal, Shown, Step, StepAnswer};
+use replica::{Bench, Fleet, Labels};
 use std::alloc::Global;
+use std::io::{self, Write};
 use std::mem::replace;
 
 /// A fleet, and the master over it if there is one.
@@ -27,11 +35,11 @@ pub enum Node {
 }
 
 /// The answer that shows what backups hold.
-fn held(inventory: Result<Inventory, NoMemory>) -> Answer
-    ensures { result ≡ held_answer inventory }
+fn held(labels: Result<Labels, NoMemory>) -> Answer
+    ensures { result ≡ held_answer labels }
 {
-    match inventory {
-        Ok(inventory) => Answer::Holdings(inventory),
+    match labels {
+        Ok(labels) => Answer::Holdings(labels),
         Err(NoMemory) => Answer::Refused(Refusal::NoMemory),
     }
 }
@@ -59,24 +67,47 @@ fn answer_of(made: StepAnswer) -> Answer
 impl Node {
     ghost use Rattle.lines.specs.Grammar.{Roll, Clean, Log, Room, Hex, Stop, Crash, Lose, Holdings};
 
-    /// Applies a command, and pushes until its record is durable. It answers `None`, and does nothing, if the command
-    /// has to wait for a roll.
+    /// Applies a command, which may lie anywhere, and pushes until its record is durable.
     #[inline(always)]
-    pub fn serve(&mut self, command: Command) -> Option<Answer>
-        ensures told { Serves self.old command self.new result }
-        ensures tried { MakesTry self.old command self.new result }
+    pub fn serve(&mut self, command: &CommandRef<'_>) -> Tried
+        ensures { TriesLine self.old (shown_command command.now) self.new result }
     {
         let Node::Up(up) = self else {
-            return Some(Answer::Down);
+            return Tried::Answered(Answer::Down);
         };
         let outcome = serve(up, command);
         up.show_valid();
         match outcome {
-            Ok(reply) => Some(Answer::Reply(reply)),
+            Ok(place) => Tried::Replied(place),
             Err(refusal) => match refusal {
-                Refusal::Rolling => None,
-                _ => Some(self.refuse(refusal)),
+                Refusal::Rolling => Tried::Waits,
+                _ => Tried::Answered(self.refuse(refusal)),
             },
+        }
+    }
+
+    /// Writes the line of the reply that the record at this place of the history has. The value is copied from there.
+    #[inline(always)]
+    pub fn write_reply<W: Write>(&self, place: u64, writer: &mut W) -> io::Result<()>
+        requires { (reply : ReplyValue) × IsReplyAt self.now place reply }
+        ensures { (reply : ReplyValue) → IsReplyAt self.now place reply →
+            OnOk result (Appends (W.contents writer.old) (W.contents writer.new) (reply_text reply)) }
+    {
+        match self.lent_record(place) {
+            Some(record) => write_reply(writer, &record.reply),
+            None => unreachable!(),
+        }
+    }
+
+    /// The record at this place of the history, if there is one.
+    #[inline(always)]
+    fn lent_record(&self, place: u64) -> Option<RecordRef<'_>>
+        ensures { (reply : ReplyValue) → IsReplyAt self.entry.now place reply →
+            option_map (λ (r : RecordValue). r.reply) (option_map shown_record result) ≡ Some reply }
+    {
+        match self {
+            Node::Up(up) => up.history().get(place as usize),
+            _ => None,
         }
     }
 
@@ -208,9 +239,9 @@ impl Node {
         match self {
             Node::Up(up) => {
                 up.show_valid();
-                held(up.fleet().inventory(alloc))
+                held(up.fleet().labels(alloc))
             }
-            Node::Down(fleet) => held(fleet.inventory(alloc)),
+            Node::Down(fleet) => held(fleet.labels(alloc)),
             Node::Changing => Answer::Down,
         }
     }

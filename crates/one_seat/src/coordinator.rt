@@ -92,7 +92,7 @@ impl Coordinator {
     fn rebuild(
         &self,
         alloc: Global,
-        inventory: &Inventory,
+        inventory: &Inventory<'_>,
         order: ReplayOrder,
     ) -> Result<Rebuilt, RecoveryFault> {
         let groups = match order {
@@ -110,7 +110,7 @@ impl Coordinator {
         alloc: Global,
         options: &Options,
         fleet: &MemoryFleet,
-        inventory: &Inventory,
+        inventory: &Inventory<'_>,
     ) -> Result<Config, Answer>
         requires { AreHeld inventory.now (fleet_state fleet.now).picture }
         ensures { IfOk result (CanBegin options.now (fleet_state fleet.now)) }

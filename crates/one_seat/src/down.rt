@@ -115,8 +115,8 @@ fn answer_of(
             fleet.lose(backup);
             Ok(Answer::Lost(backup))
         }
-        Line::Holdings => match fleet.inventory(alloc) {
-            Ok(inventory) => Ok(Answer::Holdings(inventory)),
+        Line::Holdings => match fleet.labels(alloc) {
+            Ok(labels) => Ok(Answer::Holdings(labels)),
             Err(NoMemory) => Ok(Answer::Refused(Refusal::NoMemory)),
         },
         _ => Ok(Answer::Down),

@@ -1,7 +1,7 @@
 -- Lists of partitions, one behind the other.
 use Rattle.std.proofs.Common.{◌≡◌, ℕ, zero, suc, ◌+◌, ◌-◌, ◌<◌, ◌≤◌, true, false, List, [], ◌∷◌, ◌++◌, length, max}
 use Rattle.std.proofs.Common.{get_or, Some, None, refl, sym, ap, subst, ◌∙◌, inl, inr, arith}
-use Rattle.std.specs.Prelude.{Option, IfSome, is_some, slice_get}
+use Rattle.std.specs.Prelude.{Option, IfSome, is_some}
 use Rattle.std.specs.List.Sorted.{IsStrictlySortedBy}
 use Rattle.std.specs.declared.cmp.Ordering.TheVariants.{Less}
 use Rattle.std.proofs.lemmas.Bool.Decides.{Decides-eqb}
@@ -104,11 +104,9 @@ ends_at os front last is =
     sym (ap (λ n. get_or os n last) place ∙ ap (λ xs. get_or xs (length front) last) is
     ∙ get_or-append_seam front last [] last)
 
--- what a slice has at a place
-pub got : {X : Type 0} (xs : List X) (n : ℕ) (x : X) → slice_get xs n ≡ Some x → x ≡ get_or xs n x
-got [] n x h = absurd (cc)
-got (y ∷ ys) zero x h = sym (cc)
-got (y ∷ ys) (suc n) x h = got ys n x h
+-- the first of a list is at its first place
+pub begins_at : (ps rest : List Object) (first : Object) → ps ≡ first ∷ rest → first ≡ get_or ps 0 first
+begins_at ps rest first is = sym (ap (λ (os : List Object). get_or os 0 first) is)
 
 -- ---- tops of a list
 

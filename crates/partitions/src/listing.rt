@@ -12,7 +12,8 @@ ghost use Rattle.claims.specs.Rebuilt.{IsRebuilt};
 use crate::parcel::Division;
 use crate::setback::Setback;
 use claims::{Objects, Rebuilt};
-use entry::{Object, SafeVersion};
+use entry::SafeVersion;
+use object_list::ObjectList;
 use std::alloc::Global;
 use std::cmp::Ordering;
 use std::marker::{Model, PhantomData};
@@ -21,7 +22,7 @@ use std::marker::{Model, PhantomData};
 #[derive(Drop)]
 pub struct PartList<D: Division> {
     partition: u32,
-    objects: Vec<Object>,
+    objects: ObjectList,
     safe: SafeVersion,
     of: PhantomData<D>,
 }
@@ -34,13 +35,13 @@ impl<D: Division> Model for PartList<D> {
 
     ghost view = { λ l. l.partition };
 
-    ghost invariant = { λ l. IsListed (bag_in D.parts l.partition D.segments) D.safe l.objects.items l.safe };
+    ghost invariant = { λ l. IsListed (bag_in D.parts l.partition D.segments) D.safe l.objects l.safe };
 }
 
 impl<D: Division> PartList<D> {
     /// The list of a partition.
-    pub fn new(partition: u32, objects: Vec<Object>, safe: SafeVersion) -> PartList<D>
-        requires { IsListed (bag_in D.parts partition D.segments) D.safe objects.items safe }
+    pub fn new(partition: u32, objects: ObjectList, safe: SafeVersion) -> PartList<D>
+        requires { IsListed (bag_in D.parts partition D.segments) D.safe objects safe }
         ensures { result ≡ partition }
     {
         PartList {
@@ -81,7 +82,7 @@ impl<D: Division> Model for Joined<D> {
 }
 
 /// Whether the keys of the later list come behind those of the other.
-fn follows(objects: &Objects, later: &[Object]) -> bool
+fn follows(objects: &Objects, later: &ObjectList) -> bool
     requires objects { AreOrdered objects.now }
     requires later { AreOrdered later.now }
     ensures { IsTrue result → AreOrdered (objects.now ++ later.now) }
@@ -110,7 +111,7 @@ impl<D: Division> Joined<D> {
     {
         Joined {
             count: 0,
-            objects: Objects::new(alloc, Vec::new(alloc)),
+            objects: Objects::new(alloc, ObjectList::new(alloc)),
             safe: recorded,
             of: PhantomData,
         }
@@ -126,7 +127,7 @@ impl<D: Division> Joined<D> {
         if list.partition != self.count || self.count == u32::MAX {
             return Err(Setback::NotWhole);
         }
-        if !follows(&self.objects, list.objects.as_slice()) {
+        if !follows(&self.objects, &list.objects) {
             return Err(Setback::NotWhole);
         }
         let PartList {

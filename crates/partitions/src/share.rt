@@ -10,7 +10,8 @@ use crate::listing::PartList;
 use crate::parcel::{Division, Parcel};
 use crate::setback::Setback;
 use claims::{Claim, ReplayFault, add_claims, safe_above, winners};
-use entry::{NoMemory, Object, SafeVersion};
+use entry::{NoMemory, SafeVersion};
+use object_list::ObjectList;
 use std::alloc::{AllocError, Global};
 use std::marker::{Model, PhantomData};
 
@@ -84,9 +85,9 @@ fn claims_in<'a, D: Division>(
 }
 
 /// The objects that are left of claims in order, if no two neighbours clash.
-fn listed(alloc: Global, claims: &[Claim<'_>]) -> Result<Vec<Object>, Setback>
-    ensures objects { IfOk result (λ objects. objects.items ≡ objects_in (tops (map claimed claims.now))) }
-    ensures valid { IfOk result (λ objects. All IsObject objects.items) }
+fn listed(alloc: Global, claims: &[Claim<'_>]) -> Result<ObjectList, Setback>
+    ensures objects { IfOk result (λ objects. objects ≡ objects_in (tops (map claimed claims.now))) }
+    ensures valid { IfOk result (λ objects. All IsObject objects) }
     ensures clean { OnOk result (has_clash (map claimed claims.now) ≡ false) }
     ensures setback { IfErr result (λ s. s ≡ Setback.Clash → has_clash (map claimed claims.now) ≡ true) }
 {

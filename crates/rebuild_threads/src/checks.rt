@@ -5,7 +5,7 @@ ghost use Rattle.rebuilding.specs.Rebuilds.{NamesEach};
 
 use partitions::Setback;
 use rebuilding::{Misnamed, check_ids, check_naming, ids_in};
-use segment::Segment;
+use segment::SegmentRef;
 use std::alloc::Global;
 
 /// Tests that the order names each number below the count, once.
@@ -21,7 +21,7 @@ pub fn test_order(alloc: Global, count: usize, order: &[usize]) -> Result<(), Se
 }
 
 /// Tests that no two segments have one id.
-pub fn test_ids(alloc: Global, segments: &[Segment]) -> Result<(), Setback>
+pub fn test_ids(alloc: Global, segments: &[SegmentRef<'_>]) -> Result<(), Setback>
     ensures { IfErr result (λ s. s ≡ Setback.Clash → ⊥) }
 {
     let ids = ids_in(alloc, segments)?;

@@ -7,7 +7,7 @@ ghost use Rattle.claims.specs.Bags.{segments_bag};
 
 use division::{DivideFault, Group, divide};
 use partitions::{Division, Parcel, Setback, are_whole};
-use segment::Segment;
+use segment::SegmentRef;
 use std::alloc::{AllocError, Global};
 use std::marker::{Model, PhantomData};
 use tablet_will::Will;
@@ -15,9 +15,9 @@ use tablet_will::Will;
 /// Hands out the groups of a log by their numbers: group n is of segment n / partitions and of partition n %
 /// partitions. A segment is divided when its first group is asked for. A contract sees which segments are divided.
 #[derive(Drop)]
-pub struct Divider<'a, D: Division> {
-    segments: &'a [Segment],
-    will: &'a Will,
+pub struct Divider<'s, 'a, D: Division> {
+    segments: &'s [SegmentRef<'a>],
+    will: &'s Will,
     partitions: usize,
     divided: Vec<bool>,
     /// The groups that were not asked for, of segments that are divided.
@@ -25,7 +25,7 @@ pub struct Divider<'a, D: Division> {
     of: PhantomData<D>,
 }
 
-impl<'a, D: Division> Model for Divider<'a, D> {
+impl<'s, 'a, D: Division> Model for Divider<'s, 'a, D> {
     ghost use Rattle.std.specs.Prelude.{List, Bool};
     ghost use Rattle.rebuild_threads.specs.Divided.{AreDivided};
 
@@ -66,14 +66,14 @@ fn empty_places<'a, D: Division>(
     Ok(places)
 }
 
-impl<'a, D: Division> Divider<'a, D> {
+impl<'s, 'a, D: Division> Divider<'s, 'a, D> {
     /// A divider of these segments by the will, which has so many groups.
     pub fn new(
         alloc: Global,
-        segments: &'a [Segment],
-        will: &'a Will,
+        segments: &'s [SegmentRef<'a>],
+        will: &'s Will,
         count: usize,
-    ) -> Result<Divider<'a, D>, AllocError>
+    ) -> Result<Divider<'s, 'a, D>, AllocError>
         requires segments { segments.now ≡ D.segments }
         requires parts { will.now ≡ D.parts }
     {

@@ -54,7 +54,7 @@ impl<D: Division> Promise<Result<Vec<PartList<D>>, Setback>> for Honest<D> {
 fn send_all<'a, D: Division, R: Wait>(
     rt: &R,
     alloc: Global,
-    divider: &mut Divider<'a, D>,
+    divider: &mut Divider<'_, 'a, D>,
     order: &[usize],
     ends: &[Sender<Parcel<'a, D>>],
 ) -> Result<(), Setback>
@@ -92,7 +92,7 @@ fn lists_from<D: Division, R: Threads>(
 fn lists_of<'a, D: Division + Send + Sync + 'static, R: Threads + Wait + Sync, G: Gate + Sync>(
     rt: &R,
     alloc: Global,
-    divider: &mut Divider<'a, D>,
+    divider: &mut Divider<'_, 'a, D>,
     order: &[usize],
     recorded: SafeVersion,
     work: Work,
@@ -141,7 +141,7 @@ fn lists_of<'a, D: Division + Send + Sync + 'static, R: Threads + Wait + Sync, G
 fn by_workers<'a, D: Division + Send + Sync + 'static, R: Threads + Wait + Sync, G: Gate + Sync>(
     rt: &R,
     alloc: Global,
-    plan: &'a Plan,
+    plan: &'a Plan<'_>,
     will: &'a Will,
     order: &[usize],
     workers: usize,
@@ -183,7 +183,7 @@ fn by_workers<'a, D: Division + Send + Sync + 'static, R: Threads + Wait + Sync,
 fn rebuild_on<'a, D: Division + Send + Sync + 'static, R: Threads + Wait + Sync, G: Gate + Sync>(
     rt: &R,
     alloc: Global,
-    plan: &'a Plan,
+    plan: &'a Plan<'_>,
     will: &'a Will,
     order: &[usize],
     workers: usize,
@@ -224,7 +224,7 @@ fn rebuild_on<'a, D: Division + Send + Sync + 'static, R: Threads + Wait + Sync,
 pub fn rebuild_threads<R: Threads + Wait + Sync, G: Gate + Sync>(
     rt: &R,
     alloc: Global,
-    plan: &Plan,
+    plan: &Plan<'_>,
     will: &Will,
     order: &[usize],
     workers: usize,

@@ -7,16 +7,16 @@ ghost use Rattle.rebuilding.specs.Turns.{AreApart, IsIdsFault};
 
 use claims::ReplayFault;
 use entry::NoMemory;
-use segment::Segment;
+use segment::SegmentRef;
 use std::alloc::Global;
 
 /// The ids of the segments.
-pub fn ids_in(alloc: Global, segments: &[Segment]) -> Result<Vec<u64>, NoMemory>
+pub fn ids_in(alloc: Global, segments: &[SegmentRef<'_>]) -> Result<Vec<u64>, NoMemory>
     ensures { IfOk result (λ ids. ids.items ≡ ids_of segments.now) }
 {
     let mut ids = Vec::with_capacity(alloc, segments.len())?;
     for segment in segments {
-        ids.push(segment.view().header().segment)?;
+        ids.push(segment.header().segment)?;
     }
     Ok(ids)
 }

@@ -47,7 +47,7 @@ pub fn numbers(alloc: Global, order: &GroupOrder, count: usize) -> Result<Vec<us
 /// are NoMemory.
 pub fn numbers_for(
     alloc: Global,
-    plan: &Plan,
+    plan: &Plan<'_>,
     will: &Will,
     order: &GroupOrder,
 ) -> Result<Vec<usize>, NoMemory>

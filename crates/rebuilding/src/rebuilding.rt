@@ -18,7 +18,7 @@ use claims::{Claim, Rebuilt, ReplayFault, add_claims, rebuilt_from};
 use division::{Group, divide};
 use entry::NoMemory;
 use recovery_plan::Plan;
-use segment::Segment;
+use segment::SegmentRef;
 use std::alloc::Global;
 use tablet_will::Will;
 
@@ -36,7 +36,7 @@ fn append<'a>(all: &mut Vec<Group<'a>>, groups: Vec<Group<'a>>) -> Result<(), No
 /// The groups of all segments, segment by segment, and of each segment by partition.
 fn groups_in<'a>(
     alloc: Global,
-    segments: &'a [Segment],
+    segments: &[SegmentRef<'a>],
     will: &Will,
     partitions: u32,
 ) -> Result<Vec<Group<'a>>, ReplayFault>
@@ -99,7 +99,7 @@ fn claims_in_order<'a>(
 /// What the segments claim, divided by the will and gathered in this order.
 fn claims_divided<'a>(
     alloc: Global,
-    segments: &'a [Segment],
+    segments: &[SegmentRef<'a>],
     will: &Will,
     order: &[usize],
 ) -> Result<Vec<Claim<'a>>, ReplayFault>
@@ -133,7 +133,7 @@ fn claims_divided<'a>(
 /// segments' ids don't rise.
 pub fn rebuild(
     alloc: Global,
-    plan: &Plan,
+    plan: &Plan<'_>,
     will: &Will,
     order: &[usize],
 ) -> Result<Rebuilt, ReplayFault>

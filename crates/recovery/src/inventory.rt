@@ -8,9 +8,14 @@ use entry::NoMemory;
 use replica::{Fleet, Inventory};
 use std::alloc::Global;
 
-/// All replicas that these backups hold, backup by backup. One that is named twice shows them twice.
-pub fn inventory_of<F: Fleet>(alloc: Global, fleet: &F, kept: &[u64]) -> Result<Inventory, NoMemory>
-    ensures shown { IfOk result (λ hs. AreHeld hs (left_on (is_kept kept.now) (F.state fleet.now).picture)) }
+/// All replicas that these backups hold, backup by backup. One that is named twice shows them twice. Their bytes stay
+/// with the backups.
+pub fn inventory_of<'f, F: Fleet>(
+    alloc: Global,
+    fleet: &'f F,
+    kept: &[u64],
+) -> Result<Inventory<'f>, NoMemory>
+    ensures shown { IfOk result (λ hs. AreHeld hs (left_on (is_kept kept.now) (F.state fleet.entry.now).picture)) }
     ensures once { IfOk result (λ hs. AreDifferent kept.now → IsOnce hs) }
     ensures refused { OnErr result (0 < length kept.now) }
 {

@@ -43,7 +43,7 @@ impl fmt::Display for RecoveryFault {
 /// Rebuilds the plan by the will, group by group in this order. More groups than a `usize` counts are NoMemory.
 fn rebuild_in(
     alloc: Global,
-    plan: &Plan,
+    plan: &Plan<'_>,
     will: &Will,
     order: &GroupOrder,
 ) -> Result<Rebuilt, ReplayFault>
@@ -68,7 +68,7 @@ fn rebuild_in(
 /// segment is divided into groups, and the order in which turn each group is replayed.
 pub fn recover(
     alloc: Global,
-    inventory: &Inventory,
+    inventory: &Inventory<'_>,
     master: u64,
     will: &Will,
     order: &GroupOrder,

@@ -25,7 +25,7 @@ use tablet_will::Will;
 fn rebuild_in_threads<R: Threads + Wait + Sync, G: Gate + Sync>(
     rt: &R,
     alloc: Global,
-    plan: &Plan,
+    plan: &Plan<'_>,
     will: &Will,
     order: &GroupOrder,
     workers: usize,
@@ -54,7 +54,7 @@ fn rebuild_in_threads<R: Threads + Wait + Sync, G: Gate + Sync>(
 pub fn recover_threads<R: Threads + Wait + Sync, G: Gate + Sync>(
     rt: &R,
     alloc: Global,
-    inventory: &Inventory,
+    inventory: &Inventory<'_>,
     master: u64,
     will: &Will,
     order: &GroupOrder,

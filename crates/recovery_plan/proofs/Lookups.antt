@@ -3,11 +3,11 @@ use Rattle.std.proofs.Common.{◌≡◌, ℕ, zero, suc, ◌<◌, ◌+◌, List,
 use Rattle.std.proofs.Common.{length, get_or, refl, sym, ap, subst, ◌∙◌, arith}
 use Rattle.std.specs.Prelude.{Option, Some, None, IsSome}
 use Rattle.std.specs.Borrow.{Bor}
-use Rattle.std.specs.List.{AllByRecursion, slice_get}
+use Rattle.std.specs.List.{slice_get}
 use Rattle.std.proofs.lemmas.List.{map-append, length-take-le, get_or-take}
 use Rattle.std.proofs.lemmas.Grind.{take_at_read}
 use Rattle.replica.specs.declared.holding.Holding.{Holding}
-use Rattle.recovery_plan.specs.Looked.{lent, AreFound, IsFirstLacking}
+use Rattle.recovery_plan.specs.Looked.{AreFound, IsFirstLacking}
 
 -- the element at a place, by either word
 pub get-at : (xs : List ℕ) (i x : ℕ) → slice_get xs i ≡ Some x → get_or xs i 0 ≡ x
@@ -49,10 +49,3 @@ module _ (look : ℕ → Option (Bor Holding)) where
         let same : get_or (take i ids) k 0 ≡ get_or ids k 0 = grind (arith, get_or-take) in
         subst (λ n. IsSome (look n)) same (found-each (take i ids) vs found k (omega arith));
   }
-
--- what holds of all that are lent holds of each
-pub all-at : (P : Holding → Type 0) (hs : List (Bor Holding)) (i : ℕ) (b : Bor Holding) → AllByRecursion P (lent hs)
-    → i < length hs → b ≡ get_or hs i b → P b.now
-all-at P [] i b all lt is = absurd (omega arith)
-all-at P (h ∷ hs) zero b all lt is = subst (λ (x : Bor Holding). P x.now) (sym is) all.0
-all-at P (h ∷ hs) (suc i) b all lt is = all-at P hs i b all.1 (omega arith) is

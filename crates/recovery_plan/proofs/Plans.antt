@@ -148,7 +148,7 @@ found-choice hs m head o others taken opened all ids =
       ids = ap (λ l. l ++ head.segment ∷ []) ids ∙ sym last;
     }
 
--- and what is copied of it a plan
+-- and its segments are a plan's
 pub found-plan : (hs : List Holding) (m : ℕ) (head : Holding) (o : Opening) (look : ℕ → Option (Bor Holding))
     (vs ws : List (Bor Holding)) (b : Bor Holding) (p : Plan)
     → IsHeadTaken hs m head → opening_in head.bytes ≡ Some o → ArePreferred m hs look →

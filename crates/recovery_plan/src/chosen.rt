@@ -1,14 +1,14 @@
 //! What a plan has.
 
 use entry::{Row, SafeVersion};
-use segment::Segment;
+use segment::SegmentRef;
 
-/// The segments of a log, by id. A contract sees them as a list of lists of entries.
-pub type Segments = Row<Segment>;
+/// The segments of a log, by id. Their text lies with the backups. A contract sees them as a list of lists of entries.
+pub type Segments<'a> = Row<SegmentRef<'a>>;
 
 /// The segments of the newest digest, and the safe version that its head recorded.
 #[derive(Drop)]
-pub struct Plan {
-    pub segments: Segments,
+pub struct Plan<'a> {
+    pub segments: Segments<'a>,
     pub safe: SafeVersion,
 }

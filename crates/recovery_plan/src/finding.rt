@@ -14,13 +14,13 @@ use replica::Holding;
 
 /// The id of the newest head so far, and its open replica that is taken so far.
 #[derive(Drop)]
-struct Newest<'a> {
+struct Newest<'h, 'a> {
     id: Option<u64>,
-    taken: Option<Head<'a>>,
+    taken: Option<Head<'h, 'a>>,
 }
 
 /// The open replica of a head that is taken, once this replica of the head has come too.
-fn with_open<'a>(before: Option<Head<'a>>, head: Head<'a>) -> Option<Head<'a>>
+fn with_open<'h, 'a>(before: Option<Head<'h, 'a>>, head: Head<'h, 'a>) -> Option<Head<'h, 'a>>
     ensures { (master : ℕ) (hs : List HoldingValue) → IsUsableHeadOf least_head master head.entry →
         IsBest (IsOpenHead master head.entry.segment) hs before.entry →
         IsBest (IsOpenHead master head.entry.segment) (hs ++ head.entry ∷ []) result }
@@ -33,7 +33,7 @@ fn with_open<'a>(before: Option<Head<'a>>, head: Head<'a>) -> Option<Head<'a>>
 }
 
 /// The newest head, once this replica of a head has come too.
-fn with_head<'a>(newest: Newest<'a>, head: Head<'a>) -> Newest<'a>
+fn with_head<'h, 'a>(newest: Newest<'h, 'a>, head: Head<'h, 'a>) -> Newest<'h, 'a>
     ensures { (master : ℕ) (hs : List HoldingValue) → IsUsableHeadOf least_head master head.entry →
         AreNewest master hs newest.entry.id newest.entry.taken →
         AreNewest master (hs ++ head.entry ∷ []) result.id result.taken }
@@ -53,7 +53,10 @@ fn with_head<'a>(newest: Newest<'a>, head: Head<'a>) -> Newest<'a>
 }
 
 /// The replica of the newest head of a master that is taken. Each replica of the master is read, once.
-pub(crate) fn newest_head<'a>(holdings: &'a [Holding], master: u64) -> Result<Head<'a>, PlanFault>
+pub(crate) fn newest_head<'h, 'a>(
+    holdings: &'h [Holding<'a>],
+    master: u64,
+) -> Result<Head<'h, 'a>, PlanFault>
     ensures taken { IfOk result (IsHeadTaken holdings.entry.now master) }
     ensures fault { IfErr result (IsHeadFault holdings.entry.now master) }
 {

@@ -3,7 +3,7 @@
 ghost use Rattle.std.specs.Prelude.{◌≡◌, Some, IfSome, IfNone, IsSome};
 ghost use Rattle.entry.specs.Text.{entries_in, opening_in};
 ghost use Rattle.entry.specs.View.{shown_ids};
-ghost use Rattle.segment.specs.View.{entries_of};
+ghost use Rattle.recovery_plan.specs.Good.{IsGood};
 ghost use Rattle.recovery_plan.specs.Preferred.{better};
 
 use crate::preferred::prefers;
@@ -15,13 +15,13 @@ use std::marker::Model;
 /// A replica of a head, with the digest and the safe version that were found in it. So its bytes aren't read again. A
 /// contract sees the replica.
 #[derive(Drop)]
-pub struct Head<'a> {
-    replica: &'a Holding,
+pub struct Head<'h, 'a> {
+    replica: &'h Holding<'a>,
     digest: DigestRef<'a>,
     safe: SafeVersion,
 }
 
-impl<'a> Model for Head<'a> {
+impl<'h, 'a> Model for Head<'h, 'a> {
     ghost use Rattle.std.specs.Prelude.{◌≡◌, Some};
     ghost use Rattle.entry.specs.Text.{opening_in};
     ghost use Rattle.entry.specs.View.{shown_ids};
@@ -35,10 +35,11 @@ impl<'a> Model for Head<'a> {
         opening_in h.replica.now.bytes ≡ Some (record { ids = shown_ids h.digest; safe = h.safe }) };
 }
 
-impl<'a> Head<'a> {
+impl<'h, 'a> Head<'h, 'a> {
     /// The replica as one of a head, whose segment this is; None if the segment has no digest.
-    pub fn of(replica: &'a Holding, segment: &SegmentRef<'a>) -> Option<Head<'a>>
-        requires { entries_of segment.now ≡ entries_in replica.now.bytes }
+    pub fn of(replica: &'h Holding<'a>, segment: &SegmentRef<'a>) -> Option<Head<'h, 'a>>
+        requires good { IsGood replica.now }
+        requires entries { segment.now ≡ entries_in replica.now.bytes }
         ensures some { IfSome result (λ head. head ≡ replica.entry.now) }
         ensures opens { IfSome result (λ head. IsSome (opening_in replica.entry.now.bytes)) }
         ensures none { IfNone result (IsSome (opening_in replica.entry.now.bytes) → ⊥) }
@@ -62,7 +63,7 @@ impl<'a> Head<'a> {
     }
 
     /// The replica.
-    pub fn replica(&self) -> &'a Holding
+    pub fn replica(&self) -> &'h Holding<'a>
         ensures { result.now ≡ self.now }
     {
         self.replica
@@ -77,7 +78,7 @@ impl<'a> Head<'a> {
 }
 
 /// The later head if it is preferred to the best before it, and else that one.
-pub fn better_head<'a>(best: Option<Head<'a>>, later: Head<'a>) -> Head<'a>
+pub fn better_head<'h, 'a>(best: Option<Head<'h, 'a>>, later: Head<'h, 'a>) -> Head<'h, 'a>
     ensures { result ≡ better best.entry later.entry }
 {
     match best {

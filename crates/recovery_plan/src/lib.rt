@@ -2,8 +2,8 @@
 //!
 //! The layer above uses `plan` alone. With Ok the plan is a choice of the newest log, which takes the preferred replica
 //! of each segment (`IsPlanOf`). A fault is one of the inventory (`IsPlanFault`), and if it names a loss, there is
-//! nothing to choose (`NamesLoss`). The crate uses `segment`, which reads replicas, and `replica`, which defines a
-//! choice.
+//! nothing to choose (`NamesLoss`). A plan copies no text: its segments lie where the backups hold them. The crate uses
+//! `segment`, which reads replicas, and `replica`, which defines a choice.
 #![tactic(auto)]
 
 mod chosen;

@@ -13,17 +13,17 @@ use std::alloc::Global;
 use std::collections::BTreeMap;
 
 /// The best replica of each id of a digest but the last, which is the head's own.
-pub(crate) fn others<'a>(
+pub(crate) fn others<'h, 'a>(
     alloc: Global,
-    best: &BTreeMap<u64, &'a Holding>,
+    best: &BTreeMap<u64, &'h Holding<'a>>,
     digest: &DigestRef<'_>,
-) -> Result<Vec<&'a Holding>, PlanFault>
+) -> Result<Vec<&'h Holding<'a>>, PlanFault>
     requires { 0 < length (shown_ids digest.now) }
     ensures found { IfOk result (λ others.
         AreFound (get nat_cmp best.now) (without_last (shown_ids digest.now)) others.items) }
     ensures fault { IfErr result (λ fault. IsLack (get nat_cmp best.now) (shown_ids digest.now) fault) }
 {
-    let mut others: Vec<&'a Holding> = Vec::new(alloc);
+    let mut others: Vec<&'h Holding<'a>> = Vec::new(alloc);
     for place in 0..digest.count() - 1 {
         let id = digest.id(place);
         match best.get(&id) {

@@ -8,7 +8,7 @@ use entry::DigestRef;
 use replica::Holding;
 
 /// Whether some replica of the master is of the segment.
-fn has_replica(holdings: &[Holding], master: u64, id: u64) -> bool
+fn has_replica(holdings: &[Holding<'_>], master: u64, id: u64) -> bool
     ensures { IsTrue result ↔ HasReplica holdings.now master id }
 {
     for holding in holdings {
@@ -21,7 +21,7 @@ fn has_replica(holdings: &[Holding], master: u64, id: u64) -> bool
 
 /// The first id of a digest of which no replica is there. It takes no memory, and walks all replicas for each id.
 pub(crate) fn first_missing(
-    holdings: &[Holding],
+    holdings: &[Holding<'_>],
     master: u64,
     digest: &DigestRef<'_>,
 ) -> Option<u64>

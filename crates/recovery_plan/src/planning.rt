@@ -11,20 +11,20 @@ use crate::head::Head;
 use crate::listed::others;
 use crate::missing::first_missing;
 use crate::preferred::best_replicas;
-use crate::reading::copies;
+use crate::reading::segments_of;
 use replica::{Holding, Inventory};
 use std::alloc::Global;
 
 // The plan of what is found of each listed segment. It asks for memory before each is looked up.
-fn found_plan(
+fn found_plan<'h, 'a>(
     alloc: Global,
-    holdings: &[Holding],
+    holdings: &'h [Holding<'a>],
     master: u64,
-    head: &Head<'_>,
-) -> Result<Plan, PlanFault>
+    head: &Head<'h, 'a>,
+) -> Result<Plan<'a>, PlanFault>
     requires { IsHeadTaken holdings.now master head.now }
-    ensures ok { IfOk result (IsPlan holdings.now master) }
-    ensures fault { IfErr result (λ fault. IsFoundFault holdings.now master fault) }
+    ensures ok { IfOk result (IsPlan holdings.entry.now master) }
+    ensures fault { IfErr result (λ fault. IsFoundFault holdings.entry.now master fault) }
 {
     let (digest, safe) = head.opening();
     let best = best_replicas(alloc, holdings, master)?;
@@ -33,12 +33,14 @@ fn found_plan(
         Err(fault) => return Err(fault),
     };
     chosen.push(head.replica())?;
-    let segments = copies(alloc, &chosen)?;
-    Ok(Plan { segments, safe })
+    match segments_of(alloc, chosen) {
+        Ok(segments) => Ok(Plan { segments, safe }),
+        Err(_) => Err(PlanFault::NoMemory),
+    }
 }
 
 // Why there is no plan if memory ran out: a listed segment is lost, or else memory is all that was wanted.
-fn want(holdings: &[Holding], master: u64, head: &Head<'_>) -> PlanFault
+fn want(holdings: &[Holding<'_>], master: u64, head: &Head<'_, '_>) -> PlanFault
     requires { IsHeadTaken holdings.now master head.now }
     ensures { IsLaterFault holdings.now master result }
 {
@@ -50,15 +52,15 @@ fn want(holdings: &[Holding], master: u64, head: &Head<'_>) -> PlanFault
 }
 
 // The plan, once it is known which replica of the head is taken.
-fn plan_from(
+fn plan_from<'h, 'a>(
     alloc: Global,
-    holdings: &[Holding],
+    holdings: &'h [Holding<'a>],
     master: u64,
-    head: &Head<'_>,
-) -> Result<Plan, PlanFault>
+    head: &Head<'h, 'a>,
+) -> Result<Plan<'a>, PlanFault>
     requires { IsHeadTaken holdings.now master head.now }
-    ensures ok { IfOk result (IsPlan holdings.now master) }
-    ensures fault { IfErr result (λ fault. IsLaterFault holdings.now master fault) }
+    ensures ok { IfOk result (IsPlan holdings.entry.now master) }
+    ensures fault { IfErr result (λ fault. IsLaterFault holdings.entry.now master fault) }
 {
     match found_plan(alloc, holdings, master, head) {
         Ok(plan) => Ok(plan),
@@ -69,13 +71,18 @@ fn plan_from(
 
 /// The segments of the newest log that the inventory shows of a master. Of the newest head the longest open replica is
 /// taken; of another segment a closed one, else the longest open one; ties go to the lowest backup, then to the first.
-pub fn plan(alloc: Global, inventory: &Inventory, master: u64) -> Result<Plan, PlanFault>
+/// Each replica of the master is read once. No text is copied: the plan refers to the bytes that the backups lend.
+pub fn plan<'a>(
+    alloc: Global,
+    inventory: &Inventory<'a>,
+    master: u64,
+) -> Result<Plan<'a>, PlanFault>
     // The plan is a choice of the newest log, and takes the preferred replicas.
-    ensures ok { IfOk result (IsPlan inventory.now master) }
+    ensures ok { IfOk result (IsPlan inventory.entry.now master) }
     // A fault is the first that the tests find in the inventory. Memory is wanted only if they find none.
-    ensures fault { IfErr result (λ fault. IsPlanFault inventory.now master fault) }
+    ensures fault { IfErr result (λ fault. IsPlanFault inventory.entry.now master fault) }
     // A loss is named only if there is nothing to choose.
-    ensures loss { IfErr result (λ fault. NamesLoss inventory.now master fault) }
+    ensures loss { IfErr result (λ fault. NamesLoss inventory.entry.now master fault) }
 {
     let holdings = inventory.as_slice();
     let head = newest_head(holdings, master)?;

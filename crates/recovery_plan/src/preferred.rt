@@ -12,7 +12,7 @@ use std::alloc::{AllocError, Global};
 use std::collections::BTreeMap;
 
 // Whether the first is longer, or as long and on a lower backup.
-fn longer(a: &Holding, b: &Holding) -> bool
+fn longer(a: &Holding<'_>, b: &Holding<'_>) -> bool
     ensures { result ≡ is_longer a.now b.now }
 {
     let a_len = a.bytes.as_slice().len();
@@ -21,7 +21,7 @@ fn longer(a: &Holding, b: &Holding) -> bool
 }
 
 /// Whether the first is preferred to the second.
-pub(crate) fn prefers(a: &Holding, b: &Holding) -> bool
+pub(crate) fn prefers(a: &Holding<'_>, b: &Holding<'_>) -> bool
     ensures { result ≡ is_preferred a.now b.now }
 {
     if a.is_open {
@@ -32,7 +32,7 @@ pub(crate) fn prefers(a: &Holding, b: &Holding) -> bool
 }
 
 // The later replica if it is preferred to the best before it, and else that one.
-fn better_of<'a>(best: Option<&'a Holding>, later: &'a Holding) -> &'a Holding
+fn better_of<'h, 'a>(best: Option<&'h Holding<'a>>, later: &'h Holding<'a>) -> &'h Holding<'a>
     ensures { result.now ≡ better (option_copied best.entry) later.entry.now }
 {
     match best {
@@ -42,14 +42,14 @@ fn better_of<'a>(best: Option<&'a Holding>, later: &'a Holding) -> &'a Holding
 }
 
 /// The preferred replica of each segment of a master.
-pub(crate) fn best_replicas<'a>(
+pub(crate) fn best_replicas<'h, 'a>(
     alloc: Global,
-    holdings: &'a [Holding],
+    holdings: &'h [Holding<'a>],
     master: u64,
-) -> Result<BTreeMap<u64, &'a Holding>, AllocError>
+) -> Result<BTreeMap<u64, &'h Holding<'a>>, AllocError>
     ensures { IfOk result (λ best. ArePreferred master holdings.entry.now (get nat_cmp best)) }
 {
-    let mut best: BTreeMap<u64, &'a Holding> = BTreeMap::new(alloc);
+    let mut best: BTreeMap<u64, &'h Holding<'a>> = BTreeMap::new(alloc);
     for holding in holdings {
         if holding.master == master {
             let known = best.get(&holding.segment).copied();

@@ -3,20 +3,19 @@
 ghost use Rattle.std.specs.Prelude.{◌≡◌, map, IfSome, IfNone, IfOk};
 ghost use Rattle.std.specs.List.{AllByRecursion};
 ghost use Rattle.entry.specs.Text.{entries_in};
-ghost use Rattle.segment.specs.View.{entries_of};
 ghost use Rattle.replica.specs.declared.holding.Holding.{Holding};
 ghost use Rattle.recovery_plan.specs.Good.{IsGood};
 ghost use Rattle.recovery_plan.specs.Looked.{lent};
 
 use crate::chosen::Segments;
 use replica::Holding;
-use segment::{Segment, SegmentRef};
+use segment::SegmentRef;
 use std::alloc::{AllocError, Global};
 
 /// The segment of a replica, if the replica is well.
-pub(crate) fn segment_in<'a>(holding: &'a Holding) -> Option<SegmentRef<'a>>
+pub(crate) fn segment_in<'a>(holding: &Holding<'a>) -> Option<SegmentRef<'a>>
     ensures good { IfSome result (λ segment. IsGood holding.entry.now) }
-    ensures entries { IfSome result (λ segment. entries_of segment ≡ entries_in holding.entry.now.bytes) }
+    ensures entries { IfSome result (λ segment. segment ≡ entries_in holding.entry.now.bytes) }
     ensures bad { IfNone result (IsGood holding.entry.now → ⊥) }
 {
     match SegmentRef::read(holding.bytes.as_slice()) {
@@ -32,15 +31,18 @@ pub(crate) fn segment_in<'a>(holding: &'a Holding) -> Option<SegmentRef<'a>>
     }
 }
 
-/// Copies of the segments of replicas that are well. They aren't read again.
-pub(crate) fn copies(alloc: Global, chosen: &[&Holding]) -> Result<Segments, AllocError>
-    requires { AllByRecursion IsGood (lent chosen.now) }
-    ensures { IfOk result (λ segments. segments ≡ map (λ (h : Holding). entries_in h.bytes) (lent chosen.now)) }
+/// The segments of replicas that are well. They are neither read again nor copied.
+pub(crate) fn segments_of<'a>(
+    alloc: Global,
+    chosen: Vec<&Holding<'a>>,
+) -> Result<Segments<'a>, AllocError>
+    requires { AllByRecursion IsGood (lent chosen.items) }
+    ensures { IfOk result (λ segments.
+        segments ≡ map (λ (h : Holding). entries_in h.bytes) (lent chosen.entry.items)) }
 {
     let mut segments = Vec::new(alloc);
     for holding in chosen {
-        let bytes = Vec::from_slice(alloc, holding.bytes.as_slice())?;
-        segments.push(Segment::of_text(bytes))?;
+        segments.push(SegmentRef::of_text(holding.bytes.as_slice()))?;
     }
     Ok(Segments::new(segments))
 }

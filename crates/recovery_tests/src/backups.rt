@@ -26,14 +26,14 @@ enum Call {
     All(&'static [Shown]),
 }
 
-fn is_shown(holding: &Holding, want: &Shown) -> bool {
+fn is_shown(holding: &Holding<'_>, want: &Shown) -> bool {
     let ((backup, master, segment), bytes, is_open) = *want;
     let is_there = holding.backup == backup && holding.master == master;
     let is_same = holding.bytes.as_slice() == bytes && holding.is_open == is_open;
     is_there && holding.segment == segment && is_same
 }
 
-fn are_shown(holdings: &[Holding], want: &[Shown]) -> bool {
+fn are_shown(holdings: &[Holding<'_>], want: &[Shown]) -> bool {
     let mut are_same = holdings.len() == want.len();
     for (holding, shown) in holdings.iter().zip(want) {
         are_same = are_same && is_shown(holding, shown);

@@ -1,11 +1,11 @@
 //! Logs that are divided by wills, and replayed partition by partition.
 
-use crate::logs::{CLASHING, LOG, Log, Shown, are_shown, is_named, segments_of};
+use crate::logs::{CLASHING, LOG, Log, Shown, are_shown, is_named, segments_of, texts_of};
 use backup::{Group, divide};
 use claims::ReplayFault;
 use partition_replay::{Replay, Replayed};
 use recovery_plan::Segments;
-use segment::Segment;
+use segment::SegmentRef;
 use std::alloc::Global;
 use std::fmt::Write;
 use tablet_will::{Size, Tablet, Will, make_will};
@@ -53,7 +53,7 @@ fn hand<'a>(replay: &mut Replay<'a>, group: Group<'a>, text: &mut String) {
 fn hand_groups<'a>(
     alloc: Global,
     replay: &mut Replay<'a>,
-    segment: &'a Segment,
+    segment: &SegmentRef<'a>,
     will: &Will,
     only: Option<u32>,
     text: &mut String,
@@ -111,7 +111,7 @@ struct Row {
 
 fn is_part(
     alloc: Global,
-    segments: &[Segment],
+    segments: &[SegmentRef<'_>],
     will: &Will,
     row: &Row,
     partition: u32,
@@ -130,7 +130,7 @@ fn is_part(
     text.as_str() == want.0 && is_end(alloc, replay, want)
 }
 
-fn are_parts(alloc: Global, segments: &Segments, will: &Will, row: &Row) -> bool {
+fn are_parts(alloc: Global, segments: &Segments<'_>, will: &Will, row: &Row) -> bool {
     let mut are_same = will.partitions() as usize == row.parts.len();
     for (partition, want) in (0..will.partitions()).zip(row.parts) {
         are_same = are_same && is_part(alloc, segments.as_slice(), will, row, partition, want);
@@ -139,8 +139,11 @@ fn are_parts(alloc: Global, segments: &Segments, will: &Will, row: &Row) -> bool
 }
 
 fn is_divided(alloc: Global, row: &Row) -> bool {
+    let Some(texts) = texts_of(alloc, row.log) else {
+        return false;
+    };
     match (
-        &segments_of(alloc, row.log),
+        &segments_of(alloc, texts.as_slice()),
         &will_of(alloc, row.table, row.parts.len()),
     ) {
         (Some(segments), Some(will)) => are_parts(alloc, segments, will, row),

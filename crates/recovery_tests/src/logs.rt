@@ -1,9 +1,9 @@
 //! Bytes of segments and of their entries, and what is rebuilt from them.
 
 use claims::{Objects, Rebuilt, ReplayFault};
-use entry::Object;
+use entry::ObjectRef;
 use recovery_plan::Segments;
-use segment::{Segment, read_segment};
+use segment::SegmentRef;
 use std::alloc::Global;
 use std::fmt::Display;
 
@@ -58,18 +58,31 @@ pub const LOG: Log = &[
 /// Version 1 of `a` has two values.
 pub const CLASHING: Log = &[&[ONE, A_1_X], &[TWO, A_1_Y], &[THREE, A_2_Z]];
 
-fn segment_of(alloc: Global, parts: &[&[u8]]) -> Option<Segment> {
+fn text_of(alloc: Global, parts: &[&[u8]]) -> Option<Vec<u8>> {
     let mut bytes = Vec::new(alloc);
     for part in parts {
         bytes.extend_from_slice(part).ok()?;
     }
-    read_segment(alloc, bytes.as_slice()).ok()
+    Some(bytes)
 }
 
-pub fn segments_of(alloc: Global, log: Log) -> Option<Segments> {
-    let mut segments = Vec::new(alloc);
+/// The bytes of each segment.
+pub fn texts_of(alloc: Global, log: Log) -> Option<Vec<Vec<u8>>> {
+    let mut texts = Vec::new(alloc);
     for parts in log {
-        segments.push(segment_of(alloc, parts)?).ok()?;
+        texts.push(text_of(alloc, parts)?).ok()?;
+    }
+    Some(texts)
+}
+
+/// The segments that these bytes are.
+pub fn segments_of<'a>(alloc: Global, texts: &'a [Vec<u8>]) -> Option<Segments<'a>> {
+    let mut segments = Vec::new(alloc);
+    for text in texts {
+        match SegmentRef::read(text.as_slice()) {
+            Ok(segment) => segments.push(segment).ok()?,
+            Err(_) => return None,
+        }
     }
     Some(Segments::new(segments))
 }
@@ -77,10 +90,10 @@ pub fn segments_of(alloc: Global, log: Log) -> Option<Segments> {
 /// An object: its table, key, version and value.
 pub type Shown = (u64, &'static [u8], u64, &'static [u8]);
 
-fn is_shown(object: &Object, want: &Shown) -> bool {
+fn is_shown(object: &ObjectRef<'_>, want: &Shown) -> bool {
     let (table, key, version, value) = *want;
-    let is_of_key = object.key.table == table && object.key.bytes.as_slice() == key;
-    let is_same = object.version.get() == version && object.value.as_slice() == value;
+    let is_of_key = object.key.table == table && object.key.bytes == key;
+    let is_same = object.version.get() == version && object.value == value;
     is_of_key && is_same
 }
 
@@ -88,7 +101,7 @@ fn is_shown(object: &Object, want: &Shown) -> bool {
 pub fn are_shown(objects: &Objects, want: &[Shown]) -> bool {
     let mut are_same = objects.len() == want.len();
     for (object, shown) in objects.iter().zip(want) {
-        are_same = are_same && is_shown(object, shown);
+        are_same = are_same && is_shown(&object, shown);
     }
     are_same
 }

@@ -27,34 +27,33 @@ type Replica<'a> = (u64, u64, u64, &'a [u8], bool);
 /// The length of each segment of a plan, or why there is none.
 type Want = Result<&'static [usize], PlanFault>;
 
-fn holding_of(alloc: Global, replica: &Replica<'_>) -> Option<Holding> {
+fn holding_of<'a>(replica: &Replica<'a>) -> Holding<'a> {
     let (backup, master, segment, bytes, is_open) = *replica;
-    let bytes = Vec::from_slice(alloc, bytes).ok()?;
-    Some(Holding {
+    Holding {
         backup,
         master,
         segment,
         bytes: Bytes::new(bytes),
         is_open,
-    })
+    }
 }
 
-fn inventory_of(alloc: Global, replicas: &[Replica<'_>]) -> Option<Inventory> {
+fn inventory_of<'a>(alloc: Global, replicas: &[Replica<'a>]) -> Option<Inventory<'a>> {
     let mut holdings = Vec::new(alloc);
     for replica in replicas {
-        holdings.push(holding_of(alloc, replica)?).ok()?;
+        holdings.push(holding_of(replica)).ok()?;
     }
     Some(Inventory::new(holdings))
 }
 
-fn has_lens(plan: &Plan, want: &Want) -> bool {
+fn has_lens(plan: &Plan<'_>, want: &Want) -> bool {
     let Ok(lens) = *want else {
         return false;
     };
     let segments = plan.segments.as_slice();
     let mut are_same = segments.len() == lens.len();
     for (segment, len) in segments.iter().zip(lens) {
-        are_same = are_same && segment.bytes_len() == *len;
+        are_same = are_same && segment.bytes().len() == *len;
     }
     are_same
 }

@@ -15,12 +15,15 @@ fn safe_of(used: u64) -> SafeVersion {
     }
 }
 
-pub fn plan_of(alloc: Global, used: u64, log: Log) -> Option<Plan> {
-    let segments = segments_of(alloc, log)?;
-    Some(Plan {
-        segments,
-        safe: safe_of(used),
-    })
+/// A plan of the segments that these bytes are.
+pub fn plan_of<'a>(alloc: Global, used: u64, texts: &'a [Vec<u8>]) -> Option<Plan<'a>> {
+    match segments_of(alloc, texts) {
+        Some(segments) => Some(Plan {
+            segments,
+            safe: safe_of(used),
+        }),
+        None => None,
+    }
 }
 
 /// The greatest version below the recorded safe version, the segments, and what they are rebuilt to.
@@ -28,7 +31,10 @@ type Row = (u64, Log, Outcome);
 
 fn is_rebuilt(alloc: Global, row: &Row) -> bool {
     let (used, log, want) = row;
-    match &plan_of(alloc, *used, log) {
+    let Some(texts) = texts_of(alloc, log) else {
+        return false;
+    };
+    match &plan_of(alloc, *used, texts.as_slice()) {
         Some(plan) => is_outcome(alloc, &rebuild_plain(alloc, plan), want),
         None => false,
     }
@@ -136,8 +142,11 @@ pub const ORDERED: &[Ordered] = &[
 
 fn is_rebuilt_in(alloc: Global, row: &Ordered) -> bool {
     let (log, table, partitions, order, want) = row;
+    let Some(texts) = texts_of(alloc, log) else {
+        return false;
+    };
     match (
-        &plan_of(alloc, 0, log),
+        &plan_of(alloc, 0, texts.as_slice()),
         &will_of(alloc, *table, *partitions),
     ) {
         (Some(plan), Some(will)) => is_outcome(alloc, &rebuild(alloc, plan, will, order), want),

@@ -6,11 +6,11 @@ ghost use Rattle.division.specs.Division.{IsDivision};
 ghost use Rattle.division.specs.Groups.{grouped};
 
 use crate::divided::will_of;
-use crate::logs::{LOG, segments_of};
+use crate::logs::{LOG, segments_of, texts_of};
 use division::{Group, divide};
 use entry::SafeVersion;
 use partitions::{Division, Joined, Parcel, Share};
-use segment::Segment;
+use segment::SegmentRef;
 use std::alloc::Global;
 use std::marker::Brand;
 use tablet_will::Will;
@@ -32,7 +32,7 @@ fn takes<'a, D: Division>(share: &mut Share<'a, D>, groups: Vec<Group<'a>>) -> b
 /// Whether a log of this segment alone is gathered and listed, and the list of its first partition is joined.
 fn is_listed_of<'a, D: Division>(
     alloc: Global,
-    segment: &'a Segment,
+    segment: &SegmentRef<'a>,
     will: &Will,
     recorded: SafeVersion,
 ) -> bool
@@ -53,12 +53,15 @@ fn is_listed_of<'a, D: Division>(
     }
 }
 
-fn is_listed(alloc: Global, segment: &Segment, will: &Will) -> bool {
+fn is_listed(alloc: Global, segment: &SegmentRef<'_>, will: &Will) -> bool {
     is_listed_of::<Brand>(alloc, segment, will, SafeVersion::first())
 }
 
 fn are_listed(alloc: Global) -> bool {
-    let (Some(segments), Some(will)) = (segments_of(alloc, LOG), will_of(alloc, 1, 2)) else {
+    let (Some(texts), Some(will)) = (texts_of(alloc, LOG), will_of(alloc, 1, 2)) else {
+        return false;
+    };
+    let Some(segments) = segments_of(alloc, texts.as_slice()) else {
         return false;
     };
     match segments.as_slice().first() {

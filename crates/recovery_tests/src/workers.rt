@@ -24,8 +24,11 @@ fn is_rebuilt_by<R: Threads + Wait + Sync, G: Gate + Sync>(
 ) -> bool {
     let (log, table, partitions, order, want) = row;
     let workers = workers.clamp(1, 64);
+    let Some(texts) = texts_of(alloc, log) else {
+        return false;
+    };
     match (
-        &plan_of(alloc, 0, log),
+        &plan_of(alloc, 0, texts.as_slice()),
         &will_of(alloc, *table, *partitions),
     ) {
         (Some(plan), Some(will)) => is_outcome(

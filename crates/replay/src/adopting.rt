@@ -1,6 +1,7 @@
 //! A master that goes on with what a log stands for.
 
 ghost use Rattle.std.specs.Prelude.{◌≡◌, ◌≤◌, ℕ, [], ◌∷◌, None, IfOk, IfErr, OnOk};
+ghost use Rattle.entry.specs.View.{shown_object};
 ghost use Rattle.master_state.specs.Config.{config_fault};
 ghost use Rattle.master_state.specs.Loading.{IsNewObject};
 ghost use Rattle.master.specs.Valid.{IsValid};
@@ -11,19 +12,19 @@ ghost use Rattle.replay.specs.Fresh.{AreNew};
 
 use claims::{Objects, Rebuilt};
 use driving::{push_all, roll_all};
-use entry::{NoMemory, Object};
+use entry::{NoMemory, ObjectRef};
 use master::{Loading, Master};
 use master_core::{Config, Refusal};
 use replica::Fleet;
 use std::alloc::Global;
 
 /// Loads one object, into a new head if the one in force has no room for it.
-fn load_one<F: Fleet>(loading: &mut Loading<F>, object: &Object) -> Result<(), Refusal>
-    requires { IsNewObject loading.old.knows object.now }
+fn load_one<F: Fleet>(loading: &mut Loading<F>, object: &ObjectRef<'_>) -> Result<(), Refusal>
+    requires { IsNewObject loading.old.knows (shown_object object.now) }
     ensures loaded { OnOk result (
-        LoadsOne object.now (world F.state loading.old) (world F.state loading.new)) }
+        LoadsOne (shown_object object.now) (world F.state loading.old) (world F.state loading.new)) }
     ensures stopped { IfErr result (λ r.
-        IsStuck (object.now ∷ []) (world F.state loading.old) r (world F.state loading.new) × IsFinal r) }
+        IsStuck (shown_object object.now ∷ []) (world F.state loading.old) r (world F.state loading.new) × IsFinal r) }
 {
     loop {
         match loading.load_object(object) {
@@ -44,7 +45,7 @@ fn load_all<F: Fleet>(loading: &mut Loading<F>, objects: &Objects) -> Result<(),
         Stops objects.now (world F.state loading.old) r (world F.state loading.new)) }
 {
     for object in objects.iter() {
-        load_one(loading, object)?;
+        load_one(loading, &object)?;
     }
     push_all(loading)
 }

@@ -1,7 +1,8 @@
 -- What the backups hold.
-use Rattle.std.specs.Prelude.{◌≡◌, ◌↔◌, ℕ, ◌==◌, ◌&&◌, List, [], ◌∷◌, Bool, Option, Some, None, if◌then◌else◌}
+use Rattle.std.specs.Prelude.{◌≡◌, ◌↔◌, ℕ, ◌==◌, ◌&&◌, List, [], ◌∷◌, map, length, Bool, Option, Some, None, if◌then◌else◌}
 use Rattle.entry.specs.Bag.{IsAmong}
 use Rattle.replica.specs.declared.holding.Holding.{Holding}
+use Rattle.replica.specs.declared.label.Label.{Label}
 
 pub record Replica : Type 0 where
   pub bytes : List ℕ
@@ -46,6 +47,20 @@ AreHeld hs p = (h : Holding) → IsAmong h hs ↔ IsHeld p h
 -- the list has just the replicas that this backup holds
 abbrev pub AreHeldBy : List Holding → Picture → ℕ → Type 0
 AreHeldBy hs p backup = (h : Holding) → IsAmong h hs ↔ ((h.backup ≡ backup) × IsHeld p h)
+
+-- where the replica is, how many bytes it has, and whether it is open
+abbrev pub label_of : Holding → Label
+label_of h = record {
+  backup = h.backup;
+  master = h.master;
+  segment = h.segment;
+  len = length h.bytes;
+  is_open = h.is_open;
+}
+
+-- the labels of just the replicas that the picture has
+abbrev pub AreLabelsOf : Picture → List Label → Type 0
+AreLabelsOf p labels = (hs : List Holding) × AreHeld hs p × (labels ≡ map label_of hs)
 
 -- no replica is shown twice
 abbrev pub IsOnce : List Holding → Type 0

@@ -23,11 +23,11 @@ pub trait Fleet {
     fn take(&mut self, backup: u64, op: &Op<'_>) -> Result<(), TakeFault>
         ensures { TakeGives (state self.old) backup (shown_op op.now) result (state self.new) };
 
-    /// All replicas that a backup holds, each once; none for a number that is no backup's.
-    fn holdings(&self, alloc: Global, backup: u64) -> Result<Vec<Holding>, NoMemory>
-        ensures shown { IfOk result (λ hs. AreHeldBy hs.items (state self.now).picture backup) }
+    /// All replicas that a backup holds, each once; none for a number that is no backup's. Their bytes stay with it.
+    fn holdings(&self, alloc: Global, backup: u64) -> Result<Vec<Holding<'_>>, NoMemory>
+        ensures shown { IfOk result (λ hs. AreHeldBy hs.items (state self.entry.now).picture backup) }
         ensures once { IfOk result (λ hs. IsOnce hs.items) }
-        ensures none { IfOk result (λ hs. (state self.now).backups ≤ backup → hs.items ≡ []) };
+        ensures none { IfOk result (λ hs. (state self.entry.now).backups ≤ backup → hs.items ≡ []) };
 
     /// How many ops were taken.
     fn takes(&self) -> u64

@@ -1,19 +1,17 @@
 //! What backups show.
 
+use crate::bytes::Bytes;
 use entry::Row;
 
-/// Bytes in memory of their own.
-pub type Bytes = Row<u8>;
-
-/// A replica that a backup shows.
+/// A replica that a backup shows. Its bytes lie with the backup.
 #[derive(Drop)]
-pub struct Holding {
+pub struct Holding<'a> {
     pub backup: u64,
     pub master: u64,
     pub segment: u64,
-    pub bytes: Bytes,
+    pub bytes: Bytes<'a>,
     pub is_open: bool,
 }
 
 /// The replicas that some backups show.
-pub type Inventory = Row<Holding>;
+pub type Inventory<'a> = Row<Holding<'a>>;

@@ -5,12 +5,16 @@
 //! what other masters left.
 #![tactic(auto)]
 
+mod bytes;
 mod fleet;
 mod holding;
+mod label;
 mod op;
 mod spot;
 
+pub use bytes::Bytes;
 pub use fleet::{Bench, Fleet};
-pub use holding::{Bytes, Holding, Inventory};
+pub use holding::{Holding, Inventory};
+pub use label::{Label, Labels, add_labels};
 pub use op::{Act, Op, TakeFault};
 pub use spot::Spot;

@@ -1,4 +1,5 @@
 pub mod Sessions
 pub mod LongerLives
 pub mod Succeeding
+pub mod Commanding
 pub mod Turning

@@ -5,6 +5,7 @@ use Rattle.command_line.specs.declared.settings.Options.{Options}
 use Rattle.lines.specs.Grammar.{LineValue, Will, Recover, Clients}
 use Rattle.replica.specs.Picture.{FleetState}
 use Rattle.versioned_map.specs.declared.command.Command.{Command}
+use Rattle.versioned_map.specs.declared.command.Reply.{Reply}
 use Rattle.log_head.specs.Head.{is_open}
 use Rattle.master_state.specs.declared.config.Config.{Config}
 use Rattle.master_state.specs.declared.step.Refusal.TheVariants.{Nothing}
@@ -14,6 +15,8 @@ use Rattle.answers.specs.declared.answer.Answer.{Answer}
 use Rattle.answers.specs.declared.answer.Answer.TheVariants.{Counted, NumbersSpent}
 use Rattle.answers.specs.declared.answer.Answer.TheVariants as answers
 use Rattle.node.specs.declared.node.Node.{Node}
+use Rattle.script.specs.declared.outcome.Outcome.{Outcome}
+use Rattle.script.specs.declared.outcome.Outcome.TheVariants as outcome
 use Rattle.script.specs.declared.session.Session.{Session}
 use Rattle.next_master.specs.Configuration.{config_of, tables_to, one_partition}
 use Rattle.node.specs.Lives.{Position, at_start}
@@ -24,7 +27,7 @@ use Rattle.answers.specs.declared.limits.Limits.{Limits}
 use Rattle.node.specs.Served.{AnswersLine, IsNodeAt, world_of, fleet_of, is_up, HandsOver, MakesLine}
 use Rattle.lines.specs.declared.line.ReplayOrder.{ReplayOrder}
 use Rattle.next_master.specs.Numbers.{AreSpent, IsNextNumber, Renumbers}
-use Rattle.node.specs.Waits.{MakesTryAfterRoll, WaitsForRoll}
+use Rattle.node.specs.Waits.{IsReplyAt, MakesTryAfterRoll, WaitsForRoll}
 use Rattle.next_master.specs.Recoveries.{Asked, Ends, MakesLimit, Recovers, ask, order_named}
 
 -- ---- where a session stands
@@ -141,3 +144,13 @@ pub record SessionRecovers (old : Session) (line : LineValue) (new : Session) (a
 -- what a line makes of a session
 abbrev pub RunsLine : Session → LineValue → Session → Answer → Type 0
 RunsLine old line new answer = SessionAnswers old line new answer ⊎ SessionRecovers old line new answer
+
+-- what a line comes to is printed as this answer: with the place of a record, as the record's reply
+abbrev pub IsPrintedAs : Session → Outcome → Answer → Type 0
+IsPrintedAs s (outcome.Answered a) answer = a ≡ answer
+IsPrintedAs s (outcome.Replied place) answer =
+    (reply : Reply) × IsReplyAt s.node place reply × (answers.Reply reply ≡ answer)
+
+-- a line was run, and this is what it came to
+abbrev pub RunsTo : Session → LineValue → Session → Outcome → Type 0
+RunsTo old line new outcome = (answer : Answer) × IsPrintedAs new outcome answer × RunsLine old line new answer

@@ -7,6 +7,7 @@
 //! `command_line`.
 #![tactic(auto)]
 
+mod outcome;
 mod program;
 mod running;
 mod session;

@@ -6,9 +6,11 @@ ghost use Rattle.command_line.specs.declared.settings.Options.{Options as Option
 ghost use Rattle.lines.specs.Reading.{IsLineText};
 ghost use Rattle.next_master.specs.Configuration.{config_of};
 ghost use Rattle.script.specs.Runs.{RunsScript};
-ghost use Rattle.script.specs.Sessions.{BeginsSession, Stands};
+ghost use Rattle.answers.specs.declared.answer.Answer.{Answer as AnswerValue};
+ghost use Rattle.script.specs.Sessions.{BeginsSession, Stands, IsPrintedAs};
 ghost use Rattle.script.specs.Turns.{IsNoMore, IsPrinted, PrintsText, TakesTurn};
 
+use crate::outcome::Outcome;
 use crate::session::{LineFault, Session};
 use answers::{Answer, ScriptFault, write_answer};
 use command_line::Options;
@@ -132,7 +134,7 @@ fn run_text<H: Threads + Wait + Sync, W: Write>(
     };
     let backups = session.backups();
     match session.run_line(rt, line) {
-        Ok(answer) => print(writer, &answer),
+        Ok(outcome) => print(writer, session, &outcome),
         Err(LineFault::Bad) => {
             // This text says no other line.
             one_line();
@@ -142,8 +144,24 @@ fn run_text<H: Threads + Wait + Sync, W: Write>(
     }
 }
 
+/// Writes what a line came to.
+#[inline(always)]
+fn print<W: Write>(writer: &mut W, session: &Session, outcome: &Outcome) -> Result<(), ScriptFault>
+    requires { (answer : AnswerValue) × IsPrintedAs session.now outcome.now answer }
+    ensures { (answer : AnswerValue) → IsPrintedAs session.now outcome.now answer →
+        IsPrinted (W.contents writer.old) (W.contents writer.new) answer result }
+{
+    match outcome {
+        Outcome::Answered(answer) => print_answer(writer, answer),
+        Outcome::Replied(place) => match session.write_reply(*place, writer) {
+            Ok(()) => Ok(()),
+            Err(_) => Err(ScriptFault::WriteFailed),
+        },
+    }
+}
+
 /// Writes an answer.
-fn print<W: Write>(writer: &mut W, answer: &Answer) -> Result<(), ScriptFault>
+fn print_answer<W: Write>(writer: &mut W, answer: &Answer) -> Result<(), ScriptFault>
     ensures { IsPrinted (W.contents writer.old) (W.contents writer.new) answer.now result }
 {
     match write_answer(writer, answer) {

@@ -1,6 +1,14 @@
 //! What a script drives: a fleet, and the master over it if there is one.
 
-ghost use Rattle.std.specs.Prelude.{◌≡◌, ◌≤◌, ℕ, List, length, None, Some, IfOk, IfErr};
+ghost use Rattle.std.specs.Prelude.{◌≡◌, ◌≤◌, ℕ, List, length, None, Some, IfOk, IfErr, OnOk};
+ghost use Rattle.std.specs.Io.KnownBytes.{Appends};
+ghost use Rattle.entry.specs.View.{shown_key};
+ghost use Rattle.history.specs.View.{shown_command as lent_command};
+ghost use Rattle.versioned_map.specs.declared.command.Command.TheVariants as asked;
+ghost use Rattle.versioned_map.specs.declared.command.Reply.{Reply as ReplyValue};
+ghost use Rattle.answers.specs.declared.answer.Answer.{Answer as AnswerValue};
+ghost use Rattle.answers.specs.Texts.{reply_text};
+ghost use Rattle.node.specs.Waits.{IsReplyAt};
 ghost use Rattle.lines.specs.Grammar.{Begin, Clean, Clients, Recover, IsLine, IsOrder, shown_command, shown_line};
 ghost use Rattle.lines.specs.Grammar.{Will as WillLine};
 ghost use Rattle.lines.specs.Numbers.{numbers_of};
@@ -8,23 +16,25 @@ ghost use Rattle.master_state.specs.Config.{config_fault};
 ghost use Rattle.next_master.specs.Configuration.{config_of};
 ghost use Rattle.script.specs.declared.session.LineFault.TheVariants as line_fault;
 ghost use Rattle.script.specs.Runs.{IsOfFleet};
-ghost use Rattle.script.specs.Sessions.{RunsLine, SessionRecovers};
+ghost use Rattle.script.specs.Sessions.{RunsLine, SessionRecovers, IsPrintedAs, RunsTo};
 ghost use Rattle.script.specs.Sessions.{BeginsSession, SessionAnswers, Stands};
 ghost use Rattle.node.specs.Told.{command_of};
 ghost use Rattle.script.specs.Turns.{HasValue, RefusesLine};
 ghost use Rattle.script.specs.Sessions.{AnswersAfterRoll};
 
+use crate::outcome::Outcome;
 use answers::{Answer, Limits};
 use backup::MemoryFleet;
 use command_line::Options;
 use driving::push_all;
-use entry::{Key, KeyRef, MAX_VALUE_LEN, NoMemory, Row, Value};
+use entry::{KeyRef, MAX_VALUE_LEN, NoMemory, Row};
 use lines::{CommandLine, KeyWord, Line, Numbers, ReplayOrder};
-use master::{Command, If, Master, Refusal, Step};
+use master::{CommandRef, If, Master, Refusal, Step, ValueRef};
 use next_master::{configuration, recover_node, whole_will};
-use node::{Node, Served};
+use node::{Node, Served, Tried};
 use recovery::{PlanFault, RecoveryFault};
 use std::alloc::Global;
+use std::io::{self, Write};
 use std::sync::Wait;
 use std::thread::Threads;
 use store_clients::Workload;
@@ -52,7 +62,7 @@ pub(crate) const FIRST_MASTER: u64 = 1;
 /// masters of a node: the coordinator's will, and the numbers that masters had.
 ///
 /// `start` makes an empty fleet with a master whose head is open. `run_line` runs one line, and gives the answer to
-/// print.
+/// print, or the place of the record whose reply is to be printed.
 ///
 /// - What holds: the will covers the tablets, and the node stands for one life of a master after another (*Stands*).
 /// - Refusals: a line that the node refuses is answered, and the session goes on. `LineFault` comes only for a line
@@ -61,8 +71,8 @@ pub(crate) const FIRST_MASTER: u64 = 1;
 ///
 /// ```text
 /// let mut session = Session::start(alloc, &options)?;
-/// let answer = session.run_line(rt, Line::Crash)?;                                        // crashed
-/// let answer = session.run_line(rt, Line::Recover { order: ReplayOrder::Forward })?;      // the table
+/// let outcome = session.run_line(rt, Line::Crash)?;                                       // crashed
+/// let outcome = session.run_line(rt, Line::Recover { order: ReplayOrder::Forward })?;     // the table
 /// ```
 #[derive(Drop)]
 pub struct Session {
@@ -122,22 +132,35 @@ impl Session {
         &mut self,
         rt: &H,
         line: Line<'_>,
-    ) -> Result<Answer, LineFault>
+    ) -> Result<Outcome, LineFault>
         requires line { IsLine (shown_line line) }
         requires value { HasValue (shown_line line) }
         requires stands { Stands self.old }
-        ensures ran { IfOk result (λ answer. RunsLine self.old (shown_line line.entry) self.new answer) }
+        ensures ran { IfOk result (RunsTo self.old (shown_line line.entry) self.new) }
         ensures of_fleet { IfOk result (λ _. IsOfFleet self.old.options.backups (shown_line line.entry)) }
         ensures refused { IfErr result (RefusesLine self.old.options.backups (shown_line line.entry)) }
     {
         match line {
-            Line::Command(command) => self.run_command(command),
-            other => self.run_any(rt, other),
+            Line::Command(command) => Ok(self.run_command(command)),
+            other => match self.run_any(rt, other) {
+                Ok(answer) => Ok(Outcome::Answered(answer)),
+                Err(fault) => Err(fault),
+            },
         }
     }
 
-    /// Runs one line, as `run_line` does, but a command by a longer way. It is out of line, since a command would make
-    /// room for the results of all other lines too.
+    /// Writes the line of the reply that the record at this place of the history has.
+    #[inline(always)]
+    pub fn write_reply<W: Write>(&self, place: u64, writer: &mut W) -> io::Result<()>
+        requires { (reply : ReplyValue) × IsReplyAt self.now.node place reply }
+        ensures { (reply : ReplyValue) → IsReplyAt self.now.node place reply →
+            OnOk result (Appends (W.contents writer.old) (W.contents writer.new) (reply_text reply)) }
+    {
+        self.node.write_reply(place, writer)
+    }
+
+    /// Runs one line that has no command. It is out of line, since a command would make room for the results of all
+    /// other lines too.
     #[inline(never)]
     fn run_any<H: Threads + Wait + Sync>(
         &mut self,
@@ -145,7 +168,7 @@ impl Session {
         line: Line<'_>,
     ) -> Result<Answer, LineFault>
         requires line { IsLine (shown_line line) }
-        requires value { HasValue (shown_line line) }
+        requires other { command_of (shown_line line) ≡ None }
         requires stands { Stands self.old }
         ensures ran { IfOk result (λ answer. RunsLine self.old (shown_line line.entry) self.new answer) }
         ensures of_fleet { IfOk result (λ _. IsOfFleet self.old.options.backups (shown_line line.entry)) }
@@ -153,7 +176,7 @@ impl Session {
     {
         match line {
             Line::Idle => Ok(Answer::Silent),
-            Line::Command(command) => self.run_command(command),
+            Line::Command(_) => unreachable!(),
             Line::Hex { segment } => Ok(self.node.hex(segment)),
             Line::Stop { takes } => Ok(self.node.stop(takes)),
             Line::Crash => Ok(self.node.crash()),
@@ -269,34 +292,34 @@ impl Session {
         Ok(self.node.clean(victims))
     }
 
-    /// Runs the line of a command.
+    /// Runs the line of a command, which stays where the line lies.
     #[inline(always)]
-    fn run_command(&mut self, line: CommandLine<'_>) -> Result<Answer, LineFault>
+    fn run_command(&mut self, line: CommandLine<'_>) -> Outcome
         requires value { HasValue (shown_command line) }
-        ensures ran { IfOk result (λ answer. SessionAnswers self.old (shown_command line.entry) self.new answer) }
-        ensures refused { IfErr result (λ fault. fault ≡ LineFault.NoMemory) }
+        ensures { (answer : AnswerValue) × IsPrintedAs self.new result answer
+            × SessionAnswers self.old (shown_command line.entry) self.new answer }
     {
-        let command = line_command(self.alloc, line)?;
-        match self.node.serve(command) {
-            Some(answer) => Ok(answer),
-            None => self.run_after_roll(line),
+        match self.node.serve(&line_command(line)) {
+            Tried::Replied(place) => Outcome::Replied(place),
+            Tried::Waits => self.run_after_roll(line),
+            Tried::Answered(answer) => Outcome::Answered(answer),
         }
     }
 
     /// Makes the roll that a command's line waits for, and runs the line again.
     #[inline(never)]
-    fn run_after_roll(&mut self, line: CommandLine<'_>) -> Result<Answer, LineFault>
+    fn run_after_roll(&mut self, line: CommandLine<'_>) -> Outcome
         requires value { HasValue (shown_command line) }
-        ensures ran { IfOk result (λ answer. AnswersAfterRoll self.old (shown_command line.entry) self.new answer) }
-        ensures refused { IfErr result (λ fault. fault ≡ LineFault.NoMemory) }
+        ensures { (answer : AnswerValue) × IsPrintedAs self.new result answer
+            × AnswersAfterRoll self.old (shown_command line.entry) self.new answer }
     {
         if let Some(answer) = self.node.make_room() {
-            return Ok(answer);
+            return Outcome::Answered(answer);
         }
-        let command = line_command(self.alloc, line)?;
-        match self.node.serve(command) {
-            Some(answer) => Ok(answer),
-            None => Ok(Answer::Refused(Refusal::Rolling)),
+        match self.node.serve(&line_command(line)) {
+            Tried::Replied(place) => Outcome::Replied(place),
+            Tried::Waits => Outcome::Answered(Answer::Refused(Refusal::Rolling)),
+            Tried::Answered(answer) => Outcome::Answered(answer),
         }
     }
 }
@@ -308,48 +331,39 @@ fn row_of(alloc: Global, numbers: Numbers<'_>) -> Result<Row<u64>, NoMemory>
     Ok(Row::new(numbers.collect(alloc)?))
 }
 
-/// The command of a line.
+/// The command of a line. Its key and its value stay in the line.
 #[inline(always)]
-fn line_command(alloc: Global, line: CommandLine<'_>) -> Result<Command, NoMemory>
+fn line_command<'a>(line: CommandLine<'a>) -> CommandRef<'a>
     requires value { HasValue (shown_command line) }
-    ensures { IfOk result (λ command. command_of (shown_command line.entry) ≡ Some command) }
+    ensures { command_of (shown_command line.entry) ≡ Some (lent_command result) }
 {
     match line {
-        CommandLine::Put { table, key, value } => put_command(alloc, table, key, value, If::Any),
-        CommandLine::New { table, key, value } => put_command(alloc, table, key, value, If::Absent),
+        CommandLine::Put { table, key, value } => put_command(table, key, value, If::Any),
+        CommandLine::New { table, key, value } => put_command(table, key, value, If::Absent),
         CommandLine::Cas {
             table,
             key,
             version,
             value,
-        } => put_command(alloc, table, key, value, If::Version(version)),
-        CommandLine::Get { table, key } => Ok(Command::Get(make_key(alloc, table, key)?)),
-        CommandLine::Del { table, key } => Ok(Command::Delete(make_key(alloc, table, key)?)),
+        } => put_command(table, key, value, If::Version(version)),
+        CommandLine::Get { table, key } => CommandRef::Get(key_of(table, key)),
+        CommandLine::Del { table, key } => CommandRef::Delete(key_of(table, key)),
     }
 }
 
-fn make_key(alloc: Global, table: u64, word: KeyWord<'_>) -> Result<Key, NoMemory>
-    ensures { IfOk result (λ key. key ≡ record { table = table; bytes = word.entry.bytes.now }) }
+fn key_of<'a>(table: u64, word: KeyWord<'a>) -> KeyRef<'a>
+    ensures { shown_key result ≡ record { table = table; bytes = word.entry.bytes.now } }
 {
-    let key = KeyRef {
+    KeyRef {
         table,
         bytes: word.bytes,
-    };
-    key.to_key(alloc)
+    }
 }
 
-fn put_command(
-    alloc: Global,
-    table: u64,
-    word: KeyWord<'_>,
-    value: &[u8],
-    when: If,
-) -> Result<Command, NoMemory>
+fn put_command<'a>(table: u64, word: KeyWord<'a>, value: &'a [u8], when: If) -> CommandRef<'a>
     requires value { length value.now ≤ MAX_VALUE_LEN }
-    ensures { IfOk result (λ command.
-        command ≡ Command.Put (record { table = table; bytes = word.entry.bytes.now }) value.now when) }
+    ensures { lent_command result ≡
+        asked.Put (record { table = table; bytes = word.entry.bytes.now }) value.entry.now when }
 {
-    let key = make_key(alloc, table, word)?;
-    let value = Value::from_slice(alloc, value)?;
-    Ok(Command::Put(key, value, when))
+    CommandRef::Put(key_of(table, word), ValueRef { bytes: value }, when)
 }

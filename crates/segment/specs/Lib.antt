@@ -3,4 +3,3 @@ pub mod Order
 pub mod View
 pub mod Faults
 pub mod Walk
-pub mod Props

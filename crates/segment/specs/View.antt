@@ -1,13 +1,8 @@
--- What borrowed segments show.
+-- What a reader of a segment has still to give.
 use Rattle.std.specs.Prelude.{List}
 use Rattle.entry.specs.declared.entry.Entry.{Entry}
 use Rattle.entry.specs.Text.{entries_in}
-use Rattle.segment.specs.declared.view.SegmentRef.{SegmentRef}
 use Rattle.segment.specs.declared.entries.Entries.{Entries}
-
--- the entries of the segment
-abbrev pub entries_of : SegmentRef → List Entry
-entries_of s = entries_in s.bytes.now
 
 -- the entries that are still to come
 abbrev pub entries_left : Entries → List Entry

@@ -54,7 +54,7 @@ fn append_entry(entry: Entry, bytes: &mut Vec<u8>) -> Result<(), NoMemory>
 }
 
 impl Segment {
-    ghost use Rattle.segment.specs.View.{entries_of, entries_left};
+    ghost use Rattle.segment.specs.View.{entries_left};
 
     /// The head of a master's log: its header, a digest, and a safe version.
     pub fn begin_head(
@@ -201,7 +201,7 @@ impl Segment {
 
     /// The segment as it lies here, without a copy.
     pub fn view(&self) -> SegmentRef<'_>
-        ensures { entries_of result ≡ self.entry.now }
+        ensures { result ≡ self.entry.now }
     {
         SegmentRef {
             bytes: self.bytes.as_slice(),
@@ -210,11 +210,9 @@ impl Segment {
 }
 
 impl<'a> SegmentRef<'a> {
-    ghost use Rattle.segment.specs.View.{entries_of};
-
     /// A segment of its own.
     pub fn to_segment(&self, alloc: Global) -> Result<Segment, NoMemory>
-        ensures { IfOk result (λ segment. segment ≡ entries_of self.now) }
+        ensures { IfOk result (λ segment. segment ≡ self.now) }
     {
         let bytes = Vec::from_slice(alloc, self.bytes)?;
         Ok(Segment { bytes })

@@ -4,34 +4,46 @@ ghost use Rattle.std.specs.Prelude.{◌≡◌, ◌≤◌, ℕ, List, Some, lengt
 ghost use Rattle.std.specs.Option.{option_map};
 ghost use Rattle.entry.specs.declared.entry.Entry.{Entry};
 ghost use Rattle.entry.specs.View.{shown, shown_ids};
-ghost use Rattle.entry.specs.Text.{text_of, Opening, opening_of, header_of, IsSegment, IsTextOf};
+ghost use Rattle.entry.specs.Text.{text_of, entries_in, Opening, opening_of, header_of, IsSegment, IsTextOf};
 ghost use Rattle.segment.specs.Bytes.{IsSegmentBytes, standing_at};
 ghost use Rattle.segment.specs.Faults.{IsSegmentFault};
-ghost use Rattle.segment.specs.Props.{IsSegmentBytes-prop};
 
 use crate::entries::Entries;
 use crate::fault::SegmentFault;
 use crate::reading::check;
 use entry::{DigestRef, EntryRef, Header, SafeVersion};
+use std::marker::Model;
 
-/// Bytes that were found to be a segment.
-#[derive(Clone, Copy)]
+/// A segment whose text lies elsewhere. A contract sees the list of its entries.
+#[derive(Drop)]
 pub struct SegmentRef<'a> {
     pub(crate) bytes: &'a [u8],
-    ghost valid: { IsSegmentBytes bytes.now } by { IsSegmentBytes-prop bytes.now },
+}
+
+impl<'a> Model for SegmentRef<'a> {
+    ghost use Rattle.std.specs.Prelude.{List};
+    ghost use Rattle.entry.specs.declared.entry.Entry.{Entry};
+    ghost use Rattle.entry.specs.Text.{entries_in};
+    ghost use Rattle.segment.specs.Bytes.{IsSegmentBytes};
+
+    ghost Value = { List Entry };
+
+    ghost view = { λ s. entries_in s.bytes.now };
+
+    ghost invariant = { λ s. IsSegmentBytes s.bytes.now };
 }
 
 impl<'a> SegmentRef<'a> {
-    ghost use Rattle.segment.specs.View.{entries_of, entries_left};
+    ghost use Rattle.segment.specs.View.{entries_left};
 
     /// The segment that the bytes are. No memory is taken.
     pub fn read(bytes: &'a [u8]) -> Result<SegmentRef<'a>, SegmentFault>
         // What is read is the segment whose text the bytes are.
-        ensures found { IfOk result (λ segment. IsTextOf bytes.entry.now (entries_of segment)) }
+        ensures found { IfOk result (λ segment. IsTextOf bytes.entry.now segment) }
         // The text of each segment within the limit is read.
         ensures complete { (entries : List Entry) →
             IsTextOf bytes.entry.now entries → length bytes.entry.now ≤ 8388608 →
-            IsOkAnd result (λ segment. entries_of segment ≡ entries) }
+            IsOkAnd result (λ segment. segment ≡ entries) }
         // A fault is the one that the first failing test names.
         ensures fault { IfErr result (λ fault. IsSegmentFault bytes.entry.now fault) }
     {
@@ -41,10 +53,25 @@ impl<'a> SegmentRef<'a> {
         }
     }
 
+    /// The segment that has this text. The bytes are not read.
+    pub fn of_text(bytes: &'a [u8]) -> SegmentRef<'a>
+        requires { IsSegmentBytes bytes.now }
+        ensures { result ≡ entries_in bytes.entry.now }
+    {
+        SegmentRef { bytes }
+    }
+
+    /// The same segment. Its text is not copied.
+    pub fn copy(&self) -> SegmentRef<'a>
+        ensures { result ≡ self.entry.now }
+    {
+        SegmentRef { bytes: self.bytes }
+    }
+
     /// The text.
     pub fn bytes(&self) -> &'a [u8]
-        ensures text { result.now ≡ text_of (entries_of self.entry.now) }
-        ensures valid { IsSegment (entries_of self.entry.now) }
+        ensures text { result.now ≡ text_of self.entry.now }
+        ensures valid { IsSegment self.entry.now }
         ensures limit { length result.now ≤ 8388608 }
     {
         self.bytes
@@ -52,9 +79,9 @@ impl<'a> SegmentRef<'a> {
 
     /// The header, with which each segment begins.
     pub fn header(&self) -> Header
-        ensures { header_of (entries_of self.now) ≡ Some result }
+        ensures { header_of self.now ≡ Some result }
     {
-        let mut entries = self.entries();
+        let mut entries = Entries { rest: self.bytes };
         match entries.next() {
             Some(EntryRef::Header(header)) => header,
             _ => unreachable!(),
@@ -64,9 +91,9 @@ impl<'a> SegmentRef<'a> {
     /// The digest of a head; None for a survivor.
     pub fn digest(&self) -> Option<DigestRef<'a>>
         ensures { option_map shown_ids result ≡
-            option_map (λ (o : Opening). o.ids) (opening_of (entries_of self.entry.now)) }
+            option_map (λ (o : Opening). o.ids) (opening_of self.entry.now) }
     {
-        let mut entries = self.entries();
+        let mut entries = Entries { rest: self.bytes };
         entries.next();
         match entries.next() {
             Some(EntryRef::Digest(digest)) => Some(digest),
@@ -76,9 +103,9 @@ impl<'a> SegmentRef<'a> {
 
     /// The safe version of a head; None for a survivor.
     pub fn safe(&self) -> Option<SafeVersion>
-        ensures { result ≡ option_map (λ (o : Opening). o.safe) (opening_of (entries_of self.now)) }
+        ensures { result ≡ option_map (λ (o : Opening). o.safe) (opening_of self.now) }
     {
-        let mut entries = self.entries();
+        let mut entries = Entries { rest: self.bytes };
         entries.next();
         entries.next();
         match entries.next() {
@@ -92,7 +119,7 @@ impl<'a> SegmentRef<'a> {
 
     /// The entries in order.
     pub fn entries(&self) -> Entries<'a>
-        ensures entries { entries_left result ≡ entries_of self.entry.now }
+        ensures entries { entries_left result ≡ self.entry.now }
         ensures limit { length (entries_left result) ≤ 8388608 }
     {
         Entries { rest: self.bytes }
@@ -100,10 +127,10 @@ impl<'a> SegmentRef<'a> {
 
     /// The entry at an offset from the first byte.
     pub fn entry_at(&self, at: usize) -> Option<EntryRef<'a>>
-        ensures standing { option_map shown result ≡ standing_at at (text_of (entries_of self.entry.now)) }
+        ensures standing { option_map shown result ≡ standing_at at (text_of self.entry.now) }
         // Each entry of the segment is found where it begins.
         ensures found { (before after : List Entry) (entry : Entry) →
-            entries_of self.entry.now ≡ before ++ entry ∷ after → at ≡ length (text_of before) →
+            self.entry.now ≡ before ++ entry ∷ after → at ≡ length (text_of before) →
             IsSomeAnd result (λ found. shown found ≡ entry) }
     {
         if at > self.bytes.len() {

@@ -41,7 +41,7 @@ fn answer_of(shown: Shown, segment: u64) -> Answer {
         Shown::Room(used, free) => Answer::Room(used, free),
         Shown::Image(Some(bytes)) => Answer::Hex(bytes),
         Shown::Image(None) => Answer::NotInLog(segment),
-        Shown::Holdings(inventory) => Answer::Holdings(inventory),
+        Shown::Holdings(labels) => Answer::Holdings(labels),
         Shown::Sizes(_) => Answer::Silent,
     }
 }

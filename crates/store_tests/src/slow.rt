@@ -103,7 +103,7 @@ impl<'a> Fleet for SlowFleet<'a> {
         self.fleet.take(backup, op)
     }
 
-    fn holdings(&self, alloc: Global, backup: u64) -> Result<Vec<Holding>, NoMemory> {
+    fn holdings(&self, alloc: Global, backup: u64) -> Result<Vec<Holding<'_>>, NoMemory> {
         self.fleet.holdings(alloc, backup)
     }
 

@@ -57,32 +57,10 @@ pub enum Reply {
     Mismatch(Option<Version>),
 }
 
-impl Reply {
-    /// The same reply, in memory of its own.
-    pub fn copy(&self) -> Result<Reply, AllocError>
-        ensures { IfOk result (λ copy. copy ≡ self.now) }
-    {
-        self.clone()
-    }
-}
-
 /// An accepted command, whose it was, and the reply to it.
 #[derive(Drop)]
 pub struct Record {
     pub seat: u64,
     pub command: Command,
     pub reply: Reply,
-}
-
-impl Record {
-    /// The same record, in memory of its own.
-    pub fn copy(&self) -> Result<Record, AllocError>
-        ensures { IfOk result (λ copy. copy ≡ self.now) }
-    {
-        Ok(Record {
-            seat: self.seat,
-            command: self.command.copy()?,
-            reply: self.reply.copy()?,
-        })
-    }
 }

@@ -6,6 +6,7 @@ use Rattle.std.specs.Io.KnownBytes.{Appends}
 use Rattle.std.proofs.KnownBytes.{Appends-nil}
 use Rattle.std.specs.List.{flat_map}
 use Rattle.entry.specs.declared.entry.Object.{Object}
+use Rattle.entry.specs.View.{shown_object}
 use Rattle.answers.specs.Texts.{object_text}
 use Rattle.answers.proofs.Printed.{last_printed, one_more_printed}
 use Rattle.answers.proofs.answer.write_rebuilt.Goals as goal
@@ -13,7 +14,7 @@ use Rattle.answers.proofs.answer.write_rebuilt.Goals as goal
 pub loop-object-preserved : goal.loop-object-preserved
 loop-object-preserved g c =
     let done = c.loop-object.invariant.0 in
-    let o = c.in-Some.object.now in
+    let o = shown_object c.in-Some.object in
     let rest = c.next.new.self in (
       done ++ o ∷ [],
       append_assoc done (o ∷ []) rest ∙ ap (λ (os : List Object). done ++ os) (sym c.in-Some.ensures.steps)

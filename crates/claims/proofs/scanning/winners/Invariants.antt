@@ -6,8 +6,8 @@ use Rattle.claims.proofs.scanning.winners.Given as goal
 -- the objects are those that come before what is left
 abbrev pub invariant-loop-left : goal.invariant-loop-left
 invariant-loop-left l = record {
-  found : l.objects.items ++ objects_in (tops (map claimed l.left)) ≡ objects_in (tops (map claimed l.claims));
-  valid : All IsObject l.objects.items;
+  found : l.objects ++ objects_in (tops (map claimed l.left)) ≡ objects_in (tops (map claimed l.claims));
+  valid : All IsObject l.objects;
   clean : has_clash (map claimed l.left) ≡ has_clash (map claimed l.claims);
 }
 

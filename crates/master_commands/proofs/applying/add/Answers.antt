@@ -23,15 +23,16 @@ use Rattle.master_state.proofs.Refusals.{sizes_of}
 use Rattle.places.specs.Hashing.{hash_of}
 use Rattle.master_commands.proofs.Changes.{put_is_some}
 use Rattle.history.specs.Packing.{IsReplyTo}
+use Rattle.history.specs.View.{shown_command, shown_reply, shown_record}
 use Rattle.master_state.specs.Log.{state_now}
 use Rattle.master_commands.proofs.Adding.{same_appended, found_then, added, fits, may, added_core, added_applies}
 use Rattle.master_commands.proofs.applying.add.Goals as goal
-use Rattle.master_commands.proofs.applying.add.Goals.{After-push_record, After-from_residual}
+use Rattle.master_commands.proofs.applying.add.Goals.{After-push, After-from_residual}
 
 pub enact-requires-clause-fits : goal.enact-requires-clause-fits
 enact-requires-clause-fits c =
     let d : MasterData = the_view c.core.inside in
-    let command = c.args.accepted.now.command in
+    let command = shown_command c.args.accepted.now.command in
     let passed : command_refusal d command ≡ None = rw (← c.core.view_is) at c.requires.passed in
     let judged : IsJudged d command c.args.judged.now.change c.args.judged.now.held.place.segment =
     rw (← c.core.view_is) at c.requires.judged in
@@ -39,12 +40,12 @@ enact-requires-clause-fits c =
 
 -- ---- the core with the record, where memory was given
 
-module _ (c : goal.After-push_record) where
+module _ (c : goal.After-push) where
   abbrev d : MasterData
   d = the_view c.core.inside
 
   abbrev command : Command
-  command = c.args.accepted.now.command
+  command = shown_command c.args.accepted.now.command
 
   abbrev change : Change
   change = c.args.judged.now.change
@@ -58,7 +59,7 @@ module _ (c : goal.After-push_record) where
   judged : IsJudged d command change dead
   judged = rw (← c.core.view_is) at c.requires.judged
 
-  reply : c.args.accepted.now.reply ≡ reply_now d command
+  reply : shown_reply c.args.accepted.now.reply ≡ reply_now d command
   reply = rw (← c.core.view_is) at c.requires.reply
 
   head : IsHeadValue (appended d.head (length d.history) (unit_of_change dead command change))
@@ -84,13 +85,14 @@ module _ (c : goal.After-push_record) where
       ap (λ (h : HeadValue). h.roll) c.in_ok-enact.ensures.head
       ∙ (same_appended d.head (length d.history) (unit_of_change dead command change)).2
 
-  items : c.push_record.new.self.records ≡ d.history ++ c.args.accepted.now ∷ []
-  items = rw (c.push_record.ensures.records, c.enact.ensures.history) refl
+  items : c.push.new.self.records ≡ d.history ++ shown_record c.args.accepted.now ∷ []
+  items = rw (c.push.ensures.records, c.enact.ensures.history) refl
 
   abbrev e : MasterData
   e =
       let there = c.in_ok-enact.ensures.index in
-      added d c.core.invariant.2 command change dead judged c.args.accepted.now.seat there.0 c.enact.new.index.held passed
+      added d c.core.invariant.2 command change dead judged c.args.accepted.now.seat there.0 c.enact.new.index.held
+      passed
       there.1 moved head
 
   abbrev left : MasterData
@@ -101,7 +103,7 @@ module _ (c : goal.After-push_record) where
     next = d.next;
     index = c.enact.new.index.held;
     safe = c.safe_after-core-inside.result;
-    history = c.push_record.new.self.records;
+    history = c.push.new.self.records;
     pass = d.pass;
     waiting = d.waiting;
     freed = d.freed;
@@ -132,17 +134,16 @@ module _ (c : goal.After-push_record) where
   core =
       let there = c.in_ok-enact.ensures.index in
       subst IsCore knows
-      (added_core d c.core.invariant.2 command change dead judged c.args.accepted.now.seat there.0 c.enact.new.index.held
-      passed there.1 moved head)
+      (added_core d c.core.invariant.2 command change dead judged c.args.accepted.now.seat there.0
+      c.enact.new.index.held passed there.1 moved head)
 
-  applies : Applies d c.args.accepted.now.seat command (Applied (length d.history) c.args.accepted.now.reply) left
+  applies : Applies d c.args.accepted.now.seat command (Applied (length d.history) (reply_now d command)) left
   applies =
       let there = c.in_ok-enact.ensures.index in
       let seat = c.args.accepted.now.seat in
-      subst (λ (m : MasterData). Applies d seat command (Applied (length d.history) c.args.accepted.now.reply) m) knows
-      (subst (λ (r : Reply). Applies d seat command (Applied (length d.history) r) e) (sym reply)
+      subst (λ (m : MasterData). Applies d seat command (Applied (length d.history) (reply_now d command)) m) knows
       (added_applies d c.core.invariant.2 command change dead judged seat there.0 c.enact.new.index.held passed
-      there.1 moved head))
+      there.1 moved head)
 
   may_apply : MayApply (log_of d) (dead_segment d command) (record_now d c.args.accepted.now.seat command)
   may_apply =
@@ -152,27 +153,27 @@ module _ (c : goal.After-push_record) where
 
 pub invariant_of-core-2 : goal.invariant_of-core-2
 invariant_of-core-2 c =
-    let t = (goal.at.invariant_of-core-2 c).After-push_record in
+    let t = (goal.at.invariant_of-core-2 c).After-push in
     (λ some. c.core.invariant.0 (subst IsSome (roll_then t) some), c.core.invariant.1, core t, c.core.invariant.3)
 
 pub returns-clause-added : goal.returns-clause-added
 returns-clause-added c =
-    let t = (goal.at.returns-clause-added c).After-push_record in
+    let t = (goal.at.returns-clause-added c).After-push in
     let number : c.len-place.result ≡ length (d t).history = search rules in
     let seat = c.args.accepted.now.seat in
     rw (← c.core.view_is)
-    (subst (λ (n : ℕ). Applies (d t) seat (command t) (Applied n c.args.accepted.now.reply) (left t))
+    (subst (λ (n : ℕ). Applies (d t) seat (command t) (Applied n (reply_now (d t) (command t))) (left t))
     (sym number) (applies t))
 
 pub returns-clause-may : goal.returns-clause-may
 returns-clause-may c =
-    let t = (goal.at.returns-clause-may c).After-push_record in
+    let t = (goal.at.returns-clause-may c).After-push in
     subst (λ (m : MasterData). MayApply (log_of m) (dead_segment m (command t))
     (record_now m c.args.accepted.now.seat (command t)))
     c.core.view_is (may_apply t)
 
 pub returns-clause-valid : goal.returns-clause-valid
-returns-clause-valid c = core (goal.at.returns-clause-valid c).After-push_record
+returns-clause-valid c = core (goal.at.returns-clause-valid c).After-push
 
 -- ---- the core as it was, where memory was refused
 
@@ -211,7 +212,8 @@ enact-requires-clause-limit c = (sizes_of c.core.inside.config c.core.invariant.
 pub enact-requires-clause-hash : goal.enact-requires-clause-hash
 enact-requires-clause-hash c =
     c.requires.sought.hash
-    ∙ ap (λ (m : MasterData). hash_of m.index.seed (command_key c.args.accepted.now.command)) (sym c.core.view_is)
+    ∙ ap (λ (m : MasterData). hash_of m.index.seed (command_key (shown_command c.args.accepted.now.command)))
+    (sym c.core.view_is)
 
 pub enact-requires-clause-put : goal.enact-requires-clause-put
 enact-requires-clause-put c = λ of_put.
@@ -220,7 +222,7 @@ enact-requires-clause-put c = λ of_put.
     let change_of = c.requires.judged.change_of in
     ap is_empty (change_of.unit dead) ∙ sym (change_of.nothing dead) ∙ put_is_some change of_put
 
-pub push_record-requires-clause-value : goal.push_record-requires-clause-value
-push_record-requires-clause-value c =
-    subst (λ (r : Reply). IsReplyTo c.args.accepted.now.command r) (sym c.requires.reply)
-    (c.replies_have_one_value.ensures (state_now c.args.core.now) c.args.accepted.now.command)
+pub push-requires-clause-value : goal.push-requires-clause-value
+push-requires-clause-value c =
+    subst (λ (r : Reply). IsReplyTo (shown_command c.args.accepted.now.command) r) (sym c.requires.reply)
+    (c.replies_have_one_value.ensures (state_now c.args.core.now) (shown_command c.args.accepted.now.command))

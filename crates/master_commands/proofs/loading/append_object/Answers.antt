@@ -1,7 +1,7 @@
 use Rattle.std.proofs.Common.{◌≡◌, ℕ, List, length, ap, subst, ◌∙◌}
 use Rattle.entry.specs.declared.entry.Entry.{Entry}
 use Rattle.entry.specs.Text.{text_of}
-use Rattle.places.specs.Hashing.{hash_of}
+use Rattle.entry.specs.View.{shown_object}
 use Rattle.places.specs.Map.{Places}
 use Rattle.places.proofs.Words.{set_grown}
 use Rattle.master_commands.specs.Index.{IsAdded}
@@ -9,7 +9,7 @@ use Rattle.master_commands.proofs.loading.append_object.Goals as goal
 
 pub returns-clause-index : goal.returns-clause-index
 returns-clause-index c =
-    let k = c.args.object.now.key in
+    let k = (shown_object c.args.object.now).key in
     let new = c.grow.new.self.held in
     let at : length c.bytes.result.now ≡ length (text_of c.args.head.now.image) =
     ap length c.bytes.ensures.text ∙ ap (λ (es : List Entry). length (text_of es)) c.image.ensures.image in
@@ -20,5 +20,5 @@ returns-clause-index c =
     c.reserve.ensures.same
     (λ keys kept none tells. set_grown keys c.reserve.new.self.held c.insert.new.self.held new k _
     (c.insert.ensures.set keys k kept none tells
-    (c.hash-hash.ensures ∙ ap (hash_of c.reserve.new.self.held.seed) c.view.ensures))
+    c.hash-hash.ensures)
     (c.grow.ensures.same keys))))

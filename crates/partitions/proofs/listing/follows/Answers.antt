@@ -1,15 +1,15 @@
-use Rattle.std.proofs.Common.{◌∙◌, ap, sym}
-use Rattle.std.specs.Option.{option_copied}
-use Rattle.partitions.proofs.PartLists.{ends_at, in_order, got}
+use Rattle.std.proofs.Common.{◌∙◌, sym}
+use Rattle.entry.specs.View.{shown_object}
+use Rattle.partitions.proofs.PartLists.{begins_at, ends_at, in_order}
 use Rattle.partitions.proofs.listing.follows.Goals as goal
 
 pub returns-in-Less : goal.returns-in-Less
 returns-in-Less c =
     let os = c.args.objects.now in
     let ps = c.args.later.now in
-    let last = c.in-Some.last.now in
-    let first = c.in-Some-first.first.now in
-    λ _. in_order os ps last first c.requires.objects c.requires.later
-    (ends_at os c.in-Some.ensures.some.0 last c.in-Some.ensures.some.1)
-    (got ps 0 first (sym c.first.ensures.value ∙ ap option_copied c.in-Some-first.is))
-    (sym c.cmp.ensures ∙ c.in-Less.is)
+    let last = shown_object c.in-Some.last in
+    let first = shown_object c.in-Some-first.first in
+    let front = c.in-Some.ensures.some in
+    let rest = c.in-Some-first.ensures.some in
+    λ _. in_order os ps last first c.requires.objects c.requires.later (ends_at os front.0 last front.1)
+    (begins_at ps rest.0 first rest.1) (sym c.cmp.ensures ∙ c.in-Less.is)

@@ -1,4 +1,4 @@
-use Rattle.std.proofs.Common.{◌≡◌, ◌-◌, ◌++◌, ◌∷◌, [], take, length, refl, ◌∙◌}
+use Rattle.std.proofs.Common.{◌-◌, take, length, refl}
 use Rattle.std.specs.Ordering.{nat_cmp}
 use Rattle.std.specs.BTreeMap.{get}
 use Rattle.entry.specs.Text.{Opening}
@@ -21,26 +21,24 @@ returns-in-Err-clause-fault c =
     c.in-Err.fault c.requires c.opening-safe.ensures
     c.in-Err.ensures.fault
 
-pub copies-requires : goal.copies-requires
-copies-requires c =
+pub segments_of-requires : goal.segments_of-requires
+segments_of-requires c =
     let ids = shown_ids c.opening-safe.result.0 in
     let o : Opening = record { ids = ids; safe = c.opening-safe.result.1 } in
-    let pushed : c.push.new.self.items ≡ c.in-Ok.others.items ++ c.replica.result ∷ [] = c.in_ok-push.ensures.items in
     let all =
     found-taken c.args.holdings.now c.args.master (get nat_cmp c.in_ok-best.best) c.in_ok-best.ensures o
     (take (length ids - 1) ids) c.in-Ok.others.items
     c.in-Ok.ensures.found in
     chosen-good c.args.holdings.now c.args.master c.args.head.now o c.in-Ok.others.items
-    c.deref.result.now c.replica.result
-    c.requires all c.replica.ensures (c.deref.ensures.value ∙ pushed)
+    c.push.new.self.items c.replica.result
+    c.requires all c.replica.ensures c.in_ok-push.ensures.items
 
-pub returns-clause-ok : goal.returns-clause-ok
-returns-clause-ok c =
-    let o : Opening = record { ids = shown_ids c.opening-safe.result.0; safe = c.opening-safe.result.1 } in
-    let pushed : c.push.new.self.items ≡ c.in-Ok.others.items ++ c.replica.result ∷ [] = c.in_ok-push.ensures.items in (
+pub returns-in-Ok-segments_of-clause-ok : goal.returns-in-Ok-segments_of-clause-ok
+returns-in-Ok-segments_of-clause-ok c =
+    let o : Opening = record { ids = shown_ids c.opening-safe.result.0; safe = c.opening-safe.result.1 } in (
       _,
       found-plan c.args.holdings.now c.args.master c.args.head.now o (get nat_cmp c.in_ok-best.best)
-          c.in-Ok.others.items c.deref.result.now c.replica.result _
+          c.in-Ok.others.items c.push.new.self.items c.replica.result _
           c.requires c.opening-safe.ensures c.in_ok-best.ensures c.in-Ok.ensures.found c.replica.ensures
-          (c.deref.ensures.value ∙ pushed) c.in_ok-segments.ensures refl,
+          c.in_ok-push.ensures.items c.in-Ok-segments_of.ensures refl,
     )

@@ -1,4 +1,5 @@
 use Rattle.std.proofs.Common.{rules, ◌++◌, ◌∷◌, [], refl, sym, subst, ◌∙◌}
+use Rattle.entry.specs.View.{shown_object}
 use Rattle.master.specs.World.{world}
 use Rattle.replay.specs.Adopting.{Stops}
 use Rattle.replay.specs.Fresh.{AreNew}
@@ -8,7 +9,7 @@ use Rattle.replay.proofs.adopting.load_all.Goals as goal
 
 pub load_one-requires : goal.load_one-requires
 load_one-requires g c =
-    new_first c.loop-object.loading.knows c.in-Some.object.now c.loop-object.object-iterator c.next.new.self
+    new_first c.loop-object.loading.knows (shown_object c.in-Some.object) c.loop-object.object-iterator c.next.new.self
     c.in-Some.ensures.steps c.loop-object.invariant.3
 
 pub returns-in_err-load_one-clause-stopped : goal.returns-in_err-load_one-clause-stopped
@@ -19,7 +20,7 @@ returns-in_err-load_one-clause-stopped g c =
     let r = c.in_err-load_one.field-0.0 in
     let stops : Stops c.args.objects.now before r after =
     stops_in_list c.args.objects.now c.loop-object.invariant.0 c.loop-object.object-iterator c.next.new.self
-    c.in-Some.object.now
+    (shown_object c.in-Some.object)
     before now after r c.in-Some.ensures.steps c.loop-object.invariant.1 c.loop-object.invariant.2
     c.in_err-load_one.ensures.stopped in
     search (rules, stops)
@@ -27,7 +28,7 @@ returns-in_err-load_one-clause-stopped g c =
 pub loop-object-preserved : goal.loop-object-preserved
 loop-object-preserved g c =
     let done = c.loop-object.invariant.0 in
-    let o = c.in-Some.object.now in
+    let o = shown_object c.in-Some.object in
     let left = c.loop-object.object-iterator in
     let rest = c.next.new.self in
     let before = world g.F.Fleet.state c.args.loading.now in

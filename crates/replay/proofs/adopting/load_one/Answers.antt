@@ -1,5 +1,6 @@
 use Rattle.std.proofs.Common.{◌<◌, ap, refl, subst}
 use Rattle.std.proofs.lemmas.Result.{err_from_is_err_and}
+use Rattle.entry.specs.View.{shown_object}
 use Rattle.master.specs.World.{world}
 use Rattle.replay.proofs.LoadList.{new_still, load_not_nothing, room_kept, one_loaded, one_declined, more_room, no_room}
 use Rattle.replay.proofs.LoadRoom.{ops_left, rolled_fewer}
@@ -10,8 +11,8 @@ load_object-requires g c =
     let before = world g.F.Fleet.state c.args.loading.now in
     let now = world g.F.Fleet.state c.loop-refusal.loading in
     record {
-      object = new_still c.args.object.now before now
-          (room_kept c.args.object.now before now c.loop-refusal.invariant) c.requires;
+      object = new_still (shown_object c.args.object.now) before now
+          (room_kept (shown_object c.args.object.now) before now c.loop-refusal.invariant) c.requires;
     }
 
 pub loop-refusal-init : goal.loop-refusal-init
@@ -53,7 +54,7 @@ returns-in_default g c =
             (ap g.F.Fleet.state c.in-Err.ensures.fleet),
         (
           c.in_default.not-Rolling,
-          load_not_nothing c.args.object.now now.knows after.knows c.in-Err.refusal c.in-Err.ensures.refused,
+          load_not_nothing (shown_object c.args.object.now) now.knows after.knows c.in-Err.refusal c.in-Err.ensures.refused,
         ),
       );
     }

@@ -1,10 +1,12 @@
+use Rattle.entry.specs.View.{shown_object}
 use Rattle.master.specs.World.{world}
 use Rattle.replay.proofs.LoadList.{HasRoom}
 use Rattle.replay.proofs.LoadRoom.{ops_left}
 use Rattle.replay.proofs.adopting.load_one.Given as goal
 
 abbrev pub invariant-loop-refusal : goal.invariant-loop-refusal
-invariant-loop-refusal g l = HasRoom l.fn.object (world g.F.Fleet.state l.fn.loading) (world g.F.Fleet.state l.loading)
+invariant-loop-refusal g l =
+    HasRoom (shown_object l.fn.object) (world g.F.Fleet.state l.fn.loading) (world g.F.Fleet.state l.loading)
 
 abbrev pub decreases-loop-refusal : goal.decreases-loop-refusal
 decreases-loop-refusal g l = ops_left (g.F.Fleet.state l.loading.fleet)

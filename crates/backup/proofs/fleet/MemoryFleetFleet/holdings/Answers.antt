@@ -26,7 +26,7 @@ returns-clause-shown c =
 pub returns-clause-rising : goal.returns-clause-rising
 returns-clause-rising c =
     rw (whole (goal.at.returns-clause-rising c).In_ok-show)
-    (rising_images c.args.backup c.in-Some.memory.now.replicas.entries c.show.ensures.ordered)
+    (rising_images c.args.backup c.in-Some.memory.now.replicas c.show.ensures.ordered)
 
 pub returns-clause-once : goal.returns-clause-once
 returns-clause-once c = IsOnce-from_rising c.show.new.list.items (returns-clause-rising c)

@@ -1,8 +1,23 @@
-use Rattle.std.proofs.Common.{◌∙◌, rules}
-use Rattle.backup.proofs.Places.{is_eq-place_cmp}
+use Rattle.std.proofs.Common.{refl, ap}
+use Rattle.replica.specs.Op.{Close}
+use Rattle.backup.specs.Slots.{Slots, found_in}
+use Rattle.backup.proofs.Acting.{change_acts, change_keeps, refused}
 use Rattle.backup.proofs.memory.MemoryBackup.close.Goals as goal
 
-pub returns-in-Some-clause-others : goal.returns-in-Some-clause-others
-returns-in-Some-clause-others c =
-    λ m s other. ((c.get_mut.follows.holds c.close.new.self).3 (search rules)).2 (m, s)
-    (is_eq-place_cmp c.args.place.0 c.args.place.1 m s ∙ other)
+pub returns-in-Ok-clause-named : goal.returns-in-Ok-clause-named
+returns-in-Ok-clause-named c =
+    change_acts c.args.self.now.replicas c.find.ensures.ordered c.args.place c.in-Ok.found c.in-Ok.ensures.found
+    c.find.new.self c.find.ensures.same c.close.new.self (Close) c.close.result c.stored_mut-stored.result.now
+    c.stored_mut-stored.ensures.value c.close.ensures
+
+pub returns-in-Ok-clause-others : goal.returns-in-Ok-clause-others
+returns-in-Ok-clause-others c =
+    change_keeps c.args.self.now.replicas c.find.ensures.ordered c.args.place c.in-Ok.found c.in-Ok.ensures.found
+    c.find.new.self c.find.ensures.same c.close.new.self
+
+pub returns-in-Err-clause-named : goal.returns-in-Err-clause-named
+returns-in-Err-clause-named c = (
+  refused (Close) refl c.args.self.now.replicas c.find.ensures.ordered c.args.place c.in-Err.field-0
+      c.in-Err.ensures.absent,
+  ap (λ (slots : Slots). found_in slots c.args.place) c.find.ensures.same,
+)

@@ -1,9 +1,9 @@
-use Rattle.std.proofs.Common.{◌≡◌, ◌++◌, map}
+use Rattle.std.proofs.Common.{◌≡◌, ◌++◌, map, drop}
 use Rattle.backup.specs.Retire.{spots_of_others}
 use Rattle.backup.specs.Shelf.{holding_of, holdings_of}
 use Rattle.backup.proofs.memory.MemoryBackup.list_others.Given as goal
 
 abbrev pub invariant-loop-place : goal.invariant-loop-place
 invariant-loop-place l =
-    l.list.items ++ spots_of_others l.keep (map (holding_of l.backup) l.place-iterator)
+    l.list.items ++ spots_of_others l.keep (map (holding_of l.backup) (drop l.place-index l.place-items))
     ≡ l.initial.list.items ++ spots_of_others l.keep (holdings_of l.backup l.self)

@@ -1,6 +1,7 @@
 use Rattle.std.proofs.Common.{◌≡◌, sym, subst}
 use Rattle.std.specs.Prelude.{Result, Ok, Err, OnOk, OnErr}
 use Rattle.entry.specs.declared.entry.Object.{Object}
+use Rattle.entry.specs.View.{shown_object}
 use Rattle.replica.specs.Picture.{FleetState}
 use Rattle.master_state.specs.declared.step.Refusal.{Refusal}
 use Rattle.master_state.specs.Data.{MasterData}
@@ -21,6 +22,6 @@ loaded_then d e f o (Err r) loaded is may core bare same =
 
 pub invariant_of-self : goal.invariant_of-self
 invariant_of-self g c =
-    loaded_then c.self.inside.core c.load.new.self (g.F.Fleet.state c.self.inside.fleet) c.args.object.now
-    c.load.result c.self.invariant
+    loaded_then c.self.inside.core c.load.new.self (g.F.Fleet.state c.self.inside.fleet)
+    (shown_object c.args.object.now) c.load.result c.self.invariant
     c.load.ensures.loaded c.load.ensures.may c.load.ensures.valid c.load.ensures.bare c.load.ensures.err

@@ -5,6 +5,7 @@ use Rattle.clean_model.specs.Loading.{MayLoad}
 use Rattle.compactor.specs.Places.{keys_in}
 use Rattle.entry.specs.declared.entry.Object.{Object}
 use Rattle.entry.specs.Text.{text_of}
+use Rattle.entry.specs.View.{shown_object}
 use Rattle.log_head.specs.Head.{HeadValue, IsHeadValue}
 use Rattle.log_head.specs.Steps.{with_unit_end}
 use Rattle.master_state.specs.contracts.state.Core.{the_view}
@@ -22,7 +23,7 @@ use Rattle.master_commands.proofs.loading.CoreLoads.load.Goals.{After-with-self-
 pub append_object-requires-clause-fits : goal.append_object-requires-clause-fits
 append_object-requires-clause-fits c =
     let d = the_view c.self.inside in
-    let o = c.args.object.now in
+    let o = shown_object c.args.object.now in
     let passed : load_refusal d o ≡ None =
     subst (λ (m : MasterData). load_refusal m o ≡ None) (sym c.self.view_is)
     (sym c.admit_object.ensures ∙ ap result_err c.in_ok-admit_object.was) in
@@ -33,7 +34,7 @@ module _ (c : goal.After-with-self-inside) where
   d = the_view c.self.inside
 
   abbrev o : Object
-  o = c.args.object.now
+  o = shown_object c.args.object.now
 
   bare : IsBare d
   bare = subst IsBare (sym c.self.view_is) c.requires.bare

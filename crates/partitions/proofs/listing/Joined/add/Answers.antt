@@ -12,10 +12,10 @@ invariant_of-self-2 g c =
     let here = c.self.inside in
     let list = c.list.inside in
     let os = here.objects in
-    let ps = list.objects.items in
+    let ps = list.objects in
     let next : IsListed (bag_in qs here.count segments) recorded ps list.safe =
     subst (λ n. IsListed (bag_in qs n segments) recorded ps list.safe) c.if-list-self.false c.list.invariant in
     let ordered : AreOrdered (os ++ ps) =
-    rw (← c.as_slice.ensures.value) (c.follows.ensures c.if-not-follows.false) in
+    c.follows.ensures c.if-not-follows.false in
     joined_more qs segments recorded here.count here.safe list.safe c.greater-self-inside.result os ps
     c.add.new.self c.self.invariant next ordered c.greater-self-inside.ensures c.in_ok-add.ensures.ok

@@ -43,7 +43,7 @@ new-requires g c =
     let same = c.as_slice-4.ensures.value in
     listed_of g.D.Division.parts g.D.Division.segments c.self.inside.partition before after (gathered g all)
     c.sort_unstable.ensures.permutation c.sort_unstable.ensures.sorted g.D.Division.safe c.safe_above-safe.result
-    c.in_ok-objects.objects.items
+    c.in_ok-objects.objects
     (subst (λ (cs : List Claim). has_clash (map claimed cs) ≡ _) same c.in_ok-objects.ensures.clean)
     (c.in_ok-objects.ensures.objects ∙ ap (λ (cs : List Claim). objects_in (tops (map claimed cs))) same)
     c.in_ok-objects.ensures.valid

@@ -1,55 +1,92 @@
 use Rattle.std.proofs.Common.{refl}
 use Rattle.lines.specs.Grammar.{shown_command}
+use Rattle.history.specs.View.{shown_command as lent_command}
 use Rattle.master_state.specs.declared.step.Refusal.TheVariants.{Rolling}
-use Rattle.answers.specs.declared.answer.Answer.TheVariants.{Refused}
+use Rattle.answers.specs.declared.answer.Answer.TheVariants as answers
 use Rattle.node.proofs.Rolls.{no_room_told, rolling_told, room_told}
 use Rattle.node.proofs.Tries.{not_rolled_makes, of_command, rolled_makes, rolling_makes}
 use Rattle.script.proofs.session.Session.run_after_roll.Goals as goal
 
-pub returns-in-Some-clause-ran : goal.returns-in-Some-clause-ran
-returns-in-Some-clause-ran c = record {
-  number = refl;
-  options = refl;
-  used = refl;
-  covers = λ all. all;
-  answers = λ old config command asks waits. no_room_told old _ _ config
-      (shown_command c.args.line) command c.in-Some.answer asks waits (c.in-Some.ensures.told config);
-  makes = λ command asks. not_rolled_makes c.args.self.now.node _ command c.in-Some.answer c.in-Some.ensures.rolled;
-  will = refl;
-  known = refl;
-}
+pub returns-in-Some : goal.returns-in-Some
+returns-in-Some c = (
+  c.in-Some.answer,
+  refl,
+  record {
+    number = refl;
+    options = refl;
+    used = refl;
+    covers = λ all. all;
+    answers = λ old config command asks waits. no_room_told old _ _ config
+        (shown_command c.args.line) command c.in-Some.answer asks waits (c.in-Some.ensures.told config);
+    makes = λ command asks. not_rolled_makes c.args.self.now.node _ command c.in-Some.answer c.in-Some.ensures.rolled;
+    will = refl;
+    known = refl;
+  },
+)
 
-pub returns-in-Some-serve-clause-ran : goal.returns-in-Some-serve-clause-ran
-returns-in-Some-serve-clause-ran c = record {
-  number = refl;
-  options = refl;
-  used = refl;
-  covers = λ all. all;
-  answers = λ old config command asks waits. room_told old _ _ _ config
-      (shown_command c.args.line) command c.in-Some-serve.answer waits (c.in_default.ensures.told config)
-      (c.in-Some-serve.ensures.told config (shown_command c.args.line) c.in_ok-command.ensures);
-  makes = λ command asks. of_command (shown_command c.args.line) _ command c.in_ok-command.ensures asks _ _
-      c.in-Some-serve.answer
-      (rolled_makes c.args.self.now.node _ _ c.in_ok-command.command c.in-Some-serve.answer c.in_default.ensures.rolled
-      c.in-Some-serve.ensures.tried);
-  will = refl;
-  known = refl;
-}
+pub returns-in-Replied : goal.returns-in-Replied
+returns-in-Replied c =
+    let t = c.in-Replied.ensures in
+    let line = shown_command c.args.line in
+    let tried = lent_command c.line_command.result in
+    let answer = answers.Reply t.0 in (
+      answer,
+      (t.0, t.1, refl),
+      record {
+        number = refl;
+        options = refl;
+        used = refl;
+        covers = λ all. all;
+        answers = λ old config command asks waits. room_told old _ _ _ config line command answer waits
+            (c.in_default.ensures.told config) (t.2 config line c.line_command.ensures);
+        makes = λ command asks. of_command line _ command c.line_command.ensures asks _ _ answer
+            (rolled_makes c.args.self.now.node _ _ tried answer c.in_default.ensures.rolled t.3);
+        will = refl;
+        known = refl;
+      },
+    )
 
-pub returns-in-None-clause-ran : goal.returns-in-None-clause-ran
-returns-in-None-clause-ran c = record {
-  number = refl;
-  options = refl;
-  used = refl;
-  covers = λ all. all;
-  answers = λ old config command asks waits. room_told old _ _ _ config (shown_command c.args.line) command
-      (Refused Rolling) waits (c.in_default.ensures.told config)
-      (rolling_told _ _ config (shown_command c.args.line) c.in_ok-command.command c.in_ok-command.ensures
-      (c.in-None.ensures.told config));
-  makes = λ command asks. of_command (shown_command c.args.line) _ command c.in_ok-command.ensures asks _
-      _ (Refused Rolling)
-      (rolling_makes c.args.self.now.node _ _ c.in_ok-command.command c.in_default.ensures.rolled
-      c.in-None.ensures.tried);
-  will = refl;
-  known = refl;
-}
+pub returns-in-Answered : goal.returns-in-Answered
+returns-in-Answered c =
+    let t = c.in-Answered.ensures in
+    let line = shown_command c.args.line in
+    let tried = lent_command c.line_command.result in
+    let answer = c.in-Answered.answer in (
+      answer,
+      refl,
+      record {
+        number = refl;
+        options = refl;
+        used = refl;
+        covers = λ all. all;
+        answers = λ old config command asks waits. room_told old _ _ _ config line command answer waits
+            (c.in_default.ensures.told config) (t.0 config line c.line_command.ensures);
+        makes = λ command asks. of_command line _ command c.line_command.ensures asks _ _ answer
+            (rolled_makes c.args.self.now.node _ _ tried answer c.in_default.ensures.rolled t.1);
+        will = refl;
+        known = refl;
+      },
+    )
+
+pub returns-in-Waits : goal.returns-in-Waits
+returns-in-Waits c =
+    let t = c.in-Waits.ensures in
+    let line = shown_command c.args.line in
+    let tried = lent_command c.line_command.result in
+    let answer = answers.Refused Rolling in (
+      answer,
+      refl,
+      record {
+        number = refl;
+        options = refl;
+        used = refl;
+        covers = λ all. all;
+        answers = λ old config command asks waits. room_told old _ _ _ config line command answer waits
+            (c.in_default.ensures.told config)
+            (rolling_told _ _ config line tried c.line_command.ensures (t.0 config));
+        makes = λ command asks. of_command line _ command c.line_command.ensures asks _ _ answer
+            (rolling_makes c.args.self.now.node _ _ tried c.in_default.ensures.rolled t.1);
+        will = refl;
+        known = refl;
+      },
+    )

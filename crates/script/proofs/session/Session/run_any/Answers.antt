@@ -2,7 +2,11 @@ use Rattle.std.proofs.Common.{inl, inr, refl}
 use Rattle.lines.specs.Grammar.{Idle}
 use Rattle.answers.specs.declared.answer.Answer.TheVariants.{Silent}
 use Rattle.node.proofs.Standing.{stays_told}
+use Rattle.script.proofs.Commanding.{has_command}
 use Rattle.script.proofs.session.Session.run_any.Goals as goal
+
+pub unreachable-requires : goal.unreachable-requires
+unreachable-requires g c = has_command c.in-Command.field-0 (rw c.in-Command.is at c.requires.other)
 
 pub returns-in-Idle-clause-ran : goal.returns-in-Idle-clause-ran
 returns-in-Idle-clause-ran g c = rw c.in-Idle.is (inl (record {

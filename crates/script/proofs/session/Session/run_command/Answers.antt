@@ -1,44 +1,76 @@
 use Rattle.std.proofs.Common.{refl}
-use Rattle.std.proofs.lemmas.Result.{IfOk-weaker}
 use Rattle.lines.specs.Grammar.{shown_command}
+use Rattle.history.specs.View.{shown_command as lent_command}
+use Rattle.answers.specs.declared.answer.Answer.TheVariants as answers
 use Rattle.node.proofs.Steps.{command_makes}
 use Rattle.node.proofs.Tries.{tried_makes, waited_makes}
 use Rattle.script.proofs.Sessions.{command_keeps, command_keeps_word}
 use Rattle.script.proofs.session.Session.run_command.Goals as goal
 
-pub returns-in-Some-clause-ran : goal.returns-in-Some-clause-ran
-returns-in-Some-clause-ran c = record {
-  number = refl;
-  options = refl;
-  used = refl;
-  covers = λ all. all.0;
-  answers = λ config number. c.in-Some.ensures.told config (shown_command c.args.line) c.in_ok-command.ensures;
-  makes = command_makes _ (shown_command c.args.line) _ c.in-Some.answer c.in_ok-command.command c.in_ok-command.ensures
-      (tried_makes _ _ c.in_ok-command.command c.in-Some.answer c.in-Some.ensures.tried);
-  wills = command_keeps c.args.self.now (shown_command c.args.line)
-      (record c.args.self.now { node = c.serve.new.self }) c.in-Some.answer refl c.in_ok-command.command
-      c.in_ok-command.ensures;
-  word = command_keeps_word c.args.self.now (shown_command c.args.line)
-      (record c.args.self.now { node = c.serve.new.self }) c.in-Some.answer refl c.in_ok-command.command
-      c.in_ok-command.ensures;
-}
+pub returns-in-Replied : goal.returns-in-Replied
+returns-in-Replied c =
+    let t = c.in-Replied.ensures in
+    let line = shown_command c.args.line in
+    let command = lent_command c.line_command.result in
+    let asks = c.line_command.ensures in
+    let left = record c.args.self.now { node = c.serve.new.self } in
+    let answer = answers.Reply t.0 in (
+      answer,
+      (t.0, t.1, refl),
+      record {
+        number = refl;
+        options = refl;
+        used = refl;
+        covers = λ all. all.0;
+        answers = λ config number. t.2 config line asks;
+        makes = command_makes _ line _ answer command asks (tried_makes _ _ command answer t.3);
+        wills = command_keeps c.args.self.now line left answer refl command asks;
+        word = command_keeps_word c.args.self.now line left answer refl command asks;
+      },
+    )
 
-pub returns-in-None-clause-ran : goal.returns-in-None-clause-ran
-returns-in-None-clause-ran c =
-    IfOk-weaker c.run_after_roll.result _ _
-    (λ answer ran. record {
-      number = ran.number;
-      options = ran.options;
-      used = ran.used;
-      covers = λ all. ran.covers all.0;
-      answers = λ config number. ran.answers c.args.self.now.node config c.in_ok-command.command c.in_ok-command.ensures
-          (c.in-None.ensures.told config);
-      makes = command_makes _ (shown_command c.args.line) _ answer c.in_ok-command.command c.in_ok-command.ensures
-          (waited_makes _ _ _ c.in_ok-command.command answer c.in-None.ensures.tried
-          (ran.makes c.in_ok-command.command c.in_ok-command.ensures));
-      wills = command_keeps c.args.self.now (shown_command c.args.line) c.run_after_roll.new.self answer ran.will
-          c.in_ok-command.command c.in_ok-command.ensures;
-      word = command_keeps_word c.args.self.now (shown_command c.args.line) c.run_after_roll.new.self answer ran.known
-          c.in_ok-command.command c.in_ok-command.ensures;
-    })
-    c.run_after_roll.ensures.ran
+pub returns-in-Answered : goal.returns-in-Answered
+returns-in-Answered c =
+    let t = c.in-Answered.ensures in
+    let line = shown_command c.args.line in
+    let command = lent_command c.line_command.result in
+    let asks = c.line_command.ensures in
+    let left = record c.args.self.now { node = c.serve.new.self } in
+    let answer = c.in-Answered.answer in (
+      answer,
+      refl,
+      record {
+        number = refl;
+        options = refl;
+        used = refl;
+        covers = λ all. all.0;
+        answers = λ config number. t.0 config line asks;
+        makes = command_makes _ line _ answer command asks (tried_makes _ _ command answer t.1);
+        wills = command_keeps c.args.self.now line left answer refl command asks;
+        word = command_keeps_word c.args.self.now line left answer refl command asks;
+      },
+    )
+
+pub returns-in-Waits : goal.returns-in-Waits
+returns-in-Waits c =
+    let t = c.in-Waits.ensures in
+    let line = shown_command c.args.line in
+    let command = lent_command c.line_command.result in
+    let asks = c.line_command.ensures in
+    let last = c.run_after_roll.ensures in
+    let answer = last.0 in
+    let ran = last.2 in (
+      answer,
+      last.1,
+      record {
+        number = ran.number;
+        options = ran.options;
+        used = ran.used;
+        covers = λ all. ran.covers all.0;
+        answers = λ config number. ran.answers c.args.self.now.node config command asks (t.0 config);
+        makes = command_makes _ line _ answer command asks
+            (waited_makes _ _ _ command answer t.1 (ran.makes command asks));
+        wills = command_keeps c.args.self.now line c.run_after_roll.new.self answer ran.will command asks;
+        word = command_keeps_word c.args.self.now line c.run_after_roll.new.self answer ran.known command asks;
+      },
+    )

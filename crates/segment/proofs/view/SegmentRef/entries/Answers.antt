@@ -2,4 +2,4 @@ use Rattle.segment.proofs.RowLemmas.{length-entries_in}
 use Rattle.segment.proofs.view.SegmentRef.entries.Goals as goal
 
 pub returns-clause-limit : goal.returns-clause-limit
-returns-clause-limit c = length-entries_in c.args.self.now.bytes.now c.args.self.now.valid
+returns-clause-limit c = length-entries_in c.self.inside.bytes.now c.self.invariant

@@ -1,4 +1,4 @@
-use Rattle.std.proofs.Common.{◌∙◌, ◌∷◌, ap, sym}
+use Rattle.std.proofs.Common.{◌∙◌, ◌∷◌, ap}
 use Rattle.entry.specs.declared.view.EntryRef.{EntryRef}
 use Rattle.entry.specs.Text.{header_of}
 use Rattle.entry.specs.View.{shown}
@@ -7,5 +7,5 @@ use Rattle.segment.proofs.view.SegmentRef.header.Goals as goal
 
 pub returns : goal.returns
 returns c =
-    ap header_of (sym c.entries-entries.ensures.entries ∙ c.in-Some-Header.ensures.steps)
-    ∙ ap (λ (entry : EntryRef). header_of (shown entry ∷ entries_left c.next.new.self)) c.in-Some-Header.field-0-is
+    rw (← c.self.view_is) (ap header_of c.in-Some-Header.ensures.steps
+    ∙ ap (λ (entry : EntryRef). header_of (shown entry ∷ entries_left c.next.new.self)) c.in-Some-Header.field-0-is)

@@ -1,0 +1,91 @@
+use Rattle.std.proofs.Common.{◌≡◌, ℕ, List, None, rules, length, sym, ap, subst, ◌∙◌}
+use Rattle.std.specs.Prelude.{Option}
+use Rattle.std.proofs.lemmas.Result.{err_from_is_err_and}
+use Rattle.entry.specs.declared.key.Key.{Key}
+use Rattle.entry.specs.Meaning.{Versioned}
+use Rattle.entry.specs.View.{shown_key}
+use Rattle.log_model.specs.Steps.{MayApply}
+use Rattle.versioned_map.specs.declared.command.Command.TheVariants.{Get}
+use Rattle.versioned_map.specs.declared.command.Record.{Record}
+use Rattle.master_commands.specs.Change.{found_at, IsPresent}
+use Rattle.master_state.specs.contracts.state.Core.{the_view}
+use Rattle.master_state.specs.declared.step.StepAnswer.TheVariants.{Applied}
+use Rattle.master_state.specs.Causes.{command_refusal, dead_segment}
+use Rattle.master_state.specs.Data.{MasterData}
+use Rattle.master_state.specs.Invariant.{IsCore}
+use Rattle.master_state.specs.Log.{log_of, images_of}
+use Rattle.master_state.specs.Steps.{reply_now, record_now, Applies}
+use Rattle.master_commands.proofs.Gets.{read_core, read_applies, read_may}
+use Rattle.master_commands.proofs.getting.add_get.Goals as goal
+use Rattle.master_commands.proofs.getting.add_get.Goals.{After-record_get}
+
+module _ (c : After-record_get) where
+  abbrev d : MasterData
+  d = the_view c.core.inside
+
+  abbrev k : Key
+  k = shown_key c.args.key.now
+
+  abbrev held : Option Versioned
+  held = found_at (images_of d) c.args.judged.now.present c.args.judged.now.held.place
+
+  passed : command_refusal d (Get k) ≡ None
+  passed = rw (← c.core.view_is) at c.requires.passed
+
+  present : IsPresent d (Get k) c.args.judged.now.present c.args.judged.now.held.place
+  present = rw (← c.core.view_is) at c.requires.present
+
+  -- the core with other records
+  abbrev with : List Record → MasterData
+  with records = record d { history = records }
+
+pub invariant_of-core-2 : goal.invariant_of-core-2
+invariant_of-core-2 c =
+    let t = (goal.at.invariant_of-core-2 c).After-record_get in (
+      c.core.invariant.0,
+      c.core.invariant.1,
+      read_core (d t) c.core.invariant.2 (k t) c.args.seat (passed t) c.record_get.new.history.records (held t)
+          c.in_ok-record_get.ensures.added (present t).stands,
+      c.core.invariant.3,
+    )
+
+pub returns-clause-added : goal.returns-clause-added
+returns-clause-added c =
+    let t = (goal.at.returns-clause-added c).After-record_get in
+    let number : c.len-place.result ≡ length (d t).history = search rules in
+    rw (← c.core.view_is)
+    (subst (λ (n : ℕ). Applies (d t) c.args.seat (Get (k t)) (Applied n (reply_now (d t) (Get (k t))))
+    (with t c.record_get.new.history.records)) (sym number)
+    (read_applies (d t) c.core.invariant.2 (k t) c.args.seat (passed t) c.record_get.new.history.records (held t)
+    c.in_ok-record_get.ensures.added (present t).stands))
+
+pub returns-clause-may : goal.returns-clause-may
+returns-clause-may c =
+    let t = (goal.at.returns-clause-may c).After-record_get in
+    subst (λ (m : MasterData). MayApply (log_of m) (dead_segment m (Get (k t)))
+    (record_now m c.args.seat (Get (k t))))
+    c.core.view_is (read_may (d t) c.core.invariant.2 (k t) c.args.seat (passed t))
+
+pub returns-clause-valid : goal.returns-clause-valid
+returns-clause-valid c =
+    let t = (goal.at.returns-clause-valid c).After-record_get in
+    read_core (d t) c.core.invariant.2 (k t) c.args.seat (passed t) c.record_get.new.history.records (held t)
+    c.in_ok-record_get.ensures.added (present t).stands
+
+-- ---- the core as it was, where memory was refused
+
+pub invariant_of-core : goal.invariant_of-core
+invariant_of-core c =
+    let t = (goal.at.invariant_of-core c).After-record_get in (
+      c.core.invariant.0,
+      c.core.invariant.1,
+      subst (λ (records : List Record). IsCore (with t records)) (sym c.in_err-record_get.ensures.refused)
+          c.core.invariant.2,
+      c.core.invariant.3,
+    )
+
+pub returns-in_err-record_get-clause-refused : goal.returns-in_err-record_get-clause-refused
+returns-in_err-record_get-clause-refused c =
+    let t = (goal.at.returns-in_err-record_get-clause-refused c).After-record_get in
+    let failed = err_from_is_err_and c.from_residual.result c.from_residual.ensures.1 in
+    rw failed.1 (ap (with t) c.in_err-record_get.ensures.refused ∙ c.core.view_is)

@@ -1,0 +1,39 @@
+-- Which lines have a command.
+use Rattle.std.proofs.Common.{◌≡◌, refl}
+use Rattle.std.specs.Prelude.{Option, Some, None}
+use Rattle.lines.specs.declared.command.CommandLine.{CommandLine}
+use Rattle.lines.specs.declared.command.CommandLine.TheVariants as command
+use Rattle.lines.specs.declared.line.Line.{Line}
+use Rattle.lines.specs.declared.line.Line.TheVariants as line
+use Rattle.lines.specs.Grammar.{shown_command, shown_line}
+use Rattle.node.specs.Told.{command_of}
+
+pub has_command : (c : CommandLine) → command_of (shown_command c) ≡ None → ⊥
+has_command (command.Put table key value) is = absurd (cc)
+has_command (command.New table key value) is = absurd (cc)
+has_command (command.Cas table key version value) is = absurd (cc)
+has_command (command.Get table key) is = absurd (cc)
+has_command (command.Del table key) is = absurd (cc)
+
+pub has_no_command : (l : Line) → ((c : CommandLine) → l ≡ line.Command c → ⊥) → command_of (shown_line l) ≡ None
+has_no_command line.Idle other = refl
+has_no_command (line.Command c) other = absurd (other c refl)
+has_no_command (line.Compact segment) other = refl
+has_no_command line.Roll other = refl
+has_no_command line.BeginRoll other = refl
+has_no_command line.Push other = refl
+has_no_command line.Log other = refl
+has_no_command line.Room other = refl
+has_no_command (line.Hex segment) other = refl
+has_no_command (line.Stop takes) other = refl
+has_no_command line.Crash other = refl
+has_no_command (line.Lose backup) other = refl
+has_no_command line.Will other = refl
+has_no_command (line.Recover order) other = refl
+has_no_command line.Holdings other = refl
+has_no_command (line.Clean segments) other = refl
+has_no_command (line.Begin segments) other = refl
+has_no_command line.Copy other = refl
+has_no_command line.Seal other = refl
+has_no_command line.Free other = refl
+has_no_command (line.Clients clients rounds passes) other = refl
