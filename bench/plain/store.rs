@@ -1,5 +1,6 @@
-//! A plain Rust program of the same rules, without contracts: puts over a log, and passes that clean it. It reads lines
-//! `put TABLE KEY VALUE` and `clean SEGMENT..`, and answers them as `ramlog` does. It takes nothing but these lines.
+//! A plain Rust program of the same rules, without contracts: puts and gets over a log, passes that clean it, and the recovery of
+//! all that was put. It reads lines `put TABLE KEY VALUE`, `get TABLE KEY`, `clean SEGMENT..`, `crash` and `recover`, and answers
+//! them as `ramlog` does. It takes nothing but these lines.
 
 use std::io::{BufRead, BufWriter, Write};
 
@@ -54,6 +55,13 @@ fn entry_at(bytes: &[u8], at: usize) -> Entry<'_> {
         }
         _ => Entry::Tombstone { segment: u64_at(b, 17), len: TOMBSTONE + u16_at(b, 25) },
     }
+}
+
+/// The version and the value of the object at a place.
+fn object_at(bytes: &[u8], at: usize) -> (u64, &[u8]) {
+    let b = &bytes[at..];
+    let (k, v) = (u16_at(b, 17), u32_at(b, 19));
+    (u64_at(b, 9), &b[OBJECT + k..OBJECT + k + v])
 }
 
 /// A place of the index: no key has hash 0.
@@ -112,16 +120,42 @@ impl Index {
     }
 }
 
-/// A command that was accepted, and its reply.
-#[allow(dead_code)]
-struct Record {
+/// The commands that were accepted, with their replies, packed in blocks.
+struct History {
+    blocks: Vec<Vec<u8>>,
+}
+
+impl History {
+    const BLOCK: usize = 262_144;
+
+    fn push(&mut self, kind: u8, table: u64, key: &[u8], version: u64, value: &[u8]) {
+        let len = 31 + key.len() + value.len();
+        if self.blocks.last().is_none_or(|block| block.len() + len > block.capacity()) {
+            self.blocks.push(Vec::with_capacity(Self::BLOCK.max(len)));
+        }
+        let block = self.blocks.last_mut().unwrap();
+        block.push(kind);
+        block.extend_from_slice(&0u64.to_be_bytes());
+        block.extend_from_slice(&table.to_be_bytes());
+        block.extend_from_slice(&version.to_be_bytes());
+        block.extend_from_slice(&(key.len() as u16).to_be_bytes());
+        block.extend_from_slice(&(value.len() as u32).to_be_bytes());
+        block.extend_from_slice(key);
+        block.extend_from_slice(value);
+    }
+}
+
+/// What an object or a tombstone that lies in a replica says of its key.
+struct Claim<'a> {
     table: u64,
-    key: Box<[u8]>,
-    value: Box<[u8]>,
+    key: &'a [u8],
     version: u64,
+    is_dead: bool,
+    value: &'a [u8],
 }
 
 struct Master {
+    number: u64,
     size: usize,
     seglet: usize,
     images: Vec<Option<Vec<u8>>>,
@@ -131,21 +165,23 @@ struct Master {
     safe: u64,
     backups: Vec<Vec<Option<Vec<u8>>>>,
     index: Index,
-    history: Vec<Record>,
+    history: History,
 }
 
 impl Master {
-    fn new(size: usize, seglet: usize) -> Master {
+    /// A master with this number, whose versions begin with `safe`.
+    fn new(number: u64, size: usize, seglet: usize, safe: u64) -> Master {
         let mut master = Master {
+            number,
             size,
             seglet,
             images: vec![None],
             head: 1,
             next: 1,
-            safe: 1,
+            safe,
             backups: (0..BACKUPS).map(|_| vec![None]).collect(),
             index: Index::new(),
-            history: Vec::new(),
+            history: History { blocks: Vec::new() },
         };
         master.open();
         master
@@ -164,7 +200,7 @@ impl Master {
     fn header(&self, id: u64, role: u8) -> Vec<u8> {
         let mut image = Vec::with_capacity(self.size);
         image.push(1);
-        image.extend_from_slice(&1u64.to_be_bytes());
+        image.extend_from_slice(&self.number.to_be_bytes());
         image.extend_from_slice(&id.to_be_bytes());
         image.push(role);
         image
@@ -203,20 +239,40 @@ impl Master {
         self.open();
     }
 
-    fn put(&mut self, table: u64, key: &[u8], value: &[u8]) -> u64 {
-        let hash = hash(table, key);
-        let images = &self.images;
-        let mut old_version = 0;
-        let old = self.index.find(hash, |slot| {
-            let image = images[slot.segment as usize].as_ref().unwrap();
+    /// The slot of the key, and the version of its object.
+    fn find(&self, hash: u64, table: u64, key: &[u8]) -> (Option<usize>, u64) {
+        let mut found = 0;
+        let slot = self.index.find(hash, |slot| {
+            let image = self.images[slot.segment as usize].as_ref().unwrap();
             match entry_at(image, slot.at as usize) {
                 Entry::Object { table: t, key: k, version, .. } if t == table && k == key => {
-                    old_version = version;
+                    found = version;
                     true
                 }
                 _ => false,
             }
         });
+        (slot, found)
+    }
+
+    /// Writes the answer to a get.
+    fn get(&mut self, table: u64, key: &[u8], output: &mut impl Write) {
+        let Some(slot) = self.find(hash(table, key), table, key).0 else {
+            self.history.push(2, table, key, 0, &[]);
+            return output.write_all(b"none\n").unwrap();
+        };
+        let slot = self.index.slots[slot];
+        let image = self.images[slot.segment as usize].as_ref().unwrap();
+        let (version, value) = object_at(image, slot.at as usize);
+        self.history.push(1, table, key, version, value);
+        write!(output, "{version} ").unwrap();
+        output.write_all(value).unwrap();
+        output.write_all(b"\n").unwrap();
+    }
+
+    fn put(&mut self, table: u64, key: &[u8], value: &[u8]) -> u64 {
+        let hash = hash(table, key);
+        let (old, old_version) = self.find(hash, table, key);
         let unit = OBJECT + key.len() + value.len() + if old.is_some() { TOMBSTONE + key.len() } else { 0 };
         if self.images[self.head as usize].as_ref().unwrap().len() + unit > self.size {
             self.roll();
@@ -254,8 +310,99 @@ impl Master {
                 self.safe += 1;
             }
         }
-        self.history.push(Record { table, key: key.into(), value: value.into(), version });
+        self.history.push(0, table, key, version, value);
         version
+    }
+
+    /// Puts an object with its own version behind the head's others. No replica has it yet.
+    fn load(&mut self, claim: &Claim) {
+        let head = self.images[self.head as usize].as_ref().unwrap();
+        if head.len() + OBJECT + claim.key.len() + claim.value.len() > self.size {
+            self.push();
+            self.roll();
+        }
+        let image = self.images[self.head as usize].as_mut().unwrap();
+        let at = image.len();
+        image.push(4);
+        image.extend_from_slice(&claim.table.to_be_bytes());
+        image.extend_from_slice(&claim.version.to_be_bytes());
+        image.extend_from_slice(&(claim.key.len() as u16).to_be_bytes());
+        image.extend_from_slice(&(claim.value.len() as u32).to_be_bytes());
+        image.extend_from_slice(claim.key);
+        image.extend_from_slice(claim.value);
+        self.index.insert(Slot { hash: hash(claim.table, claim.key), segment: self.head as u32, at: at as u32 });
+    }
+
+    /// Hands the head's replicas all that they lack.
+    fn push(&mut self) {
+        let head = self.head;
+        let image = self.images[head as usize].take().unwrap();
+        for replica in self.replicas(head) {
+            let replica = replica.as_mut().unwrap();
+            let from = replica.len();
+            replica.extend_from_slice(&image[from..]);
+        }
+        self.images[head as usize] = Some(image);
+    }
+
+    /// The ids of the digest of the newest head that a replica shows, and the safe version that it recorded.
+    fn digest(&self) -> (Vec<u64>, u64) {
+        let head = self.replica(self.head);
+        let count = u32_at(head, 19);
+        ((0..count).map(|n| u64_at(head, 23 + 8 * n)).collect(), u64_at(head, 24 + 8 * count))
+    }
+
+    /// The replica of a segment on the lowest backup.
+    fn replica(&self, id: u64) -> &[u8] {
+        self.backups.iter().find_map(|backup| backup[id as usize].as_deref()).unwrap()
+    }
+
+    /// The next master, from what the backups hold, and the table, written.
+    fn recover(&self, output: &mut impl Write) -> Master {
+        let (ids, mut safe) = self.digest();
+        let mut claims = Vec::new();
+        for id in ids {
+            let replica = self.replica(id);
+            let mut at = 0;
+            while at < replica.len() {
+                at += match entry_at(replica, at) {
+                    Entry::Opening(len) => len,
+                    Entry::Object { table, key, version, len } => {
+                        let value = object_at(replica, at).1;
+                        claims.push(Claim { table, key, version, is_dead: false, value });
+                        safe = safe.max(version + 1);
+                        len
+                    }
+                    Entry::Tombstone { len, .. } => {
+                        let (b, version) = (&replica[at..], u64_at(replica, at + 9));
+                        let key = &b[TOMBSTONE..len];
+                        claims.push(Claim { table: u64_at(b, 1), key, version, is_dead: true, value: &[] });
+                        safe = safe.max(version + 1);
+                        len
+                    }
+                };
+            }
+        }
+        claims.sort_unstable_by(|a, b| {
+            (a.table, a.key, a.version, a.is_dead).cmp(&(b.table, b.key, b.version, b.is_dead))
+        });
+        let mut next = Master::new(self.number + 1, self.size, self.seglet, safe);
+        let mut count = 0;
+        for (n, claim) in claims.iter().enumerate() {
+            let is_last = claims.get(n + 1).is_none_or(|later| (later.table, later.key) != (claim.table, claim.key));
+            if is_last && !claim.is_dead {
+                next.load(claim);
+                write!(output, "{} ", claim.table).unwrap();
+                output.write_all(claim.key).unwrap();
+                write!(output, " {} ", claim.version).unwrap();
+                output.write_all(claim.value).unwrap();
+                output.write_all(b"\n").unwrap();
+                count += 1;
+            }
+        }
+        next.push();
+        writeln!(output, "recovered {count}").unwrap();
+        next
     }
 
     fn is_held(&self, table: u64, key: &[u8], id: u64, at: usize) -> Option<usize> {
@@ -342,7 +489,7 @@ impl Master {
 
 fn main() {
     let words: Vec<usize> = std::env::args().skip(1).map(|word| word.parse().unwrap()).collect();
-    let mut master = Master::new(words[0], words[1]);
+    let mut master = Master::new(1, words[0], words[1], 1);
     let mut input = std::io::stdin().lock();
     let mut output = BufWriter::new(std::io::stdout().lock());
     let mut line = Vec::new();
@@ -355,6 +502,18 @@ fn main() {
                 let version = master.put(table, words.next().unwrap(), words.next().unwrap());
                 writeln!(output, "ok {version}").unwrap();
             }
+            Some(b"get") => {
+                let table = number(words.next().unwrap());
+                master.get(table, words.next().unwrap(), &mut output);
+            }
+            Some(b"crash") => {
+                let Master { number, size, seglet, head, next, backups, .. } = master;
+                let mut left = Master::new(number, size, seglet, 1);
+                (left.head, left.next, left.backups) = (head, next, backups);
+                master = left;
+                writeln!(output, "crashed").unwrap();
+            }
+            Some(b"recover") => master = master.recover(&mut output),
             _ => {
                 let victims: Vec<u64> = words.map(number).collect();
                 match master.clean(&victims) {
