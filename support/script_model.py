@@ -1132,7 +1132,7 @@ def explain(script, options, run, most):
     for place in range(len(lines) + 1):
         done = [refusals for _, length, refusals in fitting if length == len(run.output)]
         if run.status == 1 and run.errors == NO_MEMORY and (place < len(lines) or not lines):
-            # Memory ran out at the start, or for this line's own text, key or value.
+            # Memory ran out at the start, or for this line's own text or ids.
             found += [refusals + 1 for refusals in done if refusals < most]
         if place == len(lines):
             if run.status == 0 and run.errors == "":
