@@ -182,6 +182,8 @@ impl Table for ChainTable {
         chain.push(held)
     }
 
+    fn expect(&mut self, _keys: usize) {}
+
     fn grow(&mut self, keys: usize) {
         let chains = keys.div_ceil(KEYS_PER_CHAIN);
         if chains <= self.chains.len() {

@@ -42,7 +42,25 @@ impl Model for BucketTable {
     ghost invariant = { λ t. AreInParts (bucket_of (length t.buckets)) 0 t.buckets };
 }
 
+/// How many buckets so many keys want.
+#[inline]
+fn buckets_for(keys: usize) -> usize {
+    let if_small = keys / KEYS_IF_SMALL + 1;
+    if if_small < SMALL {
+        return if_small;
+    }
+    (keys / KEYS_PER_BUCKET + 1).max(SMALL)
+}
+
 impl BucketTable {
+    /// One bucket more, in a table of no places. On `Err` it was refused memory.
+    fn add_empty(&mut self) -> Result<(), NoMemory>
+        requires { self.old ≡ [] }
+        ensures { self.new ≡ [] }
+    {
+        self.buckets.push(Bucket::new(), self.alloc)
+    }
+
     /// One bucket more, with its places of one other. On `Err` nothing changed.
     fn add_bucket(&mut self) -> Result<(), NoMemory>
         ensures ok { OnOk result (IsShuffled self.old self.new) }
@@ -145,17 +163,19 @@ impl Table for BucketTable {
         self.buckets.add(at, held, self.alloc)
     }
 
+    /// As many buckets as so many keys want.
+    fn expect(&mut self, keys: usize) {
+        for _ in self.buckets.len()..buckets_for(keys) {
+            if self.add_empty().is_err() {
+                return;
+            }
+        }
+    }
+
     /// One bucket more, if so many keys want one.
     fn grow(&mut self, keys: usize) {
-        let buckets = self.buckets.len();
-        let most = if buckets < SMALL {
-            KEYS_IF_SMALL
-        } else {
-            KEYS_PER_BUCKET
-        };
-        if keys / most < buckets {
-            return;
+        if self.buckets.len() < buckets_for(keys) {
+            let _ = self.add_bucket();
         }
-        let _ = self.add_bucket();
     }
 }

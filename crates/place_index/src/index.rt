@@ -160,6 +160,16 @@ impl<H: KeyHash, T: Table> PlaceIndex<H, T> {
         }
     }
 
+    /// Makes the table of an index of no keys as large as it is to be for so many, as far as memory is given: until
+    /// there are more, `grow` has nothing to do. An index that has a key stays as it is.
+    pub fn expect(&mut self, keys: usize)
+        ensures { self.new ≡ self.old }
+    {
+        if self.len == 0 {
+            self.table.expect(keys);
+        }
+    }
+
     /// Grows the table before it is crowded, and puts the places that wait into it. The map stays. It never fails:
     /// places for which no memory is given wait on in a list.
     pub fn grow(&mut self)

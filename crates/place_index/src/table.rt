@@ -61,6 +61,11 @@ pub trait Table: Drop {
         ensures ok { OnOk result (IsShuffled (places self.old ++ held ∷ []) (places self.new)) }
         ensures err { OnErr result (places self.new ≡ places self.old) };
 
+    /// A table of no places becomes as large as it is to be for so many keys, as far as there is memory.
+    fn expect(&mut self, keys: usize)
+        requires { places self.old ≡ [] }
+        ensures { places self.new ≡ [] };
+
     /// Grows for so many keys, if it should and there is memory.
     fn grow(&mut self, keys: usize)
         ensures { IsShuffled (places self.old) (places self.new) };
