@@ -44,26 +44,6 @@ object_printed o a b c d e table key space rest =
     ∙ ap (λ l. l ++ 32 ∷ o.value ++ 10 ∷ []) (append_assoc first (32 ∷ []) (decimal o.version)) in
     subst (Appends a e) grouped (Appends-trans a d e _ _ front rest)
 
--- line feeds are left behind fewer of them
-pub feeds_left : (n k : ℕ) → k < n → drop {A = ℕ} k (replicate n 10) ≡ 10 ∷ replicate (n - (k + 1)) 10
-feeds_left n k below =
-    let count : n - k ≡ suc (n - (k + 1)) = omega arith in
-    drop-replicate k n 10 ∙ ap (λ (m : ℕ). replicate m 10) count
-
--- a number, a space, a value and a line feed, cut out of a line that goes on behind them
-pub short_printed : (digits value post line : List ℕ) (start : ℕ) → start + length digits ≡ 20
-    → drop start line ≡ digits ++ 32 ∷ (value ++ 10 ∷ post)
-    → take (21 + length value + 1 - start) (drop start line) ≡ digits ++ 32 ∷ value ++ 10 ∷ []
-short_printed digits value post line start at written =
-    let first = length-append (digits ++ 32 ∷ value) (10 ∷ []) in
-    let second = length-append digits (32 ∷ value) in
-    let count : 21 + length value + 1 - start ≡ length (digits ++ 32 ∷ value ++ 10 ∷ []) = omega arith in
-    let whole : drop start line ≡ (digits ++ 32 ∷ value ++ 10 ∷ []) ++ post =
-    written ∙ sym (append_assoc digits (32 ∷ value) (10 ∷ post))
-    ∙ sym (append_assoc (digits ++ 32 ∷ value) (10 ∷ []) post) in
-    ap (λ (n : ℕ). take n (drop start line)) count ∙ ap (take (length (digits ++ 32 ∷ value ++ 10 ∷ []))) whole
-    ∙ take-append_seam (digits ++ 32 ∷ value ++ 10 ∷ []) post
-
 -- what ends with a space, before what follows
 spaced : (a b c : List ℕ) → (a ++ 32 ∷ []) ++ (b ++ c) ≡ (a ++ 32 ∷ b) ++ c
 spaced a b c = sym (append_assoc (a ++ 32 ∷ []) b c) ∙ ap (λ (l : List ℕ). l ++ c) (append_assoc a (32 ∷ []) b)

@@ -12,6 +12,7 @@ ghost use Rattle.entry.specs.View.{shown_object};
 ghost use Rattle.history.specs.View.{shown_reply};
 
 use crate::limits::Limits;
+use crate::short_line::ShortLine;
 use entry::{ObjectRef, Row, Version};
 use history::{ReplyRef, view_reply};
 use itoa::write_digits;
@@ -212,12 +213,11 @@ fn write_short<W: Write>(writer: &mut W, number: u64, value: &[u8]) -> io::Resul
     ensures { OnOk result (Appends (W.contents writer.old) (W.contents writer.new)
         (decimal number ++ 32 ∷ value.now ++ 10 ∷ [])) }
 {
-    let mut line = [b'\n'; 160];
-    let end = 21 + value.len();
-    line[20] = b' ';
-    line[21..end].copy_from_slice(value);
-    let start = write_digits(number, &mut line, 20);
-    writer.write_all(&line[start..end + 1])
+    let mut line = ShortLine::new();
+    line.put(value);
+    line.put_space();
+    line.put_number(number);
+    writer.write_all(line.as_slice())
 }
 
 #[inline(never)]
@@ -354,11 +354,35 @@ fn write_labels<W: Write>(writer: &mut W, labels: &[Label]) -> io::Result<()>
     Ok(())
 }
 
+/// The most bytes of key and value of an object whose line is written at once.
+const SHORT_OBJECT_LEN: usize = 176;
+
+/// Writes the line of an object whose key and value are short, in one write.
+#[inline(always)]
+fn write_short_object<W: Write>(writer: &mut W, object: &ObjectRef<'_>) -> io::Result<()>
+    requires { length object.now.key.bytes.now + length object.now.value.now ≤ 176 }
+    ensures { OnOk result (Appends (W.contents writer.old) (W.contents writer.new)
+        (object_text (shown_object object.now))) }
+{
+    let mut line = ShortLine::new();
+    line.put(object.value);
+    line.put_space();
+    line.put_number(object.version.get());
+    line.put_space();
+    line.put(object.key.bytes);
+    line.put_space();
+    line.put_number(object.key.table);
+    writer.write_all(line.as_slice())
+}
+
 /// Writes the line of an object.
 fn write_object<W: Write>(writer: &mut W, object: &ObjectRef<'_>) -> io::Result<()>
     ensures { OnOk result (Appends (W.contents writer.old) (W.contents writer.new)
         (object_text (shown_object object.now))) }
 {
+    if object.key.bytes.len() + object.value.len() <= SHORT_OBJECT_LEN {
+        return write_short_object(writer, object);
+    }
     write_number(writer, b"", object.key.table, b' ')?;
     writer.write_all(object.key.bytes)?;
     writer.write_all(b" ")?;

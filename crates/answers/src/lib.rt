@@ -11,6 +11,7 @@ mod answer;
 mod errors;
 mod fault;
 mod limits;
+mod short_line;
 
 pub use answer::{Answer, write_answer, write_reply};
 pub use errors::ErrorOutput;

@@ -63,6 +63,14 @@ impl<F: Fleet> Master<F> {
 }
 
 impl<F: Fleet> Loading<F> {
+    /// Makes the index as large as it is to be for so many objects, as far as memory is given: it then doesn't grow while
+    /// they are loaded. Nothing else changes, and an index that has a key stays as it is.
+    pub fn expect(&mut self, objects: usize)
+        ensures { self.new ≡ self.old }
+    {
+        self.core.expect(objects);
+    }
+
     /// Loads an object with its own version: it is appended to the head, and the history begins with it. The fleet
     /// stays as it is. The entry is an object, its key was not loaded before, and its version is below the safe one.
     pub fn load(&mut self, entry: &Entry) -> Result<(), Refusal>

@@ -27,6 +27,9 @@ pub trait Loads {
     /// All that was loaded is pushed, and the core has no history yet.
     ghost may_begin: { Self → Type 0 };
 
+    /// Makes the index as large as it is to be for so many objects, as far as memory is given. Nothing else changes.
+    fn expect(&mut self, objects: usize);
+
     /// Loads an object with its own version: it is appended to the head, and the history begins with it. Or it is
     /// refused, and nothing changes. Its key was not loaded before, and its version is below the safe one.
     fn load(&mut self, object: &ObjectRef<'_>) -> Result<(), Refusal>
@@ -44,6 +47,12 @@ impl Loads for Core {
     ghost may_load = { λ core object. IsBare core × IsNewObject core object };
 
     ghost may_begin = { λ core. IsBare core × (is_pushed core.head ≡ true) };
+
+    fn expect(&mut self, objects: usize)
+        ensures { self.new ≡ self.old }
+    {
+        self.index.expect(objects);
+    }
 
     fn load(&mut self, object: &ObjectRef<'_>) -> Result<(), Refusal>
         requires bare { IsBare self.old }

@@ -2,11 +2,10 @@
 
 ghost use Rattle.std.specs.Prelude.{◌≡◌, ◌+◌, ◌-◌, ◌*◌, ◌≤◌, ◌^◌, length, true};
 ghost use Rattle.log_head.specs.Head.{is_open};
-ghost use Rattle.master_state.specs.Budget.{used_seglets, free_seglets, seglets_of, may_roll, segments_for};
+ghost use Rattle.master_state.specs.Budget.{used_seglets, free_seglets, seglets_of, may_roll};
 ghost use Rattle.master_state.specs.Budget.{is_ready, segments_taken, segments_leaving, newest_digest, whole_seglets};
 
 use crate::state::Core;
-use versioned_map::Command;
 
 impl Core {
     /// How many seglets of memory are counted. A head that takes appends counts whole, and each other segment counts
@@ -103,16 +102,5 @@ impl Core {
         let left = most - 2 + self.segments_leaving();
         let needed = self.needed(free);
         more <= most && more <= left && needed <= self.free()
-    }
-}
-
-/// How many whole segments have to be free when a roll begins for a command.
-pub fn segments_for(command: &Command) -> u64
-    ensures needed { result ≡ segments_for command.now }
-    ensures few { result ≤ 3 }
-{
-    match command {
-        Command::Get(_) | Command::Delete(_) => 2,
-        Command::Put(_, _, _) => 3,
     }
 }

@@ -16,7 +16,6 @@ mod loaded;
 mod state;
 mod step;
 
-pub use budget::segments_for;
 pub use config::{Config, ConfigFault};
 pub use hash_index::{KeyHasher, Secret};
 pub use image::image_of;

@@ -72,13 +72,16 @@ pub fn adopt_list<F: Fleet>(
     ensures spent { IfErr result (λ e. e.0 ≡ Refusal.Spent → (F.state e.1).takes ≡ (F.state e.1).end) }
 {
     match Master::restore(alloc, config, rebuilt.safe, fleet) {
-        Ok(mut loading) => match load_all(&mut loading, &rebuilt.objects) {
-            Ok(()) => match loading.finish() {
-                Ok(master) => Ok(master),
-                Err(_) => unreachable!(),
-            },
-            Err(refusal) => Err((refusal, loading.crash())),
-        },
+        Ok(mut loading) => {
+            loading.expect(rebuilt.objects.len());
+            match load_all(&mut loading, &rebuilt.objects) {
+                Ok(()) => match loading.finish() {
+                    Ok(master) => Ok(master),
+                    Err(_) => unreachable!(),
+                },
+                Err(refusal) => Err((refusal, loading.crash())),
+            }
+        }
         Err((NoMemory, fleet)) => Err((Refusal::NoMemory, fleet)),
     }
 }
