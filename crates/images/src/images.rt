@@ -12,6 +12,7 @@ use crate::copying::copy_entry;
 use crate::fault::ImagesFault;
 use crate::hints::Hints;
 use crate::image::{Image, count_of, place_for, place_of, recounted, seglets_of};
+use crate::spares::Spares;
 use entry::{EntryRef, NoMemory};
 use segment::{AppendFault, Segment};
 use std::alloc::Global;
@@ -31,6 +32,8 @@ pub struct Images {
     used: u64,
     /// Where in the list the images of the last numbers are.
     hints: Hints,
+    /// What images that were dropped have left.
+    spares: Spares,
 }
 
 impl Model for Images {
@@ -75,6 +78,7 @@ impl Images {
             images: Vec::new(alloc),
             used: 0,
             hints: Hints::new(alloc),
+            spares: Spares::new(alloc),
         }
     }
 
@@ -136,6 +140,13 @@ impl Images {
     {
         let at = place_of(self.images.as_slice(), id, &self.hints)?;
         Some(&self.images[at].segment)
+    }
+
+    /// Memory for a whole segment, if an image that was dropped has left some.
+    pub fn take_spare(&mut self) -> Option<Vec<u8>>
+        ensures { self.new ≡ self.old }
+    {
+        self.spares.take()
     }
 
     /// Makes room for `more` further images in the list: as many calls of `add` then take no memory.
@@ -305,7 +316,8 @@ impl Images {
         Ok(())
     }
 
-    /// Drops the image of this number, and what it counts. It changes nothing if there is none.
+    /// Drops the image of this number, and what it counts. Memory for a whole segment stays for the next images, as far
+    /// as seglets are free for it. It changes nothing if there is no such image.
     pub fn drop_segment(&mut self, id: u64)
         ensures { self.new ≡ record self.old { images = without self.old.images id } }
     {
@@ -313,6 +325,8 @@ impl Images {
             let image = self.images.remove(at);
             self.hints.removed(at);
             self.used -= count_of(&image, self.segment, self.seglet);
+            let free = (self.seglets - self.used) as usize * self.seglet;
+            self.spares.leave(image.segment, self.segment, free);
         }
     }
 }

@@ -12,6 +12,7 @@ mod hints;
 mod image;
 mod images;
 mod laws;
+mod spares;
 
 pub use fault::ImagesFault;
 pub use image::Image;

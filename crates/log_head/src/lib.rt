@@ -14,4 +14,4 @@ mod rolling;
 pub use head::{Head, Roll, UnitEnd};
 pub use laws::{digests_go_on, heads_are_read, images_go_on, rolls_go_on};
 pub use next::Next;
-pub use rolling::Leaving;
+pub use rolling::{Leaving, RollMemory};

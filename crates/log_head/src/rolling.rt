@@ -30,6 +30,17 @@ pub struct Leaving<'a> {
     pub survivor: Option<u64>,
 }
 
+/// The memory of the two images of a roll.
+#[derive(Drop)]
+pub struct RollMemory {
+    /// Memory that a dropped image has left, for the new one.
+    pub spare: Option<Vec<u8>>,
+    /// How many bytes the new image gets room for.
+    pub room: usize,
+    /// The old image gives back the room that it has above so many bytes.
+    pub kept: usize,
+}
+
 impl Head {
     /// What the next push does. `None` if nothing waits.
     pub fn next_push(&self) -> Option<Next>
@@ -99,9 +110,7 @@ impl Head {
     }
 
     /// Begins a roll to the head with this id. Its digest lists the ids of the digest in force, less the victims and
-    /// with the survivor, and then the id. An ordinary roll has no victims and no survivor. The new image
-    /// gets room for `room` bytes. The old one gives back the room that it has above `kept` bytes. A refusal changes
-    /// nothing.
+    /// with the survivor, and then the id. An ordinary roll has no victims and no survivor. A refusal changes nothing.
     pub fn begin_roll(
         &mut self,
         alloc: Global,
@@ -109,8 +118,7 @@ impl Head {
         id: u64,
         safe: SafeVersion,
         leaving: Leaving<'_>,
-        room: usize,
-        kept: usize,
+        memory: RollMemory,
     ) -> Result<(), NoMemory>
         requires open { is_open self.old ≡ true }
         requires some { 0 < self.old.replicas }
@@ -123,6 +131,10 @@ impl Head {
         ensures err { OnErr result (self.new ≡ self.old) }
     {
         let mut image = next_image(alloc, &self.image, master, id, safe, leaving)?;
+        let RollMemory { spare, room, kept } = memory;
+        if let Some(spare) = spare {
+            image.move_into(spare);
+        }
         image.reserve(room)?;
         self.image.trim(kept);
         self.roll = Some(Roll {

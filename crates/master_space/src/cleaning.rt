@@ -74,6 +74,9 @@ impl Cleans for Core {
         let near = admit_pass(self, victims.as_slice())?;
         let id = self.next_id;
         let mut survivor = Segment::begin_survivor(self.alloc, self.config.master, id)?;
+        if let Some(spare) = self.closed.take_spare() {
+            survivor.move_into(spare);
+        }
         survivor.reserve(self.config.segment as usize)?;
         self.closed.reserve(2)?;
         let pass = Pass::begin(victims, near, id, &self.closed, &self.index);

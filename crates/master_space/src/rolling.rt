@@ -14,7 +14,7 @@ ghost use Rattle.master_state.specs.Steps.{BeginsRoll, MayRollNow, taken_data};
 use crate::ending::end_pass;
 use cleaner::Pass;
 use entry::MAX_SEGMENT_ID;
-use log_head::{Leaving, Next};
+use log_head::{Leaving, Next, RollMemory};
 use master_state::{Core, Refusal, StepAnswer};
 
 /// What a core pushes next, and how it rolls to the next head.
@@ -53,7 +53,11 @@ impl Rolls for Core {
         self.waiting.reserve(victims.len())?;
         let id = self.next_id;
         let seglet = self.config.seglet as usize;
-        let kept = self.head.image().bytes().len().div_ceil(seglet) * seglet;
+        let memory = RollMemory {
+            spare: self.closed.take_spare(),
+            room: self.config.segment as usize,
+            kept: self.head.image().bytes().len().div_ceil(seglet) * seglet,
+        };
         let leaving = Leaving {
             victims,
             survivor: entering_survivor(&self.pass, is_commit),
@@ -64,8 +68,7 @@ impl Rolls for Core {
             id,
             self.safe,
             leaving,
-            self.config.segment as usize,
-            kept,
+            memory,
         )?;
         mark(&mut self.pass, is_commit);
         self.next_id += 1;

@@ -157,11 +157,32 @@ impl Segment {
         self.bytes.reserve_exact(more)
     }
 
-    /// Gives back the memory beyond this many bytes, or beyond the text if that is longer.
+    /// Gives back the memory beyond this many bytes, or beyond the text if that is longer. If it is less than a sixteenth
+    /// of the whole, the segment keeps it: so little is of no use to anybody else.
     pub fn trim(&mut self, len: usize)
         ensures { self.new ≡ self.old }
     {
-        self.bytes.shrink_to(len);
+        let whole = self.bytes.capacity();
+        let kept = len.max(self.bytes.len());
+        if whole.saturating_sub(kept) > whole / 16 {
+            self.bytes.shrink_to(len);
+        }
+    }
+
+    /// Moves the text into memory that another segment had, if it takes no more than that.
+    pub fn move_into(&mut self, memory: Vec<u8>)
+        ensures { self.new ≡ self.old }
+    {
+        let mut bytes = memory;
+        bytes.clear();
+        if bytes.extend_from_slice(self.bytes.as_slice()).is_ok() {
+            self.bytes = bytes;
+        }
+    }
+
+    /// The memory alone, for another segment.
+    pub fn into_memory(self) -> Vec<u8> {
+        self.bytes
     }
 
     /// The text.
