@@ -105,6 +105,7 @@ fn version_of(found: &Option<(Place, ObjectRef<'_>)>) -> Option<Version>
 }
 
 /// Makes all tests, in order. What they found, and what the command's key has.
+#[inline(always)]
 pub(crate) fn judge<'a>(
     core: &'a Core,
     command: &CommandRef<'_>,

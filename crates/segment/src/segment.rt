@@ -210,6 +210,7 @@ impl Segment {
     }
 
     /// The entry at an offset from the first byte.
+    #[inline(always)]
     pub fn entry_at(&self, at: usize) -> Option<EntryRef<'_>>
         ensures standing { option_map shown result ≡ standing_at at (text_of self.entry.now) }
         // Each entry of the segment is found where it begins.
@@ -221,6 +222,7 @@ impl Segment {
     }
 
     /// The segment as it lies here, without a copy.
+    #[inline(always)]
     pub fn view(&self) -> SegmentRef<'_>
         ensures { result ≡ self.entry.now }
     {

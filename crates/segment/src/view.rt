@@ -126,6 +126,7 @@ impl<'a> SegmentRef<'a> {
     }
 
     /// The entry at an offset from the first byte.
+    #[inline(always)]
     pub fn entry_at(&self, at: usize) -> Option<EntryRef<'a>>
         ensures standing { option_map shown result ≡ standing_at at (text_of self.entry.now) }
         // Each entry of the segment is found where it begins.
