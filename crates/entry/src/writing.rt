@@ -37,18 +37,6 @@ fn put_u32(out: &mut Vec<u8>, number: u32)
     out.extend_from_slice(&bytes).unwrap()
 }
 
-#[tactic(auto, unfolding(crate::specs::Format::number_bytes))]
-fn put_u16(out: &mut Vec<u8>, number: u16)
-    requires { vec_len out.old + 2 ≤ vec_capacity out.old }
-    ensures items { out.new.items ≡ out.old.items ++ number_bytes 2 number }
-    ensures len { vec_len out.new ≡ vec_len out.old + 2 }
-    ensures capacity { vec_capacity out.old ≤ vec_capacity out.new }
-{
-    let mut bytes = [0; 2];
-    BigEndian::write_u16(&mut bytes, number);
-    out.extend_from_slice(&bytes).unwrap()
-}
-
 /// Appends a key's or a value's bytes, if there is room for them.
 fn put_bytes(out: &mut Vec<u8>, bytes: &[u8])
     requires { vec_len out.old + length bytes.now ≤ vec_capacity out.old }
@@ -79,6 +67,37 @@ fn put_ids(out: &mut Vec<u8>, ids: &[u64])
     }
 }
 
+/// The fixed part of an object.
+#[inline(always)]
+#[tactic(auto, unfolding(crate::specs::Format::number_bytes))]
+fn object_front(table: u64, version: u64, key_len: u16, value_len: u32) -> [u8; OBJECT_LEN]
+    ensures { result ≡ 4 ∷ number_bytes 8 table ++ number_bytes 8 version ++ number_bytes 2 key_len
+        ++ number_bytes 4 value_len }
+{
+    let mut front = [4; OBJECT_LEN];
+    BigEndian::write_u64(&mut front[1..], table);
+    BigEndian::write_u64(&mut front[9..], version);
+    BigEndian::write_u16(&mut front[17..], key_len);
+    BigEndian::write_u32(&mut front[19..], value_len);
+    front
+}
+
+/// The fixed part of a tombstone.
+#[inline(always)]
+#[tactic(auto, unfolding(crate::specs::Format::number_bytes))]
+fn tombstone_front(table: u64, version: u64, segment: u64, key_len: u16) -> [u8; TOMBSTONE_LEN]
+    ensures { result ≡ 5 ∷ number_bytes 8 table ++ number_bytes 8 version ++ number_bytes 8 segment
+        ++ number_bytes 2 key_len }
+{
+    let mut front = [5; TOMBSTONE_LEN];
+    BigEndian::write_u64(&mut front[1..], table);
+    BigEndian::write_u64(&mut front[9..], version);
+    BigEndian::write_u64(&mut front[17..], segment);
+    BigEndian::write_u16(&mut front[25..], key_len);
+    front
+}
+
+/// Appends an object's fixed part at once, and then its key and its value.
 fn put_object(out: &mut Vec<u8>, key: &KeyRef, version: Version, value: &[u8])
     requires limit { length value.now ≤ 2097152 }
     requires room { vec_len out.old + (23 + length key.now.bytes.now + length value.now) ≤ vec_capacity out.old }
@@ -86,11 +105,13 @@ fn put_object(out: &mut Vec<u8>, key: &KeyRef, version: Version, value: &[u8])
         spelling (Entry.Object (record { key = shown_key key.now; version = version; value = value.now })) }
     ensures capacity { vec_capacity out.old ≤ vec_capacity out.new }
 {
-    put_u8(out, 4);
-    put_u64(out, key.table);
-    put_u64(out, version.get());
-    put_u16(out, key.bytes.len() as u16);
-    put_u32(out, value.len() as u32);
+    let front = object_front(
+        key.table,
+        version.get(),
+        key.bytes.len() as u16,
+        value.len() as u32,
+    );
+    put_bytes(out, &front);
     put_bytes(out, key.bytes);
     put_bytes(out, value);
 }
@@ -101,11 +122,8 @@ fn put_tombstone(out: &mut Vec<u8>, key: &KeyRef, version: Version, segment: u64
         spelling (Entry.Tombstone (record { key = shown_key key.now; version = version; segment = segment })) }
     ensures capacity { vec_capacity out.old ≤ vec_capacity out.new }
 {
-    put_u8(out, 5);
-    put_u64(out, key.table);
-    put_u64(out, version.get());
-    put_u64(out, segment);
-    put_u16(out, key.bytes.len() as u16);
+    let front = tombstone_front(key.table, version.get(), segment, key.bytes.len() as u16);
+    put_bytes(out, &front);
     put_bytes(out, key.bytes);
 }
 
