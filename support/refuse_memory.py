@@ -1,19 +1,33 @@
 """Runs programs with requests for memory refused, and checks what they print. bin/refuse-memory calls it; its --help says more."""
 
 import glob
+import multiprocessing
 import os
 import resource
 import subprocess
 import sys
-from dataclasses import dataclass
+from dataclasses import dataclass, replace
 
+from examples import TOP, examples
 from script_model import NO_MEMORY, Run, explain, options_of, undisturbed
 
-SECONDS = 20
+SECONDS = 60
 # More requests than a run makes.
 ALL = 2**63
 # So many failed runs of one script are told in full.
 TOLD = 3
+# Of a run that makes more requests, each n-th is refused, so that no more runs are made than for so many.
+MOST = 1000
+# Which requests are refused, and how many refusals that may be.
+REACHES = (("request {} refused", 1), ("the requests from {} on refused", ALL))
+# What the program prints that asks again for what was refused.
+ANSWERS = f"{TOP}/crates/asked_again/stdout"
+# Files of examples that are not run here.
+LEFT_OUT = {
+    # Several threads ask for memory at one time, so the same request comes at another place in each run.
+    "clients.rows",
+    "workers.rows",
+}
 # Command lines that end before a script is read.
 COMMAND_LINES = [
     ["--help"],
@@ -39,7 +53,7 @@ class Program:
 
     def run(self, words, script, first=0, last=0):
         """How a run ends if the requests from `first` to `last` are refused, and how many were made and refused."""
-        report = os.path.join(self.folder, "report")
+        report = os.path.join(self.folder, f"report-{os.getpid()}")
         if os.path.exists(report):
             os.remove(report)
         environment = {
@@ -58,124 +72,188 @@ class Program:
         return Run(ended.returncode, ended.stdout.decode("latin-1"), ended.stderr.decode("latin-1")), requests, refused
 
 
-class Tally:
-    """What the runs of a script gave, or those of several tests."""
+@dataclass(frozen=True)
+class Subject:
+    """What is run: a script, a command line that ends before a script is read, a test of a program of tests, or the program that
+    asks again for what was refused."""
 
-    def __init__(self, name):
-        self.name = name
-        self.requests = self.runs = self.failed = self.same = 0
-        self.ended = self.answers = self.stopped = 0
+    kind: str
+    name: str
+    program: Program
+    words: tuple = ()
+    script: bytes = b""
 
-    def fail(self, which, run, wanted):
-        self.failed += 1
-        if self.failed > TOLD:
-            return
-        print(f"FAILED {self.name}, {which}: status {run.status}")
-        undisturbed_text = wanted.output + wanted.errors
-        for title, text in (("printed", run.output), ("on standard error", run.errors), ("undisturbed", undisturbed_text)):
-            print(f"  {title}:")
-            for line in text.splitlines():
-                print(f"    {line}")
+    def wanted(self):
+        """How the run ends if no memory is refused."""
+        if self.kind == "script":
+            return undisturbed(self.script, options_of(self.words))
+        if self.kind == "test":
+            return Run(0, "\ntest result: ok\n", "")
+        if self.kind == "asks again":
+            with open(ANSWERS, encoding="ascii") as file:
+                return Run(0, file.read(), "")
+        return self.program.run(self.words, self.script)[0]
 
+    def fits(self, run, most):
+        """Whether a run that isn't the wanted one may be so, with at most so many refusals."""
+        if self.kind == "script":
+            return explain(self.script, options_of(self.words), run, most) is not None
+        if self.kind == "test":
+            return failed_by_itself(run)
+        return self.kind == "words" and run == Run(1, "", NO_MEMORY)
 
-def sweep(tally, program, words, script, wanted, fits):
-    """Runs a script undisturbed; for each request with that one refused; and for each with it and all after it refused.
-    `fits` is whether a run that isn't the wanted one may be so, with at most so many refusals."""
-    plain, requests, refused = program.run(words, script)
-    tally.requests += requests
-    tally.runs += 1
-    if plain != wanted or refused != 0:
-        tally.fail("undisturbed", plain, wanted)
-    for reach, most in (("request {} refused", 1), ("the requests from {} on refused", ALL)):
-        for first in range(1, requests + 2):
-            run, _, refused = program.run(words, script, first, first if most == 1 else ALL)
-            tally.runs += 1
-            # Only the last run meets no refusal, since each asks for the same until it meets one.
-            may_differ = first <= requests and refused > 0
-            if run == wanted:
-                tally.same += may_differ
-            elif not (may_differ and fits(run, most)):
-                tally.fail(reach.format(first), run, wanted)
-            tally.ended += run.errors == NO_MEMORY or run.status == 101
-            tally.answers += run.output.count("refused NoMemory\n")
-            tally.stopped += run.status == -6
+    def reaches(self):
+        """Which requests are refused: one; or one and all after it. A program that asks again has no end if all are."""
+        return REACHES[:1] if self.kind == "asks again" else REACHES
 
 
-def words_of(example):
-    """The options that an example is run with: those of the file NAME.args, one a line, if there is one."""
-    name = example.removesuffix(".txt") + ".args"
-    if not os.path.exists(name):
-        return []
-    with open(name, encoding="ascii") as file:
-        return file.read().split()
-
-
-def sweep_scripts(program, names, titles, words):
-    for name, title in zip(names, titles):
-        all_words = words + words_of(name)
-        options = options_of(all_words)
-        with open(name, "rb") as file:
-            script = file.read()
-        tally = Tally(title)
-        sweep(tally, program, all_words, script, undisturbed(script, options),
-              lambda run, most: explain(script, options, run, most) is not None)
-        print(f"{title}: {tally.requests} requests for memory, {tally.runs} runs; {tally.ended} ended in 'no memory', "
-              f"{tally.answers} answers were refused, {tally.same} changed nothing, {tally.failed} failed")
-        yield tally
-
-
-def sweep_command_lines(program):
-    for words in COMMAND_LINES:
-        tally = Tally("ramlog " + " ".join(words))
-        plain, _, _ = program.run(words, b"")
-        sweep(tally, program, words, b"", plain, lambda run, _: run == Run(1, "", NO_MEMORY))
-        print(f"{tally.name}: {tally.requests} requests for memory, {tally.runs} runs; {tally.ended} ended in 'no memory', "
-              f"{tally.same} changed nothing, {tally.failed} failed")
-        yield tally
-
-
-def failed_by_itself(run, _):
+def failed_by_itself(run):
     """Whether a test failed by an error that it met, or by an assertion."""
     by_error = run.status == 101 and "the test failed" in run.errors
     by_assertion = run.status == -6 and "\ntest stopped at src/" in run.output and run.errors != ""
     return by_error or by_assertion
 
 
-def sweep_tests(program):
-    listed, _, _ = program.run(["--list"], b"")
-    names = [line[:-len(": test")] for line in listed.output.splitlines() if line.endswith(": test")]
-    whole = Tally(os.path.basename(program.path).removesuffix("_tests"))
+class Tally:
+    """What the runs of a subject gave."""
+
+    def __init__(self, subject):
+        self.subject = subject
+        self.told = []
+        self.requests = self.runs = self.failed = self.same = 0
+        self.ended = self.answers = self.stopped = 0
+        self.stride = 1
+
+    def fail(self, which, run, wanted):
+        self.failed += 1
+        if self.failed > TOLD:
+            return
+        self.told.append(f"FAILED {self.subject.name}, {which}: status {run.status}")
+        plain = wanted.output + wanted.errors
+        for title, text in (("printed", run.output), ("on standard error", run.errors), ("undisturbed", plain)):
+            self.told.append(f"  {title}:")
+            self.told += [f"    {line}" for line in text.splitlines()]
+
+    def line(self):
+        """What is said of the runs."""
+        ends = "failed by an error" if self.subject.kind == "test" else "ended in 'no memory'"
+        each = f", one in {self.stride} refused" if self.stride > 1 else ""
+        says = [f"{self.requests} requests for memory{each}", f"{self.runs} runs; {self.ended} {ends}"]
+        if self.subject.kind == "script":
+            says.append(f"{self.answers} answers were refused")
+        if self.subject.kind == "test":
+            says.append(f"{self.stopped} by an assertion")
+        says += [f"{self.same} changed nothing", f"{self.failed} failed"]
+        return f"{self.subject.name}: {', '.join(says)}"
+
+
+def fits_once(subject, run, most, judged):
+    """Whether the run fits, by what was said of such a run before."""
+    if (run, most) not in judged:
+        judged[run, most] = subject.fits(run, most)
+    return judged[run, most]
+
+
+def sweep(subject):
+    """Runs it undisturbed; for each request with that one refused; and for each with it and all after it refused."""
+    tally, wanted = Tally(subject), subject.wanted()
+    # Many requests stop a run at the same place. What was said of its end is kept.
+    judged = {}
+    plain, requests, refused = subject.program.run(subject.words, subject.script)
+    tally.requests = requests
+    tally.stride = -(-requests // MOST) or 1
+    tally.runs = 1
+    if plain != wanted or refused != 0:
+        tally.fail("undisturbed", plain, wanted)
+    for reach, most in subject.reaches():
+        for first in [*range(1, requests + 1, tally.stride), requests + 1]:
+            run, _, refused = subject.program.run(subject.words, subject.script, first, first if most == 1 else ALL)
+            tally.runs += 1
+            # Only the last run meets no refusal, since each asks for the same until it meets one.
+            may_differ = first <= requests and refused > 0
+            if run == wanted:
+                tally.same += may_differ
+            elif not (may_differ and fits_once(subject, run, most, judged)):
+                tally.fail(reach.format(first), run, wanted)
+            tally.ended += run.errors == NO_MEMORY or run.status == 101
+            tally.answers += run.output.count("refused NoMemory\n")
+            tally.stopped += run.status == -6
+    return tally
+
+
+def words_of(script):
+    """The options that a script of examples/ is run with: those of the file NAME.args, one a line, if there is one."""
+    name = script.removesuffix(".txt") + ".args"
+    if not os.path.exists(name):
+        return ()
+    with open(name, encoding="ascii") as file:
+        return tuple(file.read().split())
+
+
+def scripts(program, names, words):
     for name in names:
-        tally = Tally(f"the test {name}")
-        sweep(tally, program, [name], b"", Run(0, "\ntest result: ok\n", ""), failed_by_itself)
-        for count in ("requests", "runs", "failed", "same", "ended", "stopped"):
-            setattr(whole, count, getattr(whole, count) + getattr(tally, count))
-    whole.failed += not names
-    print(f"{whole.name}: {len(names)} tests, {whole.requests} requests for memory, {whole.runs} runs; {whole.ended} failed by an error, "
-          f"{whole.stopped} by an assertion, {whole.same} passed all the same, {whole.failed} failed otherwise")
-    return whole
+        with open(name, "rb") as file:
+            yield Subject("script", name, program, (*words, *words_of(name)), file.read())
+
+
+def worked_scripts(program):
+    """The examples, but for those whose options are refused."""
+    for it in examples():
+        ends_early = it.status != 0 and not it.errors.startswith(b"ramlog: bad line")
+        if it.name.partition(":")[0] not in LEFT_OUT and not ends_early:
+            yield Subject("script", f"examples/{it.name}", program, it.words, it.script)
+
+
+def command_lines(program):
+    for words in COMMAND_LINES:
+        yield Subject("words", "ramlog " + " ".join(words), program, tuple(words))
+
+
+def tests(folder):
+    """The tests whose programs bin/test, or 'rt test' in their crates, has left."""
+    for path in sorted(glob.glob(f"{TOP}/crates/*/out/*_tests")):
+        program = Program(path, folder)
+        listed, _, _ = program.run(["--list"], b"")
+        names = [line[:-len(": test")] for line in listed.output.splitlines() if line.endswith(": test")]
+        if not names:
+            sys.exit(f"refuse-memory: {path} lists no tests")
+        for name in names:
+            yield Subject("test", f"{os.path.basename(path)}: {name}", program, (name,))
+
+
+def subjects_of(program, names, words, is_whole):
+    """The scripts of these names, with these words; without a name, all that there is to run. The tests are of a whole run alone."""
+    if names:
+        return list(scripts(program, names, words))
+    found = list(tests(program.folder)) if is_whole else []
+    if is_whole and not found:
+        print("the tests: not run, since neither bin/test nor 'rt test' in their crates has left their programs")
+    examples_with_words = [replace(it, words=(*words, *it.words)) for it in worked_scripts(program)]
+    return [*examples_with_words, *command_lines(program), *found]
 
 
 def main():
-    top, folder, *rest = sys.argv[1:]
+    folder, *rest = sys.argv[1:]
     resource.setrlimit(resource.RLIMIT_CORE, (0, 0))
     words = [word for word in rest if word.startswith("--")]
     names = [word for word in rest if not word.startswith("--")]
-    program = Program(f"{top}/crates/ramlog/out/ramlog", folder)
+    given = bool(words) and words[0].startswith("--program=")
+    path = os.path.abspath(words.pop(0)[len("--program="):]) if given else f"{TOP}/crates/ramlog/out/ramlog"
+    program = Program(path, folder)
     if program.run(["--help"], b"")[1] == 0:
         sys.exit("refuse-memory: the program's requests for memory can't be counted here: it needs glibc")
-    if names:
-        tallies = list(sweep_scripts(program, names, names, words))
+    if words[:1] == ["--asked-again"]:
+        subjects = [Subject("asks again", "asked_again", program)]
     else:
-        names = sorted(glob.glob(f"{top}/examples/*.txt"))
-        tallies = list(sweep_scripts(program, names, [os.path.relpath(name, top) for name in names], words))
-        tallies += sweep_command_lines(program)
-        tests = sorted(glob.glob(f"{top}/crates/*/out/*_tests"))
-        tallies += [sweep_tests(Program(test, folder)) for test in tests]
-        if not tests:
-            print("the tests: not run, since neither bin/test nor 'rt test' in their crates has left their programs")
-    failed = sum(tally.failed for tally in tallies)
-    print(f"{sum(tally.runs for tally in tallies)} runs, {failed} failed")
+        subjects = subjects_of(program, names, words, not given)
+    runs = failed = 0
+    # Long scripts make many runs, so they begin.
+    subjects.sort(key=lambda it: len(it.script), reverse=True)
+    with multiprocessing.Pool(len(os.sched_getaffinity(0))) as pool:
+        for tally in pool.imap(sweep, subjects):
+            print("\n".join([*tally.told, tally.line()]), flush=True)
+            runs, failed = runs + tally.runs, failed + tally.failed
+    print(f"{runs} runs, {failed} failed")
     sys.exit(failed > 0)
 
 

@@ -64,6 +64,13 @@ def key_word(given):
     return word(given)
 
 
+def fate_word(given):
+    """Whether the op is taken."""
+    if given not in (b"taken", b"lost"):
+        raise ValueError
+    return given == b"taken"
+
+
 def number_word(given):
     if not re.fullmatch(rb"0|[1-9][0-9]*", given) or int(given) >= 2**64:
         raise ValueError
@@ -91,6 +98,7 @@ LINES = {
     "hex": (number_word,),
     "will": (),
     "stop": (number_word,),
+    "fault": (number_word, fate_word),
     "crash": (),
     "lose": (number_word,),
     "recover": (),
@@ -100,7 +108,7 @@ LINES = {
 }
 
 # The least and the most of the first numbers of a line.
-RANGES = {"clients": ((1, 63), (1, 1000000)), "recover threads": ((1, 64),)}
+RANGES = {"clients": ((1, 63), (1, 1000000)), "recover threads": ((1, 64),), "fault": ((1, 2**64 - 1),)}
 
 
 def lines_of(text):
@@ -315,6 +323,9 @@ class Fleet:
 
     holdings: tuple = ()
     left: int = NO_LIMIT
+    # The take from now that ends in a fault, 1 for the next one, and whether its op is taken. With 0 none does.
+    due: int = 0
+    is_taken: bool = False
 
     def replica(self, backup, master, segment):
         return next((it for it in self.holdings if it.name() == (backup, master, segment)), None)
@@ -322,13 +333,20 @@ class Fleet:
     def took(self, holding):
         """The fleet after an op that leaves this holding."""
         others = [it for it in self.holdings if it.name() != holding.name()]
-        left = self.left if self.left == NO_LIMIT else self.left - 1
-        return Fleet(tuple(sorted([*others, holding], key=Holding.name)), left)
+        return self.counted(tuple(sorted([*others, holding], key=Holding.name)))
 
     def freed(self, holding):
         """The fleet after an op that frees this holding."""
+        return self.counted(tuple(it for it in self.holdings if it.name() != holding.name()))
+
+    def counted(self, holdings):
+        """The fleet after an op that leaves these holdings."""
         left = self.left if self.left == NO_LIMIT else self.left - 1
-        return Fleet(tuple(it for it in self.holdings if it.name() != holding.name()), left)
+        return replace(self, holdings=holdings, left=left, due=max(0, self.due - 1))
+
+    def faulted(self, taken):
+        """The fleet after a take that ended in a fault. If the op is taken, it leaves the fleet `taken`."""
+        return replace(taken if self.is_taken else self, due=0)
 
 
 # The master (sections 7 to 9).
@@ -408,6 +426,8 @@ class Master:
     # Victims of earlier passes, in the order in which they are freed, and how many replicas of the first were freed.
     waiting: tuple = ()
     freed: int = 0
+    # A take ended in a fault.
+    is_halted: bool = False
     # What is live, by table and key. It follows from the segments.
     live: dict = field(default_factory=dict, compare=False)
 
@@ -696,6 +716,11 @@ def rebuilt(segments):
 
 # The store, line by line (section 11).
 
+# The lines that are steps of the master.
+STEPS = ("put", "new", "cas", "get", "del", "compact", "clean", "begin", "copy", "seal", "free", "clients", "roll", "beginroll",
+         "push")
+
+
 class Undetermined(Exception):
     """A line with several threads: what it does depends on the order in which they take the lock."""
 
@@ -731,8 +756,12 @@ class Store:
         name, *parts = line
         if name in ("lose", "recover") and self.master:
             yield "refused Up\n", 0, self
-        elif name not in ("idle", "stop", "lose", "recover", "holdings") and not self.master:
+        elif name not in ("idle", "stop", "fault", "lose", "recover", "holdings") and not self.master:
             yield "refused Down\n", 0, self
+        elif name in STEPS and self.master.is_halted:
+            if name == "clients":
+                yield REFUSED, 1, self
+            yield "refused Halted\n", 0, self
         else:
             yield from getattr(self, f"line_{name}")(*parts)
 
@@ -906,8 +935,12 @@ class Store:
         yield REFUSED, 1, self
         cleaning = self.master.cleaning
         holding = Holding(self.next_seal(), self.master.number, cleaning.survivor.id, cleaning.survivor.text, False)
+        fleet = self.fleet.took(holding)
+        if self.fleet.due == 1:
+            yield self.halted(fleet)
+            return None
         master = replace(self.master, cleaning=replace(cleaning, sealed=cleaning.sealed + 1))
-        return replace(self, fleet=self.fleet.took(holding), master=master)
+        return replace(self, fleet=fleet, master=master)
 
     def next_free(self):
         """The backup on which the next replica of what waits is freed, or None."""
@@ -919,6 +952,9 @@ class Store:
             return None
         first, *others = self.master.waiting
         fleet, freed = self.fleet.freed(self.replica(self.next_free(), first)), self.master.freed + 1
+        if self.fleet.due == 1:
+            yield self.halted(fleet)
+            return None
         if freed == self.options.replicas:
             return replace(self, fleet=fleet, master=replace(self.master, waiting=tuple(others), freed=0))
         return replace(self, fleet=fleet, master=replace(self.master, freed=freed))
@@ -926,6 +962,11 @@ class Store:
     def stopped(self):
         """What a line prints if the fleet takes no more ops, and the store then."""
         return "stopped\n", 0, replace(self, master=None, fleet=replace(self.fleet, left=NO_LIMIT))
+
+    def halted(self, taken):
+        """What a line prints if its take ends in a fault, and the store then. If the op is taken, the fleet is `taken`."""
+        master = replace(self.master, is_halted=True)
+        return "refused Halted\n", 0, replace(self, master=master, fleet=self.fleet.faulted(taken))
 
     def begun(self):
         if self.master.is_rolling:
@@ -949,6 +990,9 @@ class Store:
             yield self.stopped()
             return None
         yield REFUSED, 1, self
+        if self.fleet.due == 1:
+            yield self.halted(self.pushed()[1].fleet)
+            return None
         return self.pushed()[1]
 
     # Pushes.
@@ -1033,6 +1077,10 @@ class Store:
     def line_stop(self, takes):
         yield f"stop {takes}\n", 0, replace(self, fleet=replace(self.fleet, left=takes))
 
+    def line_fault(self, takes, is_taken):
+        fleet = replace(self.fleet, due=takes, is_taken=is_taken)
+        yield f"fault {takes} {'taken' if is_taken else 'lost'}\n", 0, replace(self, fleet=fleet)
+
     def line_crash(self):
         yield "crashed\n", 0, replace(self, master=None)
 
@@ -1096,7 +1144,11 @@ class Store:
             if store.fleet.left == 0:
                 yield store.stopped()
                 return None
-            store = replace(store, fleet=store.fleet.freed(holding))
+            fleet = store.fleet.freed(holding)
+            if store.fleet.due == 1:
+                yield store.halted(fleet)
+                return None
+            store = replace(store, fleet=fleet)
         return store
 
 

@@ -145,8 +145,9 @@ class Witness:
     def __init__(self, replicas):
         self.replicas = replicas
         self.answered = Map()
-        # The map with the line that was stopped in this life, if one was.
+        # The map with the line that was stopped or halted in this life, if one was.
         self.stopped = None
+        self.is_halted = False
         # The backups that were lost since the last recovery.
         self.lost = set()
         # The greatest version at which each key was answered.
@@ -155,7 +156,9 @@ class Witness:
     def wrong(self, line, answer):
         """What is wrong with the answer to this line, or None."""
         is_refused = bool(answer) and answer[-1].startswith("refused ")
-        if line[0] in COMMANDS and answer == ["stopped"]:
+        if line[0] != "recover" and answer == ["refused Halted"]:
+            self.halt(line)
+        elif line[0] in COMMANDS and answer == ["stopped"]:
             self.stopped = self.answered.copy()
             self.stopped.reply(line)
         elif line[0] in COMMANDS and answer and not is_refused:
@@ -165,11 +168,20 @@ class Witness:
         elif line[0] == "lose" and not is_refused:
             self.lost.add(line[1])
         elif line[0] == "recover" and is_refused:
-            if answer[-1] not in ("refused Up", "refused Full") and len(self.lost) < self.replicas:
+            if answer[-1] not in ("refused Up", "refused Full", "refused Halted") and len(self.lost) < self.replicas:
                 return f"recover printed {answer[-1]}, and fewer backups than {self.replicas} are lost"
         elif line[0] == "recover" and answer and answer != ["stopped"]:
             return self.wrong_table(answer)
         return None
+
+    def halt(self, line):
+        """A line met a fault, or comes after one. The first of them may have done something."""
+        if not self.is_halted and line[0] in COMMANDS:
+            self.stopped = self.answered.copy()
+            self.stopped.reply(line)
+        elif not self.is_halted and line[0] == "clients":
+            self.stopped = self.answered.served(line[1], line[2], False)
+        self.is_halted = True
 
     def wrong_reply(self, line, reply):
         name, seen = line[1:3], self.versions.get(line[1:3], 0)
@@ -210,7 +222,7 @@ class Witness:
         found = next(filter(None, (it.found(answer[:-1]) for it in maps)), None)
         if not found or answer[-1] != f"recovered {len(found.live)}":
             return f"recover printed {answer}, and the map is one of {[it.rows() for it in maps]}, but for clients"
-        self.answered, self.stopped = found.recovered(), None
+        self.answered, self.stopped, self.is_halted = found.recovered(), None, False
         self.lost = set()
         return None
 
@@ -287,7 +299,7 @@ class Follower:
         name = line[0]
         if self.is_up and name in ("lose", "recover"):
             may_be = answer == ["refused Up"]
-        elif not self.is_up and name not in ("idle", "stop", "lose", "recover", "holdings"):
+        elif not self.is_up and name not in ("idle", "stop", "fault", "lose", "recover", "holdings"):
             may_be = answer == ["refused Down"]
         elif answer == ["stopped"]:
             may_be = not self.is_unlimited and name in TAKING

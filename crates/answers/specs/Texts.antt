@@ -12,6 +12,7 @@ use Rattle.claims.specs.declared.rebuilt.Rebuilt.{Rebuilt}
 use Rattle.recovery.specs.Texts.{recovery_fault_text}
 use Rattle.versioned_map.specs.declared.command.Reply.{Reply}
 use Rattle.versioned_map.specs.declared.command.Reply.TheVariants as reply
+use Rattle.lines.specs.Grammar.{fate_word}
 use Rattle.lines.specs.Texts.{reason_text}
 use Rattle.master_state.specs.declared.config.Config.{Config}
 use Rattle.master_state.specs.declared.config.ConfigFault.{ConfigFault}
@@ -73,11 +74,15 @@ abbrev pub label_text : Label → List ℕ
 label_text l =
     decimal l.backup ++ 32 ∷ decimal l.master ++ 32 ∷ decimal l.segment ++ 32 ∷ decimal l.len ++ state_text l.is_open
 
--- the name of a fault
+-- which take from now ends in a fault that was asked for, and whether its op is taken
+abbrev pub asked_text : ℕ → Bool → List ℕ
+asked_text takes taken = codes "fault " ++ decimal takes ++ 32 ∷ fate_word taken ++ 10 ∷ []
+
+-- the name of what a fault of a take comes to: one of a backup halts the master
 abbrev pub take_fault_text : TakeFault → List ℕ
 take_fault_text take_fault.NoMemory = codes "NoMemory"
 take_fault_text take_fault.Wrong = codes "Wrong"
-take_fault_text take_fault.Fault = codes "Fault"
+take_fault_text take_fault.Fault = codes "Halted"
 take_fault_text take_fault.Spent = codes "Spent"
 
 -- a place as 16 hexadecimal digits
@@ -102,6 +107,7 @@ answer_text (answer.Refused refusal) = codes "refused " ++ refusal_text refusal 
 answer_text (answer.Hex bytes) = hex_text bytes
 answer_text (answer.NotInLog segment) = codes "refused NotInLog " ++ decimal segment ++ 10 ∷ []
 answer_text (answer.Stop takes) = codes "stop " ++ decimal takes ++ 10 ∷ []
+answer_text (answer.Fault takes taken) = asked_text takes taken
 answer_text answer.Stopped = codes "stopped" ++ 10 ∷ []
 answer_text answer.Crashed = codes "crashed" ++ 10 ∷ []
 answer_text (answer.Lost backup) = codes "lost " ++ decimal backup ++ 10 ∷ []

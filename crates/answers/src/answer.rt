@@ -1,12 +1,12 @@
 //! What a line answers, and its text.
 
-ghost use Rattle.std.specs.Prelude.{◌≡◌, ◌≤◌, ◌++◌, ◌∷◌, [], codes, length, OnOk};
+ghost use Rattle.std.specs.Prelude.{◌≡◌, ◌+◌, ◌≤◌, ◌++◌, ◌∷◌, [], codes, length, OnOk};
 ghost use Rattle.std.specs.Fmt.{decimal};
 ghost use Rattle.std.specs.Io.KnownBytes.{Appends};
 ghost use Rattle.tablet_will.specs.Parts.{partitions_of};
 ghost use Rattle.answers.specs.Texts.{answer_text, hex_digits, hex_text, object_text, rebuilt_text, reply_text};
 ghost use Rattle.answers.specs.Texts.{part_text, place_text, will_text, take_fault_text};
-ghost use Rattle.answers.specs.Texts.{op_text, log_text, room_text, spaced_text, label_text};
+ghost use Rattle.answers.specs.Texts.{asked_text, op_text, log_text, room_text, spaced_text, label_text};
 ghost use Rattle.std.specs.List.{flat_map};
 ghost use Rattle.entry.specs.View.{shown_object};
 ghost use Rattle.history.specs.View.{shown_reply};
@@ -35,6 +35,8 @@ pub enum Answer {
     NotInLog(u64),
     /// How many more ops the fleet takes.
     Stop(u64),
+    /// The fault that was asked for: which take from then ends in it, and whether its op is taken.
+    Fault(u64, bool),
     /// The fleet had taken as many ops as it may, and the master was dropped.
     Stopped,
     Crashed,
@@ -109,6 +111,7 @@ pub fn write_answer<W: Write>(writer: &mut W, answer: &Answer) -> io::Result<()>
         Answer::Hex(bytes) => write_hex(writer, bytes.as_slice()),
         Answer::NotInLog(segment) => write_number(writer, b"refused NotInLog ", *segment, b'\n'),
         Answer::Stop(takes) => write_number(writer, b"stop ", *takes, b'\n'),
+        Answer::Fault(takes, taken) => write_fault(writer, *takes, *taken),
         Answer::Stopped => writer.write_all(b"stopped\n"),
         Answer::Crashed => writer.write_all(b"crashed\n"),
         Answer::Lost(backup) => write_number(writer, b"lost ", *backup, b'\n'),
@@ -161,7 +164,7 @@ pub fn write_reply<W: Write>(writer: &mut W, reply: &ReplyRef<'_>) -> io::Result
     }
 }
 
-/// Writes the line of a take's fault.
+/// Writes the line of what a fault of a take comes to.
 #[inline(always)]
 fn write_take_fault<W: Write>(writer: &mut W, fault: TakeFault) -> io::Result<()>
     ensures { OnOk result (Appends (W.contents writer.old) (W.contents writer.new)
@@ -170,7 +173,7 @@ fn write_take_fault<W: Write>(writer: &mut W, fault: TakeFault) -> io::Result<()
     match fault {
         TakeFault::NoMemory => writer.write_all(b"refused NoMemory\n"),
         TakeFault::Wrong => writer.write_all(b"refused Wrong\n"),
-        TakeFault::Fault => writer.write_all(b"refused Fault\n"),
+        TakeFault::Fault => writer.write_all(b"refused Halted\n"),
         TakeFault::Spent => writer.write_all(b"refused Spent\n"),
     }
 }
@@ -288,6 +291,19 @@ fn write_op<W: Write>(writer: &mut W, words: &[u8], first: u64, second: u64) -> 
     write_number(writer, b"", second, b'\n')
 }
 
+/// Writes the line of a fault that was asked for.
+#[inline(never)]
+fn write_fault<W: Write>(writer: &mut W, takes: u64, taken: bool) -> io::Result<()>
+    ensures { OnOk result (Appends (W.contents writer.old) (W.contents writer.new) (asked_text takes taken)) }
+{
+    write_number(writer, b"fault ", takes, b' ')?;
+    if taken {
+        writer.write_all(b"taken\n")
+    } else {
+        writer.write_all(b"lost\n")
+    }
+}
+
 /// Writes the line of clients, the rounds of each, and the calls that were accepted.
 #[inline(never)]
 fn write_counted<W: Write>(writer: &mut W, clients: u64, rounds: u64, calls: u64) -> io::Result<()>
@@ -375,18 +391,27 @@ fn write_short_object<W: Write>(writer: &mut W, object: &ObjectRef<'_>) -> io::R
     writer.write_all(line.as_slice())
 }
 
+/// Writes the line of an object whose key and value may be long.
+fn write_long_object<W: Write>(writer: &mut W, object: &ObjectRef<'_>) -> io::Result<()>
+    ensures { OnOk result (Appends (W.contents writer.old) (W.contents writer.new)
+        (object_text (shown_object object.now))) }
+{
+    write_number(writer, b"", object.key.table, b' ')?;
+    writer.write_all(object.key.bytes)?;
+    writer.write_all(b" ")?;
+    write_versioned(writer, object.version, object.value)
+}
+
 /// Writes the line of an object.
 fn write_object<W: Write>(writer: &mut W, object: &ObjectRef<'_>) -> io::Result<()>
     ensures { OnOk result (Appends (W.contents writer.old) (W.contents writer.new)
         (object_text (shown_object object.now))) }
 {
     if object.key.bytes.len() + object.value.len() <= SHORT_OBJECT_LEN {
-        return write_short_object(writer, object);
+        write_short_object(writer, object)
+    } else {
+        write_long_object(writer, object)
     }
-    write_number(writer, b"", object.key.table, b' ')?;
-    writer.write_all(object.key.bytes)?;
-    writer.write_all(b" ")?;
-    write_versioned(writer, object.version, object.value)
 }
 
 /// Writes a line for each object, in order, and a line with their number.

@@ -4,5 +4,6 @@ mod Acting
 mod Pictures
 mod Held
 mod Rising
+mod Serving
 mod Others
 pub mod Empty

@@ -1,19 +1,15 @@
 -- What a change of one backup makes of the picture.
 use Rattle.std.proofs.Common.{◌≡◌, ℕ, zero, suc, ◌+◌, ◌<◌, List, [], ◌∷◌, length, Bool, true, false, ◌==◌, ◌&&◌, cond}
-use Rattle.std.proofs.Common.{not, Option, None, Some, Err, Result, set, length-set, refl, sym, ◌∙◌, ap, ◌↔◌, arith}
+use Rattle.std.proofs.Common.{not, Option, None, Some, set, length-set, refl, sym, ◌∙◌, ap, arith}
 use mathlib.Core.Path.{fun_ext}
 use Rattle.std.specs.List.{slice_get}
-use Rattle.std.specs.Option.{IsSome}
-use Rattle.std.proofs.lemmas.Bool.{eqb-true, lt-ltb, and_parts, false≢true}
+use Rattle.std.proofs.lemmas.Bool.{eqb-true, lt-ltb, and_parts}
 use Rattle.std.proofs.Math.Dec.{eqb-zero-suc, eqb-suc-zero, eqb-suc-suc}
 use Rattle.std.proofs.lemmas.Option.{slice_get_within}
-use Rattle.replica.specs.declared.op.TakeFault.{TakeFault}
-use Rattle.replica.specs.declared.op.TakeFault.TheVariants as take_fault
 use Rattle.replica.specs.Op.{OpValue}
 use Rattle.replica.specs.Picture.{Replica, FleetState, with_replica, left_on}
-use Rattle.replica.specs.Take.{effect, taken, with_effect, Refuses}
+use Rattle.replica.specs.Take.{effect, taken, with_effect}
 use Rattle.backup.specs.declared.memory.MemoryBackup.{MemoryBackup}
-use Rattle.backup.specs.Acts.{Acts}
 use Rattle.backup.specs.Shelf.{replica_at}
 use Rattle.backup.specs.State.{replica_on, picture_of, lost}
 
@@ -130,47 +126,3 @@ pub taken-effect : (backups : List MemoryBackup) (b : ℕ) (old : MemoryBackup) 
     ≡ with_effect (fleet_of backups takes end faults) b op (effect op.act (replica_at old op.master op.segment))
 taken-effect backups b old op takes end faults is =
     rw (lt-ltb b (length backups) (slice_get_within backups b old is), is) refl
-
--- what the backup refuses, the fleet refuses
-pub refused_by : (backups : List MemoryBackup) (b : ℕ) (old new : MemoryBackup) (op : OpValue) (takes end faults : ℕ)
-    (fault : TakeFault) → Change backups b old new op.master op.segment
-    → Acts op.act (replica_at old op.master op.segment) (Err fault) (replica_at new op.master op.segment)
-    → Refuses (fleet_of backups takes end faults) b op fault (fleet_of (set backups b new) takes end faults)
-refused_by backups b old new op takes end faults take_fault.NoMemory change acts =
-    rw (length-set, picture_of-same backups b old new op.master op.segment change acts.1) refl
-refused_by backups b old new op takes end faults take_fault.Wrong change acts = (
-  taken-effect backups b old op takes end faults change.is
-      ∙ ap (with_effect (fleet_of backups takes end faults) b op) acts.0,
-  rw (length-set, picture_of-same backups b old new op.master op.segment change acts.1) refl,
-)
-refused_by backups b old new op takes end faults take_fault.Fault change acts = absurd acts
-refused_by backups b old new op takes end faults take_fault.Spent change acts = absurd acts
-
-effect_fits : (f : FleetState) (b : ℕ) (op : OpValue) (e : Option (Option Replica)) → IsSome e
-    → with_effect f b op e ≡ None
-    → ⊥
-effect_fits f b op None some none = absurd (false≢true some)
-effect_fits f b op (Some r) some none = (cc)
-
--- a fleet refuses an op as Wrong exactly if its backup does
-pub wrong_by : (backups : List MemoryBackup) (b : ℕ) (old new : MemoryBackup) (op : OpValue) (takes end faults : ℕ)
-    (fault : TakeFault) → Change backups b old new op.master op.segment
-    → takes < end → Acts op.act (replica_at old op.master op.segment) (Err fault) (replica_at new op.master op.segment)
-    → ◌≡◌ {A = Result Unit TakeFault} (Err fault) (Err take_fault.Wrong)
-    ↔ ((takes < end) × (taken (fleet_of backups takes end faults) b op ≡ None))
-wrong_by backups b old new op takes end faults take_fault.NoMemory change left acts = (
-  λ e. (cc),
-  λ h. absurd (effect_fits (fleet_of backups takes end faults) b op
-      (effect op.act (replica_at old op.master op.segment)) acts.0
-      (sym (taken-effect backups b old op takes end faults change.is) ∙ h.1)),
-)
-wrong_by backups b old new op takes end faults take_fault.Wrong change left acts = (
-  λ e. (
-    left,
-    taken-effect backups b old op takes end faults change.is
-        ∙ ap (with_effect (fleet_of backups takes end faults) b op) acts.0,
-  ),
-  λ h. refl,
-)
-wrong_by backups b old new op takes end faults take_fault.Fault change left acts = absurd acts
-wrong_by backups b old new op takes end faults take_fault.Spent change left acts = absurd acts

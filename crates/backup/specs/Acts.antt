@@ -1,8 +1,8 @@
 -- What an act does to the replica that it names, by its answer.
-use Rattle.std.specs.Prelude.{◌≡◌, ℕ, ◌<◌, List, Bool, true, false, Option, Some, None, IsSome, Result, Ok, Err}
+use Rattle.std.specs.Prelude.{◌≡◌, ℕ, ◌<◌, List, Bool, true, false, Option, Some, None, IsSome, Result, Ok, Err, ⊤}
 use Rattle.replica.specs.declared.op.TakeFault.{TakeFault}
 use Rattle.replica.specs.declared.op.TakeFault.TheVariants as take_fault
-use Rattle.replica.specs.Op.{ActValue, Open, Seal, OpValue}
+use Rattle.replica.specs.Op.{ActValue, Open, Extend, Close, Seal, Free, OpValue}
 use Rattle.replica.specs.Picture.{Replica, FleetState}
 use Rattle.replica.specs.Take.{effect, taken}
 
@@ -18,6 +18,14 @@ Acts act old (Err take_fault.NoMemory) new = IsSome (effect act old) × (new ≡
 Acts act old (Err take_fault.Wrong) new = (effect act old ≡ None) × (new ≡ old)
 Acts act old (Err take_fault.Fault) new = ⊥
 Acts act old (Err take_fault.Spent) new = ⊥
+
+-- the act makes a replica or a longer one, which may take memory
+abbrev pub MayGrow : ActValue → Type 0
+MayGrow (Open bytes) = ⊤
+MayGrow (Extend at bytes) = ⊤
+MayGrow Close = ⊥
+MayGrow (Seal bytes) = ⊤
+MayGrow Free = ⊥
 
 -- the fleet isn't spent, and the op doesn't fit
 abbrev pub IsWrongOp : FleetState → ℕ → OpValue → Type 0

@@ -1,4 +1,5 @@
 pub mod Acts
+pub mod Faults
 pub mod Inventory
 pub mod Retire
 pub mod Shelf

@@ -7,6 +7,14 @@ use entry::NoMemory;
 use replica::{Act, Bench, Fleet, Holding, Inventory, Labels, Op, Spot, TakeFault, add_labels};
 use std::alloc::Global;
 
+/// A fault that is asked for: of which take from now, 1 for the next one, and whether its op is taken. With 0 there is
+/// none.
+#[derive(Clone, Copy)]
+pub(crate) struct Asked {
+    takes: u64,
+    taken: bool,
+}
+
 /// Backups in memory, numbered from 0.
 #[derive(Drop)]
 pub struct MemoryFleet {
@@ -15,19 +23,23 @@ pub struct MemoryFleet {
     takes: u64,
     end: u64,
     faults: u64,
+    asked: Asked,
     ghost within: { takes ≤ end },
 }
 
 impl MemoryFleet {
-    ghost use Rattle.std.specs.Prelude.{◌≡◌, ◌≤◌, IfOk};
-    ghost use Rattle.replica.specs.Picture.{AreHeld, AreLabelsOf};
+    ghost use Rattle.std.specs.Prelude.{◌≡◌, ◌≤◌, IfOk, if◌then◌else◌};
+    ghost use Rattle.replica.specs.Op.{shown_op};
+    ghost use Rattle.replica.specs.Picture.{FleetState, AreHeld, AreLabelsOf};
     ghost use Rattle.replica.specs.Retire.{AreOthers};
+    ghost use Rattle.backup.specs.Faults.{nothing_asked, IsDue, Serves, Fails};
     ghost use Rattle.backup.specs.Inventory.{IsRising, AreRising};
     ghost use Rattle.backup.specs.State.{fleet_state, new_fleet, lost};
 
-    /// A fleet of so many backups, which hold nothing. It isn't limited.
+    /// A fleet of so many backups, which hold nothing. It isn't limited, and no fault is asked for.
     pub fn new(alloc: Global, backups: u64) -> Result<MemoryFleet, NoMemory>
-        ensures { IfOk result (λ fleet. fleet_state fleet ≡ new_fleet backups) }
+        ensures new { IfOk result (λ fleet. fleet_state fleet ≡ new_fleet backups) }
+        ensures asked { IfOk result (λ fleet. fleet.asked ≡ nothing_asked) }
     {
         let mut list = Vec::with_capacity(alloc, backups as usize)?;
         for _ in 0..backups {
@@ -39,6 +51,10 @@ impl MemoryFleet {
             takes: 0,
             end: u64::MAX,
             faults: 0,
+            asked: Asked {
+                takes: 0,
+                taken: false,
+            },
         })
     }
 
@@ -54,6 +70,7 @@ impl MemoryFleet {
     pub fn lose(&mut self, backup: u64)
         ensures lost { fleet_state self.new ≡ lost (fleet_state self.old) backup }
         ensures none { (fleet_state self.old).backups ≤ backup → fleet_state self.new ≡ fleet_state self.old }
+        ensures asked { self.new.asked ≡ self.old.asked }
     {
         if let Some(memory) = self.backups.get_mut(backup as usize) {
             memory.clear();
@@ -93,26 +110,11 @@ impl MemoryFleet {
         }
         Ok(list)
     }
-}
 
-impl Fleet for MemoryFleet {
-    ghost use Rattle.std.specs.Prelude.{◌≡◌, ◌≤◌, ◌↔◌, [], IfOk, Err};
-    ghost use Rattle.replica.specs.Op.{shown_op};
-    ghost use Rattle.replica.specs.Picture.{AreHeldBy, IsOnce};
-    ghost use Rattle.replica.specs.Take.{TakeGives};
-    ghost use Rattle.backup.specs.Acts.{IsWrongOp};
-    ghost use Rattle.backup.specs.Inventory.{IsRising};
-    ghost use Rattle.backup.specs.State.{fleet_state};
-
-    ghost state = { fleet_state };
-
-    /// Hands an op to a backup. Spent is answered before Wrong, and NoMemory only if the op fits. No take ends in a
-    /// fault.
-    fn take(&mut self, backup: u64, op: &Op<'_>) -> Result<(), TakeFault>
-        ensures gives { TakeGives (fleet_state self.old) backup (shown_op op.now) result (fleet_state self.new) }
-        ensures spent { (result ≡ Err TakeFault.Spent) ↔ ((fleet_state self.old).takes ≡ (fleet_state self.old).end) }
-        ensures wrong { (result ≡ Err TakeFault.Wrong) ↔ IsWrongOp (fleet_state self.old) backup (shown_op op.now) }
-        ensures no_fault { ¬ (result ≡ Err TakeFault.Fault) }
+    /// Hands an op to a backup. It doesn't end in a fault.
+    fn serve(&mut self, backup: u64, op: &Op<'_>) -> Result<(), TakeFault>
+        ensures serves { Serves (fleet_state self.old) backup (shown_op op.now) result (fleet_state self.new) }
+        ensures asked { self.new.asked ≡ self.old.asked }
     {
         if self.takes == self.end {
             return Err(TakeFault::Spent);
@@ -124,6 +126,92 @@ impl Fleet for MemoryFleet {
         memory.take(alloc, op)?;
         self.takes += 1;
         Ok(())
+    }
+
+    /// What `serve` would answer if it got the memory. The fleet stays as it is.
+    fn test(&mut self, backup: u64, op: &Op<'_>) -> Result<(), TakeFault>
+        ensures serves { (mid : FleetState) × Serves (fleet_state self.old) backup (shown_op op.now) result mid }
+        ensures same { fleet_state self.new ≡ fleet_state self.old }
+        ensures asked { self.new.asked ≡ self.old.asked }
+    {
+        if self.takes == self.end {
+            return Err(TakeFault::Spent);
+        }
+        let Some(named) = self.backups.get_mut(backup as usize) else {
+            return Err(TakeFault::Wrong);
+        };
+        if named.fits(op) {
+            Ok(())
+        } else {
+            Err(TakeFault::Wrong)
+        }
+    }
+
+    /// Does with an op what is asked for of it before the fault.
+    fn attempt(&mut self, backup: u64, op: &Op<'_>) -> Result<(), TakeFault>
+        ensures serves { (mid : FleetState) × Serves (fleet_state self.old) backup (shown_op op.now) result mid
+            × (fleet_state self.new ≡ (if self.old.asked.taken then mid else fleet_state self.old)) }
+        ensures asked { self.new.asked ≡ self.old.asked }
+    {
+        if self.asked.taken {
+            self.serve(backup, op)
+        } else {
+            self.test(backup, op)
+        }
+    }
+
+    /// The take that a fault is asked for.
+    fn fail(&mut self, backup: u64, op: &Op<'_>) -> Result<(), TakeFault>
+        requires { IsDue self.old }
+        ensures { Fails self.old backup (shown_op op.now) result self.new }
+    {
+        match self.attempt(backup, op) {
+            Ok(()) => {
+                self.asked = Asked {
+                    takes: 0,
+                    taken: false,
+                };
+                self.faults += 1;
+                Err(TakeFault::Fault)
+            }
+            Err(fault) => Err(fault),
+        }
+    }
+}
+
+impl Fleet for MemoryFleet {
+    ghost use Rattle.std.specs.Prelude.{◌≡◌, ◌≤◌, ◌↔◌, [], IfOk, Err};
+    ghost use Rattle.replica.specs.Op.{shown_op};
+    ghost use Rattle.replica.specs.Picture.{AreHeldBy, IsOnce};
+    ghost use Rattle.replica.specs.Take.{TakeGives};
+    ghost use Rattle.backup.specs.Acts.{IsWrongOp};
+    ghost use Rattle.backup.specs.Faults.{MeetsAsked};
+    ghost use Rattle.backup.specs.Inventory.{IsRising};
+    ghost use Rattle.backup.specs.State.{fleet_state};
+
+    ghost state = { fleet_state };
+
+    /// Hands an op to a backup. Spent is answered before Wrong, and NoMemory only if the op fits. A take ends in a fault
+    /// just if `fault_at` asked for that, and it wouldn't have been refused.
+    fn take(&mut self, backup: u64, op: &Op<'_>) -> Result<(), TakeFault>
+        ensures gives { TakeGives (fleet_state self.old) backup (shown_op op.now) result (fleet_state self.new) }
+        ensures spent { (result ≡ Err TakeFault.Spent) ↔ ((fleet_state self.old).takes ≡ (fleet_state self.old).end) }
+        ensures wrong { (result ≡ Err TakeFault.Wrong) ↔ IsWrongOp (fleet_state self.old) backup (shown_op op.now) }
+        ensures faults { MeetsAsked self.old backup (shown_op op.now) result self.new }
+    {
+        if self.asked.takes == 0 {
+            return self.serve(backup, op);
+        }
+        if self.asked.takes == 1 && self.faults < u64::MAX {
+            return self.fail(backup, op);
+        }
+        match self.serve(backup, op) {
+            Ok(()) => {
+                self.asked.takes -= 1;
+                Ok(())
+            }
+            Err(fault) => Err(fault),
+        }
     }
 
     /// All replicas of one backup, by master, then by segment. Their bytes stay with the backup.
@@ -155,8 +243,22 @@ impl Fleet for MemoryFleet {
 }
 
 impl Bench for MemoryFleet {
-    fn limit(&mut self, n: u64) {
+    ghost use Rattle.std.specs.Prelude.{◌≡◌};
+    ghost use Rattle.replica.specs.Take.{limited};
+    ghost use Rattle.backup.specs.State.{fleet_state};
+
+    fn limit(&mut self, n: u64)
+        ensures limited { fleet_state self.new ≡ limited (fleet_state self.old) n }
+        ensures asked { self.new.asked ≡ self.old.asked }
+    {
         self.end = self.takes.saturating_add(n);
+    }
+
+    fn fault_at(&mut self, n: u64, taken: bool)
+        ensures same { fleet_state self.new ≡ fleet_state self.old }
+        ensures asked { self.new.asked ≡ record { takes = n; taken = taken } }
+    {
+        self.asked = Asked { takes: n, taken };
     }
 
     fn retire(&mut self, keep: u64) -> Result<(), TakeFault> {

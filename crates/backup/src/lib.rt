@@ -1,6 +1,7 @@
 //! Backups that hold replicas in memory.
 //!
-//! `MemoryFleet` keeps the promises of `replica::Fleet` and `replica::Bench`, and never ends a take in a fault.
+//! `MemoryFleet` keeps the promises of `replica::Fleet` and `replica::Bench`, and ends a take in a fault only where
+//! `fault_at` asked for that (`specs/Faults.antt`).
 //! `specs/State.antt` defines the picture of what its backups hold. A backup divides the segments that it holds for a
 //! recovery: `divide` is the crate `division`'s.
 #![tactic(auto)]

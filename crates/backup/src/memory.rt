@@ -1,13 +1,15 @@
 //! What one backup holds.
 
-ghost use Rattle.std.specs.Prelude.{◌≡◌, ℕ, ◌++◌, [], OnOk, IfOk, None};
+ghost use Rattle.std.specs.Prelude.{◌≡◌, ℕ, ◌++◌, [], length, OnOk, OnErr, IfOk, None, Err, is_some};
+ghost use Rattle.std.specs.Prelude.{◌+◌, ◌<◌, vec_len, vec_capacity};
 ghost use Rattle.replica.specs.Op.{shown_act, Extend, Close, Free};
-ghost use Rattle.backup.specs.Acts.{adding};
+ghost use Rattle.replica.specs.Take.{effect};
+ghost use Rattle.backup.specs.Acts.{adding, MayGrow};
 ghost use Rattle.backup.specs.Retire.{spots_of_others};
 ghost use Rattle.backup.specs.Shelf.{replica_at, holdings_of, ActsAt, KeepsOthers, IsInOrder};
 
 use crate::shelf::Shelf;
-use crate::stored::Stored;
+use crate::stored::{Stored, is_making};
 use entry::NoMemory;
 use replica::{Act, Holding, Op, Spot, TakeFault};
 use std::alloc::Global;
@@ -37,10 +39,12 @@ impl MemoryBackup {
         }
     }
 
-    /// Does what an op asks. The op is refused as Wrong if it doesn't fit, else as NoMemory.
+    /// Does what an op asks. The op is refused as Wrong if it doesn't fit, else as NoMemory. A Close and a Free take no
+    /// memory.
     pub fn take(&mut self, alloc: Global, op: &Op<'_>) -> Result<(), TakeFault>
         ensures named { ActsAt (shown_act op.now.act) op.now.master op.now.segment self.old result self.new }
         ensures others { KeepsOthers op.now.master op.now.segment self.old self.new }
+        ensures memory { result ≡ Err TakeFault.NoMemory → MayGrow (shown_act op.now.act) }
     {
         let place = (op.master, op.segment);
         match op.act {
@@ -49,6 +53,18 @@ impl MemoryBackup {
             Act::Close => self.close(place),
             Act::Seal(bytes) => self.add(alloc, place, bytes, false),
             Act::Free => self.free(place),
+        }
+    }
+
+    /// Whether an op fits, so that it isn't refused as Wrong.
+    pub fn fits(&mut self, op: &Op<'_>) -> bool
+        ensures fits { result ≡ is_some (effect (shown_act op.now.act)
+            (replica_at self.old op.now.master op.now.segment)) }
+        ensures same { self.new.replicas ≡ self.old.replicas }
+    {
+        match self.replicas.find((op.master, op.segment)) {
+            Ok(found) => self.replicas.as_slice()[found].1.allows(&op.act),
+            Err(_) => is_making(&op.act),
         }
     }
 
@@ -128,6 +144,7 @@ impl MemoryBackup {
     fn close(&mut self, place: (u64, u64)) -> Result<(), TakeFault>
         ensures named { ActsAt Close place.0 place.1 self.old result self.new }
         ensures others { KeepsOthers place.0 place.1 self.old self.new }
+        ensures memory { ¬ (result ≡ Err TakeFault.NoMemory) }
     {
         match self.replicas.find(place) {
             Ok(found) => {
@@ -142,6 +159,7 @@ impl MemoryBackup {
     fn free(&mut self, place: (u64, u64)) -> Result<(), TakeFault>
         ensures named { ActsAt Free place.0 place.1 self.old result self.new }
         ensures others { KeepsOthers place.0 place.1 self.old self.new }
+        ensures memory { ¬ (result ≡ Err TakeFault.NoMemory) }
     {
         match self.replicas.find(place) {
             Ok(found) => {
@@ -162,14 +180,19 @@ impl MemoryBackup {
     }
 
     /// Appends all replicas to a list, by master, then by segment, as those of the backup of this number. Their bytes
-    /// stay here. After NoMemory some have been appended.
+    /// stay here. On `Err` nothing is appended.
     pub fn show<'a>(&'a self, backup: u64, list: &mut Vec<Holding<'a>>) -> Result<(), NoMemory>
         ensures shown { OnOk result (list.new.items ≡ list.old.items ++ holdings_of backup self.entry.now) }
         ensures ordered { IsInOrder self.entry.now }
+        ensures err { OnErr result (list.new.items ≡ list.old.items) }
+        // Memory is wanted only if the list has no room for all of them.
+        ensures full { OnErr result
+            (vec_capacity list.old < vec_len list.old + length (holdings_of backup self.entry.now)) }
     {
+        list.reserve(self.replicas.as_slice().len())?;
         for (place, stored) in self.replicas.as_slice() {
             let holding = stored.show(backup, place.0, place.1);
-            list.push(holding)?;
+            list.push_reserved(holding);
         }
         Ok(())
     }

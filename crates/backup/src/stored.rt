@@ -1,11 +1,12 @@
 //! A replica in memory.
 
-ghost use Rattle.std.specs.Prelude.{◌≡◌, Some};
-ghost use Rattle.replica.specs.Op.{Extend, Close};
+ghost use Rattle.std.specs.Prelude.{◌≡◌, None, Some, Err, is_some};
+ghost use Rattle.replica.specs.Op.{shown_act, Extend, Close};
+ghost use Rattle.replica.specs.Take.{effect};
 ghost use Rattle.backup.specs.Acts.{Acts};
 ghost use Rattle.backup.specs.Shelf.{holding_of};
 
-use replica::{Bytes, Holding, TakeFault};
+use replica::{Act, Bytes, Holding, TakeFault};
 use std::marker::Model;
 
 /// A replica that a backup holds.
@@ -21,6 +22,19 @@ impl Model for Stored {
     ghost Value = { Replica };
 
     ghost view = { λ s. record { bytes = s.bytes.items; is_open = s.is_open } };
+}
+
+/// Whether an act fits where no replica is.
+pub(crate) fn is_making(act: &Act<'_>) -> bool
+    ensures { result ≡ is_some (effect (shown_act act.now) None) }
+{
+    match act {
+        Act::Open(_) => true,
+        Act::Extend { .. } => false,
+        Act::Close => false,
+        Act::Seal(_) => true,
+        Act::Free => false,
+    }
 }
 
 impl Stored {
@@ -54,6 +68,18 @@ impl Stored {
         }
     }
 
+    /// Whether an act on it fits.
+    pub fn allows(&self, act: &Act<'_>) -> bool
+        ensures { result ≡ is_some (effect (shown_act act.now) (Some self.now)) }
+    {
+        match act {
+            Act::Open(_) | Act::Seal(_) => false,
+            Act::Extend { at, .. } => self.is_open && *at == self.bytes.len(),
+            Act::Close => self.is_open,
+            Act::Free => true,
+        }
+    }
+
     /// Appends bytes to an open replica of the length `at`.
     pub fn extend(&mut self, at: usize, bytes: &[u8]) -> Result<(), TakeFault>
         ensures { Acts (Extend at bytes.now) (Some self.old) result (Some self.new) }
@@ -69,7 +95,8 @@ impl Stored {
 
     /// Closes an open replica. It takes no memory.
     pub fn close(&mut self) -> Result<(), TakeFault>
-        ensures { Acts Close (Some self.old) result (Some self.new) }
+        ensures acts { Acts Close (Some self.old) result (Some self.new) }
+        ensures memory { ¬ (result ≡ Err TakeFault.NoMemory) }
     {
         if !self.is_open {
             return Err(TakeFault::Wrong);

@@ -67,7 +67,7 @@ fn object_at(segment: &Segment, at: usize) -> Option<ObjectRef<'_>>
 }
 
 /// Sets the place of the object at an offset of segment 1.
-fn set(index: &mut Index, segment: &Segment, at: usize) -> bool {
+pub fn set(index: &mut Index, segment: &Segment, at: usize) -> bool {
     if index.reserve(1).is_err() {
         return false;
     }
@@ -104,7 +104,7 @@ fn add(images: &mut Images, id: u64, segment: Segment, is_whole: bool) -> bool {
 }
 
 /// Adds the image of the segment that is read from these bytes.
-fn add_read(alloc: Global, images: &mut Images, id: u64, bytes: &[u8], is_whole: bool) -> bool {
+pub fn add_read(alloc: Global, images: &mut Images, id: u64, bytes: &[u8], is_whole: bool) -> bool {
     match read_segment(alloc, bytes) {
         Ok(segment) => add(images, id, segment, is_whole),
         Err(_) => false,

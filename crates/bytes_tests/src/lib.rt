@@ -15,6 +15,8 @@ mod heads;
 #[cfg(test)]
 mod histories;
 #[cfg(test)]
+mod large;
+#[cfg(test)]
 mod lines_of_scripts;
 #[cfg(test)]
 mod passes;

@@ -30,6 +30,11 @@ const GOOD: &[(&str, &str)] = &[
     ("room", "Ok(Room)"),
     ("stop 0", "Ok(Stop { takes: 0 })"),
     ("stop 20", "Ok(Stop { takes: 20 })"),
+    ("fault 1 taken", "Ok(Fault { takes: 1, taken: true })"),
+    (
+        "fault 18446744073709551615 lost",
+        "Ok(Fault { takes: 18446744073709551615, taken: false })",
+    ),
     ("crash", "Ok(Crash)"),
     ("lose 3", "Ok(Lose { backup: 3 })"),
     ("lose 64", "Ok(Lose { backup: 64 })"),
@@ -66,6 +71,9 @@ const CLIENTS: &str =
 /// What a line of a recovery has.
 const RECOVER: &str =
     "recover has nothing behind it, or reverse, or threads and a number of workers (1 to 64)";
+
+/// What a line of a fault has.
+const FAULT: &str = "fault has the number of a take, counted from 1, and taken or lost";
 
 /// Bad lines, and why each is bad.
 const BAD: &[(&[u8], &str)] = &[
@@ -172,6 +180,9 @@ const BAD: &[(&[u8], &str)] = &[
     (b"hex 1 2", "hex has the number of a segment"),
     (b"compact", "compact has the number of a segment"),
     (b"stop", "stop has a number of ops"),
+    (b"fault 0 lost", FAULT),
+    (b"fault 1 gone", FAULT),
+    (b"fault 1", FAULT),
     (b"lose 1 2", "lose has the number of a backup"),
     (b"clean", "clean has the numbers of one segment or more"),
     (b"begin", "begin has the numbers of one segment or more"),

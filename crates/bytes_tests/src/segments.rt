@@ -66,7 +66,7 @@ const GROWTH: &[(usize, Result<usize, AppendFault>, &[&str])] = &[
 ];
 
 /// Appends the object that these bytes spell to a segment, within a limit.
-fn append(
+pub fn append(
     segment: &mut Segment,
     object: &[u8],
     limit: usize,

@@ -6,5 +6,4 @@ pub mod Listed
 pub mod Props
 pub mod Rebuilt
 pub mod Texts
-pub mod Faults
 pub mod Settled

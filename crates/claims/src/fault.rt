@@ -2,10 +2,8 @@
 
 ghost use Rattle.std.specs.Prelude.{◌≡◌, Some};
 ghost use Rattle.claims.specs.declared.fault.ReplayFault.TheVariants as replay_fault;
-ghost use Rattle.claims.specs.Faults.{as_replay_fault};
 ghost use Rattle.claims.specs.Texts.{replay_fault_text};
 
-use division::DivideFault;
 use entry::Key;
 use std::alloc::{AllocError, AllocFailed};
 use std::error::Error;
@@ -58,16 +56,5 @@ impl<T: Drop> From<AllocFailed<T>> for ReplayFault {
 
     fn from(_error: AllocFailed<T>) -> ReplayFault {
         ReplayFault::NoMemory
-    }
-}
-
-impl From<DivideFault> for ReplayFault {
-    ghost from_gives = { λ fault e. e ≡ as_replay_fault fault };
-
-    fn from(fault: DivideFault) -> ReplayFault {
-        match fault {
-            DivideFault::Stray(key) => ReplayFault::Stray(key),
-            DivideFault::NoMemory => ReplayFault::NoMemory,
-        }
     }
 }

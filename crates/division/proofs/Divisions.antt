@@ -1,13 +1,11 @@
 -- The groups of a segment, entry by entry.
 use Rattle.std.proofs.Common.{◌≡◌, ℕ, zero, suc, ◌+◌, ◌<◌, Bool, true, false, cond, List, [], ◌∷◌, ◌++◌, map}
 use Rattle.std.proofs.Common.{Some, None, refl, sym, ap, subst, ◌∙◌, inl, inr, append_assoc, arith, length, get_or, set}
-use Rattle.std.specs.Prelude.{◌==◌, filter, Err}
+use Rattle.std.specs.Prelude.{◌==◌, filter}
 use Rattle.std.specs.List.{range_with_len}
 use Rattle.std.proofs.lemmas.Bool.Decides.{Decides-eqb}
 use Rattle.std.proofs.lemmas.List.{append-nil, length-map}
 use Rattle.std.proofs.lemmas.List.FromFn.{length-range_with_len}
-use Rattle.division.specs.declared.fault.DivideFault.{DivideFault}
-use Rattle.division.specs.declared.fault.DivideFault.TheVariants as fault
 use Rattle.entry.specs.declared.entry.Entry.{Entry}
 use Rattle.entry.specs.declared.entry.Entry.TheVariants as entry
 use Rattle.entry.specs.Bag.{IsAmong}
@@ -17,7 +15,7 @@ use Rattle.tablet_will.specs.Parts.{partitions_of}
 use Rattle.division.specs.Groups.{Grouped}
 use Rattle.division.specs.Division.{partition_in, is_number, goes_to, group_in, groups_of, with_entry, added}
 use Rattle.division.specs.Division.{numbers_of}
-use Rattle.division.specs.Division.{empty_group, IsCovered, AreCovered, IsSought, IsDivideFault}
+use Rattle.division.specs.Division.{empty_group, IsCovered, AreCovered}
 
 pub range_more : (a n : ℕ) → range_with_len a (n + 1) ≡ range_with_len a n ++ (a + n) ∷ []
 range_more a zero = (let e : a + 0 ≡ a = omega arith in rw e refl)
@@ -209,11 +207,6 @@ module _ {X : Type 0} (group : X → Grouped) (qs : List Part) (segment count : 
       ∙ ap (λ (g : Grouped). set (map group xs) m g) (is ∙ ap (with_entry e) here)
       ∙ added_at qs e (map group xs) 0 m (group old)
       (numbers ∙ ap (λ n. range_with_len 0 n) (sym long)) (omega (arith, lt, long)) (at ∙ ap Some (omega arith))
-
-pub fault_in : (qs : List Part) (es : List Entry) (e : Entry) (f : DivideFault) → IsAmong e es → IsSought qs e (Err f)
-    → IsDivideFault qs es f
-fault_in qs es e (fault.Stray k) m h = (e, m, h)
-fault_in qs es e fault.NoMemory m h = tt
 
 -- what goes to a partition is an object or a tombstone
 pub goes_data : (qs : List Part) (n : ℕ) (e : Entry) → goes_to qs n e ≡ true → is_data e ≡ true

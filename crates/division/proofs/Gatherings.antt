@@ -1,29 +1,26 @@
 -- The pass over a segment that gathers places, and the groups that are made of them.
 use Rattle.std.proofs.Common.{◌≡◌, ℕ, zero, suc, ◌+◌, ◌-◌, ◌<◌, ◌≤◌, List, [], ◌∷◌, ◌++◌, map, length, take, drop}
-use Rattle.std.proofs.Common.{Option, Some, None, refl, sym, ap, subst, ◌∙◌, append_assoc, inl, arith, get_or, set}
-use Rattle.std.specs.Prelude.{Err, is_some}
+use Rattle.std.proofs.Common.{Option, Some, None, refl, sym, ap, subst, ◌∙◌, append_assoc, arith, get_or, set}
+use Rattle.std.specs.Prelude.{is_some}
 use Rattle.std.specs.Option.{option_map_or}
 use Rattle.std.specs.List.{range_with_len, AllByRecursion}
 use Rattle.std.proofs.lemmas.List.{append-nil, map-append}
 use Rattle.entry.specs.declared.entry.Entry.{Entry}
 use Rattle.entry.specs.declared.entry.Entry.TheVariants as entry
-use Rattle.entry.specs.Bag.{IsAmong}
 use Rattle.entry.specs.Format.{IsEntry, front_of}
 use Rattle.entry.specs.Text.{text_of}
 use Rattle.entry.proofs.ListLemmas.{all_push}
 use Rattle.tablet_will.specs.declared.part.Part.{Part}
 use Rattle.tablet_will.specs.Parts.{partitions_of}
-use Rattle.division.specs.declared.fault.DivideFault.{DivideFault}
 use Rattle.division.specs.declared.gathered.Gathered.{Gathered}
 use Rattle.division.specs.declared.group.Group.{Group}
 use Rattle.division.specs.Placed.{entry_standing, entries_at, Stands, AllStand}
 use Rattle.division.specs.Groups.{Grouped, grouped}
-use Rattle.division.specs.Division.{partition_in, with_entry, empty_group, IsCovered, AreCovered, IsSought}
-use Rattle.division.specs.Division.{IsDivideFault}
+use Rattle.division.specs.Division.{partition_in, with_entry, empty_group, IsCovered, AreCovered}
 use Rattle.division.specs.Gathering.{group_at, ArePlaces, AreEmpty, AreGathered}
 use Rattle.division.proofs.Ahead.{IsAhead, IsNext, ahead_first, ahead_next, ahead_none}
 use Rattle.division.proofs.Divisions.{IsDividing, dividing_first, dividing_more, division_is, added_none, range_more}
-use Rattle.division.proofs.Divisions.{counted, entry_added, fault_in}
+use Rattle.division.proofs.Divisions.{counted, entry_added}
 
 -- ---- what holds of each element
 
@@ -115,12 +112,6 @@ module _ (qs : List Part) (es : List Entry) (text : List ℕ) where
     module _ (e : Entry) (n : ℕ) (read : front_of (take (length text - at) (drop at text)) ≡ Some (e, n)) where
       next : IsNext text at h.left e n
       next = ahead_next text at h.left e n h.ahead read
-
-      pub gathering_fault : (f : DivideFault) → IsSought qs e (Err f) → IsDivideFault qs es f
-      gathering_fault f is =
-          let here : IsAmong e es =
-          (h.dividing 0).within e (subst (λ (left : List Entry). IsAmong e left) (sym next.is) (inl refl)) in
-          fault_in qs es e f here is
 
       pub gathering_none : partition_in qs e ≡ None → IsCovered qs e → IsGathering (at + n) gs
       gathering_none none covered = record {

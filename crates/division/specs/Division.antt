@@ -1,6 +1,6 @@
 -- A division of a segment: to each partition its objects and tombstones.
 use Rattle.std.specs.Prelude.{◌≡◌, ℕ, ◌<◌, List, [], ◌∷◌, ◌++◌, map, filter, Bool, false, ◌==◌, if◌then◌else◌}
-use Rattle.std.specs.Prelude.{Option, Some, None, is_some, true, IfSome, Result, Ok, Err, ⊤}
+use Rattle.std.specs.Prelude.{Option, Some, None, is_some, true, IfSome}
 use Rattle.std.specs.List.{range_with_len}
 use Rattle.entry.specs.declared.key.Key.{Key}
 use Rattle.entry.specs.declared.entry.Header.{Header}
@@ -9,6 +9,8 @@ use Rattle.entry.specs.declared.entry.Entry.TheVariants as entry
 use Rattle.entry.specs.Bag.{IsAmong}
 use Rattle.entry.specs.Meaning.{IsOfKey}
 use Rattle.entry.specs.Text.{header_of}
+use Rattle.entry.specs.View.{shown_key}
+use Rattle.entry.specs.declared.view.KeyRef.{KeyRef}
 use Rattle.tablet_will.specs.declared.part.Part.{Part}
 use Rattle.tablet_will.specs.Parts.{partition_of_key, partitions_of}
 use Rattle.division.specs.declared.fault.DivideFault.{DivideFault}
@@ -59,24 +61,39 @@ AreCovered qs es = (e : Entry) → IsAmong e es → IsCovered qs e
 abbrev pub IsStray : List Part → Entry → Key → Type 0
 IsStray qs e k = IsOfKey k e × (partition_of_key qs k ≡ None)
 
--- Memory ran out, or the named key is that of an entry, and has no partition.
+-- some entry has this key, which has no partition
+abbrev pub HasStray : List Part → List Entry → Key → Type 0
+HasStray qs es k = (e : Entry) × IsAmong e es × IsStray qs e k
+
+-- The named key is that of an entry, and has no partition. Memory is wanted only if each key has one.
 abbrev pub IsDivideFault : List Part → List Entry → DivideFault → Type 0
-IsDivideFault qs es (fault.Stray k) = (e : Entry) × IsAmong e es × IsStray qs e k
-IsDivideFault qs es fault.NoMemory = ⊤
+IsDivideFault qs es (fault.Stray k) = HasStray qs es (shown_key k)
+IsDivideFault qs es fault.NoMemory = AreCovered qs es
 
 -- ---- one entry
 
--- what is known of an entry once its partition was looked for
-abbrev pub IsSought : List Part → Entry → Result (Option ℕ) DivideFault → Type 0
-IsSought qs e (Ok n) = (partition_in qs e ≡ n) × IsCovered qs e × IfSome n (λ m. m < partitions_of qs)
-IsSought qs e (Err (fault.Stray k)) = IsStray qs e k
-IsSought qs e (Err fault.NoMemory) = ⊤
+-- what is known of an entry once its partition was found
+abbrev pub IsSought : List Part → Entry → Option ℕ → Type 0
+IsSought qs e n = (partition_in qs e ≡ n) × IsCovered qs e × IfSome n (λ m. m < partitions_of qs)
 
--- what is known of a key once its partition was looked for
-abbrev pub IsFound : List Part → Key → Result (Option ℕ) DivideFault → Type 0
-IsFound qs k (Ok n) = (partition_of_key qs k ≡ n) × (is_some n ≡ true) × IfSome n (λ m. m < partitions_of qs)
-IsFound qs k (Err (fault.Stray j)) = (j ≡ k) × (partition_of_key qs k ≡ None)
-IsFound qs k (Err fault.NoMemory) = ⊤
+-- what is known of a key once its partition was found
+abbrev pub IsFound : List Part → Key → Option ℕ → Type 0
+IsFound qs k n = (partition_of_key qs k ≡ n) × (is_some n ≡ true) × IfSome n (λ m. m < partitions_of qs)
+
+-- the key of an object or a tombstone
+abbrev pub IsKeyOf : Entry → Option KeyRef → Type 0
+IsKeyOf e (Some k) = IsOfKey (shown_key k) e
+IsKeyOf e None = (k : Key) → IsOfKey k e → ⊥
+
+-- the key of the entry, if it has no partition
+abbrev pub IsStrayOf : List Part → Entry → Option KeyRef → Type 0
+IsStrayOf qs e (Some k) = IsStray qs e (shown_key k)
+IsStrayOf qs e None = IsCovered qs e
+
+-- a key of the entries that has no partition; None if each key has one
+abbrev pub IsStrayIn : List Part → List Entry → Option KeyRef → Type 0
+IsStrayIn qs es (Some k) = HasStray qs es (shown_key k)
+IsStrayIn qs es None = AreCovered qs es
 
 -- a group with one entry more
 abbrev pub with_entry : Entry → Grouped → Grouped

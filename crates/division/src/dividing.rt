@@ -11,37 +11,41 @@ use crate::fault::DivideFault;
 use crate::gathered::Gathered;
 use crate::group::Group;
 use crate::placed::GroupEntries;
+use crate::straying::first_stray;
 use entry::{EntryRef, KeyRef, NoMemory};
 use segment::SegmentRef;
-use std::alloc::Global;
+use std::alloc::{AllocError, Global};
 use tablet_will::Will;
 
-/// The partition of a key, which is named if it has none.
+/// A walk over a segment went no further: a key has no partition, or memory ran out.
+#[derive(Drop)]
+struct Stopped;
+
+impl From<AllocError> for Stopped {
+    fn from(_error: AllocError) -> Stopped {
+        Stopped
+    }
+}
+
+/// The partition of a key.
 #[inline(always)]
-fn partition_of_key(
-    alloc: Global,
-    key: &KeyRef<'_>,
-    will: &Will,
-) -> Result<Option<u32>, DivideFault>
-    ensures { IsFound will.now (shown_key key.now) result }
+fn partition_of_key(key: &KeyRef<'_>, will: &Will) -> Result<Option<u32>, Stopped>
+    ensures { IfOk result (IsFound will.now (shown_key key.now)) }
 {
     match will.partition_of_ref(key) {
         Some(partition) => Ok(Some(partition)),
-        None => match key.to_key(alloc) {
-            Ok(key) => Err(DivideFault::Stray(key)),
-            Err(_) => Err(DivideFault::NoMemory),
-        },
+        None => Err(Stopped),
     }
 }
 
 /// The partition of an object's or a tombstone's key. Another entry has none.
 #[inline(always)]
-fn sought(alloc: Global, entry: &EntryRef<'_>, will: &Will) -> Result<Option<u32>, DivideFault>
-    ensures { IsSought will.now (shown entry.now) result }
+fn sought(entry: &EntryRef<'_>, will: &Will) -> Result<Option<u32>, Stopped>
+    ensures { IfOk result (IsSought will.now (shown entry.now)) }
 {
     match entry {
-        EntryRef::Object(object) => partition_of_key(alloc, &object.key, will),
-        EntryRef::Tombstone(tombstone) => partition_of_key(alloc, &tombstone.key, will),
+        EntryRef::Object(object) => partition_of_key(&object.key, will),
+        EntryRef::Tombstone(tombstone) => partition_of_key(&tombstone.key, will),
         _ => Ok(None),
     }
 }
@@ -74,14 +78,9 @@ fn make_room(places: &mut Vec<u32>) -> Result<(), NoMemory>
 }
 
 /// The places of the objects and tombstones of a segment, for each partition of the will.
-fn gather(
-    alloc: Global,
-    segment: &SegmentRef<'_>,
-    will: &Will,
-) -> Result<Vec<Gathered>, DivideFault>
+fn gather(alloc: Global, segment: &SegmentRef<'_>, will: &Will) -> Result<Vec<Gathered>, Stopped>
     ensures ok { IfOk result (λ all. AreGathered will.now segment.now all.items) }
     ensures covered { OnOk result (AreCovered will.now segment.now) }
-    ensures fault { IfErr result (IsDivideFault will.now segment.now) }
 {
     let mut all = none_gathered(alloc, will.partitions())?;
     let text = segment.bytes();
@@ -90,7 +89,7 @@ fn gather(
         let Ok((entry, taken)) = EntryRef::read(&text[at..]) else {
             unreachable!()
         };
-        if let Some(partition) = sought(alloc, &entry, will)? {
+        if let Some(partition) = sought(&entry, will)? {
             let gathered = &mut all[partition as usize];
             make_room(&mut gathered.places)?;
             gathered.places.push_reserved(at as u32);
@@ -123,19 +122,36 @@ fn groups_at<'a>(
     Ok(groups)
 }
 
+/// Why a walk over the segment stopped: a key has no partition, or else memory is all that was wanted.
+fn fault_of<'a>(segment: &SegmentRef<'a>, will: &Will) -> DivideFault<'a>
+    ensures { IsDivideFault will.now segment.entry.now result }
+{
+    match first_stray(segment, will) {
+        Some(key) => DivideFault::Stray(key),
+        None => DivideFault::NoMemory,
+    }
+}
+
 /// The segment's groups: for each partition of the will, in order, the objects and tombstones whose keys are in it. A
 /// group may be empty. The entries stay in the segment's bytes: a group takes 4 bytes for each, and a few words
-/// besides. A key that is in no partition is named by Stray.
+/// besides. A key that is in no partition is named by Stray, and lies in the segment's bytes. NoMemory says that each
+/// key has a partition.
 pub fn divide<'a>(
     alloc: Global,
     segment: &SegmentRef<'a>,
     will: &Will,
-) -> Result<Vec<Group<'a>>, DivideFault>
+) -> Result<Vec<Group<'a>>, DivideFault<'a>>
     ensures ok { IfOk result (λ groups. IsDivision will.now segment.entry.now (map grouped groups.items)) }
     ensures covered { OnOk result (AreCovered will.now segment.entry.now) }
     ensures fault { IfErr result (IsDivideFault will.now segment.entry.now) }
 {
-    let all = gather(alloc, segment, will)?;
+    let all = match gather(alloc, segment, will) {
+        Ok(all) => all,
+        Err(_) => return Err(fault_of(segment, will)),
+    };
     let id = segment.header().segment;
-    Ok(groups_at(alloc, id, segment, all)?)
+    match groups_at(alloc, id, segment, all) {
+        Ok(groups) => Ok(groups),
+        Err(_) => Err(DivideFault::NoMemory),
+    }
 }

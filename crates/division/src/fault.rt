@@ -1,26 +1,24 @@
 //! Why a segment is not divided.
 
-ghost use Rattle.std.specs.Prelude.{◌≡◌, Some};
-ghost use Rattle.division.specs.declared.fault.DivideFault.TheVariants as divide_fault;
+ghost use Rattle.std.specs.Prelude.{Some};
 ghost use Rattle.division.specs.Texts.{divide_fault_text};
 
-use entry::Key;
-use std::alloc::{AllocError, AllocFailed};
+use entry::KeyRef;
 use std::error::Error;
 use std::fmt;
 
 /// Why a segment is not divided. The numbers are fixed.
-#[derive(Debug, Drop)]
-pub enum DivideFault {
-    /// 1: the key of an object or a tombstone is in no partition.
-    Stray(Key),
+#[derive(Drop)]
+pub enum DivideFault<'a> {
+    /// 1: the key of an object or a tombstone is in no partition. It lies in the segment's bytes.
+    Stray(KeyRef<'a>),
     /// 2: memory ran out.
     NoMemory,
 }
 
-impl Error for DivideFault {}
+impl<'a> Error for DivideFault<'a> {}
 
-impl fmt::Display for DivideFault {
+impl<'a> fmt::Display for DivideFault<'a> {
     ghost output = { λ fault. Some (divide_fault_text fault) };
 
     fn fmt<W: fmt::Write>(&self, f: &mut fmt::Formatter<W>) -> fmt::Result {
@@ -31,18 +29,8 @@ impl fmt::Display for DivideFault {
     }
 }
 
-impl From<AllocError> for DivideFault {
-    ghost from_gives = { λ _ e. e ≡ divide_fault.NoMemory };
-
-    fn from(_error: AllocError) -> DivideFault {
-        DivideFault::NoMemory
-    }
-}
-
-impl<T: Drop> From<AllocFailed<T>> for DivideFault {
-    ghost from_gives = { λ _ e. e ≡ divide_fault.NoMemory };
-
-    fn from(_error: AllocFailed<T>) -> DivideFault {
-        DivideFault::NoMemory
+impl<'a> fmt::Debug for DivideFault<'a> {
+    fn fmt<W: fmt::Write>(&self, f: &mut fmt::Formatter<W>) -> fmt::Result {
+        write!(f, "{self}")
     }
 }

@@ -11,6 +11,7 @@ mod fault;
 mod gathered;
 mod group;
 mod placed;
+mod straying;
 
 pub use dividing::divide;
 pub use fault::DivideFault;

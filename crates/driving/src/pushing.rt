@@ -10,7 +10,7 @@ ghost use Rattle.driving.specs.Rolls.{PushesUntil, IsRolled, IsNotRolled};
 ghost use Rattle.driving.specs.Served.{LivesOn, IsSpent, is_of_push};
 
 use crate::driven::Driven;
-use master::{Master, Refusal, Step};
+use master::{Master, Refusal};
 use replica::Fleet;
 
 /// Pushes until nothing waits, or a push is refused.
@@ -62,11 +62,10 @@ pub fn push_until<F: Fleet>(master: &mut Master<F>, place: u64) -> Result<(), Re
     ensures spent { IfErr result (λ r. r ≡ Refusal.Spent → IsSpent (F.state master.new.fleet)) }
 {
     loop {
-        if place < master.durable() {
-            return Ok(());
-        }
-        if let Err(refusal) = master.step(Step::Push) {
-            return Err(refusal);
+        match master.push_for(place) {
+            Ok(true) => return Ok(()),
+            Ok(false) => {}
+            Err(refusal) => return Err(refusal),
         }
     }
 }

@@ -5,7 +5,8 @@ ghost use Rattle.std.specs.Borrow.{ftrue};
 ghost use Rattle.history.specs.View.{shown_record};
 ghost use Rattle.versioned_map.specs.declared.command.Record.{Record};
 
-use history::RecordRef;
+use entry::KeyRef;
+use history::{CommandRef, RecordRef, ReplyRef};
 use std::marker::Model;
 
 /// A record as clauses see it. It takes no bytes: the record itself is in the history.
@@ -29,5 +30,17 @@ impl Kept {
         ensures { result.what ≡ shown_record _record.now }
     {
         Kept {}
+    }
+
+    /// What a box has before it is known which record it is for.
+    pub fn blank() -> Kept {
+        Kept::of(&RecordRef {
+            seat: 0,
+            command: CommandRef::Get(KeyRef {
+                table: 0,
+                bytes: b"-",
+            }),
+            reply: ReplyRef::None,
+        })
     }
 }

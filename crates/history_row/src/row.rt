@@ -1,6 +1,6 @@
 //! The cells of a history, in order.
 
-ghost use Rattle.std.specs.Prelude.{◌≡◌, ◌<◌, List, length, slice_get, slice_set, Some, None, IfOk, MatchBool};
+ghost use Rattle.std.specs.Prelude.{◌≡◌, ◌<◌, List, length, slice_get, slice_set, Some, None, IfOk, IfSome, MatchBool};
 ghost use Rattle.std.specs.Prelude.{replicate};
 ghost use Rattle.history.specs.View.{shown_record};
 ghost use Rattle.history_row.specs.Rows.{IsRowOf};
@@ -18,6 +18,8 @@ use std::marker::{Model, PhantomData};
 #[derive(Drop)]
 pub struct Cells {
     slots: Vec<Slot>,
+    /// A box for the next record, or none.
+    spare: Vec<Box<Kept>>,
 }
 
 impl Model for Cells {
@@ -32,6 +34,8 @@ impl Model for Cells {
 #[derive(Drop)]
 pub struct Row<B: Labels> {
     slots: Vec<Slot>,
+    /// A box for the next record, or none.
+    spare: Vec<Box<Kept>>,
     of: PhantomData<B>,
 }
 
@@ -57,7 +61,8 @@ impl Cells {
         for _i in 0..count {
             slots.push(Slot::new(alloc))?;
         }
-        Ok(Cells { slots })
+        let spare = Vec::with_capacity(alloc, 1)?;
+        Ok(Cells { slots, spare })
     }
 
     /// The cells under their name.
@@ -65,9 +70,10 @@ impl Cells {
         requires { self.names ≡ B.cells }
         ensures { result ≡ self.row }
     {
-        let Cells { slots } = self;
+        let Cells { slots, spare } = self;
         Row {
             slots,
+            spare,
             of: PhantomData,
         }
     }
@@ -82,13 +88,41 @@ impl<B: Labels> Row<B> {
         self.slots.len()
     }
 
-    /// Sets a cell to this record, and answers whether it took it. If it did not, nothing changes.
+    /// Takes memory for one record, unless there is some. The next `set` then asks for none. The cells stay as they
+    /// are.
+    pub fn reserve(&mut self, alloc: Global) -> Result<(), AllocError>
+        ensures { self.new ≡ self.old }
+    {
+        if self.spare.is_empty() {
+            // A box of no bytes asks for memory too.
+            let spare = Box::new(alloc, Kept::blank())?;
+            self.spare.push(spare)?;
+        }
+        Ok(())
+    }
+
+    /// A box with this record: the one that was reserved, or else a new one.
+    fn boxed(&mut self, alloc: Global, what: &RecordRef<'_>) -> Option<Box<Kept>>
+        ensures same { self.new ≡ self.old }
+        ensures record { IfSome result (λ kept. kept.value.what ≡ shown_record what.now) }
+    {
+        match self.spare.pop() {
+            Some(mut kept) => {
+                Box::replace(&mut kept, Kept::of(what));
+                Some(kept)
+            }
+            None => Box::new(alloc, Kept::of(what)).ok(),
+        }
+    }
+
+    /// Sets a cell to this record, and answers whether it took it. If it did not, nothing changes. It asks for memory
+    /// only if none was reserved, and does not take the record if that is refused.
     pub fn set(&mut self, alloc: Global, place: usize, what: &RecordRef<'_>) -> bool
         requires { place < length self.old }
-        ensures { MatchBool result (self.new ≡ slice_set self.old place (Some (shown_record what.now))) (self.new ≡ self.old) }
+        ensures { MatchBool result (self.new ≡ slice_set self.old place (Some (shown_record what.now)))
+            (self.new ≡ self.old) }
     {
-        // A box of no bytes asks for memory too.
-        let Ok(kept) = Box::new(alloc, Kept::of(what)) else {
+        let Some(kept) = self.boxed(alloc, what) else {
             return false;
         };
         let slot = &mut self.slots[place];

@@ -1,11 +1,11 @@
 -- Words are those of one line at most, which their first word decides.
 use Rattle.std.proofs.Common.{◌≡◌, ◌∙◌, ◌==◌, ◌+◌, ◌^◌, ◌<◌, ◌≤◌, ◌∷◌, [], None, ap, sym, ℕ, List, Bool, get_or, drop}
-use Rattle.std.proofs.Common.{map, cond, codes, arith}
+use Rattle.std.proofs.Common.{map, cond, codes, true, false, arith}
 use Rattle.std.specs.Str.Parse.{digits_value}
 use Rattle.std.specs.Fmt.{decimal}
 use Rattle.lines.specs.Grammar.{LineValue, words_of}
 use Rattle.lines.specs.Grammar.{Idle, Put, New, Cas, Get, Del, Compact, Roll, BeginRoll, Push, Log, Room, Hex, Stop}
-use Rattle.lines.specs.Grammar.{Crash, Lose, Will, Recover, Holdings}
+use Rattle.lines.specs.Grammar.{Fault, Crash, Lose, Will, Recover, Holdings}
 use Rattle.lines.specs.Grammar.{Clean, Begin, Copy, Seal, Free, Clients}
 use Rattle.lines.specs.declared.line.ReplayOrder.{ReplayOrder}
 use Rattle.lines.specs.declared.line.ReplayOrder.TheVariants.{Forward, Reverse, Threads}
@@ -34,6 +34,10 @@ sum_of (b ∷ bs) = b + sum_of bs
 abbrev are_named : List ℕ → List (List ℕ) → Bool
 are_named name ws = sum_of (word_at 0 ws) == sum_of name
 
+-- the word behind the number of a take is "taken"
+abbrev is_taken : List (List ℕ) → Bool
+is_taken ws = sum_of (word_at 2 ws) == sum_of (codes "taken")
+
 -- the one line that may have the words
 abbrev line_of : List (List ℕ) → LineValue
 line_of ws =
@@ -50,6 +54,7 @@ line_of ws =
     (cond (are_named (codes "room") ws) Room
     (cond (are_named (codes "hex") ws) (Hex (number_at 1 ws))
     (cond (are_named (codes "stop") ws) (Stop (number_at 1 ws))
+    (cond (are_named (codes "fault") ws) (Fault (number_at 1 ws) (is_taken ws))
     (cond (are_named (codes "crash") ws) Crash
     (cond (are_named (codes "lose") ws) (Lose (number_at 1 ws))
     (cond (are_named (codes "will") ws) Will
@@ -61,7 +66,7 @@ line_of ws =
     (cond (are_named (codes "seal") ws) Seal
     (cond (are_named (codes "free") ws) Free
     (cond (are_named (codes "clients") ws) (Clients (number_at 1 ws) (number_at 2 ws) (number_at 3 ws))
-    Idle)))))))))))))))))))))))
+    Idle))))))))))))))))))))))))
 
 pub line_is : (words : List (List ℕ)) (line : LineValue) → AreWordsOf words line → line_of words ≡ line
 line_is words Idle are = absurd are
@@ -81,6 +86,10 @@ line_is words Log are = ap line_of are.spelled
 line_is words Room are = ap line_of are.spelled
 line_is words (Hex n) are = ap line_of are.spelled ∙ ap Hex (value n are.limits)
 line_is words (Stop n) are = ap line_of are.spelled ∙ ap Stop (value n are.limits)
+line_is words (Fault n true) are =
+    ap line_of are.spelled ∙ ap (λ m. Fault m true) (value n (omega (arith, are.limits.1)))
+line_is words (Fault n false) are =
+    ap line_of are.spelled ∙ ap (λ m. Fault m false) (value n (omega (arith, are.limits.1)))
 line_is words Crash are = ap line_of are.spelled
 line_is words (Lose n) are = ap line_of are.spelled ∙ ap Lose (value n are.limits)
 line_is words Will are = ap line_of are.spelled

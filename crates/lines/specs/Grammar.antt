@@ -1,5 +1,6 @@
 -- What each line of a script is written as.
-use Rattle.std.specs.Prelude.{◌≡◌, ◌⊎◌, ◌<◌, ◌≤◌, ◌^◌, ℕ, List, [], ◌∷◌, length, map, codes}
+use Rattle.std.specs.Prelude.{◌≡◌, ◌⊎◌, ◌-◌, ◌<◌, ◌≤◌, ◌^◌, ℕ, List, [], ◌∷◌, length, map, codes}
+use Rattle.std.specs.Prelude.{Bool, true, false}
 use Rattle.std.specs.List.{All, join_with_byte}
 use Rattle.std.specs.Fmt.{decimal}
 use Rattle.lines.specs.Keys.{IsKeyWord, IsWord}
@@ -29,6 +30,7 @@ pub data LineValue : Type 0 where
   Room : LineValue
   Hex : (segment : ℕ) → LineValue
   Stop : (takes : ℕ) → LineValue
+  Fault : (takes : ℕ) (taken : Bool) → LineValue
   Crash : LineValue
   Lose : (backup : ℕ) → LineValue
   Will : LineValue
@@ -61,6 +63,7 @@ shown_line line.Log = Log
 shown_line line.Room = Room
 shown_line (line.Hex segment) = Hex segment
 shown_line (line.Stop takes) = Stop takes
+shown_line (line.Fault takes taken) = Fault takes taken
 shown_line line.Crash = Crash
 shown_line (line.Lose backup) = Lose backup
 shown_line line.Will = Will
@@ -81,6 +84,11 @@ order_words Forward = []
 order_words Reverse = codes "reverse" ∷ []
 order_words (Threads workers) = codes "threads" ∷ decimal workers ∷ []
 
+-- the word behind the number of a take that says whether its op is taken
+abbrev pub fate_word : Bool → List ℕ
+fate_word true = codes "taken"
+fate_word false = codes "lost"
+
 -- the words of a line that does something; a number is written in decimal digits without leading zeros
 abbrev pub words_of : LineValue → List (List ℕ)
 words_of Idle = []
@@ -97,6 +105,7 @@ words_of Log = codes "log" ∷ []
 words_of Room = codes "room" ∷ []
 words_of (Hex segment) = codes "hex" ∷ decimal segment ∷ []
 words_of (Stop takes) = codes "stop" ∷ decimal takes ∷ []
+words_of (Fault takes taken) = codes "fault" ∷ decimal takes ∷ fate_word taken ∷ []
 words_of Crash = codes "crash" ∷ []
 words_of (Lose backup) = codes "lose" ∷ decimal backup ∷ []
 words_of Will = codes "will" ∷ []
@@ -120,7 +129,7 @@ IsOrder Reverse = Unit {0}
 IsOrder (Threads workers) = IsWithin 1 64 workers
 
 -- The numbers of the line have 64 bits, its key is a key, and a list of segments has one or more.
--- There are 1 to 63 clients, and 1 to 1,000,000 rounds.
+-- There are 1 to 63 clients, and 1 to 1,000,000 rounds, and the takes to a fault count from 1.
 abbrev pub IsLine : LineValue → Type 0
 IsLine Idle = Unit {0}
 IsLine (Put table key value) = (table < 2 ^ 64) × IsKeyWord key
@@ -136,6 +145,7 @@ IsLine Log = Unit {0}
 IsLine Room = Unit {0}
 IsLine (Hex segment) = segment < 2 ^ 64
 IsLine (Stop takes) = takes < 2 ^ 64
+IsLine (Fault takes taken) = IsWithin 1 (2 ^ 64 - 1) takes
 IsLine Crash = Unit {0}
 IsLine (Lose backup) = backup < 2 ^ 64
 IsLine Will = Unit {0}

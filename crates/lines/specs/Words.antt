@@ -40,6 +40,7 @@ pub record IsNoLongName (word : List ℕ) : Type 0 where
   pub compact : word ≢ codes "compact"
   pub stop : word ≢ codes "stop"
   pub lose : word ≢ codes "lose"
+  pub fault : word ≢ codes "fault"
   pub clean : word ≢ codes "clean"
   pub begin : word ≢ codes "begin"
   pub recover : word ≢ codes "recover"

@@ -43,6 +43,11 @@ pub enum Line<'a> {
     Stop {
         takes: u64,
     },
+    /// Let this take from now end in a fault, 1 for the next one, its op taken or not.
+    Fault {
+        takes: u64,
+        taken: bool,
+    },
     /// Drop the master.
     Crash,
     /// Take from a backup all that it holds.

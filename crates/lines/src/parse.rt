@@ -1,8 +1,8 @@
 //! Parsing lines.
 
-ghost use Rattle.std.specs.Prelude.{◌≡◌, ◌≢◌, ◌∷◌, ◌↔◌, ℕ, IfErr, IfOk, IfSome, IsErr, IsNone, IsTrue, codes};
+ghost use Rattle.std.specs.Prelude.{◌≡◌, ◌≢◌, ◌∷◌, ◌↔◌, [], ℕ, Bool, IfErr, IfOk, IfSome, IsErr, IsNone, IsTrue, codes};
 ghost use Rattle.lines.specs.Reasons.{HasReason};
-ghost use Rattle.lines.specs.Grammar.{IsIdle, IsOrder, LineValue, Says, order_words, shown_line};
+ghost use Rattle.lines.specs.Grammar.{IsIdle, IsOrder, LineValue, Says, fate_word, order_words, shown_line};
 ghost use Rattle.lines.specs.Words.{AreNumber, IsNoLongName, ReadsOrder, ReadsWords};
 ghost use Rattle.lines.specs.declared.line.ReplayOrder.{ReplayOrder};
 
@@ -61,6 +61,7 @@ fn parse_words(mut words: Words<'_>) -> Option<Line<'_>>
         name if is(name, "compact") => compact(words),
         name if is(name, "stop") => stop(words),
         name if is(name, "lose") => lose(words),
+        name if is(name, "fault") => fault(words),
         name if is(name, "clean") => clean(words),
         name if is(name, "begin") => begin(words),
         name if is(name, "recover") => recover(words),
@@ -172,6 +173,33 @@ fn stop(words: Words<'_>) -> Option<Line<'_>>
 {
     let takes = only_number(words)?;
     Some(Line::Stop { takes })
+}
+
+/// The words behind `fault` as which take ends in it, and whether its op is taken.
+#[tactic(auto, using(crate::proofs::Spelling::decimal_is_word))]
+#[inline(never)]
+fn fault(mut words: Words<'_>) -> Option<Line<'_>>
+    ensures { ReadsWords (codes "fault" ∷ words.entry) result }
+{
+    let takes = words.count(u64::MAX)?;
+    match fate(words) {
+        Some(taken) => Some(Line::Fault { takes, taken }),
+        None => None,
+    }
+}
+
+/// The words as whether an op is taken.
+fn fate(mut words: Words<'_>) -> Option<bool>
+    ensures sound { IfSome result (λ taken. words.entry ≡ fate_word taken ∷ []) }
+    ensures complete { IsNone result → (taken : Bool) → words.entry ≢ fate_word taken ∷ [] }
+{
+    let word = words.next_word()?;
+    words.end()?;
+    match word {
+        word if is(word, "taken") => Some(true),
+        word if is(word, "lost") => Some(false),
+        _ => None,
+    }
 }
 
 /// The word behind `lose` as the number of a backup.

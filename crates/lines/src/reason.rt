@@ -41,6 +41,7 @@ pub enum Shape {
     Segment,
     Segments,
     Ops,
+    Fault,
     Backup,
     Order,
     Alone,
@@ -59,6 +60,7 @@ impl Shape {
             Shape::Segment => " has the number of a segment",
             Shape::Segments => " has the numbers of one segment or more",
             Shape::Ops => " has a number of ops",
+            Shape::Fault => " has the number of a take, counted from 1, and taken or lost",
             Shape::Backup => " has the number of a backup",
             Shape::Order => {
                 " has nothing behind it, or reverse, or threads and a number of workers (1 to 64)"

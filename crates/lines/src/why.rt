@@ -22,6 +22,7 @@ const COMMANDS: &[(&str, Shape)] = &[
     ("room", Shape::Alone),
     ("hex", Shape::Segment),
     ("stop", Shape::Ops),
+    ("fault", Shape::Fault),
     ("crash", Shape::Alone),
     ("lose", Shape::Backup),
     ("will", Shape::Alone),
@@ -115,6 +116,7 @@ fn wrong_word(rest: Option<&[u8]>, shape: Shape) -> Option<Reason>
         ),
         Shape::Key => wrong_of(rest, &[WordKind::Number, WordKind::Key]),
         Shape::Segment | Shape::Ops | Shape::Backup => wrong_of(rest, &[WordKind::Number]),
+        Shape::Fault => wrong_of(rest, &[WordKind::Number, WordKind::Any]),
         Shape::Segments => wrong_number(rest),
         Shape::Clients => wrong_of(
             rest,

@@ -1,14 +1,17 @@
 -- What is done under the lock, as the seat sees it.
-use Rattle.std.proofs.Common.{◌≡◌, ℕ, Bool, true, false, Ok, Err, ⊎_elim, inl, inr}
+use Rattle.std.proofs.Common.{◌≡◌, ◌∙◌, sym, ℕ, Bool, true, false, List, Ok, Err, ⊎_elim, inl, inr}
 use Rattle.std.specs.Prelude.{Result, MatchBool}
 use Rattle.versioned_map.specs.declared.command.Command.{Command}
+use Rattle.versioned_map.specs.declared.command.Record.{Record}
 use Rattle.versioned_map.specs.declared.command.Reply.{Reply}
 use Rattle.store_seat.specs.declared.fault.CallFault.{CallFault}
-use Rattle.store_seat.specs.declared.fault.CallFault.TheVariants.{Refused, Unsure, SeatUnknown, CellRefused}
+use Rattle.store_seat.specs.declared.fault.CallFault.TheVariants.{Refused, Unsure, SeatUnknown, CellRefused, NotYours}
 use Rattle.store_seat.specs.Calls.{AppliesSeat}
-use Rattle.store_seat.specs.Seats.{SeatValue, answered}
-use Rattle.locked_log.specs.Applies.{AppliesHeld, Settles, DoesNotSettle}
-use Rattle.locked_log.specs.Held.{Held}
+use Rattle.store_seat.specs.Seats.{SeatValue, told, answered}
+use Rattle.history_row.specs.Receipts.{Told}
+use Rattle.store_seat.specs.Claims.{ClaimsSeat, Hands, IsOwn}
+use Rattle.locked_log.specs.Applies.{AppliesHeld, ClaimsHeld, Settles, DoesNotSettle}
+use Rattle.locked_log.specs.Held.{Held, history}
 
 pub seat_of : (s t : Held) (m n : SeatValue) (command : Command) (r : Result (ℕ × Reply) CallFault)
     → AppliesHeld s m command r t n
@@ -18,6 +21,27 @@ seat_of s t m n command (Err (Refused e)) h = h.3
 seat_of s t m n command (Err (Unsure place e)) h = h
 seat_of s t m n command (Err SeatUnknown) h = h.2
 seat_of s t m n command (Err CellRefused) h = ⊎_elim (λ x. inl x.2) (λ x. inr x.2.seat) h
+seat_of s t m n command (Err NotYours) h = h
+
+own_of : (records : List Record) (m : SeatValue) (place : ℕ) (reply : Reply) (receipt : Told)
+    → Hands records m place reply receipt → IsOwn m place reply receipt
+own_of records m place reply receipt h = (
+  h.above,
+  (
+    h.what.command,
+    h.receipt_is
+        ∙ (λ i. told place (record { seat = h.mine i; command = h.what.command; reply = sym h.reply_is i })),
+  ),
+)
+
+pub claim_of : (s : Held) (m : SeatValue) (place : ℕ) (r : Result (Reply × Told) CallFault) → ClaimsHeld s m place r
+    → ClaimsSeat m place r
+claim_of s m place (Ok r) h = own_of (history s) m place r.0 r.1 h.2
+claim_of s m place (Err (Refused e)) h = h
+claim_of s m place (Err (Unsure at e)) h = h.3
+claim_of s m place (Err SeatUnknown) h = tt
+claim_of s m place (Err CellRefused) h = tt
+claim_of s m place (Err NotYours) h = tt
 
 pub settle_of : (s t : Held) (m n : SeatValue) (place : ℕ) (r : Bool)
     → MatchBool r (Settles s m place t n) (DoesNotSettle s m place t n)

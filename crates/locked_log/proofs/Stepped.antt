@@ -171,6 +171,11 @@ module _ (s : Held) (n : ℕ) (w : World) (is : w ≡ limited_world s.world n) (
   pub limited_state : (made : Made) → IsState s made → IsState (record s { world = w }) made
   limited_state made st = moved_state s w 0 made st keeps valid (ap (λ (v : World). v.knows.history) is)
 
+-- a fault is asked for, which no clause sees
+pub same_state : (s : Held) (w : World) → w ≡ s.world → (made : Made) → IsState s made
+    → IsState (record s { world = w }) made
+same_state s w is made st = subst (λ (x : World). IsState (record s { world = x }) made) (sym is) st
+
 -- ---- from what the turn ensures
 
 -- a turn leaves the history

@@ -1,6 +1,6 @@
 //! A command under the lock.
 
-ghost use Rattle.std.specs.Prelude.{◌≡◌, true, Some};
+ghost use Rattle.std.specs.Prelude.{◌≡◌, true, Some, Err};
 ghost use Rattle.master_state.specs.Causes.{command_refusal};
 ghost use Rattle.master_state.specs.declared.step.Refusal.TheVariants as refusal;
 ghost use Rattle.locked_log.specs.Applies.{AppliesHeld};
@@ -14,8 +14,51 @@ use store_seat::{CallFault, Naming, Seat, file};
 use store_step::apply_command;
 
 impl<F: Fleet, B: Naming> State<F, B> {
-    /// One command of this seat.
+    /// One command of this seat. Memory for the cell of its record is had before the step.
     pub fn apply_held(
+        &mut self,
+        seat: &mut Seat<B>,
+        command: Command,
+    ) -> Result<(u64, Reply), CallFault>
+        ensures applies { AppliesHeld (held F.state self.old) seat.old command result
+            (held F.state self.new) seat.new }
+        ensures lasts { Lasts 1 (held F.state self.old) (held F.state self.new) }
+        ensures valid { IsState (held F.state self.new) B.made }
+    {
+        if !self.reserve() {
+            return Err(self.want(seat, &command));
+        }
+        self.apply_reserved(seat, command)
+    }
+
+    /// Takes memory for the cell of one record, unless there is some. Answers whether there is; nothing else changes.
+    fn reserve(&mut self) -> bool
+        ensures same { self.new ≡ self.old }
+        ensures valid { IsState (held F.state self.new) B.made }
+    {
+        self.row.reserve(self.alloc).is_ok()
+    }
+
+    /// Why a command of this seat is refused if memory for its cell was: by the test that fails, or else for memory.
+    fn want(&self, seat: &Seat<B>, command: &Command) -> CallFault
+        ensures { AppliesHeld (held F.state self.now) seat.now command.now (Err result)
+            (held F.state self.now) seat.now }
+    {
+        if self.is_refused {
+            return CallFault::CellRefused;
+        }
+        if !self.knows(seat) {
+            return CallFault::SeatUnknown;
+        }
+        match self.master.would(seat.number(), command) {
+            Ok(()) => {}
+            Err(refusal) => return CallFault::Refused(refusal),
+        }
+        CallFault::Refused(Refusal::NoMemory)
+    }
+
+    /// One command of this seat, once there is memory for the cell of its record.
+    fn apply_reserved(
         &mut self,
         seat: &mut Seat<B>,
         command: Command,

@@ -1,15 +1,17 @@
 //! The value under the lock, as the calls of a seat see it.
 
 ghost use Rattle.std.specs.Prelude.{◌≡◌, ◌≤◌, MatchBool};
-ghost use Rattle.locked_log.specs.Applies.{Attempts, Proceeds};
+ghost use Rattle.locked_log.specs.Applies.{Attempts, ClaimsHeld, Proceeds};
 ghost use Rattle.locked_log.specs.Held.{held};
+ghost use Rattle.store_seat.specs.Claims.{ClaimsSeat};
 ghost use Rattle.store_seat.specs.Seats.{answered};
 ghost use Rattle.store_seat.specs.Shared.{AttemptsSeat, ProceedsSeat};
 
 use crate::state::State;
-use master::{Command, Refusal};
+use history_row::Receipt;
+use master::{Command, Refusal, Reply};
 use replica::Fleet;
-use store_seat::{Attempt, Log, Naming, Progress, Seat};
+use store_seat::{Attempt, CallFault, Log, Naming, Progress, Seat};
 use store_step::CleanTurn;
 
 impl<F: Fleet, B: Naming> Log<B> for State<F, B> {
@@ -46,6 +48,14 @@ impl<F: Fleet, B: Naming> Log<B> for State<F, B> {
         ensures seat { MatchBool result (seat.new ≡ answered seat.old place) (seat.new ≡ seat.old) }
     {
         self.settle_held(seat, place)
+    }
+
+    fn claim(&mut self, seat: &Seat<B>, place: u64) -> Result<(Reply, Receipt<B>), CallFault>
+        ensures seat { ClaimsSeat seat.now place result }
+        ensures claims { ClaimsHeld (held F.state self.old) seat.now place result }
+        ensures same { held F.state self.new ≡ held F.state self.old }
+    {
+        self.claim_held(seat, place)
     }
 
     fn push(&mut self) -> Result<(), Refusal> {

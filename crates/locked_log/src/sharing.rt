@@ -117,6 +117,7 @@ fn file_all<B: Naming>(
         if what.seat >= count {
             return Err(ShareFault::StrangeSeat);
         }
+        row.reserve(alloc)?;
         if !file_next(alloc, history, i, row, book, total, seats) {
             return Err(ShareFault::CellRefused);
         }

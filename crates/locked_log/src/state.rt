@@ -87,4 +87,11 @@ impl<F: Bench, B: Naming> State<F, B> {
     {
         self.master.limit(n)
     }
+
+    /// Asks the fleet for a fault of the `n`-th take from now, whose op is taken or not. With 0 none comes.
+    pub fn fault_held(&mut self, n: u64, taken: bool)
+        ensures { held F.Fleet.state self.new ≡ held F.Fleet.state self.old }
+    {
+        self.master.fault_at(n, taken)
+    }
 }

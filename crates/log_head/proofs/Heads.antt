@@ -1,13 +1,15 @@
 -- Heads: where units end, and what replicas have taken.
 use Rattle.std.proofs.Common.{◌≡◌, ℕ, zero, suc, ◌+◌, ◌<◌, ◌≤◌, true, false, List, [], ◌∷◌, ◌++◌, length, take}
-use Rattle.std.proofs.Common.{get_or, Some, None, refl, subst}
+use Rattle.std.proofs.Common.{get_or, Bool, Some, None, refl, subst}
 use Rattle.std.proofs.Common.{sym, ap, ◌∙◌, add-one, arith}
-use Rattle.std.specs.Prelude.{slice_get, slice_set, nat_lt, Option, IfSome, IfNone}
+use Rattle.std.specs.Prelude.{slice_get, slice_set, nat_lt, Option, IfSome, IfNone, is_some}
+use Rattle.std.specs.Bool.{then_some}
+use Rattle.std.specs.Option.{option_map}
 use Rattle.std.specs.List.{AllByRecursion}
 use Rattle.std.proofs.Math.Seq.{take-append_seam, take-suc}
 use Rattle.std.proofs.lemmas.Bool.Decides.{nat_tests}
 use Rattle.std.proofs.lemmas.List.{length-append, length-take-le, take-append-le}
-use Rattle.std.proofs.lemmas.Option.{same_Some, slice_get_within}
+use Rattle.std.proofs.lemmas.Option.{same_Some, slice_get_past, slice_get_within}
 use Rattle.entry.proofs.ListLemmas.{all_append, slice_get_last, slice_get_left}
 use Rattle.entry.specs.declared.entry.Entry.{Entry}
 use Rattle.entry.specs.Text.{text_of}
@@ -15,7 +17,7 @@ use Rattle.segment.proofs.RowLemmas.{text_of-append}
 use Rattle.log_head.specs.declared.head.UnitEnd.{UnitEnd}
 use Rattle.log_model.specs.Data.{fewest}
 use Rattle.log_model.proofs.Counts.{fewest_below}
-use Rattle.log_head.specs.Head.{HeadValue, end_of, EndAt, IsLagging, everywhere}
+use Rattle.log_head.specs.Head.{HeadValue, end_of, EndAt, IsLagging, everywhere, is_up_to, lacks_to, record_at}
 
 pub EndAt_le : (us : List UnitEnd) (from len : ℕ) → EndAt from us len → from ≤ len
 EndAt_le [] from len e = omega arith
@@ -176,3 +178,23 @@ module _ (h : HeadValue) where
 
   pub everywhere_open : h.replicas ≤ length h.taken → everywhere h ≡ fewest (length h.units) h.taken
   everywhere_open le = let test : nat_lt (length h.taken) h.replicas ≡ false = grind (arith, nat_tests) in rw test refl
+
+  -- no replica lags: each has the units of all records
+  pub lacks_none : h.replicas ≤ length h.taken → IsLagging (length h.units) h.taken None → (number : ℕ)
+      → lacks_to h number ≡ false
+  lacks_none le none number =
+      ap (λ (n : ℕ). is_up_to number (record_at h.units n))
+      (everywhere_open le ∙ fewest_all (length h.units) h.taken none)
+      ∙ ap (λ (o : Option UnitEnd). is_up_to number (option_map (λ (u : UnitEnd). u.number) o))
+      (slice_get_past h.units (length h.units) (omega arith))
+
+  -- one lags: it lacks what some replica lacks
+  pub lagging_has : h.replicas ≤ length h.taken → (j n : ℕ) → IsLagging (length h.units) h.taken (Some j)
+      → slice_get h.taken j ≡ Some n → everywhere h ≡ n
+  lagging_has le j n least has =
+      let same : n ≡ least.0 = same_Some n least.0 (sym has ∙ least.1) in
+      everywhere_open le ∙ fewest_at (length h.units) least.0 j h.taken least.1 least.2 least.3 ∙ sym same
+
+pub is_some_then : {A : Type 0} (b : Bool) (x : A) → is_some (then_some b x) ≡ b
+is_some_then true x = refl
+is_some_then false x = refl

@@ -1,6 +1,6 @@
 -- The head of the log.
-use Rattle.std.specs.Prelude.{◌≡◌, ℕ, zero, suc, ◌+◌, ◌<◌, ◌≤◌, ◌==◌, ◌&&◌, List, [], ◌∷◌, length, take, Bool}
-use Rattle.std.specs.Prelude.{Option, Some, None, IfSome, is_none, slice_get, nat_lt, if◌then◌else◌}
+use Rattle.std.specs.Prelude.{◌≡◌, ℕ, zero, suc, ◌+◌, ◌<◌, ◌≤◌, ◌==◌, ◌&&◌, List, [], ◌∷◌, length, take, Bool, false}
+use Rattle.std.specs.Prelude.{Option, Some, None, IfSome, is_none, slice_get, nat_le, nat_lt, if◌then◌else◌}
 use Rattle.entry.specs.declared.entry.Entry.{Entry}
 use Rattle.entry.specs.Text.{Opening, text_of, opening_of, IsSegment}
 use Rattle.std.specs.List.{AllByRecursion}
@@ -81,3 +81,11 @@ IsLagging units ns (Some j) =
 -- how many units every replica has
 abbrev pub everywhere : HeadValue → ℕ
 everywhere h = if nat_lt (length h.taken) h.replicas then 0 else fewest (length h.units) h.taken
+
+-- there is a record, and its number is at most this one
+abbrev pub is_up_to : ℕ → Option ℕ → Bool
+is_up_to number first = option_map_or (λ (n : ℕ). nat_le n number) first false
+
+-- some replica lacks a unit of a record up to this number: the first unit that one lacks is of such a record
+abbrev pub lacks_to : HeadValue → ℕ → Bool
+lacks_to h number = is_up_to number (record_at h.units (everywhere h))

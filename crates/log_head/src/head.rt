@@ -199,14 +199,15 @@ impl Head {
         }
     }
 
-    /// The bytes of all units behind the first `units`: what a replica with just these units lacks.
+    /// What a replica with just the first `units` lacks: where it goes on, and the bytes of all units from there on.
     #[tactic(auto, using(crate::proofs::Heads::end_of_all))]
-    pub fn bytes_behind(&self, units: usize) -> &[u8]
+    pub fn behind(&self, units: usize) -> (usize, &[u8])
         requires { units ≤ length self.now.units }
-        ensures { result.now ≡ bytes_between self.entry.now units (length self.entry.now.units) }
+        ensures start { result.0 ≡ end_of self.entry.now.base self.entry.now.units units }
+        ensures bytes { result.1.now ≡ bytes_between self.entry.now units (length self.entry.now.units) }
     {
         let start = self.end_of(units);
-        &self.image.bytes()[start..]
+        (start, &self.image.bytes()[start..])
     }
 
     /// The replica that has the fewest units, and of several the first. `None` if each replica has all units.

@@ -1,14 +1,14 @@
 //! What a head pushes next, and how it rolls to the next head.
 
 ghost use Rattle.std.specs.Prelude.{◌≡◌, ◌+◌, ◌<◌, ◌≤◌, ◌++◌, ◌∷◌, [], ℕ, List, None, Some, true, length, IfOk, IfSome};
-ghost use Rattle.std.specs.Prelude.{IsSome, OnOk, OnErr, vec_len, vec_capacity};
+ghost use Rattle.std.specs.Prelude.{IsSome, OnOk, OnErr, is_some, vec_len, vec_capacity};
 ghost use Rattle.std.specs.List.Sorted.{IsStrictlyIncreasing};
 ghost use Rattle.std.specs.Option.{option_len, option_to_list};
 ghost use Rattle.entry.specs.View.{shown_ids};
 ghost use Rattle.log_model.specs.Data.{start_entries};
 ghost use Rattle.log_model.specs.Ids.{has, all_inserted, without};
 ghost use Rattle.replica.specs.Op.{shown_op};
-ghost use Rattle.log_head.specs.Head.{digest_of, is_open, IsHeadValue};
+ghost use Rattle.log_head.specs.Head.{digest_of, is_open, is_up_to, lacks_to, record_at, IsHeadValue};
 ghost use Rattle.log_head.specs.Next.{IsNextPush, op_of};
 ghost use Rattle.log_head.specs.Steps.{start_after, others_after, with_roll, with_new_replica, with_closed_replica};
 ghost use Rattle.log_head.specs.Steps.{old_image};
@@ -60,6 +60,32 @@ impl Head {
         }
     }
 
+    /// What the next push does, if some replica lacks a unit of a record up to this number. `None` if each replica has
+    /// the units of all records up to it.
+    pub fn next_for(&self, number: usize) -> Option<Next>
+        ensures next { IfSome result (λ next. IsNextPush self.now (Some next)) }
+        ensures lacks { is_some result ≡ lacks_to self.now number }
+        ensures valid { IsHeadValue self.now }
+    {
+        if self.taken.len() < self.replicas {
+            let is_lacking = self.has_unit_to(0, number);
+            return is_lacking.then_some(Next::OpenFirst(self.taken.len()));
+        }
+        let replica = self.lagging()?;
+        let is_lacking = self.has_unit_to(self.units_of(replica), number);
+        is_lacking.then_some(Next::Extend(replica))
+    }
+
+    /// Whether there is a unit at this place, and it is of a record up to this number.
+    fn has_unit_to(&self, place: usize, number: usize) -> bool
+        ensures { result ≡ is_up_to number (record_at self.now.units place) }
+    {
+        match self.units.get(place) {
+            None => false,
+            Some(unit) => unit.number <= number,
+        }
+    }
+
     /// The op that the next push hands over.
     pub fn op(&self, master: u64, next: Next) -> Op<'_>
         requires { IsNextPush self.now (Some next) }
@@ -72,14 +98,11 @@ impl Head {
                 act: Act::Open(self.opening()),
             },
             Next::Extend(replica) => {
-                let units = self.units_of(replica);
+                let (at, bytes) = self.behind(self.units_of(replica));
                 Op {
                     master,
                     segment: self.id,
-                    act: Act::Extend {
-                        at: self.end_of(units),
-                        bytes: self.bytes_behind(units),
-                    },
+                    act: Act::Extend { at, bytes },
                 }
             }
             Next::OpenNew(_) => match &self.roll {

@@ -30,3 +30,4 @@ pub mod Validity
 mod Retired
 pub mod SizeTablets
 mod HeldBelow
+mod PushedFor

@@ -1,5 +1,6 @@
 -- What a step makes of a master and its fleet, and what many steps do.
-use Rattle.std.specs.Prelude.{◌≡◌, ◌⊎◌, List, [], ◌∷◌, Result, Ok, Err, Some, None}
+use Rattle.std.specs.Prelude.{◌≡◌, ◌⊎◌, ℕ, ◌<◌, ◌≤◌, Bool, true, false, List, [], ◌∷◌, Result, Ok, Err, Some, None}
+use Rattle.log_model.specs.Data.{durable_of}
 use Rattle.log_model.specs.Ops.{LogOp, op_of}
 use Rattle.replica.specs.Take.{Refuses}
 use Rattle.replica.specs.declared.op.TakeFault.TheVariants as take_fault
@@ -77,6 +78,13 @@ Declines old Free r new =
 abbrev pub Steps : World → Step → Result StepAnswer Refusal → World → Type 0
 Steps old step (Ok answer) new = Accepts old step answer new
 Steps old step (Err refusal) new = Declines old step refusal new
+
+-- A push for the record at this place. If that is durable, nothing is done; else it is the step Push.
+abbrev pub PushesFor : ℕ → World → Result Bool Refusal → World → Type 0
+PushesFor place old (Ok true) new = (place < durable_of (log_of old.knows)) × (new ≡ old)
+PushesFor place old (Ok false) new =
+    (durable_of (log_of old.knows) ≤ place) × (answer : StepAnswer) × Accepts old Push answer new
+PushesFor place old (Err refusal) new = (durable_of (log_of old.knows) ≤ place) × Declines old Push refusal new
 
 -- ---- many steps
 

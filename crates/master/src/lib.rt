@@ -17,6 +17,7 @@ mod cleaning;
 mod loading;
 mod master;
 mod pushing;
+mod retiring;
 mod showing;
 
 pub use history::{CommandRef, History, RecordRef, ReplyRef, ValueRef};

@@ -12,11 +12,11 @@ ghost use Rattle.master_state.specs.Data.{fresh_data};
 ghost use Rattle.master_state.specs.Log.{log_of};
 ghost use Rattle.master.specs.Invariant.{IsWellKept};
 ghost use Rattle.master.specs.Keeps.{Keeps};
-ghost use Rattle.master.specs.Steps.{Accepts, Declines, Steps, IsRun};
+ghost use Rattle.master.specs.Steps.{Accepts, Declines, Steps, PushesFor, IsRun};
 ghost use Rattle.master.specs.Valid.{IsValid};
 ghost use Rattle.master.specs.World.{world};
 
-use crate::pushing;
+use crate::{pushing, retiring};
 use entry::{NoMemory, Tablet};
 use history::{CommandRef, History};
 use master_core::{Commands, Compacts, Config, Core, Refusal, Rolls, Step, StepAnswer};
@@ -266,6 +266,23 @@ impl<F: Fleet> Master<F> {
         pushing::push(&mut self.core, &mut self.fleet)
     }
 
+    /// Makes the step Push, unless the record at this place is durable. Whether it is, and then nothing changed. It
+    /// looks once for both.
+    #[inline(always)]
+    pub fn push_for(&mut self, place: u64) -> Result<bool, Refusal>
+        requires { place < length self.old.knows.history }
+        ensures was_valid { IsValid self.old.knows (F.state self.old.fleet) }
+        ensures gives { PushesFor place (world F.state self.old) result (world F.state self.new) }
+        ensures keeps { Keeps 1 (world F.state self.old) (world F.state self.new) }
+        ensures valid { IsValid self.new.knows (F.state self.new.fleet) }
+    {
+        self.show_valid();
+        self.show_kept();
+        let is_durable = pushing::push_for(&mut self.core, &mut self.fleet, place);
+        self.show_valid();
+        is_durable
+    }
+
     /// Makes the steps in order, and answers what each of them answered. All memory for this is taken before the first
     /// step, so NoMemory means that no step was made. A run of no steps takes none.
     pub fn run(&mut self, steps: &[Step]) -> Result<Vec<Result<StepAnswer, Refusal>>, NoMemory>
@@ -308,7 +325,7 @@ impl<F: Fleet> Master<F> {
 
 impl<F: Bench> Master<F> {
     ghost use Rattle.replica.specs.Retire.{Retires};
-    ghost use Rattle.master.specs.World.{limited_world};
+    ghost use Rattle.master.specs.World.{limited_world, retired_data};
 
     /// Lets the fleet take `n` more ops.
     pub fn limit(&mut self, n: u64)
@@ -319,18 +336,28 @@ impl<F: Bench> Master<F> {
         self.show_valid();
     }
 
+    /// Asks the fleet for a fault of the `n`-th take from now, whose op is taken or not. With 0 none comes. Nothing
+    /// else changes.
+    pub fn fault_at(&mut self, n: u64, taken: bool)
+        ensures same { world F.Fleet.state self.new ≡ world F.Fleet.state self.old }
+        ensures valid { IsValid self.new.knows (F.Fleet.state self.new.fleet) }
+    {
+        self.fleet.fault_at(n, taken);
+        self.show_valid();
+    }
+
     /// Frees the replicas of all other masters: by backup, then by master, then by segment, one Free a take. It ends at
     /// the first fault, and what was freed before stays freed. What the master knows and its own replicas stay as they
-    /// are, so no fault halts it.
+    /// are, but after a fault of a backup the master stays halted.
     pub fn retire(&mut self) -> Result<(), TakeFault>
         ensures retires { Retires (F.Fleet.state self.old.fleet) self.old.knows.config.master result
             (F.Fleet.state self.new.fleet) }
-        ensures knows { self.new.knows ≡ self.old.knows }
+        ensures knows { self.new.knows ≡ retired_data result self.old.knows }
         ensures same { (b s : ℕ) → (F.Fleet.state self.new.fleet).picture b self.old.knows.config.master s
             ≡ (F.Fleet.state self.old.fleet).picture b self.old.knows.config.master s }
         ensures valid { IsValid self.new.knows (F.Fleet.state self.new.fleet) }
     {
-        let result = self.fleet.retire(self.core.master());
+        let result = retiring::retire(&mut self.core, &mut self.fleet);
         self.show_valid();
         result
     }

@@ -1,10 +1,10 @@
 //! One op of a push, on the core of a master and its fleet.
 
-ghost use Rattle.std.specs.Prelude.{◌≡◌, Some, false, IfOk, IfErr};
+ghost use Rattle.std.specs.Prelude.{◌≡◌, ◌<◌, length, Some, false, IfOk, IfErr};
 ghost use Rattle.log_head.specs.Next.{IsNextPush};
 ghost use Rattle.master.specs.Invariant.{IsServed, StaysServed};
 ghost use Rattle.master.specs.Pushes.{answer_of};
-ghost use Rattle.master.specs.Steps.{Accepts, Declines};
+ghost use Rattle.master.specs.Steps.{Accepts, Declines, PushesFor};
 ghost use Rattle.master.specs.World.{world_of};
 
 use log_head::Next;
@@ -26,6 +26,29 @@ pub(crate) fn push<F: Fleet>(core: &mut Core, fleet: &mut F) -> Result<StepAnswe
     match core.next_push() {
         None => Err(Refusal::Nothing),
         Some(next) => hand(core, fleet, next),
+    }
+}
+
+/// Hands one op to one backup, unless the record at this place is durable. Whether it is.
+pub(crate) fn push_for<F: Fleet>(
+    core: &mut Core,
+    fleet: &mut F,
+    place: u64,
+) -> Result<bool, Refusal>
+    requires within { place < length core.old.history }
+    requires served { IsServed core.old (F.state fleet.old) }
+    ensures gives { PushesFor place (world_of core.old (F.state fleet.old)) result (world_of core.new (F.state fleet.new)) }
+    ensures served { StaysServed core.old (F.state fleet.old) core.new (F.state fleet.new) }
+{
+    let Some(next) = core.next_push_for(place) else {
+        return Ok(true);
+    };
+    if core.is_halted() {
+        return Err(Refusal::Halted);
+    }
+    match hand(core, fleet, next) {
+        Ok(_) => Ok(false),
+        Err(refusal) => Err(refusal),
     }
 }
 

@@ -32,3 +32,4 @@ pub mod LiveObjects
 pub mod LiveCore
 pub mod SizeWalk
 pub mod SizeOrder
+pub mod Awaited

@@ -1,7 +1,9 @@
 //! A pass of a core: it begins, copies entry by entry, and its survivor is sealed. What it leaves is freed.
 
-ghost use Rattle.std.specs.Prelude.{◌⊎◌, ◌≡◌, ◌<◌, ◌≤◌, ◌==◌, ℕ, None, Some, false, length, is_none, slice_get};
+ghost use Rattle.std.specs.Prelude.{◌⊎◌, ◌≡◌, ◌<◌, ◌≤◌, ◌==◌, ◌∷◌, [], ℕ, None, Some, false, length, is_none, slice_get};
 ghost use Rattle.std.specs.Prelude.{IfOk, IfErr, IfSome, IfNone, OnOk, OnErr, IsSome, if◌then◌else◌};
+ghost use Rattle.entry.specs.declared.entry.Entry.{Entry};
+ghost use Rattle.entry.specs.declared.entry.Role.{Role};
 ghost use Rattle.clean_model.specs.Steps.{MayBeginClean, seal_op};
 ghost use Rattle.log_model.specs.Ops.{op_of};
 ghost use Rattle.replica.specs.Op.{shown_op};
@@ -15,9 +17,11 @@ use crate::compacting::opening_id;
 use crate::victims::admit_pass;
 use cleaner::{Copied, Pass};
 use entry::{NoMemory, Row};
+use images::Images;
 use master_state::{Core, Refusal, StepAnswer, image_of};
 use replica::{Act, Op};
 use segment::Segment;
+use std::alloc::Global;
 
 /// The steps of a pass: it begins, it copies entry by entry, its survivor is sealed, and what it leaves is freed.
 pub trait Cleans {
@@ -73,11 +77,13 @@ impl Cleans for Core {
     {
         let near = admit_pass(self, victims.as_slice())?;
         let id = self.next_id;
-        let mut survivor = Segment::begin_survivor(self.alloc, self.config.master, id)?;
-        if let Some(spare) = self.closed.take_spare() {
-            survivor.move_into(spare);
-        }
-        survivor.reserve(self.config.segment as usize)?;
+        let survivor = new_survivor(
+            self.alloc,
+            &mut self.closed,
+            self.config.master,
+            id,
+            self.config.segment as usize,
+        )?;
         self.closed.reserve(2)?;
         let pass = Pass::begin(victims, near, id, &self.closed, &self.index);
         self.closed.add_reserved(id, survivor, true);
@@ -179,6 +185,26 @@ impl Cleans for Core {
             self.freed = 0;
         }
     }
+}
+
+/// The image of a survivor, with the memory of a whole segment: that of a dropped image, if one has left it.
+fn new_survivor(
+    alloc: Global,
+    closed: &mut Images,
+    master: u64,
+    id: u64,
+    segment: usize,
+) -> Result<Segment, NoMemory>
+    ensures survivor { IfOk result (λ survivor. survivor ≡
+        Entry.Header (record { master = master; segment = id; role = Role.Survivor }) ∷ []) }
+    ensures same { closed.new ≡ closed.old }
+{
+    let mut survivor = Segment::begin_survivor(alloc, master, id)?;
+    if let Some(spare) = closed.take_spare() {
+        survivor.move_into(spare);
+    }
+    survivor.reserve(segment)?;
+    Ok(survivor)
 }
 
 /// What a copy answers.

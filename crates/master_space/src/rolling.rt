@@ -1,14 +1,17 @@
 //! How a core rolls to the next head, and what it pushes next.
 
-ghost use Rattle.std.specs.Prelude.{◌⊎◌, ◌≡◌, [], None, Some, IfOk, IfErr, OnOk, OnErr, if◌then◌else◌};
+ghost use Rattle.std.specs.Prelude.{◌⊎◌, ◌≡◌, ◌<◌, ℕ, [], length, None, Some, IfSome, IfOk, IfErr, OnOk, OnErr};
+ghost use Rattle.std.specs.Prelude.{if◌then◌else◌, is_none, nat_lt};
 ghost use Rattle.std.specs.Option.{option_map, option_to_list};
 ghost use Rattle.std.specs.Result.{result_err};
+ghost use Rattle.log_model.specs.Data.{durable_of};
 ghost use Rattle.log_head.specs.Next.{IsNextPush};
 ghost use Rattle.log_head.specs.declared.next.Next.{Next as NextValue};
 ghost use Rattle.cleaner.specs.declared.pass.Pass.{Pass as OpenPass};
 ghost use Rattle.master_state.specs.Budget.{victims_of, survivors_of};
 ghost use Rattle.master_state.specs.Causes.{roll_refusal};
 ghost use Rattle.master_state.specs.Invariant.{IsCore};
+ghost use Rattle.master_state.specs.Log.{log_of};
 ghost use Rattle.master_state.specs.Steps.{BeginsRoll, MayRollNow, taken_data};
 
 use crate::ending::end_pass;
@@ -22,6 +25,9 @@ pub trait Rolls {
     /// This push is the next one.
     ghost may_take: { Self → NextValue → Type 0 };
 
+    /// The history has a record at this place.
+    ghost has_record: { Self → ℕ → Type 0 };
+
     /// Begins a roll. If a pass is ready, the roll is its commit: the next head's digest lists the survivor in place of
     /// the victims. It takes the memory of the next head's image whole, and all that the end of the roll takes. Nothing
     /// is appended until the roll has ended. A refusal changes nothing.
@@ -30,6 +36,10 @@ pub trait Rolls {
     /// What the next push does. `None` if nothing waits.
     fn next_push(&self) -> Option<Next>;
 
+    /// What the next push does, unless the record at this place is durable. `None` if it is.
+    fn next_push_for(&self, place: u64) -> Option<Next>
+        requires { has_record self.now place };
+
     /// Counts the op of a push that was taken. With the last Close of a commit its pass ends. It takes no memory.
     fn took(&mut self, next: Next)
         requires { may_take self.old next };
@@ -37,6 +47,8 @@ pub trait Rolls {
 
 impl Rolls for Core {
     ghost may_take = { λ core next. IsNextPush core.head (Some next) };
+
+    ghost has_record = { λ core place. place < length core.history };
 
     fn begin_roll(&mut self) -> Result<StepAnswer, Refusal>
         ensures begun { IfOk result (λ answer. BeginsRoll self.old answer self.new) }
@@ -80,6 +92,15 @@ impl Rolls for Core {
         ensures valid { IsCore self.now }
     {
         self.head.next_push()
+    }
+
+    fn next_push_for(&self, place: u64) -> Option<Next>
+        requires { place < length self.now.history }
+        ensures next { IfSome result (λ next. IsNextPush self.now.head (Some next)) }
+        ensures durable { is_none result ≡ nat_lt place (durable_of (log_of self.now)) }
+        ensures valid { IsCore self.now }
+    {
+        self.head.next_for(place as usize)
     }
 
     fn took(&mut self, next: Next)

@@ -27,6 +27,7 @@ use Rattle.next_master.specs.Recoveries.{IsTakenOver, MakesLimit, StandsAfter, a
 use Rattle.next_master.specs.Recoveries.{fault_answer}
 use Rattle.node.specs.Lives.{Left, Position}
 use Rattle.node.specs.Served.{IsNodeAt, IsOf, fleet_of, is_up, world_of}
+use Rattle.recovery.proofs.Following.{adopted_still}
 use Rattle.next_master.proofs.Retired.{others_gone, retire_keeps_end, spent_retire}
 
 -- ---- where a node stands
@@ -97,7 +98,8 @@ module _ (f : FleetState) (r : Rebuilt) (config : Config) (m : MasterValue Memor
     (frees : Frees (world fleet_state m) freed next) where
   succeeds : IsSuccessor config r f freed next
   succeeds = record {
-    adopted = subst (λ (d : MasterData). IsAdopted config r d) (sym frees.knows) adopted;
+    adopted = subst (λ (d : MasterData). IsAdopted config r d) (sym frees.knows)
+        (adopted_still config r m.knows freed adopted);
     taken = fleet_state m.fleet;
     on = on;
     retires = subst (λ (c : Config). Retires (fleet_state m.fleet) c.master freed next.fleet)

@@ -1,5 +1,6 @@
 pub mod WholeWill
 pub mod Recovered
 pub mod Retired
+pub mod Halted
 pub mod HowItEnds
 pub mod NextLife

@@ -8,7 +8,7 @@ use Rattle.lines.specs.Grammar.{Recover}
 use Rattle.lines.specs.declared.line.ReplayOrder.{ReplayOrder}
 use Rattle.lines.specs.declared.line.ReplayOrder.TheVariants as replay_order
 use Rattle.master.specs.Valid.{IsValid}
-use Rattle.master.specs.World.{MasterValue, World}
+use Rattle.master.specs.World.{MasterValue, World, retired_data}
 use Rattle.master_state.specs.declared.config.Config.{Config}
 use Rattle.master_state.specs.declared.step.Refusal.{Refusal}
 use Rattle.master_state.specs.declared.step.Refusal.TheVariants.{Spent}
@@ -140,9 +140,9 @@ RetiresOthers d new None = (m : MasterValue MemoryFleet) × (new ≡ Up m) × (m
 RetiresOthers d new (Some answer) =
     (f : FleetState) × IsValid d f × IsOf new (Some (left_now d f)) d × IsCut f answer
 
--- A master freed the replicas of all others, with this result.
+-- A master freed the replicas of all others, with this result. A fault of a backup halts it.
 pub record Frees (old : World) (freed : Result Unit TakeFault) (new : World) : Type 0 where
-  pub knows : new.knows ≡ old.knows
+  pub knows : new.knows ≡ retired_data freed old.knows
   pub valid : IsValid new.knows new.fleet
   pub retires : Retires old.fleet old.knows.config.master freed new.fleet
 

@@ -174,6 +174,7 @@ module _ (m e : MasterValue MemoryFleet) (on : IsMade (made_now 64 m.knows) e.kn
       subst (λ (n : Node). Answered d n config at line a) (sym stay)
       (subst (λ (x : Answer). Answered d (Up e) config at line x) (sym is)
       (uncounted_told answer.CellRefused (uncounted None)))
+  call_refused call_fault.NotYours new a (is, stay) = unknown new a is stay
 
 -- ---- of a node
 
@@ -232,6 +233,7 @@ module _ (old : Node) (m e : MasterValue MemoryFleet) (there : old ≡ Up m) (cl
   call_made (call_fault.Unsure place r) new a refuses = work_made r new a refuses
   call_made call_fault.SeatUnknown new a (is, same) = (is, stays_in new a answer.SeatUnknown is same refl)
   call_made call_fault.CellRefused new a (is, same) = (is, stays_in new a answer.CellRefused is same refl)
+  call_made call_fault.NotYours new a (is, same) = (is, stays_in new a answer.SeatUnknown is same refl)
 
   pub refused_made : (fault : CallFault) → RunsClients clients rounds m.knows (Err fault) (world fleet_state e)
       → (new : Node) (a : Answer)
@@ -311,6 +313,7 @@ no_count node new (call_fault.Unsure place r) a clients rounds calls refuses cou
     no_work node new r a clients rounds calls refuses counts
 no_count node new call_fault.SeatUnknown a clients rounds calls (is, same) counts = let both = sym is ∙ counts in cc
 no_count node new call_fault.CellRefused a clients rounds calls (is, same) counts = let both = sym is ∙ counts in cc
+no_count node new call_fault.NotYours a clients rounds calls (is, same) counts = let both = sym is ∙ counts in cc
 
 -- a node without a master makes no clients
 pub down_clients : (node : Node) (clients rounds : ℕ) → ((m : MasterValue MemoryFleet) → node ≡ Up m → ⊥)

@@ -4,7 +4,7 @@ use Rattle.std.specs.Prelude.{Err, IfSome, OnOk, IsTrue}
 use Rattle.backup.specs.State.{fleet_state, lost}
 use Rattle.backup.specs.declared.fleet.MemoryFleet.{MemoryFleet}
 use Rattle.lines.specs.Grammar.{LineValue, Idle, Roll, BeginRoll, Compact, Push, Clean, Begin, Copy, Seal, Free, Will}
-use Rattle.lines.specs.Grammar.{Recover, Hex, Log, Room, Stop, Crash, Lose, Holdings as HoldingsLine, Clients}
+use Rattle.lines.specs.Grammar.{Recover, Hex, Log, Room, Stop, Fault, Crash, Lose, Holdings as HoldingsLine, Clients}
 use Rattle.store_seat.specs.declared.fault.CallFault.{CallFault}
 use Rattle.store_seat.specs.declared.fault.CallFault.TheVariants as call_fault
 use Rattle.std.specs.Option.{option_map}
@@ -188,6 +188,8 @@ IsClientsAnswer f clients rounds (Err (call_fault.Refused r)) answer = IsClients
 IsClientsAnswer f clients rounds (Err (call_fault.Unsure place r)) answer = IsClientsRefusal f r answer
 IsClientsAnswer f clients rounds (Err call_fault.SeatUnknown) answer = answer ≡ answers.SeatUnknown
 IsClientsAnswer f clients rounds (Err call_fault.CellRefused) answer = answer ≡ answers.CellRefused
+-- clients settle nothing, so that this never comes
+IsClientsAnswer f clients rounds (Err call_fault.NotYours) answer = answer ≡ answers.SeatUnknown
 
 -- Clients made their rounds over a master, and the node has it again. The store could tell whose its records were, if
 -- no call was refused.
@@ -211,6 +213,7 @@ RefusesCall old (call_fault.Refused r) new answer = RefusesWork old r new answer
 RefusesCall old (call_fault.Unsure place r) new answer = RefusesWork old r new answer
 RefusesCall old call_fault.SeatUnknown new answer = (answer ≡ answers.SeatUnknown) × (new ≡ old)
 RefusesCall old call_fault.CellRefused new answer = (answer ≡ answers.CellRefused) × (new ≡ old)
+RefusesCall old call_fault.NotYours new answer = (answer ≡ answers.SeatUnknown) × (new ≡ old)
 
 -- Over the master of a node that is up just these clients make their rounds, and what comes of them is answered. Any
 -- other node does nothing.
@@ -255,6 +258,10 @@ LimitsFleet old takes new =
     (world_of new ≡ option_map (λ (w : World). limited_world w takes) (world_of old))
     × (fleet_of new ≡ option_map (λ (f : FleetState). limited f takes) (fleet_of old))
 
+-- what a master knows, and the state of the fleet, stay as they are
+abbrev pub KeepsFleet : Node → Node → Type 0
+KeepsFleet old new = (world_of new ≡ world_of old) × (fleet_of new ≡ fleet_of old)
+
 -- there is no master any more, and the fleet is the same
 abbrev pub LosesMaster : Node → Node → Type 0
 LosesMaster old new = (is_up new ≡ false) × (fleet_of new ≡ fleet_of old)
@@ -272,7 +279,7 @@ ShowsFleet node answer = Unit {0}
 
 -- What a line makes of the node: just the steps of its command, its step, its roll, its cleaning, or the rounds of its
 -- clients. A line that shows something changes nothing, and shows what this node has. A stop sets just the limit that
--- it names, and a crash leaves just the fleet. What a recovery makes is said of the session.
+-- it names, a fault that is asked for changes no count, and a crash leaves just the fleet. What a recovery makes is said of the session.
 abbrev pub MakesLine : Node → LineValue → Node → Answer → Type 0
 MakesLine old Roll new answer = MakesRoll old new answer
 MakesLine old BeginRoll new answer = MakesStep old step.BeginRoll new answer
@@ -290,6 +297,7 @@ MakesLine old Room new answer = (new ≡ old) × ShowsRoom old answer
 MakesLine old HoldingsLine new answer = (new ≡ old) × ShowsFleet old answer
 MakesLine old Will new answer = new ≡ old
 MakesLine old (Stop takes) new answer = LimitsFleet old takes new
+MakesLine old (Fault takes taken) new answer = KeepsFleet old new
 MakesLine old Crash new answer = LosesMaster old new
 MakesLine old (Lose backup) new answer = LosesOne old backup new
 MakesLine old (Recover order) new answer = ⊥

@@ -8,7 +8,7 @@ use Rattle.entry.specs.Meaning.{IsMeaning, among, contents_of}
 use Rattle.entry.specs.Order.{key_cmp}
 use Rattle.entry.specs.Text.{text_of}
 use Rattle.lines.specs.Grammar.{LineValue, Idle, Put, New, Cas, Get, Del, Compact, Roll, BeginRoll, Push, Log, Room}
-use Rattle.lines.specs.Grammar.{Hex, Stop, Crash, Lose, Will, Recover, Holdings, Clean, Begin, Copy, Seal, Free}
+use Rattle.lines.specs.Grammar.{Hex, Stop, Fault, Crash, Lose, Will, Recover, Holdings, Clean, Begin, Copy, Seal, Free}
 use Rattle.lines.specs.Grammar.{Clients}
 use Rattle.lines.specs.declared.line.ReplayOrder.{ReplayOrder}
 use Rattle.backup.specs.Inventory.{AreRising}
@@ -370,6 +370,7 @@ Tells config life at line (answer.Hex bytes) next = (at.left ≡ None)
 Tells config life at line (answer.NotInLog segment) next = (at.left ≡ None)
     × (line ≡ Hex segment) × IsImageAt config (life_to life at.made) segment None × (next ≡ at)
 Tells config life at line (answer.Stop takes) next = (line ≡ Stop takes) × (next ≡ at)
+Tells config life at line (answer.Fault takes taken) next = (line ≡ Fault takes taken) × (next ≡ at)
 Tells config life at line answer.Stopped next = ((at.left ≡ None)
     × (l : Left) × IsLeftBySpent config (life_to life next.made) l
     × (IsOut at line (Some l) next

@@ -106,6 +106,8 @@ impl Node {
             CallFault::Unsure(_, refusal) => self.refuse_work(refusal),
             CallFault::SeatUnknown => Answer::SeatUnknown,
             CallFault::CellRefused => Answer::CellRefused,
+            // Clients settle nothing.
+            CallFault::NotYours => Answer::SeatUnknown,
         }
     }
 

@@ -8,7 +8,7 @@ ghost use Rattle.versioned_map.specs.declared.command.Record.{Record as RecordVa
 ghost use Rattle.history.specs.View.{shown_command, shown_record};
 ghost use Rattle.answers.specs.Texts.{reply_text};
 ghost use Rattle.master_state.specs.declared.config.Config.{Config};
-ghost use Rattle.node.specs.Served.{IsDropped, fleet_of, is_up};
+ghost use Rattle.node.specs.Served.{IsDropped, KeepsFleet, fleet_of, is_up};
 ghost use Rattle.node.specs.Served.{AnswersLine, LimitsFleet, LosesMaster, LosesOne, MakesStep, MakesRoll, Refuses};
 ghost use Rattle.node.specs.Served.{AnswersStep, MakesClean, ShowsFleet, held_answer, step_told};
 ghost use Rattle.node.specs.Shows.{ShowsDigest, ShowsImage, ShowsRoom};
@@ -65,7 +65,7 @@ fn answer_of(made: StepAnswer) -> Answer
 }
 
 impl Node {
-    ghost use Rattle.lines.specs.Grammar.{Roll, Clean, Log, Room, Hex, Stop, Crash, Lose, Holdings};
+    ghost use Rattle.lines.specs.Grammar.{Roll, Clean, Log, Room, Hex, Stop, Fault, Crash, Lose, Holdings};
 
     /// Applies a command, which may lie anywhere, and pushes until its record is durable.
     #[inline(always)]
@@ -290,6 +290,19 @@ impl Node {
             Node::Changing => {}
         }
         Answer::Stop(takes)
+    }
+
+    /// Asks the fleet for a fault of this take from now, whose op is taken or not.
+    pub fn fault(&mut self, takes: u64, taken: bool) -> Answer
+        ensures told { (config : Config) → AnswersLine self.old config (Fault takes taken) self.new result }
+        ensures same { KeepsFleet self.old self.new }
+    {
+        match self {
+            Node::Up(up) => up.fault_at(takes, taken),
+            Node::Down(fleet) => fleet.fault_at(takes, taken),
+            Node::Changing => {}
+        }
+        Answer::Fault(takes, taken)
     }
 
     /// Drops the master. The fleet stays as it is.

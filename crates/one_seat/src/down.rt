@@ -1,6 +1,6 @@
 //! Lines while there is no master: the fleet is limited, loses backups, and is recovered.
 
-ghost use Rattle.std.specs.Prelude.{◌≡◌, IfOk, IfSome};
+ghost use Rattle.std.specs.Prelude.{◌≡◌, IfOk, IfSome, IsTrue};
 ghost use Rattle.backup.specs.State.{fleet_state};
 ghost use Rattle.one_seat.specs.Lives.{CanBegin, IsOpening};
 
@@ -108,6 +108,10 @@ fn answer_of(
             fleet.limit(takes);
             Ok(Answer::Stop(takes))
         }
+        Line::Fault { takes, taken } => {
+            fleet.fault_at(takes, taken);
+            Ok(Answer::Fault(takes, taken))
+        }
         Line::Lose { backup } if backup >= options.backups => {
             Err(LineFault::NoBackup(options.backups))
         }
@@ -185,7 +189,7 @@ fn retire<I: BufRead + Drop, O: Write + Drop>(
     dialogue: &mut Dialogue<I, O>,
     master: &mut Master<MemoryFleet>,
 ) -> bool
-    ensures { master.new.knows ≡ master.old.knows }
+    ensures { IsTrue result → master.new.knows ≡ master.old.knows }
 {
     match master.retire() {
         Ok(()) => true,

@@ -73,6 +73,10 @@ impl<B: Naming> Life<B> {
                 self.store.limit(rt, takes);
                 Ok(Answer::Stop(takes))
             }
+            Line::Fault { takes, taken } => {
+                self.store.fault_at(rt, takes, taken);
+                Ok(Answer::Fault(takes, taken))
+            }
             Line::Crash => Ok(Answer::Crashed),
             Line::Will => Ok(renew(rt, self.alloc, &self.store, options, will)),
             Line::Lose { backup } if backup >= options.backups => {
@@ -103,6 +107,8 @@ impl<B: Naming> Life<B> {
             }
             Err(CallFault::SeatUnknown) => Err(LineFault::SeatUnknown),
             Err(CallFault::CellRefused) => Err(LineFault::CellRefused),
+            // Nothing is settled here.
+            Err(CallFault::NotYours) => Err(LineFault::SeatUnknown),
         }
     }
 

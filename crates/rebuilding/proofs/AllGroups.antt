@@ -17,6 +17,7 @@ use Rattle.entry.specs.Bag.{IsAmong}
 use Rattle.entry.specs.Key.{place_of}
 use Rattle.entry.specs.Meaning.{IsOfKey}
 use Rattle.entry.specs.Text.{is_data}
+use Rattle.entry.specs.View.{shown_key}
 use Rattle.entry.proofs.BagLemmas.{among_image, among_images, among_push}
 use Rattle.tablet_will.specs.declared.part.Part.{Part}
 use Rattle.tablet_will.specs.Parts.{AreParts, partition_of_key, partitions_of}
@@ -27,11 +28,10 @@ use Rattle.division.specs.Division.{is_number, goes_to, group_in, groups_of, num
 use Rattle.division.specs.Division.{IsDivideFault}
 use Rattle.claims.specs.Bags.{segments_bag}
 use Rattle.claims.specs.Claims.{Claimed}
-use Rattle.claims.specs.Faults.{as_replay_fault}
 use Rattle.claims.specs.declared.fault.ReplayFault.{ReplayFault}
 use Rattle.claims.specs.declared.fault.ReplayFault.TheVariants as fault
 use Rattle.rebuilding.specs.Rebuilds.{header_id, id_of, ids_of, count_of, IsDouble, IsRebuildFault, NamesEach}
-use Rattle.rebuilding.specs.Turns.{all_groups, AreAllCovered, IsGroupsFault, IsSecond, IsOrderFault}
+use Rattle.rebuilding.specs.Turns.{all_groups, AreAllCovered, IsGroupsFault, IsSecond, IsOrderFault, IsPassedOn}
 use Rattle.claims.specs.Settled.{AreOf}
 use Rattle.claims.proofs.Members.{flat_among, among_flat, among_filter, filter_among, range_among, map_at}
 use Rattle.claims.proofs.MeaningLemmas.{claims_within}
@@ -76,11 +76,17 @@ module _ (qs : List Part) where
         | inr last ↦ subst (AreCovered qs) last covered
       ]
 
-  pub stray : (segments : List (List Entry)) (es : List Entry) (f : DivideFault) → IsAmong es segments
-      → IsDivideFault qs es f → IsGroupsFault qs segments (as_replay_fault f)
-  stray segments es (divide_fault.Stray k) m h =
-      (h.0, flat_among _ segments es h.0 m (filter_among is_data es h.0 h.1 (data_of_key k h.0 h.2.0)), h.2)
-  stray segments es divide_fault.NoMemory m h = tt
+  pub stray : (segments : List (List Entry)) (es : List Entry) (f : DivideFault) (r : ReplayFault)
+      → IsAmong es segments → IsDivideFault qs es f → IsPassedOn f r → IsGroupsFault qs segments r
+  stray segments es f fault.NoMemory m h p = tt
+  stray segments es (divide_fault.Stray k) (fault.Stray j) m h is =
+      let here = flat_among _ segments es h.0 m (filter_among is_data es h.0 h.1 (data_of_key (shown_key k) h.0 h.2.0)) in
+      rw is (h.0, here, h.2)
+  stray segments es f (fault.Double id) m h p = absurd p
+  stray segments es f fault.Stranger m h p = absurd p
+  stray segments es f (fault.MissingGroup id) m h p = absurd p
+  stray segments es f fault.Clash m h p = absurd p
+  stray segments es divide_fault.NoMemory (fault.Stray j) m h p = absurd p
 
   -- ---- entries
 

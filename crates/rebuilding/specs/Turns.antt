@@ -5,6 +5,9 @@ use Rattle.std.specs.List.{flat_map}
 use Rattle.entry.specs.declared.entry.Entry.{Entry}
 use Rattle.entry.specs.Bag.{IsAmong}
 use Rattle.tablet_will.specs.declared.part.Part.{Part}
+use Rattle.entry.specs.View.{shown_key}
+use Rattle.division.specs.declared.fault.DivideFault.{DivideFault}
+use Rattle.division.specs.declared.fault.DivideFault.TheVariants as divide_fault
 use Rattle.division.specs.Groups.{Grouped, segments_of}
 use Rattle.division.specs.Division.{groups_of, numbers_of, AreCovered, IsStray}
 use Rattle.claims.specs.Bags.{segments_bag}
@@ -38,6 +41,12 @@ abbrev pub IsGroupsFault : List Part → List (List Entry) → ReplayFault → T
 IsGroupsFault qs segments fault.NoMemory = ⊤
 IsGroupsFault qs segments (fault.Stray k) = (e : Entry) × IsAmong e (segments_bag segments) × IsStray qs e k
 IsGroupsFault qs segments _ = ⊥
+
+-- the fault of a division, passed on: its key is copied, unless memory for that runs out
+abbrev pub IsPassedOn : DivideFault → ReplayFault → Type 0
+IsPassedOn f fault.NoMemory = ⊤
+IsPassedOn (divide_fault.Stray k) (fault.Stray j) = j ≡ shown_key k
+IsPassedOn _ _ = ⊥
 
 -- ---- orders
 

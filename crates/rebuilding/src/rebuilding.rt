@@ -10,12 +10,12 @@ ghost use Rattle.rebuilding.specs.Rebuilds.{IsRebuildFault, CanBeRebuilt, NamesE
 ghost use Rattle.claims.specs.Rebuilt.{IsRebuilt};
 ghost use Rattle.rebuilding.specs.Turns.{all_groups, entries_in_turn, replayed, AreAllCovered};
 ghost use Rattle.claims.specs.Settled.{AreOf};
-ghost use Rattle.rebuilding.specs.Turns.{IsGroupsFault, IsOrderFault};
+ghost use Rattle.rebuilding.specs.Turns.{IsGroupsFault, IsOrderFault, IsPassedOn};
 
 use crate::ids::{check_ids, ids_in};
 use crate::naming::{Misnamed, check_naming};
 use claims::{Claim, Rebuilt, ReplayFault, add_claims, rebuilt_from};
-use division::{Group, divide};
+use division::{DivideFault, Group, divide};
 use entry::NoMemory;
 use recovery_plan::Plan;
 use segment::SegmentRef;
@@ -33,6 +33,19 @@ fn append<'a>(all: &mut Vec<Group<'a>>, groups: Vec<Group<'a>>) -> Result<(), No
     Ok(())
 }
 
+/// Why a log is not rebuilt whose segment was not divided. A Stray is named by a key of its own, if memory allows.
+fn refused(alloc: Global, fault: &DivideFault<'_>) -> ReplayFault
+    ensures { IsPassedOn fault.now result }
+{
+    match fault {
+        DivideFault::Stray(key) => match key.to_key(alloc) {
+            Ok(key) => ReplayFault::Stray(key),
+            Err(_) => ReplayFault::NoMemory,
+        },
+        DivideFault::NoMemory => ReplayFault::NoMemory,
+    }
+}
+
 /// The groups of all segments, segment by segment, and of each segment by partition.
 fn groups_in<'a>(
     alloc: Global,
@@ -47,7 +60,10 @@ fn groups_in<'a>(
     let count = segments.len().saturating_mul(partitions as usize);
     let mut all = Vec::with_capacity(alloc, count)?;
     for segment in segments {
-        let groups = divide(alloc, segment, will)?;
+        let groups = match divide(alloc, segment, will) {
+            Ok(groups) => groups,
+            Err(fault) => return Err(refused(alloc, &fault)),
+        };
         append(&mut all, groups)?;
     }
     Ok(all)

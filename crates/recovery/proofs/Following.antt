@@ -1,7 +1,8 @@
 -- A life that is followed by a next master, and one that isn't.
 use Rattle.std.proofs.Common.{◌≡◌, ℕ, suc, ◌+◌, List, sym, ap, subst, ◌∙◌, arith}
-use Rattle.std.specs.Prelude.{Result}
+use Rattle.std.specs.Prelude.{Result, Ok, Err}
 use Rattle.replica.specs.declared.op.TakeFault.{TakeFault}
+use Rattle.replica.specs.declared.op.TakeFault.TheVariants as take_fault
 use Rattle.replica.specs.Picture.{FleetState}
 use Rattle.replica.specs.Retire.{Retires}
 use Rattle.claims.specs.declared.rebuilt.Rebuilt.{Rebuilt}
@@ -12,7 +13,7 @@ use Rattle.master_state.specs.declared.step.Step.{Step}
 use Rattle.master_state.specs.declared.step.StepAnswer.{StepAnswer}
 use Rattle.master_state.specs.Data.{MasterData}
 use Rattle.master.specs.Valid.{IsValid}
-use Rattle.master.specs.World.{World, world_of}
+use Rattle.master.specs.World.{World, world_of, retired_data}
 use Rattle.recovery.specs.declared.recovery.RecoveryFault.{RecoveryFault}
 use Rattle.recovery.specs.declared.succession.Course.{Course}
 use Rattle.recovery.specs.declared.succession.NotAdopted.{NotAdopted}
@@ -28,13 +29,30 @@ config_next c d n m is next =
     let same : m ≡ suc n = omega (arith, next) in
     is ∙ ap (λ (k : ℕ). with_number k c) same
 
+-- a master that a fault halts has adopted the list still
+pub adopted_still : (c : Config) (r : Rebuilt) (d : MasterData) (retired : Result Unit TakeFault) → IsAdopted c r d
+    → IsAdopted c r (retired_data retired d)
+adopted_still c r d (Ok u) adopted = adopted
+adopted_still c r d (Err take_fault.NoMemory) adopted = adopted
+adopted_still c r d (Err take_fault.Wrong) adopted = adopted
+adopted_still c r d (Err take_fault.Fault) adopted = record {
+  config = adopted.config;
+  opening = adopted.opening;
+  history = adopted.history;
+  opened = adopted.opened;
+  pushed = adopted.pushed;
+}
+adopted_still c r d (Err take_fault.Spent) adopted = adopted
+
 pub is_successor : (c d : Config) (r : Rebuilt) (left taken new : FleetState) (before after : MasterData)
-    (retired : Result Unit TakeFault) → d ≡ c → after ≡ before → IsAdopted d r before → IsAdoptedOn d.master left taken
+    (retired : Result Unit TakeFault) → d ≡ c → after ≡ retired_data retired before → IsAdopted d r before
+    → IsAdoptedOn d.master left taken
     → Retires taken before.config.master retired new → IsValid after new
     → IsSuccessor c r left retired (world_of after new)
 is_successor c d r left taken new before after retired same kept adopted on retires valid =
     subst (λ (x : Config). IsSuccessor x r left retired (world_of after new)) same (record {
-      adopted = subst (λ (x : MasterData). IsAdopted d r x) (sym kept) adopted;
+      adopted = subst (λ (x : MasterData). IsAdopted d r x) (sym kept)
+          (adopted_still d r before retired adopted);
       taken = taken;
       on = on;
       retires = subst (λ (n : ℕ). Retires taken n retired new) (ap (λ (x : Config). x.master) adopted.config) retires;

@@ -46,7 +46,7 @@ IsDrillBy start c answers recovered left =
     IsDrill start c.steps.items c.kept.items c.will c.order answers recovered left
 
 -- A new master of this configuration adopted the list on this fleet, and the replicas of all others were freed, or that
--- ended in a fault.
+-- ended in a fault. A fault of a backup halts it.
 pub record IsSuccessor (c : Config) (r : Rebuilt) (left : FleetState) (retired : Result Unit TakeFault)
     (next : World) : Type 0 where
   pub adopted : IsAdopted c r next.knows

@@ -180,7 +180,8 @@ fn live<F: Bench>(
 /// adopts what was recovered and frees the replicas of all others. The new master has the number of the last one and
 /// one more, and is else configured alike. No backup may hold replicas of a greater number than the first one's. It
 /// stops if a recovery or an adoption is refused, or if memory runs out, and hands back what there is. If replicas of
-/// earlier masters stay because their freeing ended in a fault, the next life goes on beside them.
+/// earlier masters stay because their freeing ended in a fault, the next life goes on beside them; after a fault of a
+/// backup its master is halted, and the life after it takes over.
 pub fn run_lives<F: Bench>(
     alloc: Global,
     master: Master<F>,

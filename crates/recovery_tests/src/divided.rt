@@ -1,6 +1,6 @@
 //! Logs that are divided by wills, and replayed partition by partition.
 
-use crate::logs::{CLASHING, LOG, Log, Shown, are_shown, is_named, segments_of, texts_of};
+use crate::logs::*;
 use backup::{Group, divide};
 use claims::ReplayFault;
 use partition_replay::{Replay, Replayed};
@@ -151,6 +151,17 @@ fn is_divided(alloc: Global, row: &Row) -> bool {
     }
 }
 
+/// `LOG` with one more segment, 4.
+const WITH_STRANGER: Log = &[
+    &[ONE, A_1_X, B_2_Y],
+    &[FOUR, A_4_S],
+    &[TWO, A_1_DEAD, A_2_Z, B_2_DEAD],
+    &[THREE],
+];
+
+/// Segment 2 comes twice. The first of the two has another value of version 1 of `a`.
+const CLASHING_ONCE: Log = &[&[ONE, A_1_X], &[TWO, B_2_Q, A_1_Y], &[TWO], &[THREE]];
+
 /// What is left of `LOG` in the partition of `a`, and in others.
 const OF_A: Part = ("", Ok((&[(1, b"a", 2, b"z")], 2)));
 
@@ -228,6 +239,21 @@ const ROWS: &[Row] = &[
     Row {
         log: LOG,
         table: 1,
+        order: &[0, 2],
+        all: false,
+        parts: &[("", Err("MissingGroup 2"))],
+    },
+    // A group of a segment that the plan doesn't have comes between the others.
+    Row {
+        log: WITH_STRANGER,
+        table: 1,
+        order: &[0, 1, 2, 3],
+        all: false,
+        parts: &[("Stranger, ", Ok((&[(1, b"a", 2, b"z")], 2)))],
+    },
+    Row {
+        log: LOG,
+        table: 1,
         order: &[0, 1, 2],
         all: true,
         parts: &[
@@ -244,6 +270,14 @@ const ROWS: &[Row] = &[
         order: &[0, 1, 2],
         all: false,
         parts: &[("Clash, ", Err("MissingGroup 2"))],
+    },
+    // A group that clashes is refused whole, and another of its segment is taken.
+    Row {
+        log: CLASHING_ONCE,
+        table: 1,
+        order: &[0, 1, 2, 3],
+        all: false,
+        parts: &[("Clash, ", Ok((&[(1, b"a", 1, b"x")], 1)))],
     },
     // A clash that a later version covers passes.
     Row {

@@ -8,6 +8,8 @@ mod backups;
 #[cfg(test)]
 mod divided;
 #[cfg(test)]
+mod large;
+#[cfg(test)]
 mod logs;
 #[cfg(test)]
 mod plans;

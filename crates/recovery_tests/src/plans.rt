@@ -4,7 +4,7 @@ use recovery_plan::{Plan, PlanFault, plan};
 use replica::{Bytes, Holding, Inventory};
 use std::alloc::Global;
 
-/// The first head of master 1, empty.
+/// The first head of master 1. It has no objects.
 const FIRST: &[u8] =
     b"\x01\0\0\0\0\0\0\0\x01\0\0\0\0\0\0\0\x01\0\x02\0\0\0\x01\0\0\0\0\0\0\0\x01\x03\0\0\0\0\0\0\0\x01";
 
@@ -24,8 +24,8 @@ const SURVIVOR: &[u8] = b"\x01\0\0\0\0\0\0\0\x01\0\0\0\0\0\0\0\x03\x01";
 /// A replica: its backup, master and segment, its bytes, and whether it is open.
 type Replica<'a> = (u64, u64, u64, &'a [u8], bool);
 
-/// The length of each segment of a plan, or why there is none.
-type Want = Result<&'static [usize], PlanFault>;
+/// The bytes of each segment of a plan, or why there is none.
+type Want = Result<&'static [&'static [u8]], PlanFault>;
 
 fn holding_of<'a>(replica: &Replica<'a>) -> Holding<'a> {
     let (backup, master, segment, bytes, is_open) = *replica;
@@ -46,14 +46,14 @@ fn inventory_of<'a>(alloc: Global, replicas: &[Replica<'a>]) -> Option<Inventory
     Some(Inventory::new(holdings))
 }
 
-fn has_lens(plan: &Plan<'_>, want: &Want) -> bool {
-    let Ok(lens) = *want else {
+fn has_texts(plan: &Plan<'_>, want: &Want) -> bool {
+    let Ok(texts) = *want else {
         return false;
     };
     let segments = plan.segments.as_slice();
-    let mut are_same = segments.len() == lens.len();
-    for (segment, len) in segments.iter().zip(lens) {
-        are_same = are_same && segment.bytes().len() == *len;
+    let mut are_same = segments.len() == texts.len();
+    for (segment, text) in segments.iter().zip(texts) {
+        are_same = are_same && segment.bytes() == *text;
     }
     are_same
 }
@@ -63,7 +63,7 @@ fn is_planned(alloc: Global, replicas: &[Replica<'_>], master: u64, want: &Want)
         return false;
     };
     match &plan(alloc, &inventory, master) {
-        Ok(plan) => has_lens(plan, want),
+        Ok(plan) => has_texts(plan, want),
         Err(fault) => *want == Err(*fault),
     }
 }
@@ -72,8 +72,8 @@ fn is_planned(alloc: Global, replicas: &[Replica<'_>], master: u64, want: &Want)
 fn a_front_of_a_head_is_a_plan_or_bad(rt: HostRuntime) {
     for len in 0..66 {
         let want: Want = match len {
-            40 => Ok(&[40]),
-            65 => Ok(&[65]),
+            40 => Ok(&[FIRST]),
+            65 => Ok(&[FULL]),
             _ => Err(PlanFault::BadReplica(1, 1)),
         };
         let replicas = &[(1, 1, 1, FULL.split_at(len).0, true)];
@@ -124,13 +124,13 @@ const ROWS: &[Row] = &[
     Row {
         replicas: &[(1, 1, 1, FIRST, true), (2, 1, 1, FULL, true)],
         master: 1,
-        want: Ok(&[65]),
+        want: Ok(&[FULL]),
     },
     // a replica that is shown twice is taken once
     Row {
         replicas: &[(1, 1, 1, FIRST, true), (1, 1, 1, FIRST, true)],
         master: 1,
-        want: Ok(&[40]),
+        want: Ok(&[FIRST]),
     },
     // of another segment than the head, a closed replica
     Row {
@@ -140,7 +140,7 @@ const ROWS: &[Row] = &[
             (1, 1, 2, NEXT, true),
         ],
         master: 1,
-        want: Ok(&[40, 48]),
+        want: Ok(&[FIRST, NEXT]),
     },
     // the replica of the lowest backup
     Row {
@@ -150,13 +150,13 @@ const ROWS: &[Row] = &[
             (1, 1, 2, NEXT, true),
         ],
         master: 1,
-        want: Ok(&[40, 48]),
+        want: Ok(&[FIRST, NEXT]),
     },
     // no segment that the digest doesn't list
     Row {
         replicas: &[(0, 1, 3, SURVIVOR, false), (1, 1, 1, FIRST, true)],
         master: 1,
-        want: Ok(&[40]),
+        want: Ok(&[FIRST]),
     },
 ];
 

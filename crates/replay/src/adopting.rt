@@ -3,7 +3,7 @@
 ghost use Rattle.std.specs.Prelude.{◌≡◌, ◌≤◌, ℕ, [], ◌∷◌, None, IfOk, IfErr, OnOk};
 ghost use Rattle.entry.specs.View.{shown_object};
 ghost use Rattle.master_state.specs.Config.{config_fault};
-ghost use Rattle.master_state.specs.Loading.{IsNewObject};
+ghost use Rattle.master_state.specs.Loading.{restored_data, IsNewObject};
 ghost use Rattle.master.specs.Valid.{IsValid};
 ghost use Rattle.master.specs.World.{world};
 ghost use Rattle.replay.specs.Adopting.{IsFinal, LoadsOne, IsStuck, LoadsAll, Stops};
@@ -50,6 +50,29 @@ fn load_all<F: Fleet>(loading: &mut Loading<F>, objects: &Objects) -> Result<(),
     push_all(loading)
 }
 
+/// A master that is to be loaded with the list. Its index is made for as many objects. If memory runs out, it hands the
+/// fleet back.
+fn restore<F: Fleet>(
+    alloc: Global,
+    rebuilt: &Rebuilt,
+    config: Config,
+    fleet: F,
+) -> Result<Loading<F>, (NoMemory, F)>
+    requires config { config_fault config ≡ None }
+    requires backups { config.backups ≤ (F.state fleet).backups }
+    requires none { (b s : ℕ) → (F.state fleet).picture b config.master s ≡ None }
+    ensures made { IfOk result (λ l. (l.knows ≡ restored_data config rebuilt.now.safe) × (l.fleet ≡ fleet)) }
+    ensures refused { IfErr result (λ e. e.1 ≡ fleet) }
+{
+    match Master::restore(alloc, config, rebuilt.safe, fleet) {
+        Ok(mut loading) => {
+            loading.expect(rebuilt.objects.len());
+            Ok(loading)
+        }
+        Err(refused) => Err(refused),
+    }
+}
+
 /// A master whose history begins with the list, under a number that has no replicas. No replica of another master
 /// changes. It begins a roll only if the next object has to wait for one. It pushes only for that, or once no object is
 /// left, and then until nothing waits. If it is refused, the fleet comes back with what was taken so far; NoMemory also
@@ -71,17 +94,14 @@ pub fn adopt_list<F: Fleet>(
     ensures left { IfErr result (λ e. IsAdoptedOn config.master (F.state fleet) (F.state e.1)) }
     ensures spent { IfErr result (λ e. e.0 ≡ Refusal.Spent → (F.state e.1).takes ≡ (F.state e.1).end) }
 {
-    match Master::restore(alloc, config, rebuilt.safe, fleet) {
-        Ok(mut loading) => {
-            loading.expect(rebuilt.objects.len());
-            match load_all(&mut loading, &rebuilt.objects) {
-                Ok(()) => match loading.finish() {
-                    Ok(master) => Ok(master),
-                    Err(_) => unreachable!(),
-                },
-                Err(refusal) => Err((refusal, loading.crash())),
-            }
-        }
+    match restore(alloc, rebuilt, config, fleet) {
+        Ok(mut loading) => match load_all(&mut loading, &rebuilt.objects) {
+            Ok(()) => match loading.finish() {
+                Ok(master) => Ok(master),
+                Err(_) => unreachable!(),
+            },
+            Err(refusal) => Err((refusal, loading.crash())),
+        },
         Err((NoMemory, fleet)) => Err((Refusal::NoMemory, fleet)),
     }
 }

@@ -42,11 +42,18 @@ pub trait Fleet {
         ensures { result ≡ (state self.now).faults };
 }
 
-/// A fleet whose takes can be limited, to stop a master after any of them, and that can free what other masters left.
+/// A fleet whose takes can be limited, to stop a master after any of them, that can be asked for a fault, and that can
+/// free what other masters left.
 pub trait Bench: Fleet {
     /// Lets the fleet take `n` further ops; then it is spent. The greatest number lifts the limit.
     fn limit(&mut self, n: u64)
         ensures { Self.state self.new ≡ limited (Self.state self.old) n };
+
+    /// Asks for a fault: the `n`-th take from now ends in it, and its op is taken or not, as `taken` says. Takes that
+    /// are refused otherwise aren't counted. A later call replaces one whose fault hasn't come, and 0 asks for none.
+    /// None comes once `faults` is the greatest number. The call takes no memory.
+    fn fault_at(&mut self, n: u64, taken: bool)
+        ensures { Self.state self.new ≡ Self.state self.old };
 
     /// Frees the replicas of all masters but `keep`: by backup, then by master, then by segment, one Free a take. It
     /// ends at the first fault, and what was freed before stays freed. NoMemory may also come before the first take. No

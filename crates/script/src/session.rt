@@ -179,6 +179,7 @@ impl Session {
             Line::Command(_) => unreachable!(),
             Line::Hex { segment } => Ok(self.node.hex(segment)),
             Line::Stop { takes } => Ok(self.node.stop(takes)),
+            Line::Fault { takes, taken } => Ok(self.node.fault(takes, taken)),
             Line::Crash => Ok(self.node.crash()),
             Line::Lose { backup } if backup >= self.options.backups => Err(LineFault::Bad),
             Line::Lose { backup } => Ok(self.node.lose(backup)),

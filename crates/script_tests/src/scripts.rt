@@ -1,11 +1,10 @@
-//! A whole script, the lines of faults, and faults of reading and of writing. Other scripts are in `examples/`.
+//! A whole script, the lines of faults, and a writer that holds bytes back. Other scripts are in `examples/`.
 
 use script::*;
 use std::alloc::Global;
 use std::cell::Cell;
 use std::io::{self, BufRead, BufReader, ErrorKind, Read, Write};
 use std::sync::Wait;
-use std::test::Fail;
 use std::thread::Threads;
 
 /// The line that a run writes to its error output, and its exit status.
@@ -131,65 +130,6 @@ fn faults_are_explained(rt: HostRuntime) {
             "{want}"
         );
     }
-}
-
-/// A reader that gives some bytes, and then fails.
-#[derive(Drop)]
-struct Torn {
-    bytes: &'static [u8],
-}
-
-impl Read for Torn {
-    fn read(&mut self, buffer: &mut [u8]) -> io::Result<usize> {
-        let Some((first, rest)) = self.bytes.split_first() else {
-            return Err(io::Error::from(ErrorKind::Other));
-        };
-        match buffer.first_mut() {
-            None => Ok(0),
-            Some(place) => {
-                *place = *first;
-                self.bytes = rest;
-                Ok(1)
-            }
-        }
-    }
-}
-
-/// A writer that takes some bytes, and then fails.
-#[derive(Drop)]
-struct Full {
-    room: usize,
-}
-
-impl Write for Full {
-    fn write(&mut self, bytes: &[u8]) -> io::Result<usize> {
-        if bytes.len() > self.room {
-            return Err(io::Error::from(ErrorKind::Other));
-        }
-        self.room -= bytes.len();
-        Ok(bytes.len())
-    }
-
-    fn flush(&mut self) -> io::Result<()> {
-        Ok(())
-    }
-}
-
-#[test]
-fn a_reader_fails_in_mid_stream(rt: HostRuntime) -> Result<(), Fail> {
-    let torn = Torn {
-        bytes: b"put 1 a x\nput 1",
-    };
-    let mut reader = BufReader::new(rt.alloc(), torn)?;
-    assert!(rt; prints(&rt, rt.alloc(), &mut reader, b"ok 1\n", CANNOT_READ));
-    Ok(())
-}
-
-#[test]
-fn a_writer_fails_in_mid_stream(rt: HostRuntime) {
-    let mut writer = Full { room: 5 };
-    let mut script: &[u8] = b"put 1 a x\nput 1 a y\n";
-    assert!(rt; ends(&rt, rt.alloc(), &mut script, &mut writer, CANNOT_WRITE));
 }
 
 /// Pieces of a script that are read one by one, and how many bytes of answers must have come before each.

@@ -2,4 +2,5 @@ pub mod Made
 pub mod Seats
 pub mod Accounts
 pub mod Calls
+pub mod Claims
 pub mod Shared

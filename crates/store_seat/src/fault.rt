@@ -14,4 +14,7 @@ pub enum CallFault {
     /// 4: the cell of this record or of an earlier one did not take it, or the book has other numbers of the seat after
     /// the record. Every later call is answered so.
     CellRefused,
+    /// 5: only of `settle`. There is no record at the place, it is another seat's, or the place is below the seat's
+    /// first number. Nothing changed.
+    NotYours,
 }

@@ -1,12 +1,14 @@
 //! What lies under the lock, as the calls of a seat see it.
 
 ghost use Rattle.std.specs.Prelude.{◌≡◌, ◌≤◌, MatchBool};
+ghost use Rattle.store_seat.specs.Claims.{ClaimsSeat};
 ghost use Rattle.store_seat.specs.Seats.{answered};
 ghost use Rattle.store_seat.specs.Shared.{AttemptsSeat, ProceedsSeat};
 
 use crate::fault::CallFault;
 use crate::naming::Naming;
 use crate::seat::Seat;
+use history_row::Receipt;
 use master_core::Refusal;
 use versioned_map::{Command, Reply};
 
@@ -46,6 +48,10 @@ pub trait Log<B: Naming> {
     fn settle(&mut self, seat: &mut Seat<B>, place: u64) -> bool
         requires { seat.old.first ≤ place }
         ensures seat { MatchBool result (seat.new ≡ answered seat.old place) (seat.new ≡ seat.old) };
+
+    /// The reply of a record that is the seat's own, and a receipt of its place.
+    fn claim(&mut self, seat: &Seat<B>, place: u64) -> Result<(Reply, Receipt<B>), CallFault>
+        ensures seat { ClaimsSeat seat.now place result };
 
     /// One push. If nothing waits, another thread made it.
     fn push(&mut self) -> Result<(), Refusal>;

@@ -2,6 +2,7 @@
 
 ghost use Rattle.std.specs.Prelude.{◌≡◌, ◌≤◌, max, OnOk, IfErr, MatchBool};
 ghost use Rattle.store_seat.specs.Calls.{AppliesSeat, Calls, IsLeft, met};
+ghost use Rattle.store_seat.specs.Claims.{SettlesSeat};
 ghost use Rattle.store_seat.specs.Seats.{SeatValue, answered};
 
 use crate::fault::CallFault;
@@ -87,6 +88,26 @@ impl<L: Log<B>, B: Naming> Shared<L, B> {
         match &mut seat.last {
             Some(receipt) => Ok((reply, receipt.again())),
             None => unreachable!(),
+        }
+    }
+
+    /// Goes on with the record at this place, which a call of this seat left without an answer, until it is durable.
+    /// It adds no record.
+    pub fn settle<R: Wait>(
+        &self,
+        rt: &R,
+        seat: &mut Seat<B>,
+        place: u64,
+    ) -> Result<(Reply, Receipt<B>), CallFault>
+        ensures { SettlesSeat seat.old place result seat.new }
+    {
+        let answer = match self.state.lock(rt).claim(seat, place) {
+            Ok(answer) => answer,
+            Err(fault) => return Err(fault),
+        };
+        match self.finish(rt, seat, place) {
+            Ok(()) => Ok(answer),
+            Err(fault) => Err(fault),
         }
     }
 

@@ -26,6 +26,8 @@ pub enum Act {
     Calls(Do, u64, Told),
     /// A call that has no answer: the place if its record is there, and the refusal.
     Fails(Do, Option<u64>, Refusal),
+    /// It settles the record at this place: the reply, or `None` for NotYours.
+    Settles(u64, Option<Told>),
     /// The next turn of a cleaner: what it did, and its two numbers.
     Turns((&'static str, u64, u64)),
     /// The fleet takes so many more ops.
@@ -129,6 +131,25 @@ fn is_left<B: Naming>(
     }
 }
 
+/// Settles the record and keeps its receipt. Whether that is its reply, or the answer is NotYours if none is wanted.
+fn settles<F: Fleet, B: Naming, R: Wait>(
+    rt: &R,
+    store: &Store<F, B>,
+    seat: &mut Seat<B>,
+    receipts: &mut Vec<Receipt<B>>,
+    place: u64,
+    want: Option<Told>,
+) -> bool {
+    match store.settle(rt, seat, place) {
+        Ok((reply, receipt)) => {
+            let is_wanted = want == Some(told(&reply)) && receipt.place() == place;
+            receipts.push(receipt).is_ok() && is_wanted
+        }
+        Err(CallFault::NotYours) => want.is_none(),
+        Err(_) => false,
+    }
+}
+
 fn turns<F: Fleet, B: Naming, R: Wait>(
     rt: &R,
     store: &Store<F, B>,
@@ -201,6 +222,7 @@ fn is_told<F: Fleet, B: Naming, R: Wait>(
             Some(command) => fails(rt, store, seat, command, *place, *why),
             None => false,
         },
+        Act::Settles(place, reply) => settles(rt, store, seat, receipts, *place, *reply),
         Act::Meets(at) => meets(rt, store, seat, receipts.as_slice(), *at),
         Act::Raises(at) => raises(store, seat, receipts.as_slice(), *at),
         Act::Reads(place) => store.mark(seat) == *place,

@@ -1,5 +1,5 @@
-//! Days of a store with one seat or two: what a seat is answered, a record that is left without an answer, receipts
-//! that another seat is shown, the mark, also while a push waits, and a cleaner that makes room.
+//! Days of a store with one seat or two: what a seat is answered, a record that is left without an answer and one that
+//! is settled, receipts that another seat is shown, the mark, also while a push waits, and a cleaner that makes room.
 
 use crate::asks::{Act, Do};
 use crate::slow::Watch;
@@ -50,6 +50,34 @@ const UNSURE: &[(usize, Act)] = &[
     (0, Act::Limits(u64::MAX)),
     (0, Act::Calls(Do::Get(b"b"), 2, ("found", 2))),
     (0, Act::Counts(3, 3)),
+];
+
+/// Three records of seat 0 and one of seat 1 are left without an answer. Seat 0 settles neither seat 1's record nor one
+/// that there isn't. Once the fleet takes ops again, it settles its second, and after that neither the one below it nor
+/// the same again. Seat 1 settles its own, and seat 0's last is durable with that.
+const SETTLED: &[(usize, Act)] = &[
+    (0, Act::Calls(Do::Put(b"a", b"x", If::Any), 0, ("ok", 1))),
+    (0, Act::Limits(0)),
+    (
+        0,
+        Act::Fails(Do::Put(b"b", b"y", If::Any), Some(1), Refusal::Spent),
+    ),
+    (0, Act::Fails(Do::Get(b"b"), Some(2), Refusal::Spent)),
+    (1, Act::Fails(Do::Delete(b"a"), Some(3), Refusal::Spent)),
+    (0, Act::Fails(Do::Get(b"a"), Some(4), Refusal::Spent)),
+    (0, Act::Settles(3, None)),
+    (0, Act::Settles(5, None)),
+    (0, Act::Limits(u64::MAX)),
+    (0, Act::Settles(2, Some(("found", 2)))),
+    (0, Act::Counts(3, 4)),
+    (0, Act::Settles(1, None)),
+    (0, Act::Settles(2, None)),
+    (1, Act::Counts(0, 1)),
+    (1, Act::Settles(3, Some(("ok", 1)))),
+    (1, Act::Counts(4, 1)),
+    (0, Act::Settles(4, Some(("none", 0)))),
+    (0, Act::Counts(5, 4)),
+    (0, Act::Calls(Do::Get(b"b"), 5, ("found", 2))),
 ];
 
 /// One seat makes two calls. Another is shown both receipts, the later first, and its own call is above them. Each
@@ -146,6 +174,7 @@ type Day = (u64, &'static [(usize, Act)], usize);
 const DAYS: &[Day] = &[
     (1, CONDITIONS, 6),
     (1, UNSURE, 3),
+    (2, SETTLED, 6),
     (2, MET, 3),
     (1, TURNED, 16),
     (2, OVERTAKEN, 2),

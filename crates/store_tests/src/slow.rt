@@ -125,6 +125,10 @@ impl<'a> Bench for SlowFleet<'a> {
         self.fleet.limit(n)
     }
 
+    fn fault_at(&mut self, n: u64, taken: bool) {
+        self.fleet.fault_at(n, taken)
+    }
+
     fn retire(&mut self, keep: u64) -> Result<(), TakeFault> {
         self.fleet.retire(keep)
     }

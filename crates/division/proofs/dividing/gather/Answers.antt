@@ -1,14 +1,13 @@
-use Rattle.std.proofs.Common.{rules, ◌++◌, ◌∷◌, [], ◌<◌, ◌-◌, ℕ, Option, List, length, take, drop, ap, ◌∙◌, refl, subst}
+use Rattle.std.proofs.Common.{◌++◌, ◌∷◌, [], ◌<◌, ◌-◌, ℕ, Option, List, length, take, drop, ap, ◌∙◌, refl, subst}
 use Rattle.std.proofs.Common.{arith}
 use Rattle.std.specs.Prelude.{IfSome}
 use Rattle.entry.specs.View.{shown}
 use Rattle.segment.proofs.RowLemmas.{front_of-len}
 use Rattle.tablet_will.specs.Parts.{partitions_of}
 use Rattle.division.specs.declared.gathered.Gathered.{Gathered}
-use Rattle.division.specs.Division.{IsDivideFault}
 use Rattle.division.specs.Gathering.{AreEmpty}
 use Rattle.division.proofs.Ahead.{ahead_some}
-use Rattle.division.proofs.Gatherings.{gathering_first, gathering_end, gathering_fault, gathering_none, gathering_more}
+use Rattle.division.proofs.Gatherings.{gathering_first, gathering_end, gathering_none, gathering_more}
 use Rattle.division.proofs.Gatherings.{gathered_len}
 use Rattle.division.proofs.dividing.gather.Goals.{in-Some+in_ok-make_room, in_default-2}
 use Rattle.division.proofs.dividing.gather.Goals as goal
@@ -24,14 +23,6 @@ unreachable-requires c =
     let h = c.loop-at.invariant in
     ahead_some c.bytes-text.result.now c.loop-at.at h.left c.in_default.field-0 h.ahead c.loop-at-test.true
     c.in_default.ensures.fault
-
-pub returns-in_err-partition-clause-fault : goal.returns-in_err-partition-clause-fault
-returns-in_err-partition-clause-fault c =
-    let refused : IsDivideFault c.args.will.now c.args.segment.now c.in_err-partition.field-0.0 =
-    gathering_fault c.args.will.now c.args.segment.now c.bytes-text.result.now c.loop-at.at c.loop-at.all.items
-    c.loop-at.invariant (shown c.in-Ok.entry) c.in-Ok.taken c.in-Ok.ensures.front c.in_err-partition.field-0.0
-    c.in_err-partition.ensures in
-    search (rules, refused)
 
 pub index_mut-gathered-requires : goal.index_mut-gathered-requires
 index_mut-gathered-requires c =

@@ -4,9 +4,9 @@ use Rattle.driving.specs.Commands.{ArePushedFor}
 use Rattle.driving.specs.Served.{LivesOn}
 use Rattle.driving.proofs.pushing.push_until.Given as goal
 
-abbrev pub invariant-loop-place : goal.invariant-loop-place
-invariant-loop-place g l = LivesOn l.fn.master.knows l.master.knows []
+abbrev pub invariant-loop-refusal : goal.invariant-loop-refusal
+invariant-loop-refusal g l = LivesOn l.fn.master.knows l.master.knows []
     × ((count : ℕ) × ArePushedFor l.fn.place count (world g.F.Fleet.state l.fn.master) (world g.F.Fleet.state l.master))
 
-abbrev pub decreases-loop-place : goal.decreases-loop-place
-decreases-loop-place g l = (g.F.Fleet.state l.master.fleet).end - (g.F.Fleet.state l.master.fleet).takes
+abbrev pub decreases-loop-refusal : goal.decreases-loop-refusal
+decreases-loop-refusal g l = (g.F.Fleet.state l.master.fleet).end - (g.F.Fleet.state l.master.fleet).takes

@@ -3,4 +3,4 @@ use Rattle.replica.specs.Picture.{FleetState}
 use Rattle.master_tests.proofs.masters.new_fleet.Goals as goal
 
 pub returns-in-Ok-clause-none : goal.returns-in-Ok-clause-none
-returns-in-Ok-clause-none c = λ b m s. ap (λ (f : FleetState). f.picture b m s) c.in-Ok.ensures
+returns-in-Ok-clause-none c = λ b m s. ap (λ (f : FleetState). f.picture b m s) c.in-Ok.ensures.new

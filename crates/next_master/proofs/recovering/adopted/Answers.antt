@@ -16,7 +16,7 @@ returns-in-Spent c =
       on = e.ensures.left;
       spent = e.ensures.spent;
       told = ap refusal_answer (sym c.in-Spent.is);
-      down = (refl, ap (λ (f : FleetState). Some f) c.limit.ensures);
+      down = (refl, ap (λ (f : FleetState). Some f) c.limit.ensures.limited);
     }
 
 pub returns-in_default : goal.returns-in_default

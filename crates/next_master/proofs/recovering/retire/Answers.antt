@@ -1,9 +1,10 @@
 use Rattle.std.proofs.Common.{◌≡◌, refl, sym, ap, subst, ◌∙◌}
-use Rattle.std.specs.Prelude.{None, Some}
+use Rattle.std.specs.Prelude.{None, Some, Err}
+use Rattle.replica.specs.declared.op.TakeFault.{TakeFault}
 use Rattle.std.proofs.lemmas.Option.{same_Some}
 use Rattle.backup.specs.State.{fleet_state}
 use Rattle.master.specs.Valid.{IsValid}
-use Rattle.master.specs.World.{World, world}
+use Rattle.master.specs.World.{World, world, retired_data}
 use Rattle.master_state.specs.Data.{MasterData}
 use Rattle.answers.specs.declared.answer.Answer.TheVariants.{NotRetired}
 use Rattle.node.specs.declared.node.Node.{Node}
@@ -11,6 +12,8 @@ use Rattle.node.specs.declared.node.Node.TheVariants.{Up}
 use Rattle.next_master.specs.Recoveries.{EndsFreeing, HasNoOther}
 use Rattle.node.specs.Served.{IsOf, world_of}
 use Rattle.next_master.proofs.NextLife.{cut_freeing, cut_spent, unspent_fault}
+use Rattle.node.specs.Lives.{left_now}
+use Rattle.next_master.proofs.Halted.{valid_cut, left_cut}
 use Rattle.next_master.proofs.Retired.{others_gone, spent_retire}
 use Rattle.next_master.proofs.recovering.retire.Goals as goal
 
@@ -33,7 +36,8 @@ returns-in-Spent-clause-others c = λ d of.
     let up = c.in-Up.up in
     let m = c.retire.new.self in
     let was : IsOf (Up up) None d = subst (λ (n : Node). IsOf n None d) c.in-Up.is of in
-    let same : m.knows ≡ d = c.in-Err.ensures.knows ∙ was.1 in
+    let same : m.knows ≡ d = c.in-Err.ensures.knows
+    ∙ ap (λ (e : TakeFault). retired_data (Err e) up.knows) c.in-Spent.is ∙ was.1 in
     cut_spent d m c.refuse.new.self c.refuse.result same (subst
     (λ (x : MasterData). IsValid x (fleet_state m.fleet)) same c.in-Err.ensures.valid)
     (spent_retire (fleet_state up.fleet) (fleet_state m.fleet) up.knows.config.master c.in-Err.fault
@@ -44,11 +48,15 @@ returns-in_default-fault-clause-others c = λ d of.
     let up = c.in-Up.up in
     let m = c.retire.new.self in
     let was : IsOf (Up up) None d = subst (λ (n : Node). IsOf n None d) c.in-Up.is of in
-    let same : m.knows ≡ d = c.in-Err.ensures.knows ∙ was.1 in
-    let valid = subst (λ (x : MasterData). IsValid x (fleet_state m.fleet)) same c.in-Err.ensures.valid in (
-      fleet_state m.fleet,
-      valid,
-      c.drop_master.ensures.left d (fleet_state m.fleet) (refl, same, valid) refl,
+    let f = fleet_state m.fleet in
+    let new = c.drop_master.new.self in
+    let fault = c.in-Err.fault in
+    let same : m.knows ≡ retired_data (Err fault) d =
+    c.in-Err.ensures.knows ∙ ap (retired_data (Err fault)) was.1 in (
+      f,
+      valid_cut d fault f (subst (λ (x : MasterData). IsValid x f) same c.in-Err.ensures.valid),
+      left_cut d fault f new (subst (λ (x : MasterData). IsOf new (Some (left_now x f)) x) same
+          (c.drop_master.ensures.left m.knows f (refl, refl, c.in-Err.ensures.valid) refl)),
       c.in_default-fault.not-Spent,
     )
 

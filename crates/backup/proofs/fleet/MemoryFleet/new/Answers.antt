@@ -12,7 +12,7 @@ loop-preserved c = record {
       c.loop.invariant.empty c.new.ensures;
 }
 
-pub returns : goal.returns
-returns c =
+pub returns-clause-new : goal.returns-clause-new
+returns-clause-new c =
     empty_fleet c.args.backups c.loop.list.items (omega
     (arith, c.loop.invariant.count, c.loop-test.false, c.loop.auto.counter-end)) c.loop.invariant.empty

@@ -8,7 +8,7 @@ pub returns-in-Ok-clause-named : goal.returns-in-Ok-clause-named
 returns-in-Ok-clause-named c =
     change_acts c.args.self.now.replicas c.find.ensures.ordered c.args.place c.in-Ok.found c.in-Ok.ensures.found
     c.find.new.self c.find.ensures.same c.close.new.self (Close) c.close.result c.stored_mut-stored.result.now
-    c.stored_mut-stored.ensures.value c.close.ensures
+    c.stored_mut-stored.ensures.value c.close.ensures.acts
 
 pub returns-in-Ok-clause-others : goal.returns-in-Ok-clause-others
 returns-in-Ok-clause-others c =

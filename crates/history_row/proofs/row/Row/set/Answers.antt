@@ -2,7 +2,6 @@ use Rattle.std.proofs.Common.{ap, ◌∙◌, Some, MatchBool, ◌≡◌, subst}
 use Rattle.std.specs.Prelude.{slice_set}
 use Rattle.std.proofs.Math.Seq.{map-set_same}
 use Rattle.versioned_map.specs.declared.command.Record.{Record}
-use Rattle.history_row.specs.declared.kept.Kept.{Kept}
 use Rattle.history_row.specs.Rows.{row_of}
 use Rattle.history_row.proofs.Slots.{put_slot}
 use Rattle.history.specs.View.{shown_record}
@@ -17,10 +16,9 @@ pub returns : goal.returns
 returns g c =
     let xs = c.self.inside.slots.items in
     let row = row_of (slice_set xs c.args.place c.set.new.self) in
-    let what : c.in-Ok.kept.value.what ≡ (shown_record c.args.what.now) =
-    ap (λ (k : Kept). k.what) c.in-Ok.ensures.ok ∙ c.of.ensures in
-    subst (λ l. MatchBool c.set.result (row ≡ slice_set l c.args.place (Some (shown_record c.args.what.now))) (row ≡ l)) c.self.view_is
+    subst (λ l. MatchBool c.set.result (row ≡ slice_set l c.args.place (Some (shown_record c.args.what.now))) (row ≡ l))
+    (c.self.view_is ∙ c.in-Some.ensures.same)
     (subst (λ (w : Record). MatchBool c.set.result (row ≡ slice_set (row_of xs) c.args.place (Some w))
-    (row ≡ row_of xs)) what
-    (put_slot c.set.result xs c.args.place c.index_mut-slot.result.now c.set.new.self c.in-Ok.kept.value
+    (row ≡ row_of xs)) c.in-Some.ensures.record
+    (put_slot c.set.result xs c.args.place c.index_mut-slot.result.now c.set.new.self c.in-Some.kept.value
     c.index_mut-slot.ensures.value c.set.ensures.known))

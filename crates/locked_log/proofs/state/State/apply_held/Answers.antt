@@ -1,223 +1,27 @@
-use Rattle.std.proofs.Common.{◌≡◌, rules, refl, ap, sym, ◌∙◌, Ok, Err, ◌≤◌, List, [], ◌∷◌, length, length-append}
-use Rattle.std.proofs.Common.{get_or, subst, inl, arith, ◌<◌}
-use Rattle.std.specs.Prelude.{slice_get}
-use Rattle.versioned_map.specs.declared.command.Record.{Record}
-use Rattle.master.specs.World.{World, world}
-use Rattle.store_seat.specs.declared.fault.CallFault.TheVariants.{CellRefused}
-use Rattle.locked_log.specs.Held.{StateValue, Held, held}
-use Rattle.store_seat.specs.Accounts.{Knows}
-use Rattle.locked_log.specs.States.{IsState, Lasts}
-use Rattle.master_state.specs.declared.config.Config.{Config}
-use Rattle.store_seat.specs.Seats.{record_by}
-use Rattle.locked_log.proofs.Adding.{place_is, history_is}
-use Rattle.locked_log.proofs.Applied.{Done, declines_at, took, missed}
-use Rattle.locked_log.proofs.Few.{small}
+use Rattle.std.proofs.Common.{◌≡◌, sym, subst, Err}
+use Rattle.locked_log.specs.Applies.{AppliesHeld}
+use Rattle.locked_log.specs.Held.{StateValue, held}
+use Rattle.locked_log.specs.States.{Lasts}
 use Rattle.locked_log.proofs.Lasting.{lasts_same}
-use Rattle.locked_log.proofs.state.State.apply_held.Given.{Over}
-use Rattle.history.specs.View.{shown_record}
-use Rattle.std.proofs.lemmas.Option.{get_or_from_slice_get, slice_get-get_or}
 use Rattle.locked_log.proofs.state.State.apply_held.Goals as goal
 
-pub returns-in-Err-clause-applies : goal.returns-in-Err-clause-applies
-returns-in-Err-clause-applies g c =
-    let known : Knows c.args.self.now.book c.args.seat.now = c.knows.ensures.0 (search rules) in
-    let d = declines_at g.F.Fleet.state _ c.args.self.now c.self.view_is c.args.seat.now c.number.result
-    c.number.ensures c.args.command c.in-Err.refusal _ c.in-Err.ensures.gives in
-    let same : world g.F.Fleet.state c.apply_command.new.master ≡ world g.F.Fleet.state c.self.inside.master =
-    c.in-Err.ensures.gives.0 in (
-      d,
-      known,
-      (λ i. record {
-        world = same i;
-        book = c.self.inside.book.items;
-        total = c.self.inside.total.total;
-        row = c.self.inside.row;
-        is_refused = c.self.inside.is_refused;
-      })
-          ∙ ap (λ (y : StateValue _). held g.F.Fleet.state y) c.self.view_is,
-      refl,
-    )
+pub returns-then-not-reserve-clause-applies : goal.returns-then-not-reserve-clause-applies
+returns-then-not-reserve-clause-applies g c =
+    subst (λ (y : StateValue _). AppliesHeld (held g.F.Fleet.state y) c.args.seat.now c.args.command
+    (Err c.want.result) (held g.F.Fleet.state c.reserve.new.self) c.args.seat.now) c.reserve.ensures.same c.want.ensures
 
-pub returns-in-Err-clause-lasts : goal.returns-in-Err-clause-lasts
-returns-in-Err-clause-lasts g c =
-    let same : world g.F.Fleet.state c.apply_command.new.master ≡ world g.F.Fleet.state c.self.inside.master =
-    c.in-Err.ensures.gives.0 in
-    let back = (λ i. record {
-      world = same i;
-      book = c.self.inside.book.items;
-      total = c.self.inside.total.total;
-      row = c.self.inside.row;
-      is_refused = c.self.inside.is_refused;
-    })
-    ∙ ap (λ (y : StateValue _). held g.F.Fleet.state y) c.self.view_is in
-    subst (λ (h : Held). Lasts 1 (held g.F.Fleet.state c.args.self.now) h) (sym back)
-    (lasts_same 1 (held g.F.Fleet.state c.args.self.now))
-
-pub returns-in-Err-clause-valid : goal.returns-in-Err-clause-valid
-returns-in-Err-clause-valid g c =
-    let same : world g.F.Fleet.state c.apply_command.new.master ≡ world g.F.Fleet.state c.self.inside.master =
-    c.in-Err.ensures.gives.0 in
-    subst (λ (w : World). IsState (record {
-      world = w;
-      book = c.self.inside.book.items;
-      total = c.self.inside.total.total;
-      row = c.self.inside.row;
-      is_refused = c.self.inside.is_refused;
-    })
-    g.B.Naming.made) (sym same) c.self.invariant
-
-pub invariant_of-self : goal.invariant_of-self
-invariant_of-self g c =
-    let same : world g.F.Fleet.state c.apply_command.new.master ≡ world g.F.Fleet.state c.self.inside.master =
-    c.in-Err.ensures.gives.0 in
-    subst (λ (w : World). IsState (record {
-      world = w;
-      book = c.self.inside.book.items;
-      total = c.self.inside.total.total;
-      row = c.self.inside.row;
-      is_refused = c.self.inside.is_refused;
-    })
-    g.B.Naming.made) (sym same) c.self.invariant
-
-pub file-requires-clause-room : goal.file-requires-clause-room
-file-requires-clause-room g c =
-    let known : Knows c.args.self.now.book c.args.seat.now = c.knows.ensures.0 (search rules) in
-    small (held g.F.Fleet.state c.args.self.now) g.B.Naming.made c.args.seat.now
-    (subst (λ (y : StateValue _). IsState (held g.F.Fleet.state y) g.B.Naming.made) c.self.view_is
-    c.self.invariant) known
-
-done-missed : (g : Over) (c : goal.Joined-reply g)
-    → Done (held g.F.Fleet.state c.args.self.now) c.args.seat.now c.args.command (Err CellRefused)
-    (record {
-      world = world g.F.Fleet.state c.apply_command.new.master;
-      book = c.file.new.book.items;
-      total = c.file.new.total.total;
-      row = c.file.new.row;
-      is_refused = c.file.new.is_refused;
-    })
-    c.file.new.seat g.B.Naming.made
-done-missed g c =
-    let known : Knows c.args.self.now.book c.args.seat.now = c.knows.ensures.0 (search rules) in
-    let what = shown_record c.in-Some.what in
-    missed g.F.Fleet.state _ c.args.self.now c.self.view_is c.args.seat.now c.number.result c.number.ensures
-    c.args.command c.in-Ok.applied.0 c.in-Ok.applied.1 _ g.B.Naming.made what
-    c.self.invariant known c.if-self.false c.in-Ok.ensures.gives c.apply_command.ensures.keeps
-    c.apply_command.ensures.valid
-    (sym (get_or_from_slice_get _ c.in-Ok.applied.0 what what (sym (c.in-Some.ensures
-    ∙ ap (λ (h : List Record). slice_get h c.in-Ok.applied.0) c.history.ensures))))
-    c.file.ensures.book c.file.ensures.total c.file.new.seat c.if-not-file.ensures.row c.if-not-file.ensures.refused
-    c.if-not-file.ensures.seat
-
-pub invariant_of-self-then-not-file : goal.invariant_of-self-then-not-file
-invariant_of-self-then-not-file g c = (done-missed g c).valid
-
-pub returns-then-not-file-clause-applies : goal.returns-then-not-file-clause-applies
-returns-then-not-file-clause-applies g c = (done-missed g c).applies
-
-pub returns-then-not-file-clause-lasts : goal.returns-then-not-file-clause-lasts
-returns-then-not-file-clause-lasts g c = (done-missed g c).lasts
-
-pub returns-then-not-file-clause-valid : goal.returns-then-not-file-clause-valid
-returns-then-not-file-clause-valid g c = (done-missed g c).valid
-
-done-took : (g : Over) (c : goal.Else-not-file g)
-    → Done (held g.F.Fleet.state c.args.self.now) c.args.seat.now c.args.command
-    (Ok (c.in-Ok.applied.0, c.in-Ok.applied.1))
-    (record {
-      world = world g.F.Fleet.state c.apply_command.new.master;
-      book = c.file.new.book.items;
-      total = c.file.new.total.total;
-      row = c.file.new.row;
-      is_refused = c.file.new.is_refused;
-    })
-    c.file.new.seat g.B.Naming.made
-done-took g c =
-    let known : Knows c.args.self.now.book c.args.seat.now = c.knows.ensures.0 (search rules) in
-    let what = shown_record c.in-Some.what in
-    took g.F.Fleet.state _ c.args.self.now c.self.view_is c.args.seat.now c.number.result c.number.ensures
-    c.args.command c.in-Ok.applied.0 c.in-Ok.applied.1 _ g.B.Naming.made what
-    c.self.invariant known c.if-self.false c.in-Ok.ensures.gives c.apply_command.ensures.keeps
-    c.apply_command.ensures.valid
-    (sym (get_or_from_slice_get _ c.in-Ok.applied.0 what what (sym (c.in-Some.ensures
-    ∙ ap (λ (h : List Record). slice_get h c.in-Ok.applied.0) c.history.ensures))))
-    c.file.ensures.book c.file.ensures.total c.file.new.seat c.if-not-file.ensures.row c.if-not-file.ensures.refused
-    c.if-not-file.ensures.seat
-
-pub invariant_of-self-2 : goal.invariant_of-self-2
-invariant_of-self-2 g c = (done-took g c).valid
+pub returns-then-not-reserve-clause-lasts : goal.returns-then-not-reserve-clause-lasts
+returns-then-not-reserve-clause-lasts g c =
+    subst (λ (y : StateValue _). Lasts 1 (held g.F.Fleet.state c.args.self.now) (held g.F.Fleet.state y))
+    (sym c.reserve.ensures.same) (lasts_same 1 (held g.F.Fleet.state c.args.self.now))
 
 pub returns-clause-applies : goal.returns-clause-applies
-returns-clause-applies g c = (done-took g c).applies
+returns-clause-applies g c =
+    subst (λ (y : StateValue _). AppliesHeld (held g.F.Fleet.state y) c.args.seat.now c.args.command
+    c.apply_reserved.result (held g.F.Fleet.state c.apply_reserved.new.self) c.apply_reserved.new.seat)
+    c.reserve.ensures.same c.apply_reserved.ensures.applies
 
 pub returns-clause-lasts : goal.returns-clause-lasts
-returns-clause-lasts g c = (done-took g c).lasts
-
-pub returns-clause-valid : goal.returns-clause-valid
-returns-clause-valid g c = (done-took g c).valid
-
--- ---- before the step
-
-pub returns-then-self-clause-applies : goal.returns-then-self-clause-applies
-returns-then-self-clause-applies g c = inl (
-  ap (λ (y : StateValue _). y.is_refused) (sym c.self.view_is)
-      ∙ c.if-self.true,
-  refl,
-  refl,
-)
-
-pub returns-then-self-clause-lasts : goal.returns-then-self-clause-lasts
-returns-then-self-clause-lasts g c = lasts_same 1 (held g.F.Fleet.state c.args.self.now)
-
-pub returns-then-self-clause-valid : goal.returns-then-self-clause-valid
-returns-then-self-clause-valid g c =
-    subst (λ (y : StateValue _). IsState (held g.F.Fleet.state y) g.B.Naming.made) c.self.view_is c.self.invariant
-
-pub returns-then-not-knows-clause-applies : goal.returns-then-not-knows-clause-applies
-returns-then-not-knows-clause-applies g c = (
-  λ k. let yes = c.knows.ensures.1 k in
-      let no = c.if-not-knows.true in cc,
-  refl,
-  refl,
-)
-
-pub returns-then-not-knows-clause-lasts : goal.returns-then-not-knows-clause-lasts
-returns-then-not-knows-clause-lasts g c = lasts_same 1 (held g.F.Fleet.state c.args.self.now)
-
-pub returns-then-not-knows-clause-valid : goal.returns-then-not-knows-clause-valid
-returns-then-not-knows-clause-valid g c =
-    subst (λ (y : StateValue _). IsState (held g.F.Fleet.state y) g.B.Naming.made) c.self.view_is c.self.invariant
-
--- ---- the place of the record
-
-pub unreachable-requires : goal.unreachable-requires
-unreachable-requires g c =
-    let old = world g.F.Fleet.state c.self.inside.master in
-    let new = world g.F.Fleet.state c.apply_command.new.master in
-    let accepted = c.in-Ok.ensures.gives in
-    let at_end = place_is old new c.number.result c.args.command c.in-Ok.applied.0 c.in-Ok.applied.1 accepted in
-    let more = history_is old new c.number.result c.args.command c.in-Ok.applied.0 c.in-Ok.applied.1 accepted in
-    let mine = record_by c.number.result c.args.command c.in-Ok.applied.1 in
-    let one = length-append old.knows.history (mine ∷ []) in
-    let below : c.in-Ok.applied.0 < length new.knows.history = omega (arith, at_end, ap length more, one) in
-    let some = slice_get-get_or new.knows.history c.in-Ok.applied.0 mine below in
-    let none = c.in_default.ensures
-    ∙ ap (λ (h : List Record). slice_get h c.in-Ok.applied.0) c.history.ensures in
-    let never = none ∙ some in
-    cc
-
-pub file-requires-clause-cell : goal.file-requires-clause-cell
-file-requires-clause-cell g c =
-    let old = world g.F.Fleet.state c.self.inside.master in
-    let new = world g.F.Fleet.state c.apply_command.new.master in
-    let accepted = c.in-Ok.ensures.gives in
-    let at_end = place_is old new c.number.result c.args.command c.in-Ok.applied.0 c.in-Ok.applied.1 accepted in
-    let more = history_is old new c.number.result c.args.command c.in-Ok.applied.0 c.in-Ok.applied.1 accepted in
-    let one = length-append old.knows.history (record_by c.number.result c.args.command c.in-Ok.applied.1 ∷ []) in
-    let most : length new.knows.history ≤ new.knows.config.history = c.apply_command.ensures.valid.history in
-    let same = ap (λ (k : Config). k.history) (c.apply_command.ensures.keeps.config ∙ c.self.invariant.master.config) in
-    omega (arith, at_end, ap length more, one, most, same, c.self.invariant.cells)
-
-pub file-requires-clause-known : goal.file-requires-clause-known
-file-requires-clause-known g c =
-    let known : Knows c.args.self.now.book c.args.seat.now = c.knows.ensures.0 (search rules) in
-    subst (λ (y : StateValue _). Knows y.book c.args.seat.now) (sym c.self.view_is) known
+returns-clause-lasts g c =
+    subst (λ (y : StateValue _). Lasts 1 (held g.F.Fleet.state y) (held g.F.Fleet.state c.apply_reserved.new.self))
+    c.reserve.ensures.same c.apply_reserved.ensures.lasts

@@ -33,13 +33,18 @@ admitted : (d self : MasterData) (victims row : List ℕ) (o : Option Refusal) �
 admitted d self victims row o same listed is none =
     (λ i. clean_refusal (same i) (sym listed i)) ∙ sym is ∙ none
 
+-- the images are the same beside their room
+kept_closed : (old mid new : ImagesValue) → mid ≡ old → new ≡ record mid { room = new.room }
+    → new ≡ record old { room = new.room }
+kept_closed old mid new same grown = grown ∙ (λ i. record (same i) { room = new.room })
+
 pub begin-pass-requires : goal.begin-pass-requires
 begin-pass-requires c =
     let d = the_view c.self.inside in
     let passed = admitted d c.args.self.now c.args.victims c.as_slice.result.now _ c.self.view_is c.as_slice.ensures
     c.admit_pass.ensures
     (ap result_err c.in_ok-near.was) in
-    subst (λ (v : ImagesValue). AreVictims v.images d.next c.args.victims) (sym c.reserve-2.ensures.same)
+    subst (λ (v : ImagesValue). AreVictims v.images d.next c.args.victims) (sym (kept_closed c.self.inside.closed c.new_survivor.new.closed c.reserve.new.self c.new_survivor.ensures.same c.reserve.ensures.same))
     (victims_fit d c.self.invariant.2 c.args.victims (may_begin_pass d c.args.victims passed))
 
 pub add_reserved-requires-clause-other : goal.add_reserved-requires-clause-other
@@ -48,15 +53,15 @@ add_reserved-requires-clause-other c =
     let passed = admitted d c.args.self.now c.args.victims c.as_slice.result.now _ c.self.view_is c.as_slice.ensures
     c.admit_pass.ensures
     (ap result_err c.in_ok-near.was) in
-    subst (λ (v : ImagesValue). image_of v.images d.next ≡ None) (sym c.reserve-2.ensures.same)
+    subst (λ (v : ImagesValue). image_of v.images d.next ≡ None) (sym (kept_closed c.self.inside.closed c.new_survivor.new.closed c.reserve.new.self c.new_survivor.ensures.same c.reserve.ensures.same))
     (none_yet d c.self.invariant.2 c.args.victims (may_begin_pass d c.args.victims passed))
 
 pub add_reserved-requires-clause-within : goal.add_reserved-requires-clause-within
 add_reserved-requires-clause-within c =
     let d = the_view c.self.inside in
-    let len = ap (λ (es : List Entry). length (text_of es)) (c.reserve.ensures ∙ c.in_ok-survivor.ensures)
+    let len = ap (λ (es : List Entry). length (text_of es)) c.in_ok-survivor.ensures.survivor
     ∙ length-survivor d.config.master d.next in
-    let segment = ap (λ (v : ImagesValue). v.segment) c.reserve-2.ensures.same ∙ c.self.invariant.1.segment in
+    let segment = ap (λ (v : ImagesValue). v.segment) (kept_closed c.self.inside.closed c.new_survivor.new.closed c.reserve.new.self c.new_survivor.ensures.same c.reserve.ensures.same) ∙ c.self.invariant.1.segment in
     let least = (sizes_of d.config c.self.invariant.2.config).least_segment in
     omega (arith, len, segment)
 
@@ -66,9 +71,9 @@ add_reserved-requires-clause-free c =
     let passed = admitted d c.args.self.now c.args.victims c.as_slice.result.now _ c.self.view_is c.as_slice.ensures
     c.admit_pass.ensures
     (ap result_err c.in_ok-near.was) in
-    survivor_free d c.self.invariant.2 c.args.victims (may_begin_pass d c.args.victims passed) c.reserve-2.new.self
+    survivor_free d c.self.invariant.2 c.args.victims (may_begin_pass d c.args.victims passed) c.reserve.new.self
     c.self.inside.closed
-    c.self.invariant.1 refl c.reserve-2.ensures.same
+    c.self.invariant.1 refl (kept_closed c.self.inside.closed c.new_survivor.new.closed c.reserve.new.self c.new_survivor.ensures.same c.reserve.ensures.same)
 
 module _ (c : goal.Joined-self) where
   abbrev d : MasterData
@@ -91,8 +96,8 @@ module _ (c : goal.Joined-self) where
   abbrev cursor : Cursor
   cursor = c.begin-pass.result.cursor
 
-  images : c.reserve-2.new.self.images ≡ d.closed
-  images = ap (λ (v : ImagesValue). v.images) c.reserve-2.ensures.same
+  images : c.reserve.new.self.images ≡ d.closed
+  images = ap (λ (v : ImagesValue). v.images) (kept_closed c.self.inside.closed c.new_survivor.new.closed c.reserve.new.self c.new_survivor.ensures.same c.reserve.ensures.same)
 
   begun : c.begin-pass.result ≡ fresh_pass victims d.next cursor
   begun = c.begin-pass.ensures.begun
@@ -112,7 +117,7 @@ module _ (c : goal.Joined-self) where
       ap (λ (v : ImagesValue). v.images) c.add_reserved.ensures
       ∙ (λ i. added (record {
         id = d.next;
-        segment = (c.reserve.ensures ∙ c.in_ok-survivor.ensures) i;
+        segment = c.in_ok-survivor.ensures.survivor i;
         is_whole = true;
       }) (images i))
       ∙ last d core victims may
@@ -137,19 +142,20 @@ module _ (c : goal.Joined-self) where
 
   room_then : length c.add_reserved.new.self.images < c.add_reserved.new.self.room
   room_then =
-      let more = c.in_ok-reserve-2.ensures.ok in
-      let same : c.add_reserved.new.self.room ≡ c.reserve-2.new.self.room =
+      let more = c.in_ok-reserve.ensures.ok in
+      let same : c.add_reserved.new.self.room ≡ c.reserve.new.self.room =
       ap (λ (v : ImagesValue). v.room) c.add_reserved.ensures in
       let count = ap length closed ∙ length-append d.closed (survivor d core victims may ∷ []) in
-      omega (arith, more, same, count)
+      let before = ap (λ (v : ImagesValue). length v.images) c.new_survivor.ensures.same in
+      omega (arith, more, same, count, before)
 
   sizes_then : AreImagesOf d.config c.add_reserved.new.self
   sizes_then =
       let own = c.self.invariant.1 in
       subst (AreImagesOf d.config) (sym c.add_reserved.ensures) (record {
-        segment = ap (λ (v : ImagesValue). v.segment) c.reserve-2.ensures.same ∙ own.segment;
-        seglet = ap (λ (v : ImagesValue). v.seglet) c.reserve-2.ensures.same ∙ own.seglet;
-        seglets = ap (λ (v : ImagesValue). v.seglets) c.reserve-2.ensures.same ∙ own.seglets;
+        segment = ap (λ (v : ImagesValue). v.segment) (kept_closed c.self.inside.closed c.new_survivor.new.closed c.reserve.new.self c.new_survivor.ensures.same c.reserve.ensures.same) ∙ own.segment;
+        seglet = ap (λ (v : ImagesValue). v.seglet) (kept_closed c.self.inside.closed c.new_survivor.new.closed c.reserve.new.self c.new_survivor.ensures.same c.reserve.ensures.same) ∙ own.seglet;
+        seglets = ap (λ (v : ImagesValue). v.seglets) (kept_closed c.self.inside.closed c.new_survivor.new.closed c.reserve.new.self c.new_survivor.ensures.same c.reserve.ensures.same) ∙ own.seglets;
       })
 
 pub invariant_of-self-2 : goal.invariant_of-self-2

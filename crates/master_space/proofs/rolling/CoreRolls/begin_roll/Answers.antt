@@ -23,6 +23,11 @@ use Rattle.master_space.proofs.RollStarts.{new_ids, pass_now, start_now_is, star
 use Rattle.master_space.proofs.RollStarts.{new_rise, new_count, rolled_core}
 use Rattle.master_space.proofs.rolling.CoreRolls.begin_roll.Goals as goal
 
+-- the images are the same beside their room
+kept_closed : (old mid new : ImagesValue) → mid ≡ record old { room = mid.room } → new ≡ mid
+    → new ≡ record old { room = new.room }
+kept_closed old mid new grown same = same ∙ grown ∙ (λ i. record old { room = sym (ap (λ (v : ImagesValue). v.room) same) i })
+
 module _ (c : goal.After-begin_roll-arg-3-1) where
   abbrev d : MasterData
   d = the_view c.self.inside
@@ -85,8 +90,8 @@ module _ (c : goal.After-self-1) where
   valid : IsHeadValue (with_roll d'.head d'.config.master (start_now d'))
   valid = subst IsHeadValue begun c.in_ok-begin_roll.ensures.valid
 
-  images : c.reserve.new.self.images ≡ d'.closed
-  images = ap (λ (v : ImagesValue). v.images) c.reserve.ensures.same
+  images : c.take_spare.new.self.images ≡ d'.closed
+  images = ap (λ (v : ImagesValue). v.images) (kept_closed c.self.inside.closed c.reserve.new.self c.take_spare.new.self c.reserve.ensures.same c.take_spare.ensures)
 
   marked : c.mark.new.pass ≡ pass_now d'
   marked = c.mark.ensures ∙ pass_marked d' c.is_ready-is_commit.result ready'
@@ -95,7 +100,7 @@ module _ (c : goal.After-self-1) where
   left = record {
     config = d'.config;
     head = c.begin_roll.new.self;
-    closed = c.reserve.new.self.images;
+    closed = c.take_spare.new.self.images;
     next = d'.next + 1;
     index = d'.index;
     safe = d'.safe;
@@ -123,15 +128,16 @@ module _ (c : goal.After-self-1) where
     origin = d'.origin;
   }
 
-  room_then : IsSome c.begin_roll.new.self.roll → length c.reserve.new.self.images < c.reserve.new.self.room
+  room_then : IsSome c.begin_roll.new.self.roll → length c.take_spare.new.self.images < c.take_spare.new.self.room
   room_then some =
       let enough = c.in_ok-reserve.ensures.ok in
+      let room = ap (λ (v : ImagesValue). v.room) c.take_spare.ensures in
       let same = ap (λ (xs : List Image). length xs) images in
-      omega arith
+      omega (arith, enough, room, same)
 
-  sizes_then : AreImagesOf d'.config c.reserve.new.self
+  sizes_then : AreImagesOf d'.config c.take_spare.new.self
   sizes_then =
-      subst (AreImagesOf d'.config) (sym c.reserve.ensures.same) (let own = c.self.invariant.1 in
+      subst (AreImagesOf d'.config) (sym (kept_closed c.self.inside.closed c.reserve.new.self c.take_spare.new.self c.reserve.ensures.same c.take_spare.ensures)) (let own = c.self.invariant.1 in
       record { segment = own.segment; seglet = own.seglet; seglets = own.seglets })
 
   valid_then : IsCore left
@@ -162,8 +168,8 @@ returns-clause-may c = subst MayRollNow c.self.view_is (may_roll_now (d' c) (cor
 pub returns-clause-valid : goal.returns-clause-valid
 returns-clause-valid c = valid_then c
 
-pub overflow_mul-kept : goal.overflow_mul-kept
-overflow_mul-kept c =
+pub overflow_mul-memory : goal.overflow_mul-memory
+overflow_mul-memory c =
     let sizes = sizes_of c.self.inside.config c.self.invariant.2.config in
     let least = sizes.least_seglet in
     let most = sizes.most_seglet in

@@ -45,6 +45,18 @@ returns-in-Stop-clause-ran g c = rw c.in-Stop.is (inl (record {
   word = refl;
 }))
 
+pub returns-in-Fault-clause-ran : goal.returns-in-Fault-clause-ran
+returns-in-Fault-clause-ran g c = rw c.in-Fault.is (inl (record {
+  number = refl;
+  options = refl;
+  used = refl;
+  covers = λ all. all.0;
+  answers = λ config number. c.fault.ensures.told config;
+  makes = c.fault.ensures.same;
+  wills = refl;
+  word = refl;
+}))
+
 pub returns-in-Crash-clause-ran : goal.returns-in-Crash-clause-ran
 returns-in-Crash-clause-ran g c = rw c.in-Crash.is (inl
     (record {

@@ -14,7 +14,7 @@ use Rattle.script.proofs.session.Session.start.Goals as goal
 
 pub new-requires-2-clause-none : goal.new-requires-2-clause-none
 new-requires-2-clause-none c = λ b s. ap (λ (f : FleetState). f.picture b c.in_ok-config.config.master s)
-    c.in_ok-fleet.ensures
+    c.in_ok-fleet.ensures.new
 
 pub returns : goal.returns
 returns c =
@@ -29,7 +29,7 @@ returns c =
     ok_of_no_err c.push_all.result _ (sym c.is_err.ensures.value ∙ c.if-is_err.false) c.push_all.ensures.pushed in
     let first : world fleet_state c.in-Ok.master ≡ new_world (config_of c.args.options.now 1) = λ i. record {
       knows = (new ∙ ap fresh_data config) i;
-      fleet = (ap fleet_state c.in-Ok.ensures.made.1 ∙ c.in_ok-fleet.ensures) i;
+      fleet = (ap fleet_state c.in-Ok.ensures.made.1 ∙ c.in_ok-fleet.ensures.new) i;
     } in
     record {
       stands = (

@@ -1,0 +1,7 @@
+use Rattle.asked_again.specs.Lives.{IsOpening}
+use Rattle.asked_again.proofs.life.live.Given as goal
+
+abbrev pub invariant-loop : goal.invariant-loop
+invariant-loop g l =
+    (goal.iterator-loop g).can_next l.iterator' × (goal.iterator-loop g).is_finite l.iterator'
+    × IsOpening l.fn.options l.master.knows

@@ -1,0 +1,5 @@
+use Rattle.locked_log.proofs.Lasting.{made_at_first}
+use Rattle.asked_again.proofs.life.try_live.Goals as goal
+
+pub live_in-requires-clause-made : goal.live_in-requires-clause-made
+live_in-requires-clause-made g c = made_at_first c.in-Ok.blank.seats c.args.master.knows

@@ -1,0 +1,11 @@
+use Rattle.locked_log.specs.Made.{made_now}
+use Rattle.asked_again.proofs.life.try_live.Given as goal
+
+abbrev pub ghosts-live_in-B-Naming : goal.ghosts-live_in-B-Naming
+ghosts-live_in-B-Naming g a = record { table = a.blank.table; made = made_now a.blank.seats a.master.knows }
+
+abbrev pub ghosts-live_in-B-Labels : goal.ghosts-live_in-B-Labels
+ghosts-live_in-B-Labels g a = record { cells = a.blank.cells }
+
+abbrev pub ghosts-live_in-B-Ledger : goal.ghosts-live_in-B-Ledger
+ghosts-live_in-B-Ledger g a = record { name = a.blank.name; parts = a.blank.parts }

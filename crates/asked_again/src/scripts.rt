@@ -1,0 +1,107 @@
+//! The scripts: each life of a master is a list of lines. A recovery comes between two lives.
+
+use script::Options;
+
+/// The lines of one life after another.
+type Lives = &'static [&'static [&'static [u8]]];
+
+/// Lives, and whether recoveries take what they replay in reverse.
+pub struct Script {
+    pub lives: Lives,
+    pub is_reversed: bool,
+}
+
+/// All stores have these options.
+pub const OPTIONS: Options = Options {
+    backups: 3,
+    replicas: 2,
+    step: 1,
+    segment: 512,
+    seglet: 64,
+    seglets: 64,
+    tables: 4,
+    history: 100,
+    bytes: 1_048_576,
+    objects: 1_000_000,
+};
+
+/// Tombstones.
+const TOMBSTONES: Lives = &[&[
+    b"put 1 a x",
+    b"put 1 a y",
+    b"put 1 b z",
+    b"del 1 a",
+    b"put 1 a w",
+]];
+
+/// Tombstones that a pass carries, and one that drops them.
+const CARRIED: Lives = &[
+    &[
+        b"put 1 a x",
+        b"put 1 a y",
+        b"put 1 b z",
+        b"del 1 a",
+        b"put 1 a w",
+        b"del 1 a",
+        b"roll",
+        b"clean 1",
+        b"clean 3",
+        b"log",
+    ],
+    &[b"put 1 a q"],
+];
+
+/// A delete in the midst of a pass.
+const DELETED: Lives = &[
+    &[
+        b"put 1 a x",
+        b"roll",
+        b"begin 1",
+        b"copy",
+        b"del 1 a",
+        b"seal",
+        b"seal",
+        b"roll",
+        b"free",
+        b"free",
+        b"clean 2",
+        b"log",
+    ],
+    &[],
+];
+
+/// A plan of three segments.
+const PLANNED: Lives = &[
+    &[
+        b"put 1 a x",
+        b"put 1 b y",
+        b"roll",
+        b"put 1 a z",
+        b"del 1 b",
+        b"roll",
+    ],
+    &[],
+];
+
+pub const SCRIPTS: &[Script] = &[
+    Script {
+        lives: TOMBSTONES,
+        is_reversed: false,
+    },
+    Script {
+        lives: CARRIED,
+        is_reversed: false,
+    },
+    Script {
+        lives: DELETED,
+        is_reversed: false,
+    },
+    Script {
+        lives: PLANNED,
+        is_reversed: false,
+    },
+    Script {
+        lives: PLANNED,
+        is_reversed: true,
+    },
+];

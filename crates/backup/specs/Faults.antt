@@ -1,0 +1,54 @@
+-- Faults that are asked for, and what a take does by its answer.
+use Rattle.std.specs.Prelude.{◌≡◌, ℕ, ◌-◌, ◌<◌, false, Result, Ok, Err, if◌then◌else◌}
+use Rattle.replica.specs.declared.op.TakeFault.{TakeFault}
+use Rattle.replica.specs.declared.op.TakeFault.TheVariants as take_fault
+use Rattle.replica.specs.Op.{OpValue}
+use Rattle.replica.specs.Picture.{FleetState}
+use Rattle.replica.specs.Take.{Takes, faulted, no_limit}
+use Rattle.backup.specs.declared.fleet.Asked.{Asked}
+use Rattle.backup.specs.declared.fleet.MemoryFleet.{MemoryFleet}
+use Rattle.backup.specs.Acts.{IsWrongOp}
+use Rattle.backup.specs.State.{fleet_state}
+
+-- no fault is asked for
+abbrev pub nothing_asked : Asked
+nothing_asked = record { takes = 0; taken = false }
+
+-- one more op was taken
+abbrev pub nearer : Asked → Asked
+nearer asked = record { takes = asked.takes - 1; taken = asked.taken }
+
+-- the next take is the one that a fault is asked for, and another fault can be counted
+abbrev pub IsDue : MemoryFleet → Type 0
+IsDue fleet = (fleet.asked.takes ≡ 1) × (fleet.faults < no_limit)
+
+-- The fleet would have taken the op. It did or not, as was asked, and one more fault is counted.
+abbrev pub FaultsAsAsked : MemoryFleet → ℕ → OpValue → MemoryFleet → Type 0
+FaultsAsAsked old b op new = (mid : FleetState) × Takes (fleet_state old) b op mid
+    × (fleet_state new ≡ faulted (if old.asked.taken then mid else fleet_state old))
+
+-- A take ends in a fault just if it is the one that was asked for, and the fleet would have taken its op. A take that is
+-- refused otherwise isn't counted.
+abbrev pub MeetsAsked : MemoryFleet → ℕ → OpValue → Result Unit TakeFault → MemoryFleet → Type 0
+MeetsAsked old b op (Ok u) new = (IsDue old → ⊥) × (new.asked ≡ nearer old.asked)
+MeetsAsked old b op (Err take_fault.Fault) new =
+    IsDue old × (new.asked ≡ nothing_asked) × FaultsAsAsked old b op new
+MeetsAsked old b op (Err _) new = new.asked ≡ old.asked
+
+-- ---- without a fault
+
+-- What a fleet does that ends no take in a fault. Spent is answered before Wrong, and NoMemory only if the op fits.
+abbrev pub Serves : FleetState → ℕ → OpValue → Result Unit TakeFault → FleetState → Type 0
+Serves old b op (Ok u) new = Takes old b op new
+Serves old b op (Err take_fault.NoMemory) new = ((mid : FleetState) × Takes old b op mid) × (new ≡ old)
+Serves old b op (Err take_fault.Wrong) new = IsWrongOp old b op × (new ≡ old)
+Serves old b op (Err take_fault.Fault) new = ⊥
+Serves old b op (Err take_fault.Spent) new = (old.takes ≡ old.end) × (new ≡ old)
+
+-- ---- the take that a fault is asked for
+
+-- it ends in the fault, or it is refused
+abbrev pub Fails : MemoryFleet → ℕ → OpValue → Result Unit TakeFault → MemoryFleet → Type 0
+Fails old b op (Ok u) new = ⊥
+Fails old b op (Err take_fault.Fault) new = (new.asked ≡ nothing_asked) × FaultsAsAsked old b op new
+Fails old b op (Err why) new = (new.asked ≡ old.asked) × Serves (fleet_state old) b op (Err why) (fleet_state new)

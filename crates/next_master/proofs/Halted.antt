@@ -1,0 +1,61 @@
+-- What a master leaves that a fault halted: the same as one that goes on.
+use Rattle.std.proofs.Common.{◌≡◌}
+use Rattle.std.specs.Prelude.{Some, Err}
+use Rattle.backup.specs.State.{fleet_state}
+use Rattle.replica.specs.declared.op.TakeFault.{TakeFault}
+use Rattle.replica.specs.declared.op.TakeFault.TheVariants as take_fault
+use Rattle.replica.specs.Picture.{FleetState}
+use Rattle.master_state.specs.Data.{MasterData}
+use Rattle.master_state.specs.Steps.{halted}
+use Rattle.master.specs.Valid.{IsValid}
+use Rattle.master.specs.World.{retired_data}
+use Rattle.node.specs.declared.node.Node.{Node}
+use Rattle.node.specs.declared.node.Node.TheVariants.{Up, Down, Changing}
+use Rattle.node.specs.Lives.{Left, left_now}
+use Rattle.node.specs.Served.{IsOf, IsLeftOf}
+
+valid_halted : (d : MasterData) (f : FleetState) → IsValid (halted d) f → IsValid d f
+valid_halted d f valid = record {
+  config = valid.config;
+  history = valid.history;
+  legal = valid.legal;
+  index = valid.index;
+  safe = valid.safe;
+  imaged = valid.imaged;
+  budget = valid.budget;
+  sound = valid.sound;
+  covered = valid.covered;
+  durable = valid.durable;
+  pushed = valid.pushed;
+}
+
+pub valid_cut : (d : MasterData) (fault : TakeFault) (f : FleetState) → IsValid (retired_data (Err fault) d) f
+    → IsValid d f
+valid_cut d take_fault.NoMemory f valid = valid
+valid_cut d take_fault.Wrong f valid = valid
+valid_cut d take_fault.Fault f valid = valid_halted d f valid
+valid_cut d take_fault.Spent f valid = valid
+
+left_halted : (d : MasterData) (l : Left) (f : FleetState) → IsLeftOf (halted d) l f → IsLeftOf d l f
+left_halted d l f of = record {
+  crashed = of.crashed;
+  valid = valid_halted d of.crashed of.valid;
+  picture = of.picture;
+  opened = of.opened;
+  shown = of.shown;
+  backups = of.backups;
+}
+
+of_halted : (d : MasterData) (f : FleetState) (new : Node) → IsOf new (Some (left_now (halted d) f)) (halted d)
+    → IsOf new (Some (left_now d f)) d
+of_halted d f (Up m) (none, knows, valid) = absurd (cc)
+of_halted d f (Down fleet) (l, is, of) = (l, is, left_halted d l (fleet_state fleet) of)
+of_halted d f Changing of = absurd of
+
+pub left_cut : (d : MasterData) (fault : TakeFault) (f : FleetState) (new : Node)
+    → IsOf new (Some (left_now (retired_data (Err fault) d) f)) (retired_data (Err fault) d)
+    → IsOf new (Some (left_now d f)) d
+left_cut d take_fault.NoMemory f new of = of
+left_cut d take_fault.Wrong f new of = of
+left_cut d take_fault.Fault f new of = of_halted d f new of
+left_cut d take_fault.Spent f new of = of

@@ -1,0 +1,44 @@
+use Rattle.std.proofs.Common.{◌≡◌, refl, ap, subst, ◌∙◌}
+use Rattle.backup.specs.State.{fleet_state}
+use Rattle.lines.specs.Grammar.{Fault}
+use Rattle.master.specs.World.{World}
+use Rattle.master.specs.Valid.{IsValid}
+use Rattle.master_state.specs.Data.{MasterData}
+use Rattle.replica.specs.Picture.{FleetState}
+use Rattle.answers.specs.declared.answer.Answer.TheVariants as answer
+use Rattle.node.specs.declared.node.Node.{Node}
+use Rattle.node.specs.declared.node.Node.TheVariants.{Down, Up}
+use Rattle.node.specs.Served.{AnswersLine, IsOf}
+use Rattle.node.proofs.Standing.{same_told}
+use Rattle.node.proofs.WhatIsLeft.{same_picture}
+use Rattle.node.proofs.node.Node.fault.Goals.{in-Up, in-Down, in-Changing}
+use Rattle.node.proofs.node.Node.fault.Goals as goal
+
+pub returns-clause-told : goal.returns-clause-told
+returns-clause-told c = λ config.
+    elim c.match-self.branch as (λ _. AnswersLine c.args.self.now config (Fault c.args.takes c.args.taken) c.match-self.self
+    (answer.Fault c.args.takes c.args.taken)) [
+      | in-Up w ↦ rw w.self-is (same_told c.args.self.now (Up w.fault_at.new.self) config (Fault c.args.takes c.args.taken)
+          (answer.Fault c.args.takes c.args.taken)
+          (λ d left of.
+          let was : IsOf (Up w.in-Up.up) left d = subst (λ (n : Node). IsOf n left d) w.in-Up.is of in
+          let same : w.fault_at.new.self.knows ≡ d = ap (λ (x : World). x.knows) w.fault_at.ensures.same ∙ was.1 in (
+            was.0,
+            same,
+            subst (λ (x : MasterData). IsValid x (fleet_state w.fault_at.new.self.fleet)) same
+                w.fault_at.ensures.valid,
+          ))
+          (λ d at s. (refl, refl)))
+      | in-Down w ↦ rw w.self-is (same_told c.args.self.now (Down w.fault_at-in-Down.new.self) config (Fault c.args.takes c.args.taken)
+          (answer.Fault c.args.takes c.args.taken)
+          (λ d left of.
+          let was : IsOf (Down w.in-Down.fleet) left d = subst (λ (n : Node). IsOf n left d) w.in-Down.is of in (
+            was.0,
+            was.1,
+            same_picture d was.0 (fleet_state w.in-Down.fleet) (fleet_state w.fault_at-in-Down.new.self)
+                (ap (λ (f : FleetState). f.picture) w.fault_at-in-Down.ensures.same)
+                (ap (λ (f : FleetState). f.backups) w.fault_at-in-Down.ensures.same) was.2,
+          ))
+          (λ d at s. (refl, refl)))
+      | in-Changing w ↦ λ d at s. absurd (subst (λ (n : Node). IsOf n at.left d) w.in-Changing.is s.node_of)
+    ]
