@@ -112,6 +112,7 @@ impl MemoryFleet {
     }
 
     /// Hands an op to a backup. It doesn't end in a fault.
+    #[inline(always)]
     fn serve(&mut self, backup: u64, op: &Op<'_>) -> Result<(), TakeFault>
         ensures serves { Serves (fleet_state self.old) backup (shown_op op.now) result (fleet_state self.new) }
         ensures asked { self.new.asked ≡ self.old.asked }
@@ -161,6 +162,7 @@ impl MemoryFleet {
     }
 
     /// The take that a fault is asked for.
+    #[cold]
     fn fail(&mut self, backup: u64, op: &Op<'_>) -> Result<(), TakeFault>
         requires { IsDue self.old }
         ensures { Fails self.old backup (shown_op op.now) result self.new }

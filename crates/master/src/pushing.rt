@@ -53,6 +53,7 @@ pub(crate) fn push_for<F: Fleet>(
 }
 
 /// Hands the op of a push to its backup.
+#[inline(always)]
 fn hand<F: Fleet>(core: &mut Core, fleet: &mut F, next: Next) -> Result<StepAnswer, Refusal>
     requires running { core.old.is_halted ≡ false }
     requires next { IsNextPush core.old.head (Some next) }
