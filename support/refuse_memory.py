@@ -18,16 +18,15 @@ ALL = 2**63
 TOLD = 3
 # Of a run that makes more requests, each n-th is refused, so that no more runs are made than for so many.
 MOST = 1000
+# The same for a test, of which only a crash or a run without an end is a failure.
+MOST_OF_A_TEST = 250
 # Which requests are refused, and how many refusals that may be.
 REACHES = (("request {} refused", 1), ("the requests from {} on refused", ALL))
 # What the program prints that asks again for what was refused.
 ANSWERS = f"{TOP}/crates/asked_again/stdout"
-# Files of examples that are not run here.
-LEFT_OUT = {
-    # Several threads ask for memory at one time, so the same request comes at another place in each run.
-    "clients.rows",
-    "workers.rows",
-}
+# Examples of these files, and tests of these modules, are not run here: several threads ask for memory at one time, so the same
+# request comes at another place in each run.
+LEFT_OUT = {"clients.rows", "workers.rows", "clients", "workers"}
 # Command lines that end before a script is read.
 COMMAND_LINES = [
     ["--help"],
@@ -106,6 +105,10 @@ class Subject:
         """Which requests are refused: one; or one and all after it. A program that asks again has no end if all are."""
         return REACHES[:1] if self.kind == "asks again" else REACHES
 
+    def stride(self, requests):
+        """Of this many requests each n-th is refused."""
+        return -(-requests // (MOST_OF_A_TEST if self.kind == "test" else MOST)) or 1
+
 
 def failed_by_itself(run):
     """Whether a test failed by an error that it met, or by an assertion."""
@@ -161,7 +164,7 @@ def sweep(subject):
     judged = {}
     plain, requests, refused = subject.program.run(subject.words, subject.script)
     tally.requests = requests
-    tally.stride = -(-requests // MOST) or 1
+    tally.stride = subject.stride(requests)
     tally.runs = 1
     if plain != wanted or refused != 0:
         tally.fail("undisturbed", plain, wanted)
@@ -218,7 +221,8 @@ def tests(folder):
         if not names:
             sys.exit(f"refuse-memory: {path} lists no tests")
         for name in names:
-            yield Subject("test", f"{os.path.basename(path)}: {name}", program, (name,))
+            if name.partition("::")[0] not in LEFT_OUT:
+                yield Subject("test", f"{os.path.basename(path)}: {name}", program, (name,))
 
 
 def subjects_of(program, names, words, is_whole):
@@ -244,6 +248,8 @@ def main():
         sys.exit("refuse-memory: the program's requests for memory can't be counted here: it needs glibc")
     if words[:1] == ["--asked-again"]:
         subjects = [Subject("asks again", "asked_again", program)]
+    elif words[:1] == ["--tests"]:
+        subjects = list(tests(folder))
     else:
         subjects = subjects_of(program, names, words, not given)
     runs = failed = 0
@@ -254,7 +260,7 @@ def main():
             print("\n".join([*tally.told, tally.line()]), flush=True)
             runs, failed = runs + tally.runs, failed + tally.failed
     print(f"{runs} runs, {failed} failed")
-    sys.exit(failed > 0)
+    sys.exit(failed > 0 or not runs)
 
 
 main()

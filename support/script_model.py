@@ -36,6 +36,7 @@ class Options:
     history: int = 1048576
     bytes: int = 1048576
     objects: int = 1000000
+    format: int = 1
 
 
 def options_of(words):
@@ -69,6 +70,12 @@ def fate_word(given):
     if given not in (b"taken", b"lost"):
         raise ValueError
     return given == b"taken"
+
+
+def format_word(given):
+    if given != b"2":
+        raise ValueError
+    return 2
 
 
 def number_word(given):
@@ -105,6 +112,7 @@ LINES = {
     "recover reverse": (),
     "recover threads": (number_word,),
     "holdings": (),
+    "format": (format_word,),
 }
 
 # The least and the most of the first numbers of a line.
@@ -191,9 +199,14 @@ class Header:
 @dataclass(frozen=True)
 class Digest:
     ids: tuple
+    # The length of each segment that it lists, if it lists lengths.
+    lengths: tuple | None = None
 
     def spelled(self):
-        return b"\x02" + number(len(self.ids), 4) + b"".join(number(it, 8) for it in self.ids)
+        if self.lengths is None:
+            return b"\x02" + number(len(self.ids), 4) + b"".join(number(it, 8) for it in self.ids)
+        pairs = (number(it, 8) + number(length, 8) for it, length in zip(self.ids, self.lengths))
+        return b"\x06" + number(len(self.ids), 4) + b"".join(pairs)
 
 
 @dataclass(frozen=True)
@@ -234,7 +247,7 @@ class Tombstone:
         return 2 * self.version + 1
 
 
-FIXED_PARTS = {1: 18, 2: 5, 3: 9, 4: 23, 5: 27}
+FIXED_PARTS = {1: 18, 2: 5, 3: 9, 4: 23, 5: 27, 6: 5}
 
 
 def read_entry(text, at):
@@ -267,6 +280,14 @@ def read_entry(text, at):
         length += key + value
         entry = Object(number_at(1, 8), number_at(9, 8), part(23, key), part(23 + key, value))
         fits = 1 <= entry.version <= 2**62 and 1 <= key <= 1024 and value <= 2097152
+    elif kind == 6:
+        count = number_at(1, 4)
+        length += 16 * count
+        if left < length:
+            return None
+        ids, lengths = (tuple(number_at(first + 16 * place, 8) for place in range(count)) for first in (5, 13))
+        entry = Digest(ids, lengths)
+        fits = all(one < next_one for one, next_one in zip(ids, ids[1:])) and all(18 <= it <= 8388608 for it in lengths)
     else:
         key = number_at(25, 2)
         length += key
@@ -358,6 +379,12 @@ class Segment:
     id: int
     text: bytes
     units: tuple = ()
+    # How many bytes a whole replica has. A compaction changes the image alone.
+    length: int = 0
+
+    def grown(self, more):
+        """The segment with these bytes at its end."""
+        return replace(self, text=self.text + more, length=self.length + len(more))
 
 
 def spelled(entries):
@@ -374,9 +401,11 @@ def seglets(segment, options):
     return -(-len(segment.text) // options.seglet)
 
 
-def new_head(master, ids, safe):
-    """A head with the last of these ids, that has nothing but its opening."""
-    return Segment(ids[-1], Header(master, ids[-1], 0).spelled() + Digest(ids).spelled() + Safe(safe).spelled())
+def new_head(master, log, id_, safe, has_lengths):
+    """A head that has nothing but its opening, and lists these segments and itself."""
+    ids = (*(it.id for it in log), id_)
+    lengths = (*(it.length for it in log), 32 + 16 * len(ids)) if has_lengths else None
+    return Segment(id_, b"").grown(spelled([Header(master, id_, 0), Digest(ids, lengths), Safe(safe)]))
 
 
 @dataclass(frozen=True)
@@ -428,13 +457,16 @@ class Master:
     freed: int = 0
     # A take ended in a fault.
     is_halted: bool = False
+    # Its digests list lengths.
+    has_lengths: bool = False
     # What is live, by table and key. It follows from the segments.
     live: dict = field(default_factory=dict, compare=False)
 
     @staticmethod
-    def new(number, safe):
+    def new(number, safe, format_):
         """A master without a key, whose first head is being opened."""
-        return Master(number, (new_head(number, (1,), safe),), safe)
+        has_lengths = format_ == 2
+        return Master(number, (new_head(number, (), 1, safe, has_lengths),), safe, has_lengths=has_lengths)
 
     def log(self):
         """The segments of the digest in force."""
@@ -554,7 +586,7 @@ class Master:
 
     def cleaned(self, ids):
         """The master after the begin of a pass."""
-        survivor = Segment(self.next, Header(self.number, self.next, 1).spelled())
+        survivor = Segment(self.next, b"").grown(Header(self.number, self.next, 1).spelled())
         return replace(self, next=self.next + 1, cleaning=Pass(ids, survivor, self.rest_of(ids)))
 
     def copied(self):
@@ -562,7 +594,7 @@ class Master:
         (id_, entry), *rest = self.cleaning.rest
         survivor, live, what = self.cleaning.survivor, self.live, "dropped"
         if self.is_kept(id_, entry):
-            survivor = replace(survivor, text=survivor.text + entry.spelled())
+            survivor = survivor.grown(entry.spelled())
             what = "carried"
             if isinstance(entry, Object):
                 name = (entry.table, entry.key)
@@ -598,9 +630,8 @@ class Master:
 
     def appended(self, unit):
         """The segments once the head has this unit of the next record."""
-        head = self.segments[-1]
-        text = head.text + spelled(unit)
-        return (*self.segments[:-1], replace(head, text=text, units=(*head.units, (self.records, len(text)))))
+        head = self.segments[-1].grown(spelled(unit))
+        return (*self.segments[:-1], replace(head, units=(*head.units, (self.records, len(head.text)))))
 
     # Loading (section 10).
 
@@ -629,11 +660,12 @@ class Master:
 
     def rolling(self, is_ready):
         """The master after the begin of a roll."""
-        ids, cleaning = [it.id for it in self.segments], self.cleaning
+        log, cleaning = self.segments, self.cleaning
         if cleaning and is_ready:
-            ids = sorted({*ids, cleaning.survivor.id}.difference(cleaning.victims))
+            left = [it for it in self.segments if it.id not in cleaning.victims]
+            log = sorted([*left, cleaning.survivor], key=lambda it: it.id)
             cleaning = replace(cleaning, is_committing=True)
-        head = new_head(self.number, (*ids, self.next), self.safe)
+        head = new_head(self.number, log, self.next, self.safe, self.has_lengths)
         return replace(self, segments=(*self.segments, head), next=self.next + 1, is_rolling=True, cleaning=cleaning)
 
 
@@ -692,9 +724,12 @@ def plan(holdings, master):
     # A closed one before the open ones, and of these the longest.
     first = lambda replica: (replica[0].is_open, -len(replica[0].text) if replica[0].is_open else 0, replica[0].backup)
     _, head = min(heads, key=first)
-    planned = []
-    for id_ in head[1].ids[:-1]:
-        replicas = [(holding, entries) for holding, entries in read if holding.segment == id_]
+    digest, planned = head[1], []
+    for place, id_ in enumerate(digest.ids[:-1]):
+        # Where a length is listed, an open replica that is shorter may lack what was acknowledged.
+        least = digest.lengths[place] if digest.lengths else 0
+        replicas = [(holding, entries) for holding, entries in read
+                    if holding.segment == id_ and (not holding.is_open or least <= len(holding.text))]
         if not replicas:
             raise Refusal(f"Missing {id_}")
         planned.append(min(replicas, key=first)[1])
@@ -742,11 +777,13 @@ class Store:
     last: int = 1
     # The greatest number of a master. Others than `last` didn't come to the end of their loading.
     greatest: int = 1
+    # The format of the masters that start from now on.
+    format: int = 1
 
     @staticmethod
     def new(options):
         """The store at the start of a script: its first head is open."""
-        store = Store(options, Fleet(), Master.new(1, 1))
+        store = Store(options, Fleet(), Master.new(1, 1, options.format), format=options.format)
         while store.next_op():
             _, store = store.pushed()
         return store
@@ -756,7 +793,7 @@ class Store:
         name, *parts = line
         if name in ("lose", "recover") and self.master:
             yield "refused Up\n", 0, self
-        elif name not in ("idle", "stop", "fault", "lose", "recover", "holdings") and not self.master:
+        elif name not in ("idle", "stop", "fault", "lose", "recover", "holdings", "format") and not self.master:
             yield "refused Down\n", 0, self
         elif name in STEPS and self.master.is_halted:
             if name == "clients":
@@ -1081,6 +1118,9 @@ class Store:
         fleet = replace(self.fleet, due=takes, is_taken=is_taken)
         yield f"fault {takes} {'taken' if is_taken else 'lost'}\n", 0, replace(self, fleet=fleet)
 
+    def line_format(self, format_):
+        yield f"format {format_}\n", 0, replace(self, format=format_)
+
     def line_crash(self):
         yield "crashed\n", 0, replace(self, master=None)
 
@@ -1111,7 +1151,7 @@ class Store:
     def adopted(self, objects, safe):
         """Loads these objects into a new master, and pushes them."""
         number = self.greatest + 1
-        store = replace(self, greatest=number, master=Master.new(number, safe))
+        store = replace(self, greatest=number, master=Master.new(number, safe, self.format))
         store = yield from store.all_pushed()
         for loaded in objects:
             refusal = store and store.master.load_refusal(loaded, self.options)

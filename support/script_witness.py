@@ -273,6 +273,8 @@ class Follower:
         self.greatest = 1
         # How many records the history has, if that is known.
         self.records = None
+        # The format of the masters that start from then on.
+        self.format = options.format
 
     def wrong(self, line, answer):
         """What is wrong with the answer to this line, or None."""
@@ -292,14 +294,14 @@ class Follower:
         """From here on the layout isn't known."""
         self.is_up = True
         self.is_unlimited = self.store.fleet.left == NO_LIMIT
-        self.greatest, self.records = self.store.greatest, self.store.master.records
+        self.greatest, self.records, self.format = self.store.greatest, self.store.master.records, self.store.format
         self.store = None
 
     def wrong_unseen(self, line, answer):
         name = line[0]
         if self.is_up and name in ("lose", "recover"):
             may_be = answer == ["refused Up"]
-        elif not self.is_up and name not in ("idle", "stop", "fault", "lose", "recover", "holdings"):
+        elif not self.is_up and name not in ("idle", "stop", "fault", "lose", "recover", "holdings", "format"):
             may_be = answer == ["refused Down"]
         elif answer == ["stopped"]:
             may_be = not self.is_unlimited and name in TAKING
@@ -351,6 +353,10 @@ class Follower:
         self.is_unlimited = line[1] == NO_LIMIT
         return answer == [f"stop {line[1]}"]
 
+    def may_format(self, line, answer):
+        self.format = line[1]
+        return answer == [f"format {line[1]}"]
+
     def may_crash(self, _, answer):
         self.is_up = False
         return answer == ["crashed"]
@@ -383,7 +389,8 @@ class Follower:
             self.greatest += answer == ["refused Full"]
             return re.fullmatch(r"refused (Full|NoHead|(HeadClosed|Missing) \d+)", answer[-1])
         found = self.witness.answered
-        store = end_of(Store(self.options, Fleet(), None, greatest=self.greatest).adopted(found.objects(), found.safe))
+        down = Store(self.options, Fleet(), None, greatest=self.greatest, format=self.format)
+        store = end_of(down.adopted(found.objects(), found.safe))
         self.is_up, self.records = True, 0
         self.greatest += 1
         if self.is_unlimited:

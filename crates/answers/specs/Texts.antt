@@ -108,6 +108,7 @@ answer_text (answer.Hex bytes) = hex_text bytes
 answer_text (answer.NotInLog segment) = codes "refused NotInLog " ++ decimal segment ++ 10 ∷ []
 answer_text (answer.Stop takes) = codes "stop " ++ decimal takes ++ 10 ∷ []
 answer_text (answer.Fault takes taken) = asked_text takes taken
+answer_text answer.Format = codes "format 2" ++ 10 ∷ []
 answer_text answer.Stopped = codes "stopped" ++ 10 ∷ []
 answer_text answer.Crashed = codes "crashed" ++ 10 ∷ []
 answer_text (answer.Lost backup) = codes "lost " ++ decimal backup ++ 10 ∷ []

@@ -37,6 +37,8 @@ pub enum Answer {
     Stop(u64),
     /// The fault that was asked for: which take from then ends in it, and whether its op is taken.
     Fault(u64, bool),
+    /// Masters that start later write format 2.
+    Format,
     /// The fleet had taken as many ops as it may, and the master was dropped.
     Stopped,
     Crashed,
@@ -112,6 +114,7 @@ pub fn write_answer<W: Write>(writer: &mut W, answer: &Answer) -> io::Result<()>
         Answer::NotInLog(segment) => write_number(writer, b"refused NotInLog ", *segment, b'\n'),
         Answer::Stop(takes) => write_number(writer, b"stop ", *takes, b'\n'),
         Answer::Fault(takes, taken) => write_fault(writer, *takes, *taken),
+        Answer::Format => writer.write_all(b"format 2\n"),
         Answer::Stopped => writer.write_all(b"stopped\n"),
         Answer::Crashed => writer.write_all(b"crashed\n"),
         Answer::Lost(backup) => write_number(writer, b"lost ", *backup, b'\n'),

@@ -3,7 +3,7 @@
 ghost use Rattle.std.specs.Prelude.{◌≡◌, ◌≤◌, IfErr};
 ghost use Rattle.locked_log.specs.Ends.{IsFresh};
 ghost use Rattle.locked_log.specs.Made.{IsMade};
-ghost use Rattle.asked_again.specs.Lives.{IsOpening};
+ghost use Rattle.store_lines.specs.Lives.{IsOpening};
 
 use crate::asking::{ask, push};
 use crate::printing::{print, print_history};

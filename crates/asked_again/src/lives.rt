@@ -3,12 +3,13 @@
 use crate::life::live;
 use crate::printing::print;
 use crate::scripts::{OPTIONS, Script};
-use crate::succession::{FIRST_MASTER, first_master, succeed};
+use crate::succession::{begin, succeed};
 use recovery::GroupOrder;
 use script::Answer;
 use std::alloc::Global;
 use std::io::Write;
 use std::sync::Wait;
+use store_lines::FIRST_MASTER;
 
 /// Runs the lives of a script. Between two of them the master crashes, and the next one adopts its table.
 pub fn run_lives<R: Wait, O: Write>(rt: &R, alloc: Global, writer: &mut O, script: &Script) {
@@ -20,7 +21,7 @@ pub fn run_lives<R: Wait, O: Write>(rt: &R, alloc: Global, writer: &mut O, scrip
     let Some((first, others)) = script.lives.split_first() else {
         return;
     };
-    let master = first_master(rt, alloc, &OPTIONS);
+    let master = begin(rt, alloc, &OPTIONS);
     let mut fleet = live(rt, alloc, writer, &OPTIONS, first, master);
     let mut crashed = FIRST_MASTER;
     for lines in others {

@@ -23,6 +23,7 @@ pub const OPTIONS: Options = Options {
     history: 100,
     bytes: 1_048_576,
     objects: 1_000_000,
+    format: 1,
 };
 
 /// Tombstones.

@@ -1,25 +1,20 @@
 //! The first master, and each one that adopts the table of the one before.
 
-ghost use Rattle.std.specs.Prelude.{◌≡◌, ℕ, suc, max, None, IfOk, IfSome};
+ghost use Rattle.std.specs.Prelude.{◌≡◌, IfOk, IfSome};
 ghost use Rattle.backup.specs.State.{fleet_state};
-ghost use Rattle.asked_again.specs.Lives.{CanBegin, IsChecked, IsOpening};
-ghost use Rattle.replica.specs.Picture.{AreHeld};
-ghost use Rattle.next_master.specs.Numbers.{greatest_of};
+ghost use Rattle.store_lines.specs.Lives.{CanBegin, IsChecked, IsOpening};
 
 use crate::printing::print;
 use backup::MemoryFleet;
 use master::{Config, Master};
-use next_master::next_number;
 use recovery::{GroupOrder, Rebuilt, make_will, recover};
 use replay::adopt_list;
-use replica::{Inventory, TakeFault};
+use replica::{Fleet, Inventory, TakeFault};
 use script::{Answer, Options, configuration};
 use std::alloc::Global;
 use std::io::Write;
 use std::sync::Wait;
-
-/// The number of the first master.
-pub const FIRST_MASTER: u64 = 1;
+use store_lines::{FIRST_MASTER, first_master, next_config};
 
 /// The table of a crashed master, and what the one that is to adopt it begins with.
 #[derive(Drop)]
@@ -35,12 +30,12 @@ struct Heir {
 }
 
 /// A master over an empty fleet. Its head isn't open yet.
-pub fn first_master<R: Wait>(rt: &R, alloc: Global, options: &Options) -> Master<MemoryFleet>
+pub fn begin<R: Wait>(rt: &R, alloc: Global, options: &Options) -> Master<MemoryFleet>
     ensures { IsOpening options.now result.knows }
 {
     for _ in rt.forever() {
         if let Some(config) = first_config(alloc, options) {
-            if let Some(master) = try_first(alloc, options, config) {
+            if let Ok(master) = first_master(alloc, options, config) {
                 return master;
             }
         }
@@ -57,20 +52,6 @@ fn first_config(alloc: Global, options: &Options) -> Option<Config>
     };
     match config.check() {
         Ok(()) => Some(config),
-        Err(_) => None,
-    }
-}
-
-/// A master of this configuration. None if memory was refused.
-fn try_first(alloc: Global, options: &Options, config: Config) -> Option<Master<MemoryFleet>>
-    requires { IsChecked options.now config }
-    ensures { IfSome result (λ m. IsOpening options.now m.knows) }
-{
-    let Ok(fleet) = MemoryFleet::new(alloc, config.backups) else {
-        return None;
-    };
-    match Master::new(alloc, config, fleet) {
-        Ok(master) => Some(master),
         Err(_) => None,
     }
 }
@@ -152,10 +133,17 @@ fn find(
     let Ok(inventory) = fleet.inventory(alloc) else {
         return None;
     };
-    let Some(config) = next_config(alloc, options, crashed, fleet, &inventory) else {
+    let Ok(config) = next_config(alloc, options, false, crashed, fleet, &inventory) else {
         return None;
     };
-    match rebuild(alloc, &inventory, crashed, &config, order) {
+    match rebuild(
+        alloc,
+        &inventory,
+        crashed,
+        fleet.least(crashed),
+        &config,
+        order,
+    ) {
         Some(rebuilt) => Some(Inheritance { rebuilt, config }),
         None => None,
     }
@@ -166,49 +154,15 @@ fn rebuild(
     alloc: Global,
     inventory: &Inventory<'_>,
     crashed: u64,
+    least: u64,
     config: &Config,
     order: &GroupOrder,
 ) -> Option<Rebuilt> {
     let Ok(will) = make_will(alloc, config.tablets.as_slice(), &[], u64::MAX, u64::MAX) else {
         return None;
     };
-    match recover(alloc, inventory, crashed, &will, order) {
+    match recover(alloc, inventory, crashed, least, &will, order) {
         Ok(rebuilt) => Some(rebuilt),
-        Err(_) => None,
-    }
-}
-
-/// The configuration of the next master.
-fn next_config(
-    alloc: Global,
-    options: &Options,
-    crashed: u64,
-    fleet: &MemoryFleet,
-    inventory: &Inventory<'_>,
-) -> Option<Config>
-    requires { AreHeld inventory.now (fleet_state fleet.now).picture }
-    ensures { IfSome result (CanBegin options.now (fleet_state fleet.now)) }
-{
-    let Some(number) = next_number(inventory.as_slice(), crashed) else {
-        return None;
-    };
-    match configuration(alloc, options, number) {
-        Ok(config) => fitting(options, fleet, config),
-        Err(_) => None,
-    }
-}
-
-/// The configuration, if a master can begin with it over the fleet. That it can't never comes.
-fn fitting(options: &Options, fleet: &MemoryFleet, config: Config) -> Option<Config>
-    requires records { config.history ≡ options.now.history }
-    requires unused { (b s : ℕ) → (fleet_state fleet.now).picture b config.master s ≡ None }
-    ensures { IfSome result (CanBegin options.now (fleet_state fleet.now)) }
-{
-    if config.backups > fleet.backups() {
-        return None;
-    }
-    match config.check() {
-        Ok(()) => Some(config),
         Err(_) => None,
     }
 }

@@ -4,6 +4,7 @@ use Rattle.std.proofs.Common.{subst, sym, ap, ◌+◌, ◌∙◌, length-append,
 use Rattle.replica.specs.Picture.{FleetState}
 use Rattle.replica.specs.Take.{no_limit}
 use Rattle.backup.specs.declared.memory.MemoryBackup.{MemoryBackup}
+use Rattle.backup.specs.Registry.{Heads, least_in}
 use Rattle.backup.specs.Shelf.{replica_at}
 use Rattle.backup.specs.State.{picture_of, new_fleet}
 
@@ -26,14 +27,27 @@ pub pushed_empty : (backups new : List MemoryBackup) (x : MemoryBackup) → new 
 pushed_empty backups new x is held fresh = subst AreEmpty (sym is) (more_empty backups x held fresh)
 
 -- what a fleet of such backups is
-abbrev fleet_of : List MemoryBackup → FleetState
-fleet_of backups =
-    record { backups = length backups; picture = picture_of backups; takes = 0; end = no_limit; faults = 0 }
+abbrev fleet_of : List MemoryBackup → Heads → FleetState
+fleet_of backups heads = record {
+  backups = length backups;
+  picture = picture_of backups;
+  takes = 0;
+  end = no_limit;
+  faults = 0;
+  least = least_in heads;
+}
 
-pub empty_fleet : (n : ℕ) (backups : List MemoryBackup) → length backups ≡ n → AreEmpty backups
-    → fleet_of backups ≡ new_fleet n
-empty_fleet n backups count empty =
-    λ i. record { backups = count i; picture = λ b m s. empty b m s i; takes = 0; end = no_limit; faults = 0 }
+pub empty_fleet : (n : ℕ) (backups : List MemoryBackup) (heads : Heads) → length backups ≡ n → AreEmpty backups
+    → heads ≡ [] → fleet_of backups heads ≡ new_fleet n
+empty_fleet n backups heads count empty none =
+    λ i. record {
+      backups = count i;
+      picture = λ b m s. empty b m s i;
+      takes = 0;
+      end = no_limit;
+      faults = 0;
+      least = least_in (none i);
+    }
 
 pub pushed_count : (backups new : List MemoryBackup) (x : MemoryBackup) (n : ℕ) → new ≡ backups ++ x ∷ []
     → length backups ≡ n → length new ≡ n + 1

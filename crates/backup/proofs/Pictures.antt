@@ -80,10 +80,16 @@ pub picture_of-same : (backups : List MemoryBackup) (b : ℕ) (old new : MemoryB
 picture_of-same backups b old new m s change same =
     fun_ext (λ c. fun_ext (λ n. fun_ext (λ t. unchanged_at backups b old new m s change same c n t)))
 
--- a fleet with these backups and counts
-abbrev pub fleet_of : List MemoryBackup → ℕ → ℕ → ℕ → FleetState
-fleet_of backups takes end faults =
-    record { backups = length backups; picture = picture_of backups; takes = takes; end = end; faults = faults }
+-- a fleet with these backups, counts and least heads
+abbrev pub fleet_of : List MemoryBackup → ℕ → ℕ → ℕ → (ℕ → ℕ) → FleetState
+fleet_of backups takes end faults least = record {
+  backups = length backups;
+  picture = picture_of backups;
+  takes = takes;
+  end = end;
+  faults = faults;
+  least = least;
+}
 
 emptied_at : (old : Option MemoryBackup) (new : MemoryBackup) (n t : ℕ) (x : Bool) → replica_at new n t ≡ None
     → replica_on (cond x (Some new) old) n t ≡ cond (not x) (replica_on old n t) None
@@ -97,20 +103,21 @@ lost_at backups b new within empty c n t =
     rw (slice_get-set backups b new c within) (emptied_at (slice_get backups c) new n t (b == c) (empty n t))
 
 -- if the backup becomes one that holds nothing, the fleet has lost what it held
-pub lost_by : (backups : List MemoryBackup) (b : ℕ) (new : MemoryBackup) (takes end faults : ℕ) → b < length backups
-    → ((m s : ℕ) → replica_at new m s ≡ None)
-    → fleet_of (set backups b new) takes end faults ≡ lost (fleet_of backups takes end faults) b
-lost_by backups b new takes end faults within empty =
+pub lost_by : (backups : List MemoryBackup) (b : ℕ) (new : MemoryBackup) (takes end faults : ℕ) (least : ℕ → ℕ)
+    → b < length backups → ((m s : ℕ) → replica_at new m s ≡ None)
+    → fleet_of (set backups b new) takes end faults least ≡ lost (fleet_of backups takes end faults least) b
+lost_by backups b new takes end faults least within empty =
     let left : picture_of (set backups b new) ≡ left_on (λ d. not (b == d)) (picture_of backups) =
     fun_ext (λ c. fun_ext (λ n. fun_ext (λ t. lost_at backups b new within empty c n t))) in
     rw (length-set, left) refl
 
 -- what the backup does is what the fleet does
 pub taken_by : (backups : List MemoryBackup) (b : ℕ) (old new : MemoryBackup) (op : OpValue) (takes end faults : ℕ)
-    → Change backups b old new op.master op.segment
+    (least : ℕ → ℕ) → Change backups b old new op.master op.segment
     → effect op.act (replica_at old op.master op.segment) ≡ Some (replica_at new op.master op.segment)
-    → taken (fleet_of backups takes end faults) b op ≡ Some (fleet_of (set backups b new) (takes + 1) end faults)
-taken_by backups b old new op takes end faults change done =
+    → taken (fleet_of backups takes end faults least) b op
+    ≡ Some (fleet_of (set backups b new) (takes + 1) end faults least)
+taken_by backups b old new op takes end faults least change done =
     rw (
       lt-ltb b (length backups) (slice_get_within backups b old change.is),
       change.is,
@@ -121,8 +128,8 @@ taken_by backups b old new op takes end faults change done =
 
 -- an op fits the fleet exactly if it fits the backup's replica
 pub taken-effect : (backups : List MemoryBackup) (b : ℕ) (old : MemoryBackup) (op : OpValue) (takes end faults : ℕ)
-    → slice_get backups b ≡ Some old
-    → taken (fleet_of backups takes end faults) b op
-    ≡ with_effect (fleet_of backups takes end faults) b op (effect op.act (replica_at old op.master op.segment))
-taken-effect backups b old op takes end faults is =
+    (least : ℕ → ℕ) → slice_get backups b ≡ Some old
+    → taken (fleet_of backups takes end faults least) b op
+    ≡ with_effect (fleet_of backups takes end faults least) b op (effect op.act (replica_at old op.master op.segment))
+taken-effect backups b old op takes end faults least is =
     rw (lt-ltb b (length backups) (slice_get_within backups b old is), is) refl

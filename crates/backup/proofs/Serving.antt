@@ -24,15 +24,15 @@ fits_not f b op None none = refl
 fits_not f b op (Some r) none = absurd (false≢true (sym none))
 
 module _ (backups : List MemoryBackup) (b : ℕ) (old new : MemoryBackup) (op : OpValue) (takes end faults : ℕ)
-    (change : Change backups b old new op.master op.segment) where
+    (least : ℕ → ℕ) (change : Change backups b old new op.master op.segment) where
   abbrev f : FleetState
-  f = fleet_of backups takes end faults
+  f = fleet_of backups takes end faults least
 
   abbrev e : Option (Option Replica)
   e = effect op.act (replica_at old op.master op.segment)
 
   is_effect : taken f b op ≡ with_effect f b op e
-  is_effect = taken-effect backups b old op takes end faults change.is
+  is_effect = taken-effect backups b old op takes end faults least change.is
 
   -- the fleet takes an op that fits its backup
   pub fits_fleet : takes < end → is_some e ≡ true → (mid : FleetState) × Takes f b op mid
@@ -44,13 +44,13 @@ module _ (backups : List MemoryBackup) (b : ℕ) (old new : MemoryBackup) (op : 
 
   -- a backup with the same replicas leaves the fleet the same
   pub same_fleet : replica_at new op.master op.segment ≡ replica_at old op.master op.segment
-      → fleet_of (set backups b new) takes end faults ≡ f
+      → fleet_of (set backups b new) takes end faults least ≡ f
   same_fleet same = rw (length-set, picture_of-same backups b old new op.master op.segment change same) refl
 
   -- what the backup refuses, the fleet refuses
   pub served_by : (fault : TakeFault) → takes < end
       → Acts op.act (replica_at old op.master op.segment) (Err fault) (replica_at new op.master op.segment)
-      → Serves f b op (Err fault) (fleet_of (set backups b new) takes end faults)
+      → Serves f b op (Err fault) (fleet_of (set backups b new) takes end faults least)
   served_by take_fault.NoMemory left acts = (fits_fleet left acts.0, same_fleet acts.1)
   served_by take_fault.Wrong left acts =
       ((left, is_effect ∙ ap (with_effect f b op) acts.0), same_fleet acts.1)

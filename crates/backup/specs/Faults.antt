@@ -4,6 +4,7 @@ use Rattle.replica.specs.declared.op.TakeFault.{TakeFault}
 use Rattle.replica.specs.declared.op.TakeFault.TheVariants as take_fault
 use Rattle.replica.specs.Op.{OpValue}
 use Rattle.replica.specs.Picture.{FleetState}
+use Rattle.replica.specs.Registry.{Raises}
 use Rattle.replica.specs.Take.{Takes, faulted, no_limit}
 use Rattle.backup.specs.declared.fleet.Asked.{Asked}
 use Rattle.backup.specs.declared.fleet.MemoryFleet.{MemoryFleet}
@@ -22,18 +23,28 @@ nearer asked = record { takes = asked.takes - 1; taken = asked.taken }
 abbrev pub IsDue : MemoryFleet → Type 0
 IsDue fleet = (fleet.asked.takes ≡ 1) × (fleet.faults < no_limit)
 
--- The fleet would have taken the op. It did or not, as was asked, and one more fault is counted.
-abbrev pub FaultsAsAsked : MemoryFleet → ℕ → OpValue → MemoryFleet → Type 0
-FaultsAsAsked old b op new = (mid : FleetState) × Takes (fleet_state old) b op mid
+-- what a take does to a fleet if it is taken: an op of a backup, or a raise
+abbrev pub Deed : Type 1
+Deed = FleetState → FleetState → Type 0
+
+abbrev pub TakesOp : ℕ → OpValue → Deed
+TakesOp b op = λ old new. Takes old b op new
+
+abbrev pub TakesRaise : ℕ → ℕ → Deed
+TakesRaise master id = λ old new. Raises old master id new
+
+-- The fleet would have done it. It did or not, as was asked, and one more fault is counted.
+abbrev pub FaultsAsAsked : Deed → MemoryFleet → MemoryFleet → Type 0
+FaultsAsAsked Does old new = (mid : FleetState) × Does (fleet_state old) mid
     × (fleet_state new ≡ faulted (if old.asked.taken then mid else fleet_state old))
 
--- A take ends in a fault just if it is the one that was asked for, and the fleet would have taken its op. A take that is
+-- A take ends in a fault just if it is the one that was asked for, and the fleet would have done it. A take that is
 -- refused otherwise isn't counted.
-abbrev pub MeetsAsked : MemoryFleet → ℕ → OpValue → Result Unit TakeFault → MemoryFleet → Type 0
-MeetsAsked old b op (Ok u) new = (IsDue old → ⊥) × (new.asked ≡ nearer old.asked)
-MeetsAsked old b op (Err take_fault.Fault) new =
-    IsDue old × (new.asked ≡ nothing_asked) × FaultsAsAsked old b op new
-MeetsAsked old b op (Err _) new = new.asked ≡ old.asked
+abbrev pub MeetsAsked : Deed → MemoryFleet → Result Unit TakeFault → MemoryFleet → Type 0
+MeetsAsked Does old (Ok u) new = (IsDue old → ⊥) × (new.asked ≡ nearer old.asked)
+MeetsAsked Does old (Err take_fault.Fault) new =
+    IsDue old × (new.asked ≡ nothing_asked) × FaultsAsAsked Does old new
+MeetsAsked Does old (Err _) new = new.asked ≡ old.asked
 
 -- ---- without a fault
 
@@ -45,10 +56,25 @@ Serves old b op (Err take_fault.Wrong) new = IsWrongOp old b op × (new ≡ old)
 Serves old b op (Err take_fault.Fault) new = ⊥
 Serves old b op (Err take_fault.Spent) new = (old.takes ≡ old.end) × (new ≡ old)
 
+-- The same of a raise, which is never wrong.
+abbrev pub ServesRaise : FleetState → ℕ → ℕ → Result Unit TakeFault → FleetState → Type 0
+ServesRaise old master id (Ok u) new = Raises old master id new
+ServesRaise old master id (Err take_fault.NoMemory) new = (old.takes < old.end) × (new ≡ old)
+ServesRaise old master id (Err take_fault.Wrong) new = ⊥
+ServesRaise old master id (Err take_fault.Fault) new = ⊥
+ServesRaise old master id (Err take_fault.Spent) new = (old.takes ≡ old.end) × (new ≡ old)
+
 -- ---- the take that a fault is asked for
 
 -- it ends in the fault, or it is refused
 abbrev pub Fails : MemoryFleet → ℕ → OpValue → Result Unit TakeFault → MemoryFleet → Type 0
 Fails old b op (Ok u) new = ⊥
-Fails old b op (Err take_fault.Fault) new = (new.asked ≡ nothing_asked) × FaultsAsAsked old b op new
+Fails old b op (Err take_fault.Fault) new = (new.asked ≡ nothing_asked) × FaultsAsAsked (TakesOp b op) old new
 Fails old b op (Err why) new = (new.asked ≡ old.asked) × Serves (fleet_state old) b op (Err why) (fleet_state new)
+
+abbrev pub FailsRaise : MemoryFleet → ℕ → ℕ → Result Unit TakeFault → MemoryFleet → Type 0
+FailsRaise old master id (Ok u) new = ⊥
+FailsRaise old master id (Err take_fault.Fault) new =
+    (new.asked ≡ nothing_asked) × FaultsAsAsked (TakesRaise master id) old new
+FailsRaise old master id (Err why) new =
+    (new.asked ≡ old.asked) × ServesRaise (fleet_state old) master id (Err why) (fleet_state new)

@@ -1,6 +1,7 @@
 pub mod Acts
 pub mod Faults
 pub mod Inventory
+pub mod Registry
 pub mod Retire
 pub mod Shelf
 pub mod Slots

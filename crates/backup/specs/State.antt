@@ -5,6 +5,7 @@ use Rattle.replica.specs.Picture.{Replica, Picture, FleetState, left_on}
 use Rattle.replica.specs.Take.{no_limit}
 use Rattle.backup.specs.declared.memory.MemoryBackup.{MemoryBackup}
 use Rattle.backup.specs.declared.fleet.MemoryFleet.{MemoryFleet}
+use Rattle.backup.specs.Registry.{least_in}
 use Rattle.backup.specs.Shelf.{replica_at}
 
 -- the replica of a master's segment on a backup, if there is that backup
@@ -24,11 +25,19 @@ fleet_state fleet = record {
   takes = fleet.takes;
   end = fleet.end;
   faults = fleet.faults;
+  least = least_in fleet.registry;
 }
 
--- a fleet of so many backups that holds nothing, without a limit
+-- a fleet of so many backups that holds nothing, without a limit, of which any head may be used
 abbrev pub new_fleet : ℕ → FleetState
-new_fleet backups = record { backups = backups; picture = λ b m s. None; takes = 0; end = no_limit; faults = 0 }
+new_fleet backups = record {
+  backups = backups;
+  picture = λ b m s. None;
+  takes = 0;
+  end = no_limit;
+  faults = 0;
+  least = λ m. 0;
+}
 
 -- the fleet in which one backup has lost all that it held
 abbrev pub lost : FleetState → ℕ → FleetState
@@ -38,4 +47,5 @@ lost f b = record {
   takes = f.takes;
   end = f.end;
   faults = f.faults;
+  least = f.least;
 }

@@ -3,6 +3,7 @@
 ghost use Rattle.std.specs.Prelude.{◌≤◌};
 
 use crate::memory::MemoryBackup;
+use crate::registry::Registry;
 use entry::NoMemory;
 use replica::{Act, Bench, Fleet, Holding, Inventory, Labels, Op, Spot, TakeFault, add_labels};
 use std::alloc::Global;
@@ -15,11 +16,39 @@ pub(crate) struct Asked {
     taken: bool,
 }
 
+impl Asked {
+    ghost use Rattle.std.specs.Prelude.{◌≡◌};
+    ghost use Rattle.backup.specs.Faults.{nothing_asked, nearer};
+
+    /// No fault.
+    fn nothing() -> Asked
+        ensures { result ≡ nothing_asked }
+    {
+        Asked {
+            takes: 0,
+            taken: false,
+        }
+    }
+
+    /// The same, one take later.
+    #[inline(always)]
+    fn nearer(&self) -> Asked
+        requires { self.now.takes ≡ 0 → ⊥ }
+        ensures { result ≡ nearer self.now }
+    {
+        Asked {
+            takes: self.takes - 1,
+            taken: self.taken,
+        }
+    }
+}
+
 /// Backups in memory, numbered from 0.
 #[derive(Drop)]
 pub struct MemoryFleet {
     alloc: Global,
     backups: Vec<MemoryBackup>,
+    registry: Registry,
     takes: u64,
     end: u64,
     faults: u64,
@@ -28,11 +57,12 @@ pub struct MemoryFleet {
 }
 
 impl MemoryFleet {
-    ghost use Rattle.std.specs.Prelude.{◌≡◌, ◌≤◌, IfOk, if◌then◌else◌};
+    ghost use Rattle.std.specs.Prelude.{◌≡◌, ◌≤◌, ◌<◌, ◌↔◌, ℕ, IfOk, IsTrue, if◌then◌else◌};
     ghost use Rattle.replica.specs.Op.{shown_op};
     ghost use Rattle.replica.specs.Picture.{FleetState, AreHeld, AreLabelsOf};
     ghost use Rattle.replica.specs.Retire.{AreOthers};
-    ghost use Rattle.backup.specs.Faults.{nothing_asked, IsDue, Serves, Fails};
+    ghost use Rattle.replica.specs.Take.{faulted, no_limit};
+    ghost use Rattle.backup.specs.Faults.{nothing_asked, IsDue, Serves, Fails, ServesRaise, FailsRaise};
     ghost use Rattle.backup.specs.Inventory.{IsRising, AreRising};
     ghost use Rattle.backup.specs.State.{fleet_state, new_fleet, lost};
 
@@ -48,13 +78,11 @@ impl MemoryFleet {
         Ok(MemoryFleet {
             alloc,
             backups: list,
+            registry: Registry::new(alloc),
             takes: 0,
             end: u64::MAX,
             faults: 0,
-            asked: Asked {
-                takes: 0,
-                taken: false,
-            },
+            asked: Asked::nothing(),
         })
     }
 
@@ -63,6 +91,13 @@ impl MemoryFleet {
         ensures { result ≡ (fleet_state self.now).backups }
     {
         self.backups.len() as u64
+    }
+
+    /// Whether any head may be used of the masters from this number on.
+    pub fn is_unraised(&self, number: u64) -> bool
+        ensures { IsTrue result → (m : ℕ) → number ≤ m → (fleet_state self.now).least m ≡ 0 }
+    {
+        self.registry.is_unraised(number)
     }
 
     /// Makes a backup lose all that it holds. An empty one has its number from then on. A number that is no backup's
@@ -109,6 +144,28 @@ impl MemoryFleet {
             memory.list_others(keep, backup as u64, &mut list)?;
         }
         Ok(list)
+    }
+
+    // ---- takes
+
+    /// Whether the next take is the one that a fault is asked for, and another fault can be counted.
+    #[inline(always)]
+    fn is_due(&self) -> bool
+        ensures { IsTrue result ↔ IsDue self.now }
+    {
+        self.asked.takes == 1 && self.faults < u64::MAX
+    }
+
+    /// Counts the fault that was asked for.
+    fn end_in_fault(&mut self) -> TakeFault
+        requires { (fleet_state self.old).faults < no_limit }
+        ensures fault { result ≡ TakeFault.Fault }
+        ensures counted { fleet_state self.new ≡ faulted (fleet_state self.old) }
+        ensures asked { self.new.asked ≡ nothing_asked }
+    {
+        self.asked = Asked::nothing();
+        self.faults += 1;
+        TakeFault::Fault
     }
 
     /// Hands an op to a backup. It doesn't end in a fault.
@@ -168,14 +225,54 @@ impl MemoryFleet {
         ensures { Fails self.old backup (shown_op op.now) result self.new }
     {
         match self.attempt(backup, op) {
+            Ok(()) => Err(self.end_in_fault()),
+            Err(fault) => Err(fault),
+        }
+    }
+
+    // ---- raises
+
+    /// Raises a master's least head. It doesn't end in a fault.
+    fn serve_raise(&mut self, master: u64, id: u64) -> Result<(), TakeFault>
+        ensures serves { ServesRaise (fleet_state self.old) master id result (fleet_state self.new) }
+        ensures asked { self.new.asked ≡ self.old.asked }
+    {
+        if self.takes == self.end {
+            return Err(TakeFault::Spent);
+        }
+        match self.registry.raise(master, id) {
             Ok(()) => {
-                self.asked = Asked {
-                    takes: 0,
-                    taken: false,
-                };
-                self.faults += 1;
-                Err(TakeFault::Fault)
+                self.takes += 1;
+                Ok(())
             }
+            Err(_) => Err(TakeFault::NoMemory),
+        }
+    }
+
+    /// Does with a raise what is asked for of it before the fault.
+    fn attempt_raise(&mut self, master: u64, id: u64) -> Result<(), TakeFault>
+        ensures serves { (mid : FleetState) × ServesRaise (fleet_state self.old) master id result mid
+            × (fleet_state self.new ≡ (if self.old.asked.taken then mid else fleet_state self.old)) }
+        ensures asked { self.new.asked ≡ self.old.asked }
+    {
+        if !self.asked.taken {
+            return if self.takes < self.end {
+                Ok(())
+            } else {
+                Err(TakeFault::Spent)
+            };
+        }
+        self.serve_raise(master, id)
+    }
+
+    /// The raise that a fault is asked for.
+    #[cold]
+    fn fail_raise(&mut self, master: u64, id: u64) -> Result<(), TakeFault>
+        requires { IsDue self.old }
+        ensures { FailsRaise self.old master id result self.new }
+    {
+        match self.attempt_raise(master, id) {
+            Ok(()) => Err(self.end_in_fault()),
             Err(fault) => Err(fault),
         }
     }
@@ -185,9 +282,10 @@ impl Fleet for MemoryFleet {
     ghost use Rattle.std.specs.Prelude.{◌≡◌, ◌≤◌, ◌↔◌, [], IfOk, Err};
     ghost use Rattle.replica.specs.Op.{shown_op};
     ghost use Rattle.replica.specs.Picture.{AreHeldBy, IsOnce};
+    ghost use Rattle.replica.specs.Registry.{RaiseGives};
     ghost use Rattle.replica.specs.Take.{TakeGives};
     ghost use Rattle.backup.specs.Acts.{IsWrongOp};
-    ghost use Rattle.backup.specs.Faults.{MeetsAsked};
+    ghost use Rattle.backup.specs.Faults.{TakesOp, TakesRaise, MeetsAsked};
     ghost use Rattle.backup.specs.Inventory.{IsRising};
     ghost use Rattle.backup.specs.State.{fleet_state};
 
@@ -199,21 +297,47 @@ impl Fleet for MemoryFleet {
         ensures gives { TakeGives (fleet_state self.old) backup (shown_op op.now) result (fleet_state self.new) }
         ensures spent { (result ≡ Err TakeFault.Spent) ↔ ((fleet_state self.old).takes ≡ (fleet_state self.old).end) }
         ensures wrong { (result ≡ Err TakeFault.Wrong) ↔ IsWrongOp (fleet_state self.old) backup (shown_op op.now) }
-        ensures faults { MeetsAsked self.old backup (shown_op op.now) result self.new }
+        ensures faults { MeetsAsked (TakesOp backup (shown_op op.now)) self.old result self.new }
     {
         if self.asked.takes == 0 {
             return self.serve(backup, op);
         }
-        if self.asked.takes == 1 && self.faults < u64::MAX {
+        if self.is_due() {
             return self.fail(backup, op);
         }
         match self.serve(backup, op) {
             Ok(()) => {
-                self.asked.takes -= 1;
+                self.asked = self.asked.nearer();
                 Ok(())
             }
             Err(fault) => Err(fault),
         }
+    }
+
+    /// Raises a master's least head. Spent is answered before NoMemory, which only the first raise of a master may be. It
+    /// ends in a fault just if `fault_at` asked for that, and it wouldn't have been refused.
+    fn raise(&mut self, master: u64, id: u64) -> Result<(), TakeFault>
+        ensures gives { RaiseGives (fleet_state self.old) master id result (fleet_state self.new) }
+        ensures spent { (result ≡ Err TakeFault.Spent) ↔ ((fleet_state self.old).takes ≡ (fleet_state self.old).end) }
+        ensures faults { MeetsAsked (TakesRaise master id) self.old result self.new }
+    {
+        if self.asked.takes == 0 {
+            return self.serve_raise(master, id);
+        }
+        if self.is_due() {
+            return self.fail_raise(master, id);
+        }
+        match self.serve_raise(master, id) {
+            Ok(()) => {
+                self.asked = self.asked.nearer();
+                Ok(())
+            }
+            Err(fault) => Err(fault),
+        }
+    }
+
+    fn least(&self, master: u64) -> u64 {
+        self.registry.least(master)
     }
 
     /// All replicas of one backup, by master, then by segment. Their bytes stay with the backup.

@@ -9,7 +9,7 @@ ghost use Rattle.backup.specs.Retire.{spots_of_others};
 ghost use Rattle.backup.specs.Shelf.{replica_at, holdings_of, ActsAt, KeepsOthers, IsInOrder};
 
 use crate::shelf::Shelf;
-use crate::stored::{Stored, is_making};
+use crate::stored::{Stored, block_len, is_making};
 use entry::NoMemory;
 use replica::{Act, Holding, Op, Spot, TakeFault};
 use std::alloc::Global;
@@ -68,26 +68,22 @@ impl MemoryBackup {
         }
     }
 
-    /// Memory for a replica: that of a freed one, or else a little more than one here has come to if it is to grow. If
-    /// that is refused, it is none.
-    fn room(&mut self, alloc: Global, is_open: bool) -> Vec<u8>
+    /// Memory for a replica that comes to so many bytes: that of a freed one if there is one. If more is refused, it is
+    /// what there is.
+    fn room(&mut self, alloc: Global, len: usize) -> Vec<u8>
         ensures room { result.items ≡ [] }
         ensures same { self.new.replicas ≡ self.old.replicas }
     {
-        if let Some(mut spare) = self.spares.pop() {
-            spare.clear();
-            return spare;
-        }
-        if is_open {
-            let enough = self.longest.saturating_add(self.longest / 8);
-            if let Ok(room) = Vec::with_capacity(alloc, enough) {
-                return room;
-            }
-        }
-        Vec::new(alloc)
+        let mut room = match self.spares.pop() {
+            Some(spare) => spare,
+            None => Vec::new(alloc),
+        };
+        room.clear();
+        let _ = room.reserve_exact(block_len(len));
+        room
     }
 
-    /// A copy of the bytes of a new replica.
+    /// A copy of the bytes of a new replica. If it is to grow, there is room for as many as one here has come to.
     fn copy(&mut self, alloc: Global, bytes: &[u8], is_open: bool) -> Result<Vec<u8>, NoMemory>
         ensures copy { IfOk result (λ copy. copy.items ≡ bytes.now) }
         ensures same { self.new.replicas ≡ self.old.replicas }
@@ -95,7 +91,8 @@ impl MemoryBackup {
         if self.spares.capacity() == 0 {
             let _ = self.spares.reserve_exact(SPARES);
         }
-        let mut copy = self.room(alloc, is_open);
+        let grows_to = if is_open { self.longest } else { 0 };
+        let mut copy = self.room(alloc, grows_to.max(bytes.len()));
         copy.extend_from_slice(bytes)?;
         Ok(copy)
     }

@@ -9,6 +9,19 @@ ghost use Rattle.backup.specs.Shelf.{holding_of};
 use replica::{Act, Bytes, Holding, TakeFault};
 use std::marker::Model;
 
+/// Memory of long replicas comes in pages of this many bytes.
+const PAGE: usize = 4096;
+
+/// That of short ones comes in lines of this many.
+const LINE: usize = 64;
+
+/// How much memory a replica of this length gets. Those of about one length get as much, so that each serves where
+/// another was.
+pub(crate) fn block_len(len: usize) -> usize {
+    let unit = if len < 16 * PAGE { LINE } else { PAGE };
+    len.saturating_add(unit - 1) / unit * unit
+}
+
 /// A replica that a backup holds.
 #[derive(Drop)]
 pub struct Stored {

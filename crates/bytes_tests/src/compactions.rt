@@ -10,7 +10,7 @@ use compactor::{LogSet, compact};
 use entry::{EntryRef, Key, KeyRef, ObjectRef};
 use hash_index::{Held, Index, Place, Resolve};
 use images::Images;
-use segment::{Segment, read_segment};
+use segment::{Segment, SegmentRef, read_segment};
 use std::alloc::Global;
 
 /// Table 1, version 2, key `a`, value `y`.
@@ -49,7 +49,7 @@ impl<'a> Resolve for Image<'a> {
     ghost keys = { λ s. keys_in (λ (n : ℕ). s.segment.now) };
 
     fn key_at(&self, place: Place) -> Option<KeyRef<'_>> {
-        match object_at(self.segment, place.at) {
+        match object_at(&self.segment.view(), place.at) {
             None => None,
             Some(object) => Some(object.key),
         }
@@ -57,7 +57,7 @@ impl<'a> Resolve for Image<'a> {
 }
 
 /// The object that begins at an offset.
-fn object_at(segment: &Segment, at: usize) -> Option<ObjectRef<'_>>
+fn object_at<'a>(segment: &SegmentRef<'a>, at: usize) -> Option<ObjectRef<'a>>
     ensures { option_map shown_object result ≡ object_in segment.entry.now at }
 {
     match segment.entry_at(at) {
@@ -67,7 +67,7 @@ fn object_at(segment: &Segment, at: usize) -> Option<ObjectRef<'_>>
 }
 
 /// Sets the place of the object at an offset of segment 1.
-pub fn set(index: &mut Index, segment: &Segment, at: usize) -> bool {
+pub fn set(index: &mut Index, segment: &SegmentRef<'_>, at: usize) -> bool {
     if index.reserve(1).is_err() {
         return false;
     }
@@ -87,7 +87,7 @@ pub fn set(index: &mut Index, segment: &Segment, at: usize) -> bool {
 /// Sets the places of the two objects of `BEFORE` that live, if they lie in image 1.
 pub fn set_both(index: &mut Index, images: &Images) -> bool {
     match images.get(1) {
-        Some(segment) => set(index, segment, 121) && set(index, segment, 174),
+        Some(segment) => set(index, &segment, 121) && set(index, &segment, 174),
         None => false,
     }
 }
@@ -155,7 +155,7 @@ fn is_compacted(alloc: Global, images: &Images, index: &mut Index) -> bool {
     };
     match images.get(1) {
         None => false,
-        Some(segment) => match compact(alloc, 1, segment, index, &log) {
+        Some(segment) => match compact(alloc, 1, &segment, index, &log) {
             Ok(kept) => is_after(alloc, index, &kept),
             Err(_) => false,
         },

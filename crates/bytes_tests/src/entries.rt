@@ -20,7 +20,8 @@ const ENTRIES: &[Row] = &[
     (TOMBSTONE, Ok(28)),
     (GREATEST, Ok(24)),
     ("", Err(EntryFault::Short)),
-    ("06", Err(EntryFault::UnknownKind)),
+    ("06", Err(EntryFault::Short)),
+    ("07", Err(EntryFault::UnknownKind)),
     ("00 ff ff", Err(EntryFault::UnknownKind)),
     ("03", Err(EntryFault::Short)),
     ("03 0000000000000000", Err(EntryFault::BadField)),
@@ -37,6 +38,46 @@ const ENTRIES: &[Row] = &[
     (
         "02 00000002 0000000000000002 0000000000000002",
         Err(EntryFault::BadField),
+    ),
+    ("06 00000000", Ok(5)),
+    ("06 00000001 0000000000000001 0000000000000012 ff", Ok(21)),
+    ("06 00000001 0000000000000001 0000000000800000", Ok(21)),
+    (
+        "06 00000001 0000000000000001 0000000000000011",
+        Err(EntryFault::BadField),
+    ),
+    (
+        "06 00000001 0000000000000001 0000000000800001",
+        Err(EntryFault::BadField),
+    ),
+    (
+        "06 00000001 0000000000000001 8000000000000012",
+        Err(EntryFault::BadField),
+    ),
+    (
+        "06 00000002 0000000000000001 0000000000000012 ffffffffffffffff 0000000000000030",
+        Ok(37),
+    ),
+    (
+        "06 00000002 0000000000000002 0000000000000012 0000000000000001 0000000000000030",
+        Err(EntryFault::BadField),
+    ),
+    (
+        "06 00000002 0000000000000002 0000000000000012 0000000000000002 0000000000000030",
+        Err(EntryFault::BadField),
+    ),
+    (
+        "06 00000002 0000000000000001 0000000000000011 0000000000000002 0000000000000030",
+        Err(EntryFault::BadField),
+    ),
+    (
+        "06 00000002 0000000000000001 0000000000000012 0000000000000002 0000000000000000",
+        Err(EntryFault::BadField),
+    ),
+    ("06 000000", Err(EntryFault::Short)),
+    (
+        "06 00000002 0000000000000002 0000000000000011 0000000000000001",
+        Err(EntryFault::Short),
     ),
     (
         "04 0000000000000001 0000000000000000",
@@ -130,6 +171,31 @@ fn is_read(alloc: Global, bytes: &[u8]) -> bool {
 fn an_object_has_its_fields(rt: HostRuntime) -> Result<(), Fail> {
     let bytes = bytes_of(rt.alloc(), &[OBJECT]).ok_or("no memory")?;
     assert!(rt; is_read(rt.alloc(), bytes.as_slice()));
+    Ok(())
+}
+
+/// Whether the bytes of a head's digest are read as one that lists segment 1 with this length.
+fn is_listed(bytes: &[u8], want: Option<u64>) -> bool {
+    match EntryRef::read(bytes) {
+        Ok((EntryRef::Digest(digest), _)) => {
+            digest.count() == 1 && digest.id(0) == 1 && digest.len(0) == want
+        }
+        _ => false,
+    }
+}
+
+/// Digests of the first head, and the length that they list.
+const DIGESTS: &[(&str, Option<u64>)] = &[
+    ("02 00000001 0000000000000001", None),
+    ("06 00000001 0000000000000001 0000000000000030", Some(48)),
+];
+
+#[test]
+fn digests_list_lengths(rt: HostRuntime) -> Result<(), Fail> {
+    for (text, want) in DIGESTS {
+        let bytes = bytes_of(rt.alloc(), &[text]).ok_or("no memory")?;
+        assert!(rt; is_listed(bytes.as_slice(), *want), "{text}");
+    }
     Ok(())
 }
 

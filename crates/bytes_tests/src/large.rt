@@ -6,7 +6,7 @@ ghost use Rattle.entry.specs.Text.{ends_with};
 use crate::compactions::{add_read, set};
 use crate::segments::append;
 use compactor::{LogSet, compact};
-use entry::{Entry, Ids, SafeVersion, read_entry, write_entry};
+use entry::{Digest, Entry, Ids, SafeVersion, read_entry, write_entry};
 use hash_index::Index;
 use images::Images;
 use lines::{LineReader, Taken};
@@ -80,7 +80,8 @@ fn begin(alloc: Global, ids: &Ids, id: u64) -> Option<Segment> {
     if !ends_with(ids, id) || ids.as_slice().len() > 262_144 {
         return None;
     }
-    Segment::begin_head(alloc, 1, id, ids, SafeVersion::first()).ok()
+    let ids = Ids::new(Vec::from_slice(alloc, ids.as_slice()).ok()?);
+    Segment::begin_head(alloc, 1, id, Digest::Ids(ids), SafeVersion::first()).ok()
 }
 
 /// Whether the head has this text, once so many objects of it are appended one after another.
@@ -107,7 +108,7 @@ fn is_made(alloc: Global, digest: &Entry, text: &[u8], id: u64, objects: u64) ->
         return false;
     }
     match digest {
-        Entry::Digest(ids) => match begin(alloc, ids, id) {
+        Entry::Digest(Digest::Ids(ids)) => match begin(alloc, ids, id) {
             Some(mut head) => grows(&mut head, text, objects),
             None => false,
         },
@@ -133,7 +134,7 @@ fn are_set(images: &Images, index: &mut Index, first: usize, objects: u64, len: 
     };
     let mut at = first;
     for _ in 0..objects {
-        if !set(index, segment, at) {
+        if !set(index, &segment, at) {
             return false;
         }
         at = at.saturating_add(len);
@@ -149,7 +150,7 @@ fn is_kept(alloc: Global, images: &Images, index: &mut Index, text: &[u8]) -> bo
         new: None,
     };
     match images.get(1) {
-        Some(segment) => match compact(alloc, 1, segment, index, &log) {
+        Some(segment) => match compact(alloc, 1, &segment, index, &log) {
             Ok(kept) => kept.bytes() == text,
             Err(_) => false,
         },

@@ -30,7 +30,10 @@ fn are_ready(images: &Images) -> bool
 {
     match images.as_slice() {
         [first, survivor] => {
-            first.id == 1 && survivor.id == 3 && survivor.is_whole && images.segment_len() == 512
+            first.id() == 1
+                && survivor.id() == 3
+                && survivor.is_whole()
+                && images.segment_len() == 512
         }
         _ => false,
     }
@@ -55,9 +58,7 @@ fn copies(pass: &mut Pass, images: &mut Images, index: &mut Index) -> bool
         if pass.is_at_end() {
             return false;
         }
-        let Ok(copied) = pass.copy_one(images, index, 2, Some(4)) else {
-            return false;
-        };
+        let copied = pass.copy_one(images, index, 2, Some(4));
         if letter(copied) != *becomes {
             return false;
         }
@@ -70,7 +71,7 @@ fn len_of(images: &Images, id: u64) -> usize
     ensures { result ≡ len_at images.now.images id }
 {
     match images.get(id) {
-        Some(segment) => segment.bytes_len(),
+        Some(segment) => segment.bytes().len(),
         None => 0,
     }
 }

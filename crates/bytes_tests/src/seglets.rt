@@ -6,7 +6,7 @@ ghost use Rattle.images.specs.Sorted.{IsWhole};
 ghost use Rattle.images.specs.Steps.{HasData};
 
 use crate::vectors::{OBJECT, bytes_of};
-use entry::{EntryRef, Ids, SafeVersion};
+use entry::{Digest, EntryRef, Ids, SafeVersion};
 use images::Images;
 use segment::Segment;
 use std::alloc::Global;
@@ -69,7 +69,7 @@ const RUNS: &[&[Call]] = &[
 /// A head of master 1, without units: 40 bytes.
 fn new_head(alloc: Global, id: u64) -> Option<Segment> {
     let ids = Ids::new(Vec::from_slice(alloc, &[id]).ok()?);
-    Segment::begin_head(alloc, 1, id, &ids, SafeVersion::first()).ok()
+    Segment::begin_head(alloc, 1, id, Digest::Ids(ids), SafeVersion::first()).ok()
 }
 
 /// Adds a head that takes appends, if there is none of its number and there is room. Whether it was added.
@@ -177,7 +177,7 @@ fn are_counted(images: &Images, used: u64, free: u64) -> bool {
 fn are(images: &Images, ids: &[u64]) -> bool {
     let images = images.as_slice();
     for (image, id) in images.iter().zip(ids) {
-        if image.id != *id {
+        if image.id() != *id {
             return false;
         }
     }

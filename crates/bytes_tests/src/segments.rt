@@ -1,15 +1,23 @@
 //! The vectors of segments, and a head that is made and grows.
 
-use crate::vectors::{FIRST, OBJECT, SAFE, SURVIVOR, are_spelt, bytes_of};
-use entry::{EntryRef, Ids, SafeVersion};
+use crate::vectors::{FIRST, LENGTHS, OBJECT, SAFE, SURVIVOR, are_spelt, bytes_of};
+use entry::{Digest, EntryRef, Ids, SafeVersion};
 use segment::*;
 use std::alloc::Global;
 use std::test::Fail;
+
+/// The header of the first head.
+const HEADER: &str = "01 0000000000000001 0000000000000001 00";
+
+/// A digest that lists that head with its length.
+const LISTED: &str = "06 00000001 0000000000000001 0000000000000030";
 
 /// Texts, and how many entries the segment of their bytes has, or why the bytes are no segment.
 const SEGMENTS: &[(&[&str], Result<usize, SegmentFault>)] = &[
     (&[FIRST], Ok(3)),
     (&[FIRST, OBJECT], Ok(4)),
+    (&[LENGTHS], Ok(3)),
+    (&[LENGTHS, OBJECT], Ok(4)),
     (&[SURVIVOR], Ok(1)),
     (&[], Err(SegmentFault::BadOrder(0))),
     (&[OBJECT], Err(SegmentFault::BadOrder(0))),
@@ -19,11 +27,27 @@ const SEGMENTS: &[(&[&str], Result<usize, SegmentFault>)] = &[
         &["01 0000000000000001 0000000000000001 00 02 00000000 03 0000000000000001"],
         Err(SegmentFault::BadOrder(18)),
     ),
-    // Fronts of the first head: its header, and all but its last byte.
+    // A digest with lengths may not be empty, end with another segment, stand elsewhere, or list a length of 17.
     (
-        &["01 0000000000000001 0000000000000001 00"],
+        &[HEADER, "06 00000000", "03 0000000000000001"],
         Err(SegmentFault::BadOrder(18)),
     ),
+    (
+        &[
+            HEADER,
+            "06 00000002 0000000000000001 0000000000000030 0000000000000002 0000000000000030",
+        ],
+        Err(SegmentFault::BadOrder(18)),
+    ),
+    (&[FIRST, LISTED], Err(SegmentFault::BadOrder(40))),
+    (&[HEADER, LISTED, LISTED], Err(SegmentFault::BadOrder(39))),
+    (&[SURVIVOR, LISTED], Err(SegmentFault::BadOrder(18))),
+    (
+        &[HEADER, "06 00000001 0000000000000001 0000000000000011"],
+        Err(SegmentFault::BadEntry(18)),
+    ),
+    // Fronts of the first head: its header, and all but its last byte.
+    (&[HEADER], Err(SegmentFault::BadOrder(18))),
     (
         &["01 0000000000000001 0000000000000001 00 02 00000001 0000000000000001 03 00000000000000"],
         Err(SegmentFault::BadEntry(31)),
@@ -56,7 +80,7 @@ fn segments_are_read(rt: HostRuntime) {
 /// Head 1 of master 1, empty.
 fn new_head(alloc: Global) -> Option<Segment> {
     let ids = Ids::new(Vec::from_slice(alloc, &[1]).ok()?);
-    Segment::begin_head(alloc, 1, 1, &ids, SafeVersion::first()).ok()
+    Segment::begin_head(alloc, 1, 1, Digest::Ids(ids), SafeVersion::first()).ok()
 }
 
 /// Limits of a head in turn, what becomes of an object that is appended within each, and the head's texts then.

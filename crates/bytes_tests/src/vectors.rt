@@ -7,6 +7,10 @@ use std::alloc::Global;
 pub const FIRST: &str =
     "01 0000000000000001 0000000000000001 00 02 00000001 0000000000000001 03 0000000000000001";
 
+/// The first head of master 1, empty, with the length of each segment in its digest.
+pub const LENGTHS: &str = "01 0000000000000001 0000000000000001 00 \
+    06 00000001 0000000000000001 0000000000000030 03 0000000000000001";
+
 /// Table 1, version 1, key `a`, value `x`.
 pub const OBJECT: &str = "04 0000000000000001 0000000000000001 0001 00000001 61 78";
 

@@ -182,7 +182,7 @@ impl Table for ChainTable {
         chain.push(held)
     }
 
-    fn expect(&mut self, _keys: usize) {}
+    fn presize(&mut self, _keys: usize) {}
 
     fn grow(&mut self, keys: usize) {
         let chains = keys.div_ceil(KEYS_PER_CHAIN);

@@ -49,6 +49,8 @@ opened_anew d texts p st held = record {
     opened = held.logged.opened;
     under_way = held.logged.under_way;
     new = held.logged.new;
+    lens = held.logged.lens;
+    new_lens = held.logged.new_lens;
     whole = held.logged.whole;
   };
   mirrored = record {

@@ -58,8 +58,8 @@ module _ (c : LogConfig) (safe : ℕ) (p : Picture) (may : MayRestore c safe p) 
 
   no_entry : (s : ℕ) (e : Entry) (k : Key) → IsOfKey k e → SegmentHas (log_set_of d m openings) s e → ⊥
   no_entry s e k at l = elim l.among as (λ _. ⊥) [
-    | inl a ↦ no_keys c.master (restored_start safe) e k a at
-    | inr t ↦ no_keys c.master (restored_start safe) e k t at
+    | inl a ↦ no_keys c.master (restored_start c.format safe) e k a at
+    | inr t ↦ no_keys c.master (restored_start c.format safe) e k t at
   ]
 
   begun : IsLoading d m p
@@ -82,7 +82,7 @@ module _ (c : LogConfig) (safe : ℕ) (p : Picture) (may : MayRestore c safe p) 
     };
     around = record {
       below = λ s l. let same = one s l in omega arith;
-      named_below = λ s t l a. absurd (no_keys c.master (restored_start safe) (Tombstone t) t.key a refl);
+      named_below = λ s t l a. absurd (no_keys c.master (restored_start c.format safe) (Tombstone t) t.key a refl);
       versions = λ k h s f l at. absurd (no_entry s f k at l);
       texted = λ s e l not a. a;
     };

@@ -51,7 +51,7 @@ module _ (d : LogData) (m : Memory) (p : Picture) (i : IsLoading d m p) (may : M
   abbrev new : LogSet
   new = log_set_of e memory texts_now
 
-  roll : IsRoll d p n
+  roll : IsRoll d i.texts p n
   roll = ordinary_held d i.texts p i.held may
 
   same_base : (ids : List ℕ) → ((s : ℕ) → IsAmong s ids → s < d.next) → base_of texts_now ids ≡ base_of i.texts ids

@@ -28,8 +28,8 @@ module _ (c : LogConfig) (p : Picture) (may : MayBegin c p) where
       → SegmentHas (log_set_of (fresh c) (first_memory c) log.texts) s e
       → ⊥
   no_entry s e k at m = elim m.among as (λ _. ⊥) [
-    | inl a ↦ no_keys c.master first_start e k a at
-    | inr t ↦ no_keys c.master first_start e k t at
+    | inl a ↦ no_keys c.master (first_start c.format) e k a at
+    | inr t ↦ no_keys c.master (first_start c.format) e k t at
   ]
 
 pub fresh_is_intact : FreshIsIntact
@@ -46,7 +46,7 @@ fresh_is_intact c p may = record {
   passing = none_passing _ _ _ _;
   around = record {
     below = λ s l. let same = one c p may s l in omega arith;
-    named_below = λ s t l m. absurd (no_keys c.master first_start (Tombstone t) t.key m refl);
+    named_below = λ s t l m. absurd (no_keys c.master (first_start c.format) (Tombstone t) t.key m refl);
     versions = λ k h s f m at. absurd (no_entry c p may s f k at m);
     texted = λ s e l not m. m;
   };

@@ -1,33 +1,37 @@
 -- A roll that begins, ordinary or a pass's commit, leaves all intact.
-use Rattle.std.proofs.Common.{◌≡◌, ℕ, ◌<◌, ◌⊎◌, inl, inr, Bool, true, false, List, refl, sym, ap, subst, ◌∙◌, arith}
-use Rattle.std.specs.Prelude.{Option, IsSome}
+use Rattle.std.proofs.Common.{◌≡◌, ℕ, ◌<◌, ◌⊎◌, inl, inr, Bool, true, false, List, length, refl, sym, ap, subst, ◌∙◌, arith}
+use Rattle.std.specs.Prelude.{Option, IsSome, ◌==◌, if◌then◌else◌}
 use Rattle.std.proofs.lemmas.Option.{same_Some, slice_get_within}
 use Rattle.entry.specs.declared.entry.Entry.{Entry}
 use Rattle.entry.specs.Bag.{IsAmong}
+use Rattle.entry.specs.Text.{text_of}
 use Rattle.entry.proofs.BagLemmas.{among_push}
 use Rattle.replica.specs.Picture.{Replica, Picture}
 use Rattle.versioned_map.specs.Represents.{Represents}
-use Rattle.log_model.specs.Data.{Start, LogData, IsHome, start_entries, state_of}
+use Rattle.log_model.specs.Data.{Start, LogData, IsHome, ids_of, start_entries, state_of}
 use Rattle.log_model.specs.Kept.{IsKept}
 use Rattle.log_model.specs.Log.{base_of, AreBelow}
-use Rattle.log_model.specs.Steps.{next_start, rolling, IsRoll}
+use Rattle.log_model.specs.Steps.{head_len, len_now, next_start, rolling, IsRoll}
+use Rattle.log_model.specs.Ids.{has}
+use Rattle.log_model.proofs.Lengths.{lens_known, len_known}
 use Rattle.log_model.proofs.Lists.{all_below}
 use Rattle.log_model.proofs.Rolling.{rolling_is_kept, ordinary_is_roll}
 use Rattle.log_model.proofs.Texts.{text_other}
 use Rattle.clean_model.specs.Intact.{IsRollOf, IsIntact}
 use Rattle.clean_model.specs.Laws.{RollKeeps, CommitKeeps}
 use Rattle.clean_model.specs.Memory.{Memory, LogSet, log_ids, log_set_of}
-use Rattle.clean_model.specs.Steps.{rolled, MayCommit}
+use Rattle.clean_model.specs.Steps.{commit_len, rolled, MayCommit}
 use Rattle.clean_model.proofs.BegunRolls.{begun_more, begun_around}
 use Rattle.clean_model.proofs.BegunRolls.{older as older_ids, either_id as either_ids}
 use Rattle.clean_model.proofs.CommitBase.{commit_stands}
+use Rattle.clean_model.proofs.KeptEntries.{has_is, is_has}
 use Rattle.clean_model.proofs.Lists.{among_at, image_there}
 use Rattle.clean_model.proofs.LogSetChanges.{IsMore, more_tracked, more_passing}
 use Rattle.clean_model.proofs.LogSetIds.{in_digest, in_survivors}
 use Rattle.clean_model.proofs.SealedSurvivors.{still_sealed}
 
 module _ (d : LogData) (m : Memory) (p : Picture) (i : IsIntact d m p) (n : Start) (commits : Bool)
-    (roll : IsRoll d p n)
+    (roll : IsRoll d i.log.texts p n)
     (stands : Represents n.safe (base_of i.log.texts n.others) (state_of d))
     (which : IsRollOf d (rolled d m n commits) n) where
   abbrev e : LogData
@@ -135,11 +139,35 @@ module _ (d : LogData) (m : Memory) (p : Picture) (n : Start) (i : IsIntact d m 
         subst (λ (x : Option Replica). IsSome x) (sym there) refl)
   ]
 
-  commit_roll : IsRoll d p n
+  -- the lengths are those of the texts: a survivor's text is its image, and others were listed before
+  commit_length : d.config.format == 2 ≡ true → (s : ℕ) → IsAmong s n.others
+      → commit_len d m s ≡ length (text_of (i.log.texts s))
+  commit_length two s c = by_test (has m.pass.survivors s) refl where
+    image_len : IsAmong s m.pass.survivors → length (text_of (m.images s)) ≡ length (text_of (i.log.texts s))
+    image_len l =
+        let sealed = may.ready.sealed_all s l in
+        let some = i.log.held.placed.some in
+        ap (λ (es : List Entry). length (text_of es)) (sym (i.sealing.text s l (omega arith)).1)
+
+    before : has m.pass.survivors s ≡ false → IsAmong s (ids_of d.head.start)
+    before test = elim (may.commit.from s c) as (λ _. IsAmong s (ids_of d.head.start)) [
+      | inl l ↦ l.0
+      | inr l ↦ (let never = sym (has_is m.pass.survivors s l) ∙ test in absurd (cc))
+    ]
+
+    by_test : (b : Bool) → has m.pass.survivors s ≡ b
+        → (if b then length (text_of (m.images s)) else len_now d s) ≡ length (text_of (i.log.texts s))
+    by_test true test = image_len (is_has m.pass.survivors s test)
+    by_test false test = len_known d.config i.log.texts d.head.start i.log.held.logged.lens two (head_len d)
+        (ap (λ (es : List Entry). length (text_of es)) i.log.held.logged.head.text) s (before test)
+
+  commit_roll : IsRoll d i.log.texts p n
   commit_roll = record {
     ready = may.now;
     next = may.next;
     below = commit_below;
+    lens = may.lens ∙ lens_known d.config i.log.texts d.head.start i.log.held.logged.lens (commit_len d m) n.others
+        commit_length;
     segment = may.segment;
     limit = may.limit;
     held = commit_held;

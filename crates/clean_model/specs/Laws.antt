@@ -1,7 +1,7 @@
 -- What holds through every step.
 use Rattle.std.specs.Prelude.{◌≡◌, ℕ, List, Some, true, false}
 use Rattle.entry.specs.declared.entry.Entry.{Entry}
-use Rattle.replica.specs.Picture.{Picture}
+use Rattle.replica.specs.Picture.{Picture, shown_by}
 use Rattle.versioned_map.specs.declared.command.Record.{Record}
 use Rattle.versioned_map.specs.Represents.{Represents}
 use Rattle.log_model.specs.Data.{LogConfig, Start, Ready, LogData, state_of, durable_of}
@@ -26,7 +26,7 @@ IntactIsCovered = (d : LogData) (m : Memory) (p : Picture) → IsIntact d m p �
 
 -- The picture is sound.
 abbrev pub IntactIsSound : Type 0
-IntactIsSound = (d : LogData) (m : Memory) (p : Picture) → IsIntact d m p → IsSound d p
+IntactIsSound = (d : LogData) (m : Memory) (p : Picture) → IsIntact d m p → IsSound d (shown_by p)
 
 -- The durable count is that of the takes that answered Ok, and each durable unit is on the backups.
 abbrev pub IntactIsDurable : Type 0
@@ -124,7 +124,7 @@ OwnIsFault = (d : LogData) (m : Memory) (p q r : Picture) → IsFault d m p q
 
 -- After a fault, whichever op was taken or not, the picture is sound for what the master knew.
 abbrev pub FaultIsSound : Type 0
-FaultIsSound = (d : LogData) (m : Memory) (p q : Picture) → IsIntact d m p → IsFault d m p q → IsSound d q
+FaultIsSound = (d : LogData) (m : Memory) (p q : Picture) → IsIntact d m p → IsFault d m p q → IsSound d (shown_by q)
 
 -- After a fault images and replicas keep the map that the master knew.
 abbrev pub FaultIsCovered : Type 0

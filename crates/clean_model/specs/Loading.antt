@@ -15,7 +15,7 @@ use Rattle.log_model.specs.Data.{LogConfig, Start, LogUnit, Ready, LogData, ids_
 use Rattle.log_model.specs.Kept.{IsLogHeld}
 use Rattle.log_model.specs.Log.{Texts, IsPlaced, IsWhole, base_of, front_bag}
 use Rattle.log_model.specs.Ops.{LogOp, taken}
-use Rattle.log_model.specs.Steps.{Fits, next_start, rolling, MayRoll, IsNext}
+use Rattle.log_model.specs.Steps.{no_lens, Fits, next_start, rolling, MayRoll, IsNext}
 use Rattle.clean_model.specs.Intact.{IsIntact}
 use Rattle.clean_model.specs.Memory.{LogSet, no_pass, Memory, log_set_of, SegmentHas, grown}
 use Rattle.clean_model.specs.Same.{IsSameMemory}
@@ -24,9 +24,9 @@ use Rattle.clean_model.specs.Tracked.{IsTracked, IsAround}
 
 -- ---- a new master for what was recovered
 
--- the first head, which records the safe version of what is loaded
-abbrev pub restored_start : ℕ → Start
-restored_start safe = record { id = 1; others = []; safe = safe }
+-- the first head, which records the safe version of what is loaded, in this format
+abbrev pub restored_start : ℕ → ℕ → Start
+restored_start format safe = record { id = 1; others = []; lens = no_lens format; safe = safe }
 
 -- a master that has loaded nothing yet, of which no replica was opened; what it loads has versions below this one
 abbrev pub restored : LogConfig → ℕ → LogData
@@ -34,20 +34,20 @@ restored c safe = record {
   config = c;
   opening = record { contents = λ k. None; safe = safe };
   history = [];
-  head = record { start = restored_start safe; loaded = []; units = []; taken = [] };
+  head = record { start = restored_start c.format safe; loaded = []; units = []; taken = [] };
   phase = Ready;
   next = 2;
 }
 
 -- each image is the first head's opening, and nothing is indexed
 abbrev pub restored_memory : LogConfig → ℕ → Memory
-restored_memory c safe = record (first_memory c) { images = λ s. start_entries c.master (restored_start safe) }
+restored_memory c safe = record (first_memory c) { images = λ s. start_entries c.master (restored_start c.format safe) }
 
 -- Nothing is held of the master.
 pub record MayRestore (c : LogConfig) (safe : ℕ) (p : Picture) : Type 0 where
   pub placed : IsPlaced c
-  pub segment : IsSegment (start_entries c.master (restored_start safe))
-  pub limit : length (text_of (start_entries c.master (restored_start safe))) ≤ 8388608
+  pub segment : IsSegment (start_entries c.master (restored_start c.format safe))
+  pub limit : length (text_of (start_entries c.master (restored_start c.format safe))) ≤ 8388608
   pub nothing : (b s : ℕ) → p b c.master s ≡ None
 
 -- ---- an object is loaded

@@ -1,7 +1,7 @@
 -- Lists of events, in any order.
 use Rattle.std.specs.Prelude.{◌≡◌, ℕ, List, [], ◌∷◌, Some, true, false}
 use Rattle.entry.specs.declared.entry.Entry.{Entry}
-use Rattle.replica.specs.Picture.{Picture}
+use Rattle.replica.specs.Picture.{Picture, shown_by}
 use Rattle.versioned_map.specs.declared.command.Record.{Record}
 use Rattle.log_model.specs.Data.{Start, Head, LogData, durable_of}
 use Rattle.log_model.specs.Durable.{IsDurable, IsReplicated, IsPastOf}
@@ -73,7 +73,7 @@ IsCleanRun w (e ∷ es) v = (u : CleanWorld) × CleanBecomes e w u × IsCleanRun
 -- with the heads that went before.
 pub record IsCleanStop (w : CleanWorld) : Type 0 where
   pub covered : IsCovered w.knows w.memory w.picture
-  pub sound : IsSound w.knows w.picture
+  pub sound : IsSound w.knows (shown_by w.picture)
   pub past : List Head
   pub durable : IsDurable w.knows past (durable_of w.knows)
   pub replicated : IsReplicated w.knows past w.picture

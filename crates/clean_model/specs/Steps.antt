@@ -11,9 +11,10 @@ use Rattle.replica.specs.Op.{Seal, Free}
 use Rattle.replica.specs.Picture.{Picture}
 use Rattle.versioned_map.specs.declared.command.Record.{Record}
 use Rattle.versioned_map.specs.Command.{command_key}
-use Rattle.log_model.specs.Data.{LogConfig, Start, Ready, LogData, IsHomeAt, ids_of, start_entries, new_of, state_of}
+use Rattle.log_model.specs.Data.{LogConfig, Start, Ready, LogData, IsHomeAt, ids_of, digest_for, lens_next, start_entries}
+use Rattle.log_model.specs.Data.{new_of, state_of}
 use Rattle.log_model.specs.Ops.{LogOp, taken}
-use Rattle.log_model.specs.Steps.{first_start, unit_now, IsNext}
+use Rattle.log_model.specs.Steps.{first_start, len_now, unit_now, IsNext}
 use Rattle.log_model.specs.Ids.{has, all_inserted, without}
 use Rattle.clean_model.specs.Compaction.{kept, kept_from, moved_index, places}
 use Rattle.clean_model.specs.Intact.{survivor_entries, IsCommit, IsReady}
@@ -24,7 +25,7 @@ use Rattle.clean_model.specs.Memory.{Place, Index, Images, no_pass, Memory, log_
 -- each image is the first head's opening, and nothing is indexed
 abbrev pub first_memory : LogConfig → Memory
 first_memory c = record {
-  images = λ s. start_entries c.master first_start;
+  images = λ s. start_entries c.master (first_start c.format);
   index = λ k. None;
   pass = no_pass;
   rest = [];
@@ -147,11 +148,20 @@ abbrev pub rolled : LogData → Memory → Start → Bool → Memory
 rolled d m n commits =
     record m { images = with_image m.images n.id (start_entries d.config.master n); commits = commits }
 
+-- the length that a commit's digest lists for a segment: for a survivor that of its image
+abbrev pub commit_len : LogData → Memory → ℕ → ℕ
+commit_len d m s = if has m.pass.survivors s then length (text_of (m.images s)) else len_now d s
+
+-- the lengths that it lists for these
+abbrev pub commit_lens : LogData → Memory → List ℕ → Option (List ℕ)
+commit_lens d m others = lens_next (digest_for d.head.start) (commit_len d m) others
+
 -- the next head of a commit
 abbrev pub commit_start : LogData → Memory → Start
 commit_start d m = record {
   id = d.next;
   others = all_inserted m.pass.survivors (without m.pass.victims (ids_of d.head.start));
+  lens = commit_lens d m (all_inserted m.pass.survivors (without m.pass.victims (ids_of d.head.start)));
   safe = (state_of d).safe;
 }
 
@@ -161,6 +171,7 @@ pub record MayCommit (d : LogData) (m : Memory) (n : Start) : Type 0 where
   pub ready : IsReady d.config.replicas m.pass m.rest m.sealed
   pub commit : IsCommit d.head.start m.pass n
   pub next : n.id ≡ d.next
+  pub lens : n.lens ≡ commit_lens d m n.others
   pub safe : n.safe ≡ (state_of d).safe
   pub segment : IsSegment (start_entries d.config.master n)
   pub limit : length (text_of (start_entries d.config.master n)) ≤ 8388608

@@ -15,7 +15,7 @@ use Rattle.places.specs.declared.place.Held.{Held}
 use Rattle.places.specs.Hashing.{hash_of}
 use Rattle.places.specs.Map.{Places}
 use Rattle.places.specs.Relocation.{holds, held_of, relocated}
-use Rattle.images.specs.declared.image.Image.{Image}
+use Rattle.images.specs.Image.{Image}
 use Rattle.images.specs.Sorted.{segment_of, changed}
 use Rattle.images.specs.Images.{ImagesValue}
 use Rattle.images.specs.Steps.{entry_at, with_unit, len_at, StandsData, HasData}

@@ -9,7 +9,7 @@ use Rattle.entry.specs.declared.entry.Entry.{Entry}
 use Rattle.entry.specs.Bag.{IsAmong}
 use Rattle.entry.specs.Text.{text_of}
 use Rattle.entry.proofs.ListLemmas.{all_among, all_weaker}
-use Rattle.images.specs.declared.image.Image.{Image}
+use Rattle.images.specs.Image.{Image}
 use Rattle.images.specs.Sorted.{IsWhole, image_of, segment_of, changed}
 use Rattle.images.specs.Steps.{with_unit, len_at}
 use Rattle.images.proofs.Callers.{image_changed, whole_grown}

@@ -13,7 +13,7 @@ use Rattle.places.specs.declared.place.Place.{Place}
 use Rattle.places.specs.Map.{Places}
 use Rattle.places.specs.Relocation.{names}
 use Rattle.places.proofs.Words.{named_before}
-use Rattle.images.specs.declared.image.Image.{Image}
+use Rattle.images.specs.Image.{Image}
 use Rattle.images.specs.Sorted.{IsWhole}
 use Rattle.compactor.specs.Kept.{kept}
 use Rattle.cleaner.specs.declared.pass.Pass.{Pass}

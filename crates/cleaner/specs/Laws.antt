@@ -6,7 +6,7 @@ use Rattle.entry.specs.Text.{text_of}
 use Rattle.segment.specs.Bytes.{standing_at}
 use Rattle.places.specs.declared.place.Place.{Place}
 use Rattle.places.specs.Map.{Places}
-use Rattle.images.specs.declared.image.Image.{Image}
+use Rattle.images.specs.Image.{Image}
 use Rattle.images.specs.Sorted.{IsWhole, segment_of}
 use Rattle.compactor.specs.Kept.{kept}
 use Rattle.cleaner.specs.declared.pass.Pass.{Pass}

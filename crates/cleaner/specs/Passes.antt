@@ -13,7 +13,7 @@ use Rattle.segment.specs.Bytes.{standing_at}
 use Rattle.places.specs.declared.place.Place.{Place}
 use Rattle.places.specs.Hashing.{hash_of}
 use Rattle.places.specs.Map.{Places}
-use Rattle.images.specs.declared.image.Image.{Image}
+use Rattle.images.specs.Image.{Image}
 use Rattle.images.specs.Sorted.{IsWhole, segment_of, changed}
 use Rattle.images.specs.Steps.{with_unit, len_at}
 use Rattle.compactor.specs.Kept.{kept}

@@ -7,7 +7,7 @@ use Rattle.entry.specs.Text.{text_of, is_data}
 use Rattle.places.specs.declared.place.Place.{Place}
 use Rattle.places.specs.Map.{Places}
 use Rattle.places.specs.Relocation.{held_of}
-use Rattle.images.specs.declared.image.Image.{Image}
+use Rattle.images.specs.Image.{Image}
 use Rattle.compactor.specs.Kept.{kept}
 use Rattle.compactor.specs.Places.{LiesAt, IsAtPlace}
 use Rattle.cleaner.specs.declared.pass.Cursor.{Cursor}

@@ -8,7 +8,7 @@ ghost use Rattle.cleaner.specs.Walks.{IsBetween, IsAtData};
 use arrayvec::ArrayVec;
 use entry::EntryRef;
 use hash_index::Index;
-use segment::Segment;
+use segment::SegmentRef;
 use std::marker::Model;
 
 /// How many entries a pass reads ahead.
@@ -67,7 +67,7 @@ impl Model for Ahead {
 
 /// What stands at an offset of a segment, if it is an object or a tombstone.
 #[inline(always)]
-fn seen_at(segment: &Segment, at: usize, index: &Index) -> Option<Seen>
+fn seen_at(segment: &SegmentRef<'_>, at: usize, index: &Index) -> Option<Seen>
     requires { IsBetween segment.now at }
     ensures seen { IfSome result (IsSeenAt index.now.held.seed segment.now at) }
     ensures other { IfNone result (IsAtData segment.now at → ⊥) }
@@ -87,7 +87,7 @@ fn seen_at(segment: &Segment, at: usize, index: &Index) -> Option<Seen>
 }
 
 /// The objects and tombstones of a segment from an offset on, as many as are read ahead.
-fn gather(segment: &Segment, from: usize, index: &Index, seen: &mut ArrayVec<Seen, AHEAD>)
+fn gather(segment: &SegmentRef<'_>, from: usize, index: &Index, seen: &mut ArrayVec<Seen, AHEAD>)
     requires empty { seen.old.items ≡ [] }
     requires at { IsAtData segment.now from }
     ensures { IsAhead index.now.held.seed segment.now from seen.new.items }
@@ -136,7 +136,7 @@ impl Ahead {
     }
 
     /// Reads on in a segment, at an object or tombstone.
-    pub(crate) fn read(&mut self, segment: &Segment, from: usize, index: &Index)
+    pub(crate) fn read(&mut self, segment: &SegmentRef<'_>, from: usize, index: &Index)
         requires { IsAtData segment.now from }
         ensures { IsAhead index.now.held.seed segment.now from self.new }
     {

@@ -65,7 +65,7 @@ pub fn fit(
             unreachable!()
         };
         left -= victim.bytes().len();
-        kept += kept_bytes(*id, victim, index, &log);
+        kept += kept_bytes(*id, &victim, index, &log);
     }
     (kept <= segment).then_some(near)
 }

@@ -1,6 +1,6 @@
 //! A pass over some segments of the log.
 
-ghost use Rattle.std.specs.Prelude.{◌≡◌, ◌+◌, ◌<◌, ◌≤◌, false, length, drop, IfOk, IfSome, OnOk, OnErr, IsSome};
+ghost use Rattle.std.specs.Prelude.{◌≡◌, ◌+◌, ◌<◌, ◌≤◌, false, length, drop, IfSome, IsSome};
 ghost use Rattle.std.specs.Prelude.{slice_get};
 ghost use Rattle.std.specs.List.{AllByRecursion};
 ghost use Rattle.images.specs.Sorted.{segment_of};
@@ -12,7 +12,7 @@ ghost use Rattle.cleaner.specs.Walks.{IsPositionBetween, GoesTo};
 use crate::ahead::Ahead;
 use crate::treating::treat;
 use crate::walking::{WalkPosition, next_position};
-use entry::{NoMemory, Row};
+use entry::Row;
 use hash_index::{Index, Place};
 use images::Images;
 
@@ -67,7 +67,7 @@ fn go_to(cursor: &mut Cursor, from: WalkPosition, victims: &[u64], images: &Imag
         let Some(segment) = images.get(victims[position.victim]) else {
             unreachable!()
         };
-        cursor.ahead.read(segment, position.at, index);
+        cursor.ahead.read(&segment, position.at, index);
     }
 }
 
@@ -158,25 +158,23 @@ impl Pass {
     }
 
     /// Treats the next object or tombstone. If it is kept, it is copied to the end of the survivor's image, and the
-    /// index then leads to the copy of an object. It takes no memory if the survivor's was taken whole. On `Err`
-    /// nothing changed.
+    /// index then leads to the copy of an object. It takes no memory, and can't fail.
     pub fn copy_one(
         &mut self,
         images: &mut Images,
         index: &mut Index,
         head: u64,
         new: Option<u64>,
-    ) -> Result<Copied, NoMemory>
+    ) -> Copied
         requires pass { IsPass index.old.held.seed images.old.images self.old }
         requires more { is_at_end self.old ≡ false }
         requires room { HasRoom images.old.segment (ids_in images.old.images head new) self.old images.old.images
             index.old.held }
-        ensures copied { IfOk result (λ copied. CopiesOne (ids_in images.old.images head new) self.old
-            images.old.images index.old.held copied self.new images.new.images index.new.held) }
-        ensures pass { OnOk result (IsPass index.new.held.seed images.new.images self.new) }
+        ensures copied { CopiesOne (ids_in images.old.images head new) self.old images.old.images index.old.held result
+            self.new images.new.images index.new.held }
+        ensures pass { IsPass index.new.held.seed images.new.images self.new }
         ensures images { images.new ≡ record images.old { images = images.new.images } }
         ensures room { index.new.room ≡ index.old.room }
-        ensures err { OnErr result ((self.new ≡ self.old) × (images.new ≡ images.old) × (index.new ≡ index.old)) }
     {
         let victims = self.victims.as_slice();
         let place = Place {
@@ -186,8 +184,8 @@ impl Pass {
         let Some(seen) = self.cursor.ahead.first() else {
             unreachable!()
         };
-        let copied = treat(seen, place, self.survivor, images, index, head, new)?;
+        let copied = treat(seen, place, self.survivor, images, index, head, new);
         go_on(&mut self.cursor, seen.len(), victims, images, index);
-        Ok(copied)
+        copied
     }
 }

@@ -1,7 +1,7 @@
 //! What a pass does with one entry.
 
 ghost use Rattle.std.specs.Prelude.{◌≡◌, ◌+◌, ◌<◌, ◌≤◌, ◌∷◌, [], true, length};
-ghost use Rattle.std.specs.Prelude.{IfOk, IfSome, OnOk, OnErr, IsSome};
+ghost use Rattle.std.specs.Prelude.{IfSome, IsSome};
 ghost use Rattle.entry.specs.Format.{spelling};
 ghost use Rattle.images.specs.Sorted.{IsWhole, segment_of, changed};
 ghost use Rattle.images.specs.Steps.{entry_at, with_unit, len_at, HasData};
@@ -12,11 +12,8 @@ ghost use Rattle.cleaner.specs.Walks.{HasFate, Treats};
 use crate::ahead::Seen;
 use crate::pass::Copied;
 use compactor::LogSet;
-use entry::NoMemory;
 use hash_index::{Held, Index, Place};
 use images::Images;
-use segment::AppendFault;
-use std::alloc::AllocError;
 
 /// What becomes of the entry at the place of a pass.
 #[derive(Clone, Copy)]
@@ -57,26 +54,24 @@ fn fate_of(seen: Seen, place: Place, index: &Index, log: &LogSet<'_>) -> Fate
 
 /// Copies the object or tombstone at a place, of this length, to the end of the survivor's image, which has room for
 /// it. The answer is the place of the copy.
-fn copy(images: &mut Images, place: Place, len: usize, survivor: u64) -> Result<Place, NoMemory>
+fn copy(images: &mut Images, place: Place, len: usize, survivor: u64) -> Place
     requires order { place.segment < survivor }
     requires whole { IsWhole images.old.images survivor }
     requires of_data { HasData images.old.images place.segment place.at len }
     requires room { IfSome (entry_at images.old.images place.segment place.at)
         (λ e. len_at images.old.images survivor + length (spelling e) ≤ images.old.segment) }
-    ensures ok { OnOk result (IfSome (entry_at images.old.images place.segment place.at) (λ e. images.new ≡
-        record images.old { images = changed images.old.images survivor (with_unit (e ∷ [])) })) }
-    ensures place { IfOk result (λ to. to ≡ copy_place survivor images.old.images) }
-    ensures limit { IfOk result (λ to. to.at < 8388608) }
-    ensures err { OnErr result (images.new ≡ images.old) }
+    ensures copied { IfSome (entry_at images.old.images place.segment place.at) (λ e. images.new ≡
+        record images.old { images = changed images.old.images survivor (with_unit (e ∷ [])) }) }
+    ensures place { result ≡ copy_place survivor images.old.images }
+    ensures limit { result.at < 8388608 }
 {
     images.show_valid();
     match images.copy_entry(place.segment, place.at, len, survivor) {
-        Ok(at) => Ok(Place {
+        Ok(at) => Place {
             segment: survivor,
             at,
-        }),
-        Err(AppendFault::NoMemory) => Err(AllocError),
-        Err(AppendFault::Full) => unreachable!(),
+        },
+        Err(_) => unreachable!(),
     }
 }
 
@@ -89,18 +84,17 @@ pub(crate) fn treat(
     index: &mut Index,
     head: u64,
     new: Option<u64>,
-) -> Result<Copied, NoMemory>
+) -> Copied
     requires order { place.segment < survivor }
     requires there { IsSome (segment_of images.old.images place.segment) }
     requires whole { IsWhole images.old.images survivor }
     requires at { IsSeenAt index.old.held.seed (images_in images.old.images place.segment) place.at seen }
     requires room { len_at images.old.images survivor + kept_len (ids_in images.old.images head new) index.old.held
         (images_in images.old.images) place ≤ images.old.segment }
-    ensures treated { IfOk result (λ copied. Treats (ids_in images.old.images head new) images.old.images
-        index.old.held place survivor copied (seen_len seen) images.new.images index.new.held) }
+    ensures treated { Treats (ids_in images.old.images head new) images.old.images index.old.held place survivor result
+        (seen_len seen) images.new.images index.new.held }
     ensures images { images.new ≡ record images.old { images = images.new.images } }
     ensures room { index.new.room ≡ index.old.room }
-    ensures err { OnErr result ((images.new ≡ images.old) × (index.new ≡ index.old)) }
 {
     let log = LogSet {
         closed: images,
@@ -109,14 +103,14 @@ pub(crate) fn treat(
     };
     match fate_of(seen, place, index, &log) {
         Fate::Object(held) => {
-            let to = copy(images, place, seen.len(), survivor)?;
+            let to = copy(images, place, seen.len(), survivor);
             index.relocate(held, to);
-            Ok(Copied::Moved)
+            Copied::Moved
         }
         Fate::Tombstone => {
-            copy(images, place, seen.len(), survivor)?;
-            Ok(Copied::Carried)
+            copy(images, place, seen.len(), survivor);
+            Copied::Carried
         }
-        Fate::Dead => Ok(Copied::Dropped),
+        Fate::Dead => Copied::Dropped,
     }
 }

@@ -10,7 +10,7 @@ ghost use Rattle.cleaner.specs.Walks.{IsBetween, IsPositionBetween, FindsData, G
 
 use entry::EntryRef;
 use images::Images;
-use segment::Segment;
+use segment::SegmentRef;
 
 /// Where a cursor stands.
 #[derive(Clone, Copy)]
@@ -29,7 +29,7 @@ fn is_data(entry: &EntryRef<'_>) -> bool
 }
 
 /// The offset of the first object or tombstone of a segment from this offset on.
-fn next_data(segment: &Segment, from: usize) -> Option<usize>
+fn next_data(segment: &SegmentRef<'_>, from: usize) -> Option<usize>
     requires { IsBetween segment.now from }
     ensures { FindsData segment.now from result }
 {
@@ -59,7 +59,7 @@ pub(crate) fn next_position(victims: &[u64], images: &Images, from: WalkPosition
         let Some(segment) = images.get(victims[position.victim]) else {
             unreachable!()
         };
-        if let Some(at) = next_data(segment, position.at) {
+        if let Some(at) = next_data(&segment, position.at) {
             return WalkPosition { at, ..position };
         }
         position = WalkPosition {

@@ -20,7 +20,7 @@ pub record NumberOption : Type 0 where
   pub most : ℕ
   pub default : ℕ
 
--- the ten options
+-- the eleven options
 abbrev pub backups : NumberOption
 backups = record { name = codes "backups"; least = 1; most = 64; default = 3 }
 
@@ -51,6 +51,9 @@ bytes = record { name = codes "bytes"; least = 1; most = 4294967296; default = 1
 abbrev pub objects : NumberOption
 objects = record { name = codes "objects"; least = 1; most = 4294967296; default = 1000000 }
 
+abbrev pub format : NumberOption
+format = record { name = codes "format"; least = 1; most = 2; default = 1 }
+
 -- an option as clap takes it: a long name, and one value that is a number in the range
 abbrev pub number_rule : Text → ℕ → ℕ → Rule
 number_rule name least most = record (new_rule name) {
@@ -67,10 +70,10 @@ with_option app option = with_rule app (number_rule option.name option.least opt
 abbrev pub with_version : App → App
 with_version app = record app { top = record app.top { has_version = true } }
 
--- the program's command: the ten options, a version, and nothing else
+-- the program's command: the eleven options, a version, and nothing else
 unfoldable pub ramlog : App
 ramlog = fold with_option (with_version (new_app (codes "ramlog")))
-    (backups ∷ replicas ∷ step ∷ segment ∷ seglet ∷ seglets ∷ tables ∷ history ∷ bytes ∷ objects ∷ [])
+    (backups ∷ replicas ∷ step ∷ segment ∷ seglet ∷ seglets ∷ tables ∷ history ∷ bytes ∷ objects ∷ format ∷ [])
 
 -- clap's exact matches of the words
 unfoldable pub ramlog_matches : List Text → List Row
@@ -102,6 +105,7 @@ pub record HasEach (Is : NumberOption → ℕ → Type 0) (o : Options) : Type 0
   pub history : Is history o.history
   pub bytes : Is bytes o.bytes
   pub objects : Is objects o.objects
+  pub format : Is format o.format
 
 -- each field is its option's number in the matches
 abbrev pub HasOptions : List Row → Options → Type 0
@@ -120,6 +124,7 @@ default_options = record {
   history = history.default;
   bytes = bytes.default;
   objects = objects.default;
+  format = format.default;
 }
 
 -- the defaults, unless memory runs out

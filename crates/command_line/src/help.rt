@@ -29,6 +29,7 @@ pub(crate) const AFTER_HELP: &str = "Lines of a script:
   will         Cuts the tables into partitions by --bytes and --objects, for the next recovery, and shows the parts
   stop N       Lets the backups take N more pieces of the log, and then no more
   fault N taken  Has the backup fail that gets the N-th piece from now, though it took it; with 'lost' it took it not
+  format 2     Lets masters that start later write format 2
   crash        Drops the master; the backups keep what they hold
   lose B       Makes backup B lose all that it holds, once the master is gone; backups count from 0
   recover      Rebuilds the table from what the backups hold, divided by the will. A new master adopts it, and the

@@ -1,4 +1,4 @@
-//! The ten options, each with its name, range, default and help.
+//! The eleven options, each with its name, range, default and help.
 ghost use Rattle.std.specs.Prelude.{◌≡◌, false};
 ghost use Rattle.clap.specs.Words.{IsPlainArg, found_of, one_text, rule_of};
 ghost use Rattle.command_line.specs.CommandLine.{ReadsNumber, number_rule};
@@ -97,9 +97,17 @@ pub(crate) const OBJECTS: NumberOption = NumberOption {
     help: "Most objects of a partition of a will: 1 to 4294967296 [default: 1000000]",
 };
 
+pub(crate) const FORMAT: NumberOption = NumberOption {
+    name: "format",
+    least: 1,
+    most: 2,
+    default: 1,
+    help: "Format of the log: 2 lists each segment with its length: 1 to 2 [default: 1]",
+};
+
 /// All options, in the order of the help.
 pub(crate) const OPTIONS: &[NumberOption] = &[
-    BACKUPS, REPLICAS, STEP, SEGMENT, SEGLET, SEGLETS, TABLES, HISTORY, BYTES, OBJECTS,
+    BACKUPS, REPLICAS, STEP, SEGMENT, SEGLET, SEGLETS, TABLES, HISTORY, BYTES, OBJECTS, FORMAT,
 ];
 
 impl NumberOption {

@@ -23,4 +23,6 @@ pub struct Options {
     pub bytes: u64,
     /// The most objects of a partition of a will. From 1 to 4294967296, 1000000 by default.
     pub objects: u64,
+    /// The format of the log. 1 or 2, 1 by default.
+    pub format: u64,
 }

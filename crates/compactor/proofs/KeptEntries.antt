@@ -9,7 +9,7 @@ use Rattle.entry.specs.declared.entry.Role.TheVariants.{Head, Survivor}
 use Rattle.entry.specs.declared.entry.Entry.{Entry}
 use Rattle.entry.specs.declared.entry.Entry.TheVariants as entry
 use Rattle.entry.specs.Format.{spelling, IsEntry}
-use Rattle.entry.specs.Text.{text_of, is_data, are_data, ends_with, is_rest, is_whole, IsSegment}
+use Rattle.entry.specs.Text.{text_of, is_data, are_data, listed_ids, ends_with, is_rest, is_whole, IsSegment}
 use Rattle.places.specs.Map.{Places}
 use Rattle.compactor.specs.Kept.{kept, kept_from, kept_of}
 
@@ -106,9 +106,9 @@ module _ (ids : List ℕ) (held : Places) (segment : ℕ) where
   kept_rest Head s at (entry.Digest l ∷ entry.Object o ∷ es) is = absurd (cc)
   kept_rest Head s at (entry.Digest l ∷ entry.Tombstone t ∷ es) is = absurd (cc)
   kept_rest Head s at (entry.Digest l ∷ entry.Safe v ∷ es) is =
-      let parts = and_parts (ends_with s l) (are_data es) is in
+      let parts = and_parts (ends_with s (listed_ids l)) (are_data es) is in
       let n = at + length (spelling (entry.Digest l)) + length (spelling (entry.Safe v)) in
-      and_from (ends_with s l) (are_data (From n es)) parts.0 (kept_data n es parts.1)
+      and_from (ends_with s (listed_ids l)) (are_data (From n es)) parts.0 (kept_data n es parts.1)
 
   kept_whole : (es : List Entry) → is_whole es ≡ true → is_whole (From 0 es) ≡ true
   kept_whole [] is = absurd (cc)

@@ -1,7 +1,7 @@
 -- The ids of the segments that count as in the log.
 use Rattle.std.specs.Prelude.{ℕ, List, ◌∷◌, ◌++◌, map}
 use Rattle.std.specs.Option.{option_to_list}
-use Rattle.images.specs.declared.image.Image.{Image}
+use Rattle.images.specs.Image.{Image}
 use Rattle.compactor.specs.declared.log_set.LogSet.{LogSet}
 
 -- the closed segments' ids, the head's, and that of the head that is being opened

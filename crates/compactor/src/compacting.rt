@@ -11,11 +11,11 @@ use crate::keeping::{kept, kept_and_moved};
 use crate::log_set::LogSet;
 use entry::{EntryRef, NoMemory};
 use hash_index::{Index, Place};
-use segment::Segment;
+use segment::{Segment, SegmentRef};
 use std::alloc::Global;
 
 /// How many bytes the kept entries of a segment have.
-fn kept_len(id: u64, segment: &Segment, index: &Index, log: &LogSet<'_>) -> usize
+fn kept_len(id: u64, segment: &SegmentRef<'_>, index: &Index, log: &LogSet<'_>) -> usize
     ensures { result ≡ length (text_of (kept_of (ids_of_log log.now) index.now.held id segment.now)) }
 {
     let text = segment.bytes();
@@ -48,7 +48,13 @@ fn append_piece(text: &[u8], from: usize, to: usize, out: &mut Vec<u8>)
 
 /// Copies the kept entries of a segment, those that lie together in one piece. The index has each object where its copy
 /// lies.
-fn copy_kept(id: u64, segment: &Segment, index: &mut Index, log: &LogSet<'_>, out: &mut Vec<u8>)
+fn copy_kept(
+    id: u64,
+    segment: &SegmentRef<'_>,
+    index: &mut Index,
+    log: &LogSet<'_>,
+    out: &mut Vec<u8>,
+)
     requires empty { out.old.items ≡ [] }
     requires room { length (text_of (kept_of (ids_of_log log.now) index.old.held id segment.now))
         ≤ vec_capacity out.old }
@@ -83,7 +89,7 @@ fn copy_kept(id: u64, segment: &Segment, index: &mut Index, log: &LogSet<'_>, ou
 pub fn compact(
     alloc: Global,
     id: u64,
-    segment: &Segment,
+    segment: &SegmentRef<'_>,
     index: &mut Index,
     log: &LogSet<'_>,
 ) -> Result<Segment, NoMemory>

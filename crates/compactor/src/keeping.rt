@@ -13,7 +13,7 @@ use crate::log_set::LogSet;
 use arrayvec::ArrayVec;
 use entry::EntryRef;
 use hash_index::{Held, Index, Place};
-use segment::Segment;
+use segment::SegmentRef;
 
 /// Objects are looked up in batches of this many.
 const SIDE_BY_SIDE: usize = 8;
@@ -122,7 +122,7 @@ fn count(
 }
 
 /// How many bytes the kept objects and tombstones of a segment have. Its opening entries don't count.
-pub fn kept_bytes(id: u64, segment: &Segment, index: &Index, log: &LogSet<'_>) -> usize
+pub fn kept_bytes(id: u64, segment: &SegmentRef<'_>, index: &Index, log: &LogSet<'_>) -> usize
     ensures kept { result ≡ length (text_of
         (filter is_data (kept_of (ids_of_log log.now) index.now.held id segment.now))) }
     ensures valid { IsSegment segment.now }

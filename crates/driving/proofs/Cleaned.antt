@@ -12,6 +12,7 @@ use Rattle.log_head.specs.declared.head.Roll.{Roll}
 use Rattle.log_head.specs.Head.{digest_of, is_open}
 use Rattle.log_head.specs.Steps.{start_after}
 use Rattle.log_model.specs.Data.{Start, ids_of}
+use Rattle.log_model.proofs.Lengths.{ids_listed}
 use Rattle.master_state.specs.declared.config.Config.{Config}
 use Rattle.master_state.specs.declared.step.Refusal.TheVariants as refusal
 use Rattle.master_state.specs.declared.step.Step.{Step}
@@ -21,7 +22,7 @@ use Rattle.master_state.specs.declared.step.StepAnswer.TheVariants.{Begun}
 use Rattle.master_state.specs.Budget.{is_ready, newest_digest, survivors_of, victims_of}
 use Rattle.master_state.specs.Causes.{seal_refusal}
 use Rattle.master_state.specs.Data.{MasterData}
-use Rattle.master_state.specs.Steps.{start_now}
+use Rattle.master_state.specs.Steps.{survivor_bytes, start_now}
 use Rattle.master.specs.Steps.{Accepts}
 use Rattle.master.specs.World.{World}
 use Rattle.driving.specs.Cleans.{IsCleaned, IsFinished, digest_after}
@@ -80,8 +81,7 @@ module _ (c : Config) (victims : List ℕ) (survivor : ℕ) (ids : List ℕ) whe
 
   copies_end : (old new : World) → StepsUntil Copy old refusal.Nothing new → IsCopying old
       → (cursor : Cursor) × IsPassing cursor 0 new.knows × (at_end cursor ≡ true)
-  copies_end old new (count, mid, stepped, (same, inr memory)) held = let both = memory.1 in absurd (cc)
-  copies_end old new (count, mid, stepped, (same, inl test)) held =
+  copies_end old new (count, mid, stepped, (same, test)) held =
       let (cursor, passing) = steps_keep IsCopying Copy copied count old mid stepped held in
       let opened = passing.1 in
       let ended = ap (λ (o : Option Pass). if mid.knows.is_halted then Some refusal.Halted
@@ -192,11 +192,14 @@ module _ (c : Config) (victims : List ℕ) (survivor : ℕ) (ids : List ℕ) whe
         let pass_ready = pass_is_ready d (lists, opened) ended in
         let ready : is_ready d ≡ true =
         ap (λ (o : Option Pass). option_map_or (is_ready_pass d.config.replicas) o false) opened ∙ pass_ready in
-        let start : start_now d ≡ start_after d.head victims (survivor ∷ []) d.next d.safe =
-        ap (λ (b : Bool). if b then start_after d.head (victims_of d.pass) (survivors_of d.pass) d.next d.safe
-        else start_after d.head [] [] d.next d.safe) ready
-        ∙ ap (λ (o : Option Pass). start_after d.head (victims_of o) (survivors_of o) d.next d.safe) opened in (
-          ap listing begins.rest ∙ ap (λ (n : Start). (ids_of n, d.config)) start
+        let start : start_now d ≡ start_after d.head victims (survivor ∷ []) (survivor_bytes d) d.next d.safe =
+        ap (λ (b : Bool). if b then start_after d.head (victims_of d.pass) (survivors_of d.pass) (survivor_bytes d)
+        d.next d.safe
+        else start_after d.head [] [] 0 d.next d.safe) ready
+        ∙ ap (λ (o : Option Pass). start_after d.head (victims_of o) (survivors_of o) (survivor_bytes d) d.next d.safe)
+        opened in (
+          ap listing begins.rest ∙ ap (λ (l : List ℕ). (l, d.config)) (ids_listed (start_now d))
+              ∙ ap (λ (n : Start). (ids_of n, d.config)) start
               ∙ ap (λ (l : List ℕ). (digest_after l victims survivor d.next, d.config)) digest
               ∙ ap (λ (l : List ℕ × Config). (digest_after ids victims survivor d.next, l.1)) lists,
           inr (

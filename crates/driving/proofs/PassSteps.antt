@@ -83,8 +83,7 @@ pub spent_copy : (old new : World) (r : Refusal) → Declines old Copy r new →
 spent_copy old new r h is = go (subst (λ (x : Refusal). Declines old Copy x new) is h)
   where
     go : Declines old Copy refusal.Spent new → ⊥
-    go (same, inl test) = waits_unspent _ _ test
-    go (same, inr memory) = let none = memory.1 in cc
+    go (same, test) = waits_unspent _ _ test
 
 -- a seal or a free is refused as spent by a fleet that is
 pub spent_seal : (old new : World) (r : Refusal) → Declines old Seal r new → r ≡ refusal.Spent → IsSpent new.fleet

@@ -15,12 +15,13 @@ use Rattle.entry.specs.declared.view.EntryRef.{EntryRef}
 use Rattle.entry.specs.Key.{IsBytes}
 use Rattle.entry.specs.Limits.{IsVersion}
 use Rattle.entry.specs.Format.{number_at, kind_of, kind_byte, role_of, role_byte, fixed_len, whole_len}
-use Rattle.entry.specs.Format.{is_within, are_fields, has_order, fault_in, entry_of, ids_at, spelling}
+use Rattle.entry.specs.Format.{is_within, are_fields, has_order, fault_in, entry_of, ids_at, listed_at, spelling}
 use Rattle.entry.specs.Format.{front_of, first_fault, IsEntry, Begins}
 use Rattle.entry.specs.View.{shown, Reads}
 use Rattle.entry.proofs.PrefixFree.{prefix_free}
 use Rattle.entry.proofs.Passing.{passes}
-use Rattle.entry.proofs.ReadingLemmas.{header_begins, digest_begins, safe_begins, object_begins, tombstone_begins}
+use Rattle.entry.proofs.ReadingLemmas.{header_begins, digest_begins, lengths_begins, safe_begins, object_begins}
+use Rattle.entry.proofs.ReadingLemmas.{tombstone_begins}
 
 -- each test of a reader passes
 pub record Passes (k : Kind) (bytes : List ℕ) : Type 0 where
@@ -104,6 +105,10 @@ begins_of kind.Tombstone bytes fits first e =
     tombstone_begins bytes (number_at 8 1 bytes) n (number_at 8 17 bytes) k (take k (drop 27 bytes)) fits tests.whole
     first refl refl refl refl refl
     (version_from n inner.0) limits.0 limits.1
+begins_of kind.Lengths bytes fits first e =
+    let tests = Passes-from_none kind.Lengths bytes e in
+    lengths_begins bytes (number_at 4 1 bytes) (listed_at (number_at 4 1 bytes) 5 bytes) fits tests.whole first refl refl
+    tests.order
 
 -- the tests of the first byte's kind are those of the bytes
 pub front_of-kind : (k : Kind) (bytes : List ℕ) → 0 < length bytes → kind_of (slice_index bytes 0) ≡ Some k

@@ -1,6 +1,8 @@
 pub mod Numbers
 pub mod SpellingLemmas
 pub mod IdLemmas
+pub mod LengthLemmas
+pub mod DigestLemmas
 pub mod ReadingLemmas
 pub mod PrefixFree
 pub mod Passing

@@ -1,22 +1,27 @@
 -- What is spelled passes the tests of a reader.
 use Rattle.std.proofs.Common.{◌≡◌, ℕ, suc, ◌+◌, ◌^◌, ◌<◌, ◌≤◌, true, List, [], ◌∷◌}
 use Rattle.std.proofs.Common.{◌++◌, length, None, refl, sym, append_assoc, arith}
-use Rattle.std.specs.Prelude.{slice_index, nat_lt}
+use Rattle.std.specs.Prelude.{slice_index, slice_get, Some, nat_lt}
 use Rattle.std.specs.List.{flat_map}
 use Rattle.std.specs.List.Sorted.{IsStrictlyIncreasing}
 use Rattle.std.proofs.lemmas.Bool.{le-leb, lt-ltb}
 use Rattle.std.proofs.lemmas.List.{length-append}
+use Rattle.entry.specs.declared.digest.Listed.{Listed}
+use Rattle.entry.specs.declared.digest.Digest.TheVariants as digest
 use Rattle.entry.specs.declared.entry.Header.{Header}
 use Rattle.entry.specs.declared.entry.Object.{Object}
 use Rattle.entry.specs.declared.entry.Tombstone.{Tombstone}
 use Rattle.entry.specs.declared.entry.Entry.{Entry}
 use Rattle.entry.specs.declared.entry.Entry.TheVariants as entry
 use Rattle.entry.specs.declared.kind.Kind.TheVariants as kind
-use Rattle.entry.specs.Limits.{IsSafeVersion, AreIds}
+use Rattle.entry.specs.Limits.{IsSafeVersion, AreIds, ids_in, IsListed, AreLengths}
 use Rattle.entry.specs.Format.{number_bytes, number_at, role_byte, spelling, IsHeader, IsObject, IsTombstone, IsEntry}
 use Rattle.entry.specs.Format.{whole_len, are_fields, has_order, ids_at, rises, fault_in, first_fault}
+use Rattle.entry.specs.Format.{listed_bytes, is_within, listed_at, are_listed}
 use Rattle.entry.proofs.Numbers.{length-number_bytes, number_at-front, number_at-past}
-use Rattle.entry.proofs.SpellingLemmas.{length-header, length-digest, length-safe, length-object, length-tombstone}
+use Rattle.entry.proofs.SpellingLemmas.{length-header, length-digest, length-lengths, length-safe, length-object}
+use Rattle.entry.proofs.SpellingLemmas.{length-tombstone}
+use Rattle.entry.proofs.LengthLemmas.{rises_behind}
 use Rattle.entry.proofs.ReadingLemmas.{no_fault, within, role_fits, object_fields, tombstone_fields}
 
 -- a number behind a front
@@ -63,6 +68,42 @@ ids_there (n ∷ ns) front rest at len fits =
     rw (← outer) (ids_there ns (front ++ number_bytes 8 n) rest (at + 8) longer (λ i. fits (suc i))) in
     rw (inner, first, others) refl
 
+listed-from_lengths : (ss : List Listed) → IsStrictlyIncreasing (ids_in ss)
+    → ((i : ℕ) (s : Listed) → slice_get ss i ≡ Some s → IsListed s) → are_listed ss ≡ true
+listed-from_lengths [] rise each = refl
+listed-from_lengths (s ∷ []) rise each =
+    let is = each 0 s refl in within 18 8388608 s.len is.least is.greatest
+listed-from_lengths (s ∷ t ∷ ss) rise each =
+    let is = each 0 s refl in
+    let len : is_within 18 8388608 s.len ≡ true = within 18 8388608 s.len is.least is.greatest in
+    let first : nat_lt s.id t.id ≡ true = lt-ltb s.id t.id (rise 0 (omega arith)) in
+    let others : are_listed (t ∷ ss) ≡ true =
+    listed-from_lengths (t ∷ ss) (rises_behind s.id (ids_in (t ∷ ss)) rise) (λ i u at. each (suc i) u at) in
+    rw (len, first, others) refl
+
+-- the listed segments behind a front
+pub listed_behind : (ss : List Listed) (front rest : List ℕ) (at : ℕ) → length front ≡ at
+    → ((i : ℕ) (s : Listed) → slice_get ss i ≡ Some s → IsListed s)
+    → listed_at (length ss) at (front ++ (flat_map listed_bytes ss ++ rest)) ≡ ss
+listed_behind [] front rest at len each = refl
+listed_behind (s ∷ ss) front rest at len each =
+    let is = each 0 s refl in
+    let greatest = is.greatest in
+    let more = flat_map listed_bytes ss ++ rest in
+    let a = number_bytes 8 s.id in
+    let b = number_bytes 8 s.len in
+    let text = front ++ (flat_map listed_bytes (s ∷ ss) ++ rest) in
+    let first : number_at 8 at text ≡ s.id =
+    field 8 at s.id front (b ++ more) text (simp append_assoc) len is.id in
+    let middle : length (front ++ a) ≡ at + 8 = simp (length-append, length-number_bytes) (omega arith) in
+    let second : number_at 8 (at + 8) text ≡ s.len =
+    field 8 (at + 8) s.len (front ++ a) more text (simp append_assoc) middle (omega arith) in
+    let longer : length (front ++ (a ++ b)) ≡ at + 16 = simp (length-append, length-number_bytes) (omega arith) in
+    let outer : text ≡ front ++ (a ++ b) ++ more = simp append_assoc in
+    let others : listed_at (length ss) (at + 16) text ≡ ss =
+    rw outer (listed_behind ss (front ++ (a ++ b)) rest (at + 16) longer (λ i t is. each (suc i) t is)) in
+    rw (first, second, others) refl
+
 pub header_passes : (h : Header) (rest : List ℕ) → IsHeader h
     → fault_in kind.Header (spelling (entry.Header h) ++ rest) ≡ None
 header_passes h rest fits =
@@ -77,11 +118,11 @@ header_passes h rest fits =
     no_fault kind.Header text (omega arith) fields (omega arith) refl
 
 pub digest_passes : (ids : List ℕ) (rest : List ℕ) → AreIds ids
-    → fault_in kind.Digest (spelling (entry.Digest ids) ++ rest) ≡ None
+    → fault_in kind.Digest (spelling (entry.Digest (digest.Ids ids)) ++ rest) ≡ None
 digest_passes ids rest fits =
-    let text = spelling (entry.Digest ids) ++ rest in
+    let text = spelling (entry.Digest (digest.Ids ids)) ++ rest in
     let len = length-digest ids in
-    let all = length-append (spelling (entry.Digest ids)) rest in
+    let all = length-append (spelling (entry.Digest (digest.Ids ids))) rest in
     let front = 2 ∷ number_bytes 4 (length ids) in
     let front_len : length front ≡ 5 = simp length-number_bytes refl in
     let parts : text ≡ front ++ (flat_map (number_bytes 8) ids ++ rest) =
@@ -92,6 +133,25 @@ digest_passes ids rest fits =
     let whole : whole_len kind.Digest text ≤ length text = rw count (omega arith) in
     let order : has_order kind.Digest text ≡ true = rw (count, ids_are) (rises-from_increasing ids fits.rise) in
     no_fault kind.Digest text (omega arith) refl whole order
+
+pub lengths_passes : (ss : List Listed) (rest : List ℕ) → AreLengths ss
+    → fault_in kind.Lengths (spelling (entry.Digest (digest.Lengths ss)) ++ rest) ≡ None
+lengths_passes ss rest fits =
+    let text = spelling (entry.Digest (digest.Lengths ss)) ++ rest in
+    let len = length-lengths ss in
+    let all = length-append (spelling (entry.Digest (digest.Lengths ss))) rest in
+    let front = 6 ∷ number_bytes 4 (length ss) in
+    let front_len : length front ≡ 5 = simp length-number_bytes refl in
+    let parts : text ≡ front ++ (flat_map listed_bytes ss ++ rest) =
+    append_assoc front (flat_map listed_bytes ss) rest in
+    let count : number_at 4 1 text ≡ length ss =
+    field 4 1 (length ss) (6 ∷ []) (flat_map listed_bytes ss ++ rest) text parts refl fits.count in
+    let they_are : listed_at (length ss) 5 text ≡ ss =
+    rw parts (listed_behind ss front rest 5 front_len fits.each) in
+    let whole : whole_len kind.Lengths text ≤ length text = rw count (omega arith) in
+    let order : has_order kind.Lengths text ≡ true =
+    rw (count, they_are) (listed-from_lengths ss fits.rise fits.each) in
+    no_fault kind.Lengths text (omega arith) refl whole order
 
 pub safe_passes : (n : ℕ) (rest : List ℕ) → IsSafeVersion n
     → fault_in kind.Safe (spelling (entry.Safe n) ++ rest) ≡ None
@@ -159,7 +219,8 @@ tombstone_passes t rest fits =
 -- What is spelled passes the tests.
 pub passes : (e : Entry) (rest : List ℕ) → IsEntry e → first_fault (spelling e ++ rest) ≡ None
 passes (entry.Header h) rest fits = header_passes h rest fits
-passes (entry.Digest ids) rest fits = digest_passes ids rest fits
+passes (entry.Digest (digest.Ids ids)) rest fits = digest_passes ids rest fits
+passes (entry.Digest (digest.Lengths ss)) rest fits = lengths_passes ss rest fits
 passes (entry.Safe n) rest fits = safe_passes n rest fits
 passes (entry.Object o) rest fits = object_passes o rest fits
 passes (entry.Tombstone t) rest fits = tombstone_passes t rest fits

@@ -1,9 +1,12 @@
 -- No spelling begins the spelling of another entry.
 use Rattle.std.proofs.Common.{◌≡◌, ℕ, suc, ◌^◌, ◌<◌, List, [], ◌∷◌, ◌++◌, length, take}
 use Rattle.std.proofs.Common.{drop, refl, sym, ap, ◌∙◌, append_assoc, arith}
-use Rattle.std.specs.Prelude.{slice_index}
+use Rattle.std.specs.Prelude.{slice_index, slice_get, Some}
 use Rattle.std.specs.List.{flat_map}
 use Rattle.std.proofs.lemmas.List.{take_at, drop_at}
+use Rattle.entry.specs.declared.digest.Listed.{Listed}
+use Rattle.entry.specs.declared.digest.Digest.{Digest}
+use Rattle.entry.specs.declared.digest.Digest.TheVariants as digest
 use Rattle.entry.specs.declared.entry.Role.{Role}
 use Rattle.entry.specs.declared.entry.Role.TheVariants.{Head, Survivor}
 use Rattle.entry.specs.declared.entry.Header.{Header}
@@ -12,9 +15,13 @@ use Rattle.entry.specs.declared.entry.Tombstone.{Tombstone}
 use Rattle.entry.specs.declared.key.Key.{Key}
 use Rattle.entry.specs.declared.entry.Entry.{Entry}
 use Rattle.entry.specs.declared.entry.Entry.TheVariants as entry
-use Rattle.entry.specs.Format.{number_bytes, number_at, role_byte, spelling, IsHeader, IsObject, IsTombstone, IsEntry}
-use Rattle.entry.specs.Limits.{IsSafeVersion, AreIds}
+use Rattle.entry.specs.Format.{number_bytes, number_at, role_byte, listed_bytes, digest_spelling, spelling}
+use Rattle.entry.specs.Format.{IsHeader, IsDigest, IsObject, IsTombstone, IsEntry}
+use Rattle.entry.specs.Limits.{IsSafeVersion, AreIds, IsListed, AreLengths}
 use Rattle.entry.proofs.Numbers.{length-number_bytes, number_at-front}
+
+abbrev listed : ℕ → ℕ → Listed
+listed i l = record { id = i; len = l }
 
 abbrev header : ℕ → ℕ → Role → Header
 header m s r = record { master = m; segment = s; role = r }
@@ -57,6 +64,30 @@ ids-cancel (m ∷ a) (n ∷ b) x y a-fits b-fits len e =
     let more = ids-cancel a b x y (λ i. a-fits (suc i)) (λ i. b-fits (suc i)) (omega arith) one.1 in
     (rw (one.0, more.0) refl, more.1)
 
+listed-same : (a b : Listed) → a.id ≡ b.id → a.len ≡ b.len → a ≡ b
+listed-same a b e f = go a.id b.id a.len b.len e f where
+  go : (i j l m : ℕ) → i ≡ j → l ≡ m → listed i l ≡ listed j m
+  go i j l m p q = rw (p, q) refl
+
+listed-cancel : (a b : List Listed) (x y : List ℕ) → ((i : ℕ) (s : Listed) → slice_get a i ≡ Some s → IsListed s)
+    → ((i : ℕ) (s : Listed) → slice_get b i ≡ Some s → IsListed s) → length a ≡ length b
+    → flat_map listed_bytes a ++ x ≡ flat_map listed_bytes b ++ y → (a ≡ b) × (x ≡ y)
+listed-cancel [] [] x y a-fits b-fits len e = (refl, e)
+listed-cancel [] (n ∷ b) x y a-fits b-fits len e = absurd (omega arith)
+listed-cancel (m ∷ a) [] x y a-fits b-fits len e = absurd (omega arith)
+listed-cancel (m ∷ a) (n ∷ b) x y a-fits b-fits len e =
+    let m-is = a-fits 0 m refl in
+    let n-is = b-fits 0 n refl in
+    let m-limit = m-is.greatest in
+    let n-limit = n-is.greatest in
+    let flat : number_bytes 8 m.id ++ (number_bytes 8 m.len ++ (flat_map listed_bytes a ++ x))
+    ≡ number_bytes 8 n.id ++ (number_bytes 8 n.len ++ (flat_map listed_bytes b ++ y)) =
+    simp append_assoc at e in
+    let one = number-cancel 8 m.id n.id _ _ m-is.id n-is.id flat in
+    let two = number-cancel 8 m.len n.len _ _ (omega arith) (omega arith) one.1 in
+    let more = listed-cancel a b x y (λ i s. a-fits (suc i) s) (λ i s. b-fits (suc i) s) (omega arith) two.1 in
+    (rw (listed-same m n one.0 two.0, more.0) refl, more.1)
+
 same_tail : (a b : ℕ) (x y : List ℕ) → a ∷ x ≡ b ∷ y → x ≡ y
 same_tail a b x y e = cc
 
@@ -93,7 +124,7 @@ header-cancel a b x y a-fits b-fits e =
     )
 
 digest-cancel : (a b x y : List ℕ) → AreIds a → AreIds b
-    → spelling (entry.Digest a) ++ x ≡ spelling (entry.Digest b) ++ y → (a ≡ b) × (x ≡ y)
+    → digest_spelling (digest.Ids a) ++ x ≡ digest_spelling (digest.Ids b) ++ y → (a ≡ b) × (x ≡ y)
 digest-cancel a b x y a-fits b-fits e =
     let flat : number_bytes 4 (length a) ++ (flat_map (number_bytes 8) a ++ x)
     ≡ number_bytes 4 (length b) ++ (flat_map (number_bytes 8) b ++ y) =
@@ -102,6 +133,17 @@ digest-cancel a b x y a-fits b-fits e =
     number-cancel 4 (length a) (length b) (flat_map (number_bytes 8) a ++ x) (flat_map (number_bytes 8) b ++ y)
     a-fits.count b-fits.count flat in
     ids-cancel a b x y a-fits.each b-fits.each p.0 p.1
+
+lengths-cancel : (a b : List Listed) (x y : List ℕ) → AreLengths a → AreLengths b
+    → digest_spelling (digest.Lengths a) ++ x ≡ digest_spelling (digest.Lengths b) ++ y → (a ≡ b) × (x ≡ y)
+lengths-cancel a b x y a-fits b-fits e =
+    let flat : number_bytes 4 (length a) ++ (flat_map listed_bytes a ++ x)
+    ≡ number_bytes 4 (length b) ++ (flat_map listed_bytes b ++ y) =
+    same_tail 6 6 _ _ (simp append_assoc at e) in
+    let p =
+    number-cancel 4 (length a) (length b) (flat_map listed_bytes a ++ x) (flat_map listed_bytes b ++ y) a-fits.count
+    b-fits.count flat in
+    listed-cancel a b x y a-fits.each b-fits.each p.0 p.1
 
 safe-cancel : (a b : ℕ) (x y : List ℕ) → IsSafeVersion a → IsSafeVersion b
     → spelling (entry.Safe a) ++ x ≡ spelling (entry.Safe b) ++ y → (a ≡ b) × (x ≡ y)
@@ -171,17 +213,30 @@ tombstone-cancel a b x y a-fits b-fits e =
     let t = bytes-cancel k l x y s.0 s.1 in
     (tombstone-same a b p.0 t.0 q.0 r.0, t.1)
 
+-- No spelling of a digest begins the spelling of another entry.
+digest_first : (d : Digest) (b : Entry) (x y : List ℕ) → IsDigest d → IsEntry b
+    → digest_spelling d ++ x ≡ spelling b ++ y → (entry.Digest d ≡ b) × (x ≡ y)
+digest_first (digest.Ids a) (entry.Digest (digest.Ids b)) x y p q e =
+    let h = digest-cancel a b x y p q e in (ap (λ (z : List ℕ). entry.Digest (digest.Ids z)) h.0, h.1)
+digest_first (digest.Lengths a) (entry.Digest (digest.Lengths b)) x y p q e =
+    let h = lengths-cancel a b x y p q e in (ap (λ (z : List Listed). entry.Digest (digest.Lengths z)) h.0, h.1)
+digest_first (digest.Ids a) (entry.Digest (digest.Lengths b)) x y p q e = absurd (cc)
+digest_first (digest.Lengths a) (entry.Digest (digest.Ids b)) x y p q e = absurd (cc)
+digest_first (digest.Ids a) _ x y p q e = absurd (cc)
+digest_first (digest.Lengths a) _ x y p q e = absurd (cc)
+
 -- No spelling begins the spelling of another entry.
 pub prefix_free : (a b : Entry) (x y : List ℕ) → IsEntry a → IsEntry b → spelling a ++ x ≡ spelling b ++ y
     → (a ≡ b) × (x ≡ y)
 prefix_free (entry.Header a) (entry.Header b) x y p q e =
     let h = header-cancel a b x y p q e in (ap (λ (z : Header). entry.Header z) h.0, h.1)
-prefix_free (entry.Digest a) (entry.Digest b) x y p q e =
-    let h = digest-cancel a b x y p q e in (ap (λ (z : List ℕ). entry.Digest z) h.0, h.1)
 prefix_free (entry.Safe a) (entry.Safe b) x y p q e =
     let h = safe-cancel a b x y p q e in (ap (λ (z : ℕ). entry.Safe z) h.0, h.1)
 prefix_free (entry.Object a) (entry.Object b) x y p q e =
     let h = object-cancel a b x y p q e in (ap (λ (z : Object). entry.Object z) h.0, h.1)
 prefix_free (entry.Tombstone a) (entry.Tombstone b) x y p q e =
     let h = tombstone-cancel a b x y p q e in (ap (λ (z : Tombstone). entry.Tombstone z) h.0, h.1)
+prefix_free (entry.Digest a) b x y p q e = digest_first a b x y p q e
+prefix_free a (entry.Digest b) x y p q e =
+    let h = digest_first b a y x q p (sym e) in (sym h.0, sym h.1)
 prefix_free _ _ x y p q e = absurd (cc)

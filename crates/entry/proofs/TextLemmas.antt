@@ -4,6 +4,8 @@ use Rattle.std.proofs.Common.{length, drop, Some, refl, ap, append_assoc, arith}
 use Rattle.std.specs.Prelude.{slice_index}
 use Rattle.std.specs.List.{flat_map, AllByRecursion}
 use Rattle.std.proofs.lemmas.List.{length-append, take_at, drop_at}
+use Rattle.entry.specs.declared.digest.Listed.{Listed}
+use Rattle.entry.specs.declared.digest.Digest.TheVariants as digest
 use Rattle.entry.specs.declared.entry.Role.{Role}
 use Rattle.entry.specs.declared.entry.Role.TheVariants.{Head, Survivor}
 use Rattle.entry.specs.declared.entry.Header.{Header}
@@ -12,15 +14,17 @@ use Rattle.entry.specs.declared.entry.Tombstone.{Tombstone}
 use Rattle.entry.specs.declared.entry.Entry.{Entry}
 use Rattle.entry.specs.declared.entry.Entry.TheVariants as entry
 use Rattle.entry.specs.declared.kind.Kind.TheVariants as kind
-use Rattle.entry.specs.Limits.{AreIds, IsSafeVersion}
+use Rattle.entry.specs.Limits.{AreIds, AreLengths, IsSafeVersion}
 use Rattle.entry.specs.Format.{number_bytes, number_at, role_byte, role_of, spelling, IsHeader, IsObject}
 use Rattle.entry.specs.Format.{IsTombstone, IsEntry, part_of, whole_len, ids_at, entry_of, front_of}
+use Rattle.entry.specs.Format.{listed_bytes, listed_at}
 use Rattle.entry.specs.Text.{text_of, entries_within, entries_in}
 use Rattle.entry.proofs.Numbers.{length-number_bytes}
-use Rattle.entry.proofs.SpellingLemmas.{length-header, length-digest, length-safe, length-object, length-tombstone}
+use Rattle.entry.proofs.SpellingLemmas.{length-header, length-digest, length-lengths, length-safe, length-object}
+use Rattle.entry.proofs.SpellingLemmas.{length-tombstone}
 use Rattle.entry.proofs.PrefixFree.{object-same, tombstone-same}
-use Rattle.entry.proofs.Passing.{field, byte_there, ids_there, header_passes, digest_passes}
-use Rattle.entry.proofs.Passing.{safe_passes, object_passes, tombstone_passes}
+use Rattle.entry.proofs.Passing.{field, byte_there, ids_there, listed_behind, header_passes, digest_passes}
+use Rattle.entry.proofs.Passing.{lengths_passes, safe_passes, object_passes, tombstone_passes}
 
 -- bytes behind a front
 part_there : (at count : ℕ) (part front rest bytes : List ℕ) → bytes ≡ front ++ (part ++ rest) → length front ≡ at
@@ -49,9 +53,9 @@ header_there h rest fits =
     rw (master, segment, role, role_of-byte) refl
 
 digest_there : (ids : List ℕ) (rest : List ℕ) → AreIds ids
-    → entry_of kind.Digest (spelling (entry.Digest ids) ++ rest) ≡ entry.Digest ids
+    → entry_of kind.Digest (spelling (entry.Digest (digest.Ids ids)) ++ rest) ≡ entry.Digest (digest.Ids ids)
 digest_there ids rest fits =
-    let text = spelling (entry.Digest ids) ++ rest in
+    let text = spelling (entry.Digest (digest.Ids ids)) ++ rest in
     let front = 2 ∷ number_bytes 4 (length ids) in
     let front_len : length front ≡ 5 = simp length-number_bytes refl in
     let parts : text ≡ front ++ (flat_map (number_bytes 8) ids ++ rest) =
@@ -62,15 +66,42 @@ digest_there ids rest fits =
     rw (count, ids_are) refl
 
 digest_len : (ids : List ℕ) (rest : List ℕ) → AreIds ids
-    → whole_len kind.Digest (spelling (entry.Digest ids) ++ rest) ≡ length (spelling (entry.Digest ids))
+    → whole_len kind.Digest (spelling (entry.Digest (digest.Ids ids)) ++ rest)
+    ≡ length (spelling (entry.Digest (digest.Ids ids)))
 digest_len ids rest fits =
-    let text = spelling (entry.Digest ids) ++ rest in
+    let text = spelling (entry.Digest (digest.Ids ids)) ++ rest in
     let front = 2 ∷ number_bytes 4 (length ids) in
     let parts : text ≡ front ++ (flat_map (number_bytes 8) ids ++ rest) =
     append_assoc front (flat_map (number_bytes 8) ids) rest in
     let count : number_at 4 1 text ≡ length ids =
     field 4 1 (length ids) (2 ∷ []) (flat_map (number_bytes 8) ids ++ rest) text parts refl fits.count in
     rw (count, length-digest) refl
+
+lengths_there : (ss : List Listed) (rest : List ℕ) → AreLengths ss
+    → entry_of kind.Lengths (spelling (entry.Digest (digest.Lengths ss)) ++ rest) ≡ entry.Digest (digest.Lengths ss)
+lengths_there ss rest fits =
+    let text = spelling (entry.Digest (digest.Lengths ss)) ++ rest in
+    let front = 6 ∷ number_bytes 4 (length ss) in
+    let front_len : length front ≡ 5 = simp length-number_bytes refl in
+    let parts : text ≡ front ++ (flat_map listed_bytes ss ++ rest) =
+    append_assoc front (flat_map listed_bytes ss) rest in
+    let count : number_at 4 1 text ≡ length ss =
+    field 4 1 (length ss) (6 ∷ []) (flat_map listed_bytes ss ++ rest) text parts refl fits.count in
+    let they_are : listed_at (length ss) 5 text ≡ ss =
+    rw parts (listed_behind ss front rest 5 front_len fits.each) in
+    rw (count, they_are) refl
+
+lengths_len : (ss : List Listed) (rest : List ℕ) → AreLengths ss
+    → whole_len kind.Lengths (spelling (entry.Digest (digest.Lengths ss)) ++ rest)
+    ≡ length (spelling (entry.Digest (digest.Lengths ss)))
+lengths_len ss rest fits =
+    let text = spelling (entry.Digest (digest.Lengths ss)) ++ rest in
+    let front = 6 ∷ number_bytes 4 (length ss) in
+    let parts : text ≡ front ++ (flat_map listed_bytes ss ++ rest) =
+    append_assoc front (flat_map listed_bytes ss) rest in
+    let count : number_at 4 1 text ≡ length ss =
+    field 4 1 (length ss) (6 ∷ []) (flat_map listed_bytes ss ++ rest) text parts refl fits.count in
+    rw (count, length-lengths) refl
 
 safe_there : (n : ℕ) (rest : List ℕ) → IsSafeVersion n
     → entry_of kind.Safe (spelling (entry.Safe n) ++ rest) ≡ entry.Safe n
@@ -182,7 +213,9 @@ pub front_of-spelling : (e : Entry) (rest : List ℕ) → IsEntry e
     → front_of (spelling e ++ rest) ≡ Some (e, length (spelling e))
 front_of-spelling (entry.Header h) rest fits =
     rw (header_passes h rest fits, header_there h rest fits, length-header h) refl
-front_of-spelling (entry.Digest ids) rest fits =
+front_of-spelling (entry.Digest (digest.Lengths ss)) rest fits =
+    rw (lengths_passes ss rest fits, lengths_there ss rest fits, lengths_len ss rest fits) refl
+front_of-spelling (entry.Digest (digest.Ids ids)) rest fits =
     rw (digest_passes ids rest fits, digest_there ids rest fits, digest_len ids rest fits) refl
 front_of-spelling (entry.Safe n) rest fits =
     rw (safe_passes n rest fits, safe_there n rest fits, length-safe n) refl
@@ -200,7 +233,8 @@ front_of-spelling (entry.Tombstone t) rest fits =
 -- a spelling is not empty
 pub spelling-some : (e : Entry) → 0 < length (spelling e)
 spelling-some (entry.Header h) = omega arith
-spelling-some (entry.Digest ids) = omega arith
+spelling-some (entry.Digest (digest.Ids ids)) = omega arith
+spelling-some (entry.Digest (digest.Lengths ss)) = omega arith
 spelling-some (entry.Safe n) = omega arith
 spelling-some (entry.Object o) = omega arith
 spelling-some (entry.Tombstone t) = omega arith

@@ -1,7 +1,7 @@
 -- The format of entries: the spelling of each, and the tests of a reader in their order.
 use Rattle.std.specs.Prelude.{◌≡◌, ℕ, zero, suc, ◌+◌, ◌*◌, ◌<◌, ◌≤◌, ◌^◌, List, [], ◌∷◌, ◌++◌, length}
 use Rattle.std.specs.Prelude.{take, drop, slice_index, Option, Some, None, is_none, IsSomeAnd, Bool}
-use Rattle.std.specs.Prelude.{true, not, ◌==◌, ◌&&◌, nat_lt, nat_le, if◌then◌else◌}
+use Rattle.std.specs.Prelude.{true, false, not, ◌==◌, ◌&&◌, nat_lt, nat_le, if◌then◌else◌}
 use Rattle.std.specs.List.{flat_map}
 use Rattle.std.specs.Int.{bytes_high_first}
 use Rattle.byteorder.specs.Endian.{big_number}
@@ -11,6 +11,9 @@ use Rattle.entry.specs.declared.entry.Header.{Header}
 use Rattle.entry.specs.declared.entry.Object.{Object}
 use Rattle.entry.specs.declared.entry.Tombstone.{Tombstone}
 use Rattle.entry.specs.declared.key.Key.{Key}
+use Rattle.entry.specs.declared.digest.Listed.{Listed}
+use Rattle.entry.specs.declared.digest.Digest.{Digest}
+use Rattle.entry.specs.declared.digest.Digest.TheVariants as digest
 use Rattle.entry.specs.declared.entry.Entry.{Entry}
 use Rattle.entry.specs.declared.entry.Entry.TheVariants as entry
 use Rattle.entry.specs.declared.kind.Kind.{Kind}
@@ -18,7 +21,7 @@ use Rattle.entry.specs.declared.kind.Kind.TheVariants as kind
 use Rattle.entry.specs.declared.fault.EntryFault.{EntryFault}
 use Rattle.entry.specs.declared.fault.EntryFault.TheVariants.{Short, UnknownKind, BadField, NoMemory}
 use Rattle.entry.specs.Key.{IsKeyBytes}
-use Rattle.entry.specs.Limits.{IsVersion, IsSafeVersion, IsValue, AreIds}
+use Rattle.entry.specs.Limits.{IsVersion, IsSafeVersion, IsValue, AreIds, AreLengths}
 
 -- ---- numbers
 
@@ -36,9 +39,17 @@ abbrev pub role_byte : Role → ℕ
 role_byte Head = 0
 role_byte Survivor = 1
 
+-- a listed segment's id and length
+abbrev pub listed_bytes : Listed → List ℕ
+listed_bytes s = number_bytes 8 s.id ++ number_bytes 8 s.len
+
+abbrev pub digest_spelling : Digest → List ℕ
+digest_spelling (digest.Ids ids) = 2 ∷ number_bytes 4 (length ids) ++ flat_map (number_bytes 8) ids
+digest_spelling (digest.Lengths segments) = 6 ∷ number_bytes 4 (length segments) ++ flat_map listed_bytes segments
+
 abbrev pub spelling : Entry → List ℕ
 spelling (entry.Header h) = 1 ∷ number_bytes 8 h.master ++ number_bytes 8 h.segment ++ role_byte h.role ∷ []
-spelling (entry.Digest ids) = 2 ∷ number_bytes 4 (length ids) ++ flat_map (number_bytes 8) ids
+spelling (entry.Digest d) = digest_spelling d
 spelling (entry.Safe version) = 3 ∷ number_bytes 8 version
 spelling (entry.Object o) =
     4 ∷ number_bytes 8 o.key.table ++ number_bytes 8 o.version ++ number_bytes 2 (length o.key.bytes)
@@ -67,10 +78,14 @@ pub record IsTombstone (t : Tombstone) : Type 0 where
   pub version : IsVersion t.version
   pub segment : t.segment < 2 ^ 64
 
+abbrev pub IsDigest : Digest → Type 0
+IsDigest (digest.Ids ids) = AreIds ids
+IsDigest (digest.Lengths segments) = AreLengths segments
+
 -- Each value of the type Entry is one of these.
 abbrev pub IsEntry : Entry → Type 0
 IsEntry (entry.Header h) = IsHeader h
-IsEntry (entry.Digest ids) = AreIds ids
+IsEntry (entry.Digest d) = IsDigest d
 IsEntry (entry.Safe version) = IsSafeVersion version
 IsEntry (entry.Object o) = IsObject o
 IsEntry (entry.Tombstone t) = IsTombstone t
@@ -84,6 +99,7 @@ kind_of byte =
     else if byte == 3 then Some kind.Safe
     else if byte == 4 then Some kind.Object
     else if byte == 5 then Some kind.Tombstone
+    else if byte == 6 then Some kind.Lengths
     else None
 
 abbrev pub kind_byte : Kind → ℕ
@@ -92,6 +108,7 @@ kind_byte kind.Digest = 2
 kind_byte kind.Safe = 3
 kind_byte kind.Object = 4
 kind_byte kind.Tombstone = 5
+kind_byte kind.Lengths = 6
 
 -- how many bytes the fixed part has
 abbrev pub fixed_len : Kind → ℕ
@@ -100,6 +117,7 @@ fixed_len kind.Digest = 5
 fixed_len kind.Safe = 9
 fixed_len kind.Object = 23
 fixed_len kind.Tombstone = 27
+fixed_len kind.Lengths = 5
 
 -- how many bytes the whole entry has, by its fixed part
 abbrev pub whole_len : Kind → List ℕ → ℕ
@@ -108,6 +126,7 @@ whole_len kind.Digest bytes = 5 + 8 * number_at 4 1 bytes
 whole_len kind.Safe bytes = 9
 whole_len kind.Object bytes = 23 + number_at 2 17 bytes + number_at 4 19 bytes
 whole_len kind.Tombstone bytes = 27 + number_at 2 25 bytes
+whole_len kind.Lengths bytes = 5 + 16 * number_at 4 1 bytes
 
 -- a number is within limits
 abbrev pub is_within : ℕ → ℕ → ℕ → Bool
@@ -122,11 +141,18 @@ are_fields kind.Object bytes =
     is_within 1 (2 ^ 62) (number_at 8 9 bytes) && is_within 1 1024 (number_at 2 17 bytes)
     && nat_le (number_at 4 19 bytes) 2097152
 are_fields kind.Tombstone bytes = is_within 1 (2 ^ 62) (number_at 8 9 bytes) && is_within 1 1024 (number_at 2 25 bytes)
+are_fields kind.Lengths bytes = true
 
 -- the ids in the bytes from a place on
 abbrev pub ids_at : ℕ → ℕ → List ℕ → List ℕ
 ids_at zero at bytes = []
 ids_at (suc count) at bytes = number_at 8 at bytes ∷ ids_at count (at + 8) bytes
+
+-- the listed segments in the bytes from a place on
+abbrev pub listed_at : ℕ → ℕ → List ℕ → List Listed
+listed_at zero at bytes = []
+listed_at (suc count) at bytes =
+    record { id = number_at 8 at bytes; len = number_at 8 (at + 8) bytes } ∷ listed_at count (at + 16) bytes
 
 -- each is above the one before it
 abbrev pub rises : List ℕ → Bool
@@ -134,13 +160,20 @@ rises [] = true
 rises (x ∷ []) = true
 rises (x ∷ y ∷ ys) = nat_lt x y && rises (y ∷ ys)
 
--- the ids of a digest rise strictly
+-- each length is within its limits, and each id is above the one before it
+abbrev pub are_listed : List Listed → Bool
+are_listed [] = true
+are_listed (s ∷ []) = is_within 18 8388608 s.len
+are_listed (s ∷ t ∷ ss) = is_within 18 8388608 s.len && (nat_lt s.id t.id && are_listed (t ∷ ss))
+
+-- the ids of a digest rise strictly, and its lengths are within their limits
 abbrev pub has_order : Kind → List ℕ → Bool
 has_order kind.Header bytes = true
 has_order kind.Digest bytes = rises (ids_at (number_at 4 1 bytes) 5 bytes)
 has_order kind.Safe bytes = true
 has_order kind.Object bytes = true
 has_order kind.Tombstone bytes = true
+has_order kind.Lengths bytes = are_listed (listed_at (number_at 4 1 bytes) 5 bytes)
 
 -- of a known kind: the fault that the first failing test names
 abbrev pub fault_in : Kind → List ℕ → Option EntryFault
@@ -171,6 +204,16 @@ role_of (suc n) = Survivor
 abbrev pub part_of : ℕ → ℕ → List ℕ → List ℕ
 part_of count at bytes = take count (drop at bytes)
 
+-- the digest of this many segments in the bytes, by their ids alone or with their lengths
+abbrev pub digest_at : Bool → ℕ → List ℕ → Digest
+digest_at false count bytes = digest.Ids (ids_at count 5 bytes)
+digest_at true count bytes = digest.Lengths (listed_at count 5 bytes)
+
+-- how many bytes it has
+abbrev pub digest_len : Bool → ℕ → ℕ
+digest_len false count = 5 + 8 * count
+digest_len true count = 5 + 16 * count
+
 -- the entry of this kind whose fields are in the bytes
 abbrev pub entry_of : Kind → List ℕ → Entry
 entry_of kind.Header bytes = entry.Header (record {
@@ -178,7 +221,7 @@ entry_of kind.Header bytes = entry.Header (record {
   segment = number_at 8 9 bytes;
   role = role_of (slice_index bytes 17);
 })
-entry_of kind.Digest bytes = entry.Digest (ids_at (number_at 4 1 bytes) 5 bytes)
+entry_of kind.Digest bytes = entry.Digest (digest.Ids (ids_at (number_at 4 1 bytes) 5 bytes))
 entry_of kind.Safe bytes = entry.Safe (number_at 8 1 bytes)
 entry_of kind.Object bytes = entry.Object (record {
   key = record { table = number_at 8 1 bytes; bytes = part_of (number_at 2 17 bytes) 23 bytes };
@@ -190,6 +233,7 @@ entry_of kind.Tombstone bytes = entry.Tombstone (record {
   version = number_at 8 9 bytes;
   segment = number_at 8 17 bytes;
 })
+entry_of kind.Lengths bytes = entry.Digest (digest.Lengths (listed_at (number_at 4 1 bytes) 5 bytes))
 
 abbrev pub front_of_kind : Option Kind → List ℕ → Option (Entry × ℕ)
 front_of_kind None bytes = None
@@ -211,7 +255,7 @@ pub record Begins (bytes : List ℕ) (e : Entry) (len : ℕ) : Type 0 where
 -- the entries that hold a list, for which a reader takes memory
 abbrev pub HoldsList : Entry → Type 0
 HoldsList (entry.Header h) = ⊥
-HoldsList (entry.Digest ids) = Unit {0}
+HoldsList (entry.Digest d) = Unit {0}
 HoldsList (entry.Safe version) = ⊥
 HoldsList (entry.Object o) = Unit {0}
 HoldsList (entry.Tombstone t) = Unit {0}

@@ -1,13 +1,17 @@
 -- Texts of segments: the spellings of their entries one after the other, in an order that is allowed.
-use Rattle.std.specs.Prelude.{◌≡◌, ℕ, zero, suc, List, [], ◌∷◌, ◌++◌, length, drop, filter}
+use Rattle.std.specs.Prelude.{◌≡◌, ℕ, zero, suc, List, [], ◌∷◌, ◌++◌, length, drop, filter, if◌then◌else◌}
 use Rattle.std.specs.Prelude.{Bool, true, false, ◌==◌, ◌&&◌, Option, Some, None}
 use Rattle.std.specs.Option.{option_map_or}
 use Rattle.std.specs.List.{flat_map, AllByRecursion}
 use Rattle.entry.specs.declared.entry.Role.{Role}
 use Rattle.entry.specs.declared.entry.Role.TheVariants.{Head, Survivor}
 use Rattle.entry.specs.declared.entry.Header.{Header}
+use Rattle.entry.specs.declared.digest.Listed.{Listed}
+use Rattle.entry.specs.declared.digest.Digest.{Digest}
+use Rattle.entry.specs.declared.digest.Digest.TheVariants as digest
 use Rattle.entry.specs.declared.entry.Entry.{Entry}
 use Rattle.entry.specs.declared.entry.Entry.TheVariants as entry
+use Rattle.entry.specs.Limits.{ids_in}
 use Rattle.entry.specs.Format.{spelling, front_of, IsEntry}
 
 -- ---- the row of entries
@@ -18,7 +22,7 @@ text_of es = flat_map spelling es
 -- an object or a tombstone
 abbrev pub is_data : Entry → Bool
 is_data (entry.Header h) = false
-is_data (entry.Digest ids) = false
+is_data (entry.Digest d) = false
 is_data (entry.Safe version) = false
 is_data (entry.Object o) = true
 is_data (entry.Tombstone t) = true
@@ -26,6 +30,26 @@ is_data (entry.Tombstone t) = true
 abbrev pub are_data : List Entry → Bool
 are_data [] = true
 are_data (e ∷ es) = is_data e && are_data es
+
+-- the ids of the segments that a digest lists
+abbrev pub listed_ids : Digest → List ℕ
+listed_ids (digest.Ids ids) = ids
+listed_ids (digest.Lengths segments) = ids_in segments
+
+-- whether the digest lists the lengths of its segments
+abbrev pub lists_lengths : Digest → Bool
+lists_lengths (digest.Ids ids) = false
+lists_lengths (digest.Lengths segments) = true
+
+-- the length of the segment of this id; None if it isn't among them
+abbrev pub len_in : ℕ → List Listed → Option ℕ
+len_in id [] = None
+len_in id (s ∷ ss) = if s.id == id then Some s.len else len_in id ss
+
+-- the length that a digest lists for a segment; None if it lists no lengths, or not that segment
+abbrev pub listed_len : ℕ → Digest → Option ℕ
+listed_len id (digest.Ids ids) = None
+listed_len id (digest.Lengths segments) = len_in id segments
 
 -- the last of the ids is this one
 abbrev pub ends_with : ℕ → List ℕ → Bool
@@ -35,7 +59,7 @@ ends_with id (x ∷ y ∷ ys) = ends_with id (y ∷ ys)
 
 -- behind the header of a head: a digest whose last id is the segment, a safe version, and then objects and tombstones
 abbrev pub is_head_rest : ℕ → List Entry → Bool
-is_head_rest segment (entry.Digest ids ∷ entry.Safe version ∷ rest) = ends_with segment ids && are_data rest
+is_head_rest segment (entry.Digest d ∷ entry.Safe version ∷ rest) = ends_with segment (listed_ids d) && are_data rest
 is_head_rest segment _ = false
 
 -- behind the header of a survivor: objects and tombstones
@@ -80,11 +104,11 @@ data_in bytes = filter is_data (entries_in bytes)
 
 -- a head's digest and recorded safe version
 pub record Opening : Type 0 where
-  pub ids : List ℕ
+  pub digest : Digest
   pub safe : ℕ
 
 abbrev pub opening_of : List Entry → Option Opening
-opening_of (entry.Header h ∷ entry.Digest ids ∷ entry.Safe version ∷ rest) = Some (record { ids = ids; safe = version })
+opening_of (entry.Header h ∷ entry.Digest d ∷ entry.Safe version ∷ rest) = Some (record { digest = d; safe = version })
 opening_of _ = None
 
 -- the opening of a head; None if the bytes have no digest

@@ -1,6 +1,7 @@
 -- What a borrowed entry shows: the entry that lies in the bytes.
 use Rattle.std.specs.Prelude.{◌≡◌, ℕ, List, Some, None, Result, Ok, Err}
 use Rattle.entry.specs.declared.key.Key.{Key}
+use Rattle.entry.specs.declared.digest.Digest.{Digest}
 use Rattle.entry.specs.declared.entry.Object.{Object}
 use Rattle.entry.specs.declared.entry.Tombstone.{Tombstone}
 use Rattle.entry.specs.declared.entry.Entry.{Entry}
@@ -13,7 +14,8 @@ use Rattle.entry.specs.declared.view.TombstoneRef.{TombstoneRef}
 use Rattle.entry.specs.declared.view.DigestRef.{DigestRef}
 use Rattle.entry.specs.declared.view.EntryRef.{EntryRef}
 use Rattle.entry.specs.declared.view.EntryRef.TheVariants as view
-use Rattle.entry.specs.Format.{ids_at, fault_in, entry_of, whole_len}
+use Rattle.entry.specs.Format.{digest_at, fault_in, entry_of, whole_len}
+use Rattle.entry.specs.Text.{listed_ids}
 
 abbrev pub shown_key : KeyRef → Key
 shown_key k = record { table = k.table; bytes = k.bytes.now }
@@ -24,12 +26,16 @@ shown_object o = record { key = shown_key o.key; version = o.version; value = o.
 abbrev pub shown_tombstone : TombstoneRef → Tombstone
 shown_tombstone t = record { key = shown_key t.key; version = t.version; segment = t.segment }
 
+abbrev pub shown_digest : DigestRef → Digest
+shown_digest d = digest_at d.has_lengths d.count d.text.now
+
+-- the ids of the segments that it lists
 abbrev pub shown_ids : DigestRef → List ℕ
-shown_ids d = ids_at d.count 5 d.text.now
+shown_ids d = listed_ids (shown_digest d)
 
 abbrev pub shown : EntryRef → Entry
 shown (view.Header h) = entry.Header h
-shown (view.Digest d) = entry.Digest (shown_ids d)
+shown (view.Digest d) = entry.Digest (shown_digest d)
 shown (view.Safe version) = entry.Safe version
 shown (view.Object o) = entry.Object (shown_object o)
 shown (view.Tombstone t) = entry.Tombstone (shown_tombstone t)

@@ -1,8 +1,9 @@
 //! What an entry is.
 
+use crate::digest::Digest;
 use crate::key::Key;
-use crate::kind::{DIGEST_LEN, HEADER_LEN, OBJECT_LEN, SAFE_LEN, TOMBSTONE_LEN};
-use crate::limits::{Ids, SafeVersion, Value, Version};
+use crate::kind::{HEADER_LEN, OBJECT_LEN, SAFE_LEN, TOMBSTONE_LEN};
+use crate::limits::{SafeVersion, Value, Version};
 
 /// What a segment is for.
 #[derive(Clone, Copy)]
@@ -66,8 +67,8 @@ pub struct Tombstone {
 #[derive(Clone, Drop)]
 pub enum Entry {
     Header(Header),
-    /// The ids of all segments of the log.
-    Digest(Ids),
+    /// All segments of the log.
+    Digest(Digest),
     Safe(SafeVersion),
     Object(Object),
     Tombstone(Tombstone),
@@ -88,7 +89,7 @@ impl Entry {
                 let _segment = header.segment;
                 HEADER_LEN
             }
-            Entry::Digest(ids) => DIGEST_LEN + 8 * ids.as_slice().len(),
+            Entry::Digest(digest) => digest.spelled_len(),
             Entry::Safe(version) => {
                 version.get();
                 SAFE_LEN

@@ -3,7 +3,7 @@
 ghost use Rattle.std.specs.Cmp.{partial_equiv_from_equiv, partial_order_from_agreeing_total};
 ghost use Rattle.std.specs.Cmp.Lexicographic.{pointwise, nat_list_eq_equiv};
 ghost use Rattle.std.specs.Ordering.{as_partial_cmp};
-ghost use Rattle.std.specs.Prelude.{refl, nat_eq, ◌≡◌, ◌<◌, ◌≤◌, ◌↔◌, length, IfOk, IsErrOf};
+ghost use Rattle.std.specs.Prelude.{refl, nat_eq, ◌≡◌, ◌<◌, ◌≤◌, ◌↔◌, length, IfOk, OnErr, IsErrOf};
 ghost use Rattle.entry.specs.Key.{IsKeyBytes, place_of};
 ghost use Rattle.entry.specs.Order.{key_cmp, key_cmp_total, key_eq_ties};
 
@@ -35,11 +35,12 @@ impl Model for KeyBytes {
 }
 
 impl KeyBytes {
-    /// A copy of these bytes.
+    /// A copy of these bytes. Up to 15 of them take no memory.
     pub(crate) fn from_slice(alloc: Global, bytes: &[u8]) -> Result<KeyBytes, NoMemory>
         requires not_empty { 0 < length bytes.now }
         requires limit { length bytes.now ≤ MAX_KEY_LEN }
-        ensures { IfOk result (λ copy. copy ≡ bytes.now) }
+        ensures copy { IfOk result (λ copy. copy ≡ bytes.now) }
+        ensures few { OnErr result (15 < length bytes.now) }
     {
         let bytes = ShortBytes::from_slice(alloc, bytes)?;
         Ok(KeyBytes { bytes })
@@ -61,11 +62,12 @@ pub struct Key {
 }
 
 impl Key {
-    /// Bytes that are neither empty nor too long are refused only if memory runs out.
+    /// Bytes that are neither empty nor too long are refused only if memory runs out. Up to 15 of them take none.
     pub fn new(alloc: Global, table: u64, bytes: &[u8]) -> Result<Key, KeyFault>
         ensures ok { IfOk result (λ key. (key.table ≡ table) × (key.bytes ≡ bytes.now)) }
         ensures empty { IsErrOf result KeyFault.Empty ↔ (length bytes.now ≡ 0) }
         ensures too_long { IsErrOf result KeyFault.TooLong ↔ (MAX_KEY_LEN < length bytes.now) }
+        ensures no_memory { IsErrOf result KeyFault.NoMemory → 15 < length bytes.now }
     {
         if bytes.is_empty() {
             return Err(KeyFault::Empty);

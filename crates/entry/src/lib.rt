@@ -1,6 +1,7 @@
 //! The entries of a log: what they are, the one spelling of each, and how one is read.
 #![tactic(auto)]
 
+mod digest;
 mod entry;
 mod fault;
 mod key;
@@ -15,6 +16,7 @@ mod tablet;
 mod view;
 mod writing;
 
+pub use digest::{Digest, Lengths, Listed};
 pub use entry::{Entry, Header, Object, Role, Tombstone};
 pub use fault::{EntryFault, KeyFault, NoMemory};
 pub use key::{Key, KeyBytes, MAX_KEY_LEN, place};

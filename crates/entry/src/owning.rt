@@ -1,9 +1,11 @@
 //! From entries that lie in bytes to entries of their own, and back.
 
-ghost use Rattle.std.specs.Prelude.{◌≡◌, ◌<◌, Some, length, IfOk, OnErr, slice_get};
+ghost use Rattle.std.specs.Prelude.{◌≡◌, ◌<◌, Some, length, true, false, IfOk, OnErr, IsSomeAnd, slice_get};
 ghost use Rattle.entry.specs.Format.{HoldsList};
-ghost use Rattle.entry.specs.View.{shown, shown_key, shown_object, shown_tombstone, shown_ids};
+ghost use Rattle.entry.specs.Text.{lists_lengths, listed_len};
+ghost use Rattle.entry.specs.View.{shown, shown_key, shown_object, shown_tombstone, shown_digest, shown_ids};
 
+use crate::digest::{Digest, Lengths, Listed};
 use crate::entry::{Entry, Object, Tombstone};
 use crate::fault::NoMemory;
 use crate::key::{Key, KeyBytes};
@@ -57,11 +59,18 @@ impl<'a> TombstoneRef<'a> {
 }
 
 impl<'a> DigestRef<'a> {
-    /// How many ids the digest has.
+    /// How many segments the digest lists.
     pub fn count(&self) -> usize
         ensures { result ≡ length (shown_ids self.now) }
     {
         self.count
+    }
+
+    /// Whether the digest lists the lengths of its segments.
+    pub fn lists_lengths(&self) -> bool
+        ensures { result ≡ lists_lengths (shown_digest self.now) }
+    {
+        self.has_lengths
     }
 
     /// The id at a place, which counts from 0.
@@ -69,18 +78,61 @@ impl<'a> DigestRef<'a> {
         requires { place < length (shown_ids self.now) }
         ensures { slice_get (shown_ids self.now) place ≡ Some result }
     {
-        u64_at(self.text, DIGEST_LEN + 8 * place)
+        if self.has_lengths {
+            u64_at(self.text, DIGEST_LEN + 16 * place)
+        } else {
+            u64_at(self.text, DIGEST_LEN + 8 * place)
+        }
+    }
+
+    /// The length of the segment at a place, if the digest lists lengths.
+    pub fn len(&self, place: usize) -> Option<u64>
+        requires { place < length (shown_ids self.now) }
+        ensures { IsSomeAnd (slice_get (shown_ids self.now) place)
+            (λ id. result ≡ listed_len id (shown_digest self.now)) }
+    {
+        if self.has_lengths {
+            Some(u64_at(self.text, DIGEST_LEN + 16 * place + 8))
+        } else {
+            None
+        }
     }
 
     /// The ids, in memory of their own.
     fn to_ids(&self, alloc: Global) -> Result<Ids, NoMemory>
-        ensures { IfOk result (λ ids. ids ≡ shown_ids self.now) }
+        requires { self.now.has_lengths ≡ false }
+        ensures { IfOk result (λ ids. Digest.Ids ids ≡ shown_digest self.now) }
     {
         let mut ids = Vec::with_capacity(alloc, self.count)?;
         for i in 0..self.count {
             ids.push(u64_at(self.text, DIGEST_LEN + 8 * i))?;
         }
         Ok(Ids::new(ids))
+    }
+
+    /// The segments with their lengths, in memory of their own.
+    fn to_lengths(&self, alloc: Global) -> Result<Lengths, NoMemory>
+        requires { self.now.has_lengths ≡ true }
+        ensures { IfOk result (λ segments. Digest.Lengths segments ≡ shown_digest self.now) }
+    {
+        let mut segments = Vec::with_capacity(alloc, self.count)?;
+        for i in 0..self.count {
+            let id = u64_at(self.text, DIGEST_LEN + 16 * i);
+            let len = u64_at(self.text, DIGEST_LEN + 16 * i + 8);
+            segments.push(Listed { id, len })?;
+        }
+        Ok(Lengths::new(segments))
+    }
+
+    /// A digest of its own.
+    fn to_digest(&self, alloc: Global) -> Result<Digest, NoMemory>
+        ensures { IfOk result (λ digest. digest ≡ shown_digest self.now) }
+    {
+        if self.has_lengths {
+            Ok(Digest::Lengths(self.to_lengths(alloc)?))
+        } else {
+            Ok(Digest::Ids(self.to_ids(alloc)?))
+        }
     }
 }
 
@@ -92,7 +144,7 @@ impl<'a> EntryRef<'a> {
     {
         match self {
             EntryRef::Header(header) => Ok(Entry::Header(*header)),
-            EntryRef::Digest(digest) => Ok(Entry::Digest(digest.to_ids(alloc)?)),
+            EntryRef::Digest(digest) => Ok(Entry::Digest(digest.to_digest(alloc)?)),
             EntryRef::Safe(version) => Ok(Entry::Safe(*version)),
             EntryRef::Object(object) => Ok(Entry::Object(object.to_object(alloc)?)),
             EntryRef::Tombstone(tombstone) => Ok(Entry::Tombstone(tombstone.to_tombstone(alloc)?)),

@@ -3,9 +3,10 @@
 ghost use Rattle.std.specs.Prelude.{◌≡◌, ◌+◌, ◌*◌, ◌≤◌, ◌<◌, ◌++◌, ℕ, List, Some, length};
 ghost use Rattle.std.specs.Prelude.{slice_index, IfOk, IfErr, IsOkAnd, MatchResult};
 ghost use Rattle.entry.specs.Format.{Begins, MayFail, IsEntry, spelling, number_at, kind_byte};
-ghost use Rattle.entry.specs.Format.{ids_at, rises, first_fault, front_of};
+ghost use Rattle.entry.specs.Format.{ids_at, rises, listed_at, are_listed, first_fault, front_of};
 ghost use Rattle.entry.specs.View.{shown, Reads};
 
+use crate::digest::is_len;
 use crate::entry::{Entry, Header, Role};
 use crate::fault::EntryFault;
 use crate::key::MAX_KEY_LEN;
@@ -78,7 +79,48 @@ fn read_digest(bytes: &[u8]) -> Result<(EntryRef<'_>, usize), EntryFault>
     if !ids_rise(bytes, count) {
         return Err(EntryFault::BadField);
     }
-    let digest = DigestRef { count, text: bytes };
+    let digest = DigestRef {
+        count,
+        text: bytes,
+        has_lengths: false,
+    };
+    Ok((EntryRef::Digest(digest), end))
+}
+
+/// Whether each length is within its limits, and the ids rise strictly.
+fn are_segments(bytes: &[u8], count: usize) -> bool
+    requires { 5 + 16 * count ≤ length bytes.now }
+    ensures { result ≡ are_listed (listed_at count 5 bytes.now) }
+{
+    for i in 1..count {
+        let at = DIGEST_LEN + 16 * (i - 1);
+        if !is_len(u64_at(bytes, at + 8)) {
+            return false;
+        }
+        if u64_at(bytes, at) >= u64_at(bytes, at + 16) {
+            return false;
+        }
+    }
+    count == 0 || is_len(u64_at(bytes, DIGEST_LEN + 16 * (count - 1) + 8))
+}
+
+fn read_lengths(bytes: &[u8]) -> Result<(EntryRef<'_>, usize), EntryFault>
+    requires fixed { 5 ≤ length bytes.now }
+    ensures { Reads Kind.Lengths bytes.entry.now result }
+{
+    let count = u32_at(bytes, 1) as usize;
+    let end = DIGEST_LEN + 16 * count;
+    if bytes.len() < end {
+        return Err(EntryFault::Short);
+    }
+    if !are_segments(bytes, count) {
+        return Err(EntryFault::BadField);
+    }
+    let digest = DigestRef {
+        count,
+        text: bytes,
+        has_lengths: true,
+    };
     Ok((EntryRef::Digest(digest), end))
 }
 
@@ -165,6 +207,7 @@ fn read_kind(kind: Kind, bytes: &[u8]) -> Result<(EntryRef<'_>, usize), EntryFau
         Kind::Safe => read_safe(bytes),
         Kind::Object => read_object(bytes),
         Kind::Tombstone => read_tombstone(bytes),
+        Kind::Lengths => read_lengths(bytes),
     }
 }
 

@@ -1,6 +1,6 @@
 //! Bytes that take memory of their own only if they are many.
 
-ghost use Rattle.std.specs.Prelude.{◌≡◌, length, IfOk};
+ghost use Rattle.std.specs.Prelude.{◌≡◌, ◌<◌, length, IfOk, OnErr};
 
 use std::alloc::{AllocError, Global};
 use std::fmt;
@@ -43,6 +43,7 @@ impl ShortBytes {
     /// A copy of these bytes. A few take no memory.
     pub(crate) fn from_slice(alloc: Global, bytes: &[u8]) -> Result<ShortBytes, AllocError>
         ensures copy { IfOk result (λ copy. copy ≡ bytes.now) }
+        ensures few { OnErr result (15 < length bytes.now) }
     {
         let len = bytes.len();
         if len > INLINE_LEN {

@@ -1,9 +1,9 @@
 //! Entries that lie in bytes, seen without a copy.
 
-ghost use Rattle.std.specs.Prelude.{◌+◌, ◌*◌, ◌≤◌, length};
+ghost use Rattle.std.specs.Prelude.{◌≡◌, ◌≤◌, true, false, length};
 ghost use Rattle.entry.specs.Key.{IsKeyBytes};
-ghost use Rattle.entry.specs.Limits.{IsValue, AreIds};
-ghost use Rattle.entry.specs.Format.{ids_at};
+ghost use Rattle.entry.specs.Limits.{IsValue, AreIds, AreLengths};
+ghost use Rattle.entry.specs.Format.{ids_at, listed_at, digest_len};
 
 use crate::entry::Header;
 use crate::limits::{SafeVersion, Version};
@@ -37,13 +37,15 @@ pub struct TombstoneRef<'a> {
     pub segment: u64,
 }
 
-/// A digest that lies in bytes: its text, and how many ids that has.
+/// A digest that lies in bytes: its text, how many segments that lists, and whether with their lengths.
 #[derive(Clone, Copy)]
 pub struct DigestRef<'a> {
     pub(crate) count: usize,
     pub(crate) text: &'a [u8],
-    ghost within: { 5 + 8 * count ≤ length text.now },
-    ghost ids: { AreIds (ids_at count 5 text.now) },
+    pub(crate) has_lengths: bool,
+    ghost within: { digest_len has_lengths count ≤ length text.now },
+    ghost ids: { has_lengths ≡ false → AreIds (ids_at count 5 text.now) },
+    ghost lengths: { has_lengths ≡ true → AreLengths (listed_at count 5 text.now) },
 }
 
 /// An entry that lies in bytes. To look at it takes no memory.

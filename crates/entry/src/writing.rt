@@ -3,9 +3,10 @@
 ghost use Rattle.std.specs.Prelude.{◌≡◌, ◌+◌, ◌*◌, ◌<◌, ◌≤◌, ◌^◌, [], ◌∷◌, ◌++◌, length};
 ghost use Rattle.std.specs.Prelude.{vec_len, vec_capacity, OnOk, OnErr};
 ghost use Rattle.std.specs.List.{flat_map};
-ghost use Rattle.entry.specs.Format.{spelling, number_bytes, IsEntry};
+ghost use Rattle.entry.specs.Format.{spelling, digest_spelling, listed_bytes, number_bytes, IsEntry};
 ghost use Rattle.entry.specs.View.{shown_key, shown_object, shown_tombstone};
 
+use crate::digest::{Digest, Listed};
 use crate::entry::{Entry, Role};
 use crate::fault::NoMemory;
 use crate::kind::{OBJECT_LEN, TOMBSTONE_LEN};
@@ -64,6 +65,35 @@ fn put_ids(out: &mut Vec<u8>, ids: &[u64])
 {
     for id in ids {
         put_u64(out, *id);
+    }
+}
+
+/// Appends segments with their lengths, if there is room for them.
+fn put_listed(out: &mut Vec<u8>, segments: &[Listed])
+    requires { vec_len out.old + 16 * length segments.now ≤ vec_capacity out.old }
+    ensures { out.new.items ≡ out.old.items ++ flat_map listed_bytes segments.now }
+{
+    for segment in segments {
+        put_u64(out, segment.id);
+        put_u64(out, segment.len);
+    }
+}
+
+fn put_digest(out: &mut Vec<u8>, digest: &Digest)
+    requires { vec_len out.old + length (digest_spelling digest.now) ≤ vec_capacity out.old }
+    ensures { out.new.items ≡ out.old.items ++ digest_spelling digest.now }
+{
+    match digest {
+        Digest::Ids(ids) => {
+            put_u8(out, 2);
+            put_u32(out, ids.as_slice().len() as u32);
+            put_ids(out, ids.as_slice());
+        }
+        Digest::Lengths(segments) => {
+            put_u8(out, 6);
+            put_u32(out, segments.as_slice().len() as u32);
+            put_listed(out, segments.as_slice());
+        }
     }
 }
 
@@ -139,11 +169,7 @@ fn put_entry(out: &mut Vec<u8>, entry: &Entry)
             put_u64(out, header.segment);
             put_u8(out, header.role.byte());
         }
-        Entry::Digest(ids) => {
-            put_u8(out, 2);
-            put_u32(out, ids.as_slice().len() as u32);
-            put_ids(out, ids.as_slice());
-        }
+        Entry::Digest(digest) => put_digest(out, digest),
         Entry::Safe(version) => {
             put_u8(out, 3);
             put_u64(out, version.get());

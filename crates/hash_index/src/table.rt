@@ -164,7 +164,7 @@ impl Table for BucketTable {
     }
 
     /// As many buckets as so many keys want.
-    fn expect(&mut self, keys: usize) {
+    fn presize(&mut self, keys: usize) {
         for _ in self.buckets.len()..buckets_for(keys) {
             if self.add_empty().is_err() {
                 return;

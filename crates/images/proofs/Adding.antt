@@ -6,7 +6,7 @@ use Rattle.std.specs.List.{AllByRecursion}
 use Rattle.std.specs.Option.{option_map}
 use Rattle.std.proofs.lemmas.Bool.{lt-ltb, le-ltb, ltb-true, ltb-false, eqb-true}
 use Rattle.std.proofs.lemmas.List.Sums.{sum_by-cons}
-use Rattle.images.specs.declared.image.Image.{Image}
+use Rattle.images.specs.Image.{Image}
 use Rattle.images.specs.Sorted.{AreRising, AreBelow, image_of, segment_of, added}
 use Rattle.images.specs.Laws.{inserted}
 use Rattle.images.proofs.Listing.{all_at, IsAbsent, image_absent, absent_from_none, other_id, same_id}

@@ -2,7 +2,7 @@
 use Rattle.std.proofs.Common.{◌≡◌, ℕ, ◌+◌, ◌<◌, ◌≤◌, Bool, true, false, List, [], ◌∷◌, refl, sym, ap, subst, ◌∙◌, arith}
 use Rattle.std.specs.Prelude.{◌==◌, Option, Some, None, IsSomeAnd}
 use Rattle.entry.specs.declared.entry.Entry.{Entry}
-use Rattle.images.specs.declared.image.Image.{Image}
+use Rattle.images.specs.Image.{Image}
 use Rattle.images.specs.Images.{ImagesValue}
 use Rattle.images.specs.Sorted.{AreBelow, IsWhole, image_of, added, changed, without}
 use Rattle.images.specs.Steps.{with_unit}

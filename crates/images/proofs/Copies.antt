@@ -16,14 +16,15 @@ use Rattle.entry.proofs.TextLemmas.{entries_in-text, spelling-some}
 use Rattle.segment.specs.declared.fault.AppendFault.{AppendFault}
 use Rattle.segment.specs.declared.fault.AppendFault.TheVariants.{Full}
 use Rattle.segment.specs.Bytes.{IsDataText, standing_at}
-use Rattle.images.specs.declared.image.Image.{Image}
+use Rattle.images.specs.Image.{Image}
 use Rattle.images.specs.Images.{ImagesValue, IsImages, count_of, used_seglets}
 use Rattle.images.specs.Sorted.{AreRising, IsWhole, image_of, segment_of, changed}
 use Rattle.images.specs.Place.{IsPlaceOf}
 use Rattle.images.specs.Steps.{with_unit, len_at, entry_at, StandsData, HasData}
 use Rattle.images.proofs.Adding.{ids_rise}
 use Rattle.images.proofs.Listing.{image_at, changed_at}
-use Rattle.images.proofs.Counts.{count_whole, not_full, text_more, set_valid, changed_is, read_count, len_is}
+use Rattle.images.proofs.Counts.{count_whole, not_full, text_more, set_valid, changed_is, read_count}
+use Rattle.images.proofs.Counts.{read_memory, len_is}
 
 -- ---- two places of a list
 
@@ -66,6 +67,19 @@ found_at (y ∷ ys) id x is = go (y.id == id) refl (found_at ys id x)
 
 -- ---- a unit at the end of a whole image
 
+-- it has memory for a whole segment
+pub whole_room : (v : ImagesValue) (id : ℕ) → IsImages v → IsWhole v.images id
+    → IsSomeAnd (image_of v.images id) (λ (x : Image). v.segment ≤ x.room)
+whole_room v id valid whole = go (image_of v.images id) refl whole
+  where
+    go : (o : Option Image) → image_of v.images id ≡ o → IsSomeAnd o (λ (x : Image). x.is_whole ≡ true)
+        → IsSomeAnd (image_of v.images id) (λ (x : Image). v.segment ≤ x.room)
+    go None is none = absurd none
+    go (Some x) is own =
+        let found = found_at v.images id x is in
+        subst (λ (o : Option Image). IsSomeAnd o (λ (y : Image). v.segment ≤ y.room)) (sym is)
+        (read_memory v valid id found.0 found.1 x found.2 own)
+
 pub grown : (v : ImagesValue) (id : ℕ) (unit : List Entry) → IsImages v → IsWhole v.images id
     → len_at v.images id + length (text_of unit) ≤ v.segment
     → (used_seglets v ≡ sum_by (count_of v.segment v.seglet) (changed v.images id (with_unit unit)))
@@ -86,7 +100,8 @@ grown v id unit valid whole fits = go (image_of v.images id) refl whole
         let len = len_is v valid id at place x read in
         let count = read_count v valid id at place x read in
         let most = valid.fits in
-        let parts = set_valid v valid id at place x read (with_unit unit x) refl (omega arith) (omega arith) in
+        let memory = read_memory v valid id at place x read in
+        let parts = set_valid v valid id at place x read (with_unit unit x) refl (omega arith) memory (omega arith) in
         let total = parts.0 in
         subst (λ (zs : List Image). (used_seglets v ≡ sum_by (count_of v.segment v.seglet) zs)
         × IsImages (record v { images = zs }))
@@ -154,11 +169,11 @@ data_of xs from at n there = go (segment_of xs from) there
         subst (λ (o : Option Entry). IsSomeAnd o (λ (e : Entry). is_data e ≡ true)) (sym s.1) s.2
 
 -- it is appended
-pub one_more : (o : Option Entry) (r : Result ℕ AppendFault) (old new more : List Entry)
+pub one_more : (o : Option Entry) (r : Result ℕ AppendFault) (old new : Image) (more : List Entry)
     → IfSome o (λ (e : Entry). more ≡ e ∷ [])
-    → OnOk r (new ≡ old ++ more) → OnOk r (IfSome o (λ (e : Entry). new ≡ old ++ e ∷ []))
+    → OnOk r (new ≡ with_unit more old) → OnOk r (IfSome o (λ (e : Entry). new ≡ with_unit (e ∷ []) old))
 one_more None (Ok n) old new more one ok = tt
-one_more (Some e) (Ok n) old new more one ok = ok ∙ ap (λ (es : List Entry). old ++ es) one
+one_more (Some e) (Ok n) old new more one ok = ok ∙ ap (λ (es : List Entry). with_unit es old) one
 one_more o (Err fault) old new more one ok = tt
 
 pub one_fits : (o : Option Entry) (r : Result ℕ AppendFault) (limit len : ℕ) (bytes : List ℕ) → IsDataText bytes
@@ -207,13 +222,21 @@ module _ (xs : List Image) (from to source target : ℕ) (rising : AreRising xs)
       (image_at xs to target y rising second.within (second.is y))
       ∙ ap (λ (z : Image). length (text_of z.segment)) (sym target_is)
 
-  pub copied_is : (o : Option Entry) (r : Result ℕ AppendFault) (new : List Entry) (zs : List Image)
-      → zs ≡ set xs target (record (get_or back 0 y) { segment = new })
-      → OnOk r (IfSome o (λ (e : Entry). new ≡ (get_or back 0 y).segment ++ e ∷ []))
+  -- it has room
+  pub room_here : (limit : ℕ) → IsSomeAnd (image_of xs to) (λ (z : Image). limit ≤ z.room)
+      → limit ≤ (get_or back 0 y).room
+  room_here limit some =
+      let there : limit ≤ (get_or xs target y).room =
+      subst (λ (o : Option Image). IsSomeAnd o (λ (z : Image). limit ≤ z.room))
+      (image_at xs to target y rising second.within (second.is y)) some in
+      subst (λ (z : Image). limit ≤ z.room) (sym target_is) there
+
+  pub copied_is : (o : Option Entry) (r : Result ℕ AppendFault) (new : Image) (zs : List Image) → zs ≡ set xs target new
+      → OnOk r (IfSome o (λ (e : Entry). new ≡ with_unit (e ∷ []) (get_or back 0 y)))
       → OnOk r (IfSome o (λ (e : Entry). zs ≡ changed xs to (with_unit (e ∷ []))))
   copied_is None (Ok n) new zs is ok = tt
   copied_is (Some e) (Ok n) new zs is ok =
-      is ∙ ap (λ (es : List Entry). set xs target (record (get_or back 0 y) { segment = es })) ok
+      is ∙ ap (λ (z : Image). set xs target z) ok
       ∙ ap (λ (z : Image). set xs target (with_unit (e ∷ []) z)) target_is
       ∙ changed_at xs to target y (with_unit (e ∷ [])) rising second.within (second.is y)
   copied_is o (Err fault) new zs is ok = tt
@@ -246,3 +269,11 @@ copied_valid v from at to zs r valid whole some ok full err = go (entry_at v.ima
         subst (λ (ys : List Image). (used_seglets v ≡ sum_by (count_of v.segment v.seglet) ys)
         × IsImages (record v { images = ys })) (sym same)
         (refl, valid)
+
+-- so they are with it
+pub copied_value : (v w : ImagesValue) (o : Option Entry) (r : Result ℕ AppendFault) (zs : List Image)
+    (f : Entry → List Image) → w ≡ record v { images = zs } → OnOk r (IfSome o (λ (e : Entry). zs ≡ f e))
+    → OnOk r (IfSome o (λ (e : Entry). w ≡ record v { images = f e }))
+copied_value v w None (Ok n) zs f is ok = tt
+copied_value v w (Some e) (Ok n) zs f is ok = is ∙ ap (λ (xs : List Image). record v { images = xs }) ok
+copied_value v w o (Err fault) zs f is ok = tt

@@ -16,8 +16,8 @@ use Rattle.entry.specs.Format.{spelling}
 use Rattle.entry.specs.Text.{text_of}
 use Rattle.segment.specs.declared.fault.AppendFault.{AppendFault}
 use Rattle.segment.specs.declared.fault.AppendFault.TheVariants.{Full}
-use Rattle.images.specs.declared.image.Image.{Image}
-use Rattle.images.specs.Images.{ImagesValue, IsImages, count_of, count_at, used_seglets, free_seglets}
+use Rattle.images.specs.Image.{Image}
+use Rattle.images.specs.Images.{ImagesValue, IsImages, HaveMemory, count_of, count_at, used_seglets, free_seglets}
 use Rattle.images.specs.Sorted.{AreRising, IsWhole, image_of, added, changed, without}
 use Rattle.images.specs.Place.{IsPlaceOf}
 use Rattle.images.specs.Steps.{with_unit, trimmed, replaced_by, len_at}
@@ -69,6 +69,10 @@ module _ (v : ImagesValue) (valid : IsImages v) (id at : ℕ) (place : IsPlaceOf
   read_len = subst (λ (y : Image). length (text_of y.segment) ≤ v.segment) (sym read)
       (all_at (λ (y : Image). length (text_of y.segment) ≤ v.segment) v.images at x valid.within place.within)
 
+  pub read_memory : x.is_whole ≡ true → v.segment ≤ x.room
+  read_memory = subst (λ (y : Image). y.is_whole ≡ true → v.segment ≤ y.room) (sym read)
+      (all_at (λ (y : Image). y.is_whole ≡ true → v.segment ≤ y.room) v.images at x valid.memory place.within)
+
   pub read_count : count_of v.segment v.seglet x ≤ used_seglets v
   read_count = subst (λ (y : Image). count_of v.segment v.seglet y ≤ used_seglets v) (sym read)
       (get_or-le-sum_by (count_of v.segment v.seglet) v.images at x place.within)
@@ -88,11 +92,12 @@ module _ (v : ImagesValue) (valid : IsImages v) (id at : ℕ) (place : IsPlaceOf
       ∙ sum_by-set (count_of v.segment v.seglet) v.images at y x place.within
 
   pub set_valid : (y : Image) → y.id ≡ x.id → length (text_of y.segment) ≤ v.segment
+      → (y.is_whole ≡ true → v.segment ≤ y.room)
       → used_seglets v - count_of v.segment v.seglet x + count_of v.segment v.seglet y ≤ v.seglets
       → (used_seglets v - count_of v.segment v.seglet x + count_of v.segment v.seglet y
       ≡ sum_by (count_of v.segment v.seglet) (set v.images at y))
       × IsImages (record v { images = set v.images at y })
-  set_valid y same len fits =
+  set_valid y same len memory fits =
       let sum = set_sum y in
       let le = read_count in
       let total : used_seglets v - count_of v.segment v.seglet x + count_of v.segment v.seglet y
@@ -104,6 +109,7 @@ module _ (v : ImagesValue) (valid : IsImages v) (id at : ℕ) (place : IsPlaceOf
           sizes = valid.sizes;
           rising = rising_set v.images at x y valid.rising place.within (same ∙ ap (λ (z : Image). z.id) read);
           within = all_set (λ (z : Image). length (text_of z.segment) ≤ v.segment) v.images at y valid.within len;
+          memory = all_set (λ (z : Image). z.is_whole ≡ true → v.segment ≤ z.room) v.images at y valid.memory memory;
           fits = omega arith;
           room = omega arith;
         },
@@ -129,6 +135,8 @@ module _ (v : ImagesValue) (valid : IsImages v) (id at : ℕ) (place : IsPlaceOf
           within = subst (λ (xs : List Image). AllByRecursion
               (λ (z : Image). length (text_of z.segment) ≤ v.segment) xs) (sym without_is)
               (all_without (λ (z : Image). length (text_of z.segment) ≤ v.segment) v.images id valid.within);
+          memory = subst (HaveMemory v.segment) (sym without_is)
+              (all_without (λ (z : Image). z.is_whole ≡ true → v.segment ≤ z.room) v.images id valid.memory);
           fits = omega arith;
           room = omega arith;
         },
@@ -149,60 +157,76 @@ module _ (v : ImagesValue) (valid : IsImages v) (id at : ℕ) (place : IsPlaceOf
       × IsImages (record v { images = set v.images at (trimmed x) })
   trimmed_valid =
       let le = trimmed_le in let own = read_count in let most = valid.fits in
-      set_valid (trimmed x) refl read_len (omega arith)
+      set_valid (trimmed x) refl read_len (λ (e : false ≡ true). absurd (cc)) (omega arith)
+
+  -- one that takes appends has memory for a whole segment
+  pub read_room : IsWhole v.images id → v.segment ≤ x.room
+  read_room whole = read_memory (subst (λ (o : Option Image). IsSomeAnd o (λ (y : Image). y.is_whole ≡ true))
+      read_image whole)
 
   -- a unit at the end of a whole one
-  module _ (whole : IsWhole v.images id) (unit new : List Entry) (r : Result ℕ AppendFault)
-      (ok : OnOk r (new ≡ x.segment ++ unit)) (err : OnErr r (new ≡ x.segment)) where
+  module _ (whole : IsWhole v.images id) (unit : List Entry) (new : Image) (r : Result ℕ AppendFault)
+      (ok : OnOk r (new ≡ with_unit unit x)) (err : OnErr r (new ≡ x)) where
     read_whole : x.is_whole ≡ true
     read_whole = subst (λ (o : Option Image). IsSomeAnd o (λ (y : Image). y.is_whole ≡ true)) read_image whole
 
-    grown_valid : length (text_of new) ≤ v.segment → (used_seglets v
-        ≡ sum_by (count_of v.segment v.seglet) (set v.images at (record x { segment = new })))
-        × IsImages (record v { images = set v.images at (record x { segment = new }) })
+    grown_valid : length (text_of (with_unit unit x).segment) ≤ v.segment → (used_seglets v
+        ≡ sum_by (count_of v.segment v.seglet) (set v.images at (with_unit unit x)))
+        × IsImages (record v { images = set v.images at (with_unit unit x) })
     grown_valid len =
-        let same : count_of v.segment v.seglet (record x { segment = new }) ≡ count_of v.segment v.seglet x =
-        count_whole v.segment v.seglet (record x { segment = new }) read_whole
+        let same : count_of v.segment v.seglet (with_unit unit x) ≡ count_of v.segment v.seglet x =
+        count_whole v.segment v.seglet (with_unit unit x) read_whole
         ∙ sym (count_whole v.segment v.seglet x read_whole) in
         let own = read_count in let most = valid.fits in
-        let parts = set_valid (record x { segment = new }) refl len (omega arith) in
+        let parts = set_valid (with_unit unit x) refl len read_memory (omega arith) in
         let total = parts.0 in
         (omega arith, parts.1)
 
+    same_valid : (used_seglets v ≡ sum_by (count_of v.segment v.seglet) (set v.images at x))
+        × IsImages (record v { images = set v.images at x })
+    same_valid =
+        let own = read_count in let most = valid.fits in
+        let parts = set_valid x refl read_len read_memory (omega arith) in
+        let total = parts.0 in
+        (omega arith, parts.1)
+
+    abbrev IsValidWith : Image → Type 0
+    IsValidWith y = (used_seglets v ≡ sum_by (count_of v.segment v.seglet) (set v.images at y))
+        × IsImages (record v { images = set v.images at y })
+
     pub appended_valid : (IsErrOf r Full ↔ (v.segment < length (text_of x.segment) + length (text_of unit)))
-        → (used_seglets v ≡ sum_by (count_of v.segment v.seglet) (set v.images at (record x { segment = new })))
-        × IsImages (record v { images = set v.images at (record x { segment = new }) })
-    appended_valid full = grown_valid (go r ok err full)
+        → (used_seglets v ≡ sum_by (count_of v.segment v.seglet) (set v.images at new))
+        × IsImages (record v { images = set v.images at new })
+    appended_valid full = go r ok err full
       where
-        go : (q : Result ℕ AppendFault) → OnOk q (new ≡ x.segment ++ unit) → OnErr q (new ≡ x.segment)
+        go : (q : Result ℕ AppendFault) → OnOk q (new ≡ with_unit unit x) → OnErr q (new ≡ x)
             → (IsErrOf q Full ↔ (v.segment < length (text_of x.segment) + length (text_of unit)))
-            → length (text_of new) ≤ v.segment
+            → IsValidWith new
         go (Ok n) is none within =
-            let len : length (text_of new) ≡ length (text_of x.segment) + length (text_of unit) =
-            ap (λ (es : List Entry). length (text_of es)) is ∙ text_more x.segment unit in
+            let len : length (text_of (with_unit unit x).segment)
+            ≡ length (text_of x.segment) + length (text_of unit) = text_more x.segment unit in
             let fits : v.segment < length (text_of x.segment) + length (text_of unit) → ⊥ =
             (λ (over : v.segment < length (text_of x.segment) + length (text_of unit)). not_full n (within.1 over)) in
-            omega (arith, fits)
-        go (Err e) none is within = subst (λ (es : List Entry). length (text_of es) ≤ v.segment) (sym is) read_len
+            subst IsValidWith (sym is) (grown_valid (omega (arith, fits, len)))
+        go (Err e) none is within = subst IsValidWith (sym is) same_valid
 
-    pub appended_is : OnOk r (record v { images = set v.images at (record x { segment = new }) }
+    pub appended_is : OnOk r (record v { images = set v.images at new }
         ≡ record v { images = changed v.images id (with_unit unit) })
     appended_is = go r ok
       where
-        go : (q : Result ℕ AppendFault) → OnOk q (new ≡ x.segment ++ unit)
-            → OnOk q (record v { images = set v.images at (record x { segment = new }) }
+        go : (q : Result ℕ AppendFault) → OnOk q (new ≡ with_unit unit x)
+            → OnOk q (record v { images = set v.images at new }
             ≡ record v { images = changed v.images id (with_unit unit) })
-        go (Ok n) is = ap (λ (es : List Entry). record v { images = set v.images at (record x { segment = es }) }) is
+        go (Ok n) is = ap (λ (y : Image). record v { images = set v.images at y }) is
             ∙ ap (λ (xs : List Image). record v { images = xs }) (changed_is (with_unit unit))
         go (Err e) none = tt
 
-    pub unchanged_is : OnErr r (record v { images = set v.images at (record x { segment = new }) } ≡ v)
+    pub unchanged_is : OnErr r (record v { images = set v.images at new } ≡ v)
     unchanged_is = go r err
       where
-        go : (q : Result ℕ AppendFault) → OnErr q (new ≡ x.segment)
-            → OnErr q (record v { images = set v.images at (record x { segment = new }) } ≡ v)
+        go : (q : Result ℕ AppendFault) → OnErr q (new ≡ x) → OnErr q (record v { images = set v.images at new } ≡ v)
         go (Ok n) none = tt
-        go (Err e) is = ap (λ (es : List Entry). record v { images = set v.images at (record x { segment = es }) }) is
+        go (Err e) is = ap (λ (y : Image). record v { images = set v.images at y }) is
             ∙ ap (λ (y : Image). record v { images = set v.images at y }) read
             ∙ ap (λ (xs : List Image). record v { images = xs }) (set-get_or v.images at x)
 
@@ -219,15 +243,15 @@ module _ (v : ImagesValue) (valid : IsImages v) (id at : ℕ) (place : IsPlaceOf
       → (used_seglets v - count_of v.segment v.seglet x + div_ceil (length (text_of segment)) v.seglet
       ≡ sum_by (count_of v.segment v.seglet) (set v.images at (replaced_by segment x)))
       × IsImages (record v { images = set v.images at (replaced_by segment x) })
-  replaced_valid segment len fits = set_valid (replaced_by segment x) refl len fits
+  replaced_valid segment len fits = set_valid (replaced_by segment x) refl len (λ (e : false ≡ true). absurd (cc)) fits
 
 -- one more image
 pub added_valid : (v : ImagesValue) (y : Image) (room : ℕ) → IsImages v → image_of v.images y.id ≡ None
-    → length (text_of y.segment) ≤ v.segment
+    → length (text_of y.segment) ≤ v.segment → (y.is_whole ≡ true → v.segment ≤ y.room)
     → count_of v.segment v.seglet y ≤ v.seglets - used_seglets v → length (added y v.images) ≤ room
     → (used_seglets v + count_of v.segment v.seglet y ≡ sum_by (count_of v.segment v.seglet) (added y v.images))
     × IsImages (record v { images = added y v.images; room = room })
-added_valid v y room valid none len fits enough =
+added_valid v y room valid none len memory fits enough =
     let total = sum_added (count_of v.segment v.seglet) y v.images in
     let most = valid.fits in (
       sym total,
@@ -235,6 +259,7 @@ added_valid v y room valid none len fits enough =
         sizes = valid.sizes;
         rising = rising_added y v.images valid.rising (absent_from_none v.images y.id none);
         within = all_added (λ (z : Image). length (text_of z.segment) ≤ v.segment) y v.images valid.within len;
+        memory = all_added (λ (z : Image). z.is_whole ≡ true → v.segment ≤ z.room) y v.images valid.memory memory;
         fits = omega arith;
         room = enough;
       },

@@ -1,10 +1,10 @@
 -- Images of segments in memory, and how many seglets they count.
-use Rattle.std.specs.Prelude.{◌≡◌, ℕ, ◌-◌, ◌*◌, ◌/◌, ◌%◌, ◌^◌, ◌≤◌, List, length, sum_by, if◌then◌else◌}
+use Rattle.std.specs.Prelude.{◌≡◌, ℕ, ◌-◌, ◌*◌, ◌/◌, ◌%◌, ◌^◌, ◌≤◌, List, length, sum_by, true, if◌then◌else◌}
 use Rattle.std.specs.List.{AllByRecursion}
 use Rattle.std.specs.Int.{div_ceil}
 use Rattle.std.specs.Option.{option_map_or}
 use Rattle.entry.specs.Text.{text_of}
-use Rattle.images.specs.declared.image.Image.{Image}
+use Rattle.images.specs.Image.{Image}
 use Rattle.images.specs.Sorted.{AreRising, image_of}
 
 pub record ImagesValue : Type 0 where
@@ -50,10 +50,15 @@ pub record AreSizes (segment seglet seglets : ℕ) : Type 0 where
 abbrev pub AreWithin : ℕ → List Image → Type 0
 AreWithin segment images = AllByRecursion (λ (image : Image). length (text_of image.segment) ≤ segment) images
 
+-- each image that takes appends has memory for a whole segment
+abbrev pub HaveMemory : ℕ → List Image → Type 0
+HaveMemory segment images = AllByRecursion (λ (image : Image). image.is_whole ≡ true → segment ≤ image.room) images
+
 -- what holds of every Images
 pub record IsImages (v : ImagesValue) : Type 0 where
   pub sizes : AreSizes v.segment v.seglet v.seglets
   pub rising : AreRising v.images
   pub within : AreWithin v.segment v.images
+  pub memory : HaveMemory v.segment v.images
   pub fits : used_seglets v ≤ v.seglets
   pub room : length v.images ≤ v.room

@@ -1,3 +1,4 @@
+pub mod Image
 pub mod Images
 pub mod Sorted
 pub mod Place

@@ -1,6 +1,6 @@
 -- The place of an image in a list.
 use Rattle.std.specs.Prelude.{◌≡◌, ℕ, ◌<◌, List, length, slice_index_or}
-use Rattle.images.specs.declared.image.Image.{Image}
+use Rattle.images.specs.Image.{Image}
 
 -- the image at this place is that of this id
 pub record IsPlaceOf (images : List Image) (id at : ℕ) : Type 0 where

@@ -4,7 +4,7 @@ use Rattle.std.specs.Prelude.{find, nat_lt, if◌then◌else◌, ⊤}
 use Rattle.std.specs.List.{AllByRecursion}
 use Rattle.std.specs.Option.{option_map}
 use Rattle.entry.specs.declared.entry.Entry.{Entry}
-use Rattle.images.specs.declared.image.Image.{Image}
+use Rattle.images.specs.Image.{Image}
 
 -- each id is above all that come before it
 abbrev pub AreRising : List Image → Type 0

@@ -5,20 +5,20 @@ use Rattle.entry.specs.declared.entry.Entry.{Entry}
 use Rattle.entry.specs.Format.{Begins}
 use Rattle.entry.specs.Text.{text_of, is_data}
 use Rattle.segment.specs.Bytes.{standing_at}
-use Rattle.images.specs.declared.image.Image.{Image}
+use Rattle.images.specs.Image.{Image}
 use Rattle.images.specs.Sorted.{segment_of}
 
 -- with a unit at its end
 abbrev pub with_unit : List Entry → Image → Image
 with_unit unit image = record image { segment = image.segment ++ unit }
 
--- it takes no more appends
+-- it takes no more appends, and no room is promised for any
 abbrev pub trimmed : Image → Image
-trimmed image = record image { is_whole = false }
+trimmed image = record image { is_whole = false; room = 0 }
 
 -- another image in its place
 abbrev pub replaced_by : List Entry → Image → Image
-replaced_by segment image = record image { segment = segment; is_whole = false }
+replaced_by segment image = record image { segment = segment; is_whole = false; room = 0 }
 
 -- the bytes of the image of this id; 0 if there is none
 abbrev pub len_at : List Image → ℕ → ℕ

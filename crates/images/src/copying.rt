@@ -1,7 +1,7 @@
 //! Copies of an entry from one image to another.
 
-ghost use Rattle.std.specs.Prelude.{◌≡◌, ◌+◌, ◌<◌, ◌≤◌, ◌↔◌, ◌++◌, ◌∷◌, [], length};
-ghost use Rattle.std.specs.Prelude.{IfSome, IfOk, OnOk, OnErr, IsErrOf, IsSome};
+ghost use Rattle.std.specs.Prelude.{◌≡◌, ◌+◌, ◌<◌, ◌≤◌, ◌↔◌, ◌∷◌, [], length};
+ghost use Rattle.std.specs.Prelude.{IfSome, IfOk, IfErr, OnOk, OnErr, IsErrOf, IsSomeAnd};
 ghost use Rattle.entry.specs.Format.{spelling};
 ghost use Rattle.entry.specs.Text.{text_of, entries_in};
 ghost use Rattle.segment.specs.Bytes.{IsDataText, standing_at};
@@ -9,11 +9,13 @@ ghost use Rattle.images.specs.Sorted.{AreRising, image_of, changed};
 ghost use Rattle.images.specs.Steps.{with_unit, len_at, entry_at, StandsData, HasData};
 
 use crate::hints::Hints;
-use crate::image::{Image, place_of};
-use segment::{AppendFault, Segment};
+use crate::image::Image;
+use crate::placing::place_of;
+use segment::{AppendFault, SegmentRef};
 
 /// The text of the object or tombstone at an offset of a segment, of this length.
-fn text_at(source: &Segment, at: usize, len: usize) -> &[u8]
+#[inline(always)]
+fn text_at<'a>(source: &SegmentRef<'a>, at: usize, len: usize) -> &'a [u8]
     requires { StandsData (text_of source.now) at len }
     ensures data { IsDataText result.now }
     ensures entry { IfSome (standing_at at (text_of source.entry.now)) (λ e. entries_in result.now ≡ e ∷ []) }
@@ -21,28 +23,33 @@ fn text_at(source: &Segment, at: usize, len: usize) -> &[u8]
     &source.bytes()[at..at + len]
 }
 
-/// Appends a copy of the object or tombstone of this length at an offset of one segment to another, if that then has at
-/// most `limit` bytes.
+/// Appends a copy of the object or tombstone of this length at an offset of one image to another, if that then has at
+/// most `limit` bytes, for which it has room.
+#[inline(always)]
 fn append_copy(
-    source: &Segment,
+    source: &Image,
     at: usize,
     len: usize,
-    target: &mut Segment,
+    target: &mut Image,
     limit: usize,
 ) -> Result<usize, AppendFault>
-    requires data { StandsData (text_of source.now) at len }
+    requires data { StandsData (text_of source.now.segment) at len }
     requires limit { limit ≤ 8388608 }
-    ensures ok { OnOk result (IfSome (standing_at at (text_of source.now)) (λ e. target.new ≡ target.old ++ e ∷ [])) }
-    ensures place { IfOk result (λ at. at ≡ length (text_of target.old)) }
-    ensures full { IfSome (standing_at at (text_of source.now)) (λ e. IsErrOf result AppendFault.Full ↔
-        (limit < length (text_of target.old) + length (spelling e))) }
+    requires room { limit ≤ target.old.room }
+    ensures ok { OnOk result (IfSome (standing_at at (text_of source.now.segment))
+        (λ e. target.new ≡ with_unit (e ∷ []) target.old)) }
+    ensures place { IfOk result (λ at. at ≡ length (text_of target.old.segment)) }
+    ensures full { IfSome (standing_at at (text_of source.now.segment)) (λ e. IsErrOf result AppendFault.Full ↔
+        (limit < length (text_of target.old.segment) + length (spelling e))) }
+    ensures fault { IfErr result (λ fault. fault ≡ AppendFault.Full) }
     ensures err { OnErr result (target.new ≡ target.old) }
 {
-    target.append_text(text_at(source, at, len), limit)
+    let segment = source.segment();
+    target.append_text(text_at(&segment, at, len), limit)
 }
 
 /// In a list by rising id, appends a copy of the object or tombstone of this length at an offset of one image to a
-/// later image, if that then has at most `limit` bytes. The guess is where the first image may be in the list.
+/// later image, if that then has at most `limit` bytes, for which it has room.
 pub(crate) fn copy_entry(
     images: &mut [Image],
     from: u64,
@@ -54,7 +61,7 @@ pub(crate) fn copy_entry(
 ) -> Result<usize, AppendFault>
     requires rising { AreRising images.old }
     requires order { from < to }
-    requires there { IsSome (image_of images.old to) }
+    requires room { IsSomeAnd (image_of images.old to) (λ image. limit ≤ image.room) }
     requires data { HasData images.old from at len }
     requires limit { limit ≤ 8388608 }
     ensures ok { OnOk result (IfSome (entry_at images.old from at)
@@ -62,6 +69,7 @@ pub(crate) fn copy_entry(
     ensures place { IfOk result (λ at. at ≡ len_at images.old to) }
     ensures full { IfSome (entry_at images.old from at) (λ e. IsErrOf result AppendFault.Full ↔
         (limit < len_at images.old to + length (spelling e))) }
+    ensures fault { IfErr result (λ fault. fault ≡ AppendFault.Full) }
     ensures err { OnErr result (images.new ≡ images.old) }
     ensures len { length images.new ≡ length images.old }
 {
@@ -72,11 +80,5 @@ pub(crate) fn copy_entry(
         unreachable!()
     };
     let (earlier, later) = images.split_at_mut(target);
-    append_copy(
-        &earlier[source].segment,
-        at,
-        len,
-        &mut later[0].segment,
-        limit,
-    )
+    append_copy(&earlier[source], at, len, &mut later[0], limit)
 }

@@ -50,9 +50,13 @@ impl Hints {
     /// The image at this place is new in the list.
     pub(crate) fn added(&mut self, images: &[Image], at: usize) {
         for place in at..images.len() {
-            let before = if place == 0 { 0 } else { images[place - 1].id };
+            let before = if place == 0 {
+                0
+            } else {
+                images[place - 1].id()
+            };
             let hint = u32::try_from(place).unwrap_or(u32::MAX);
-            self.point(before, images[place].id, hint);
+            self.point(before, images[place].id(), hint);
         }
     }
 

@@ -1,109 +1,198 @@
-//! One image, and images in a list.
+//! One image.
 
-ghost use Rattle.std.specs.Prelude.{◌≡◌, ◌<◌, ◌≤◌, ◌^◌, true, length, insert, sum_by, IfSome, IfNone, None};
-ghost use Rattle.std.specs.Int.{div_ceil};
-ghost use Rattle.entry.specs.Text.{text_of};
-ghost use Rattle.images.specs.Images.{count_of};
-ghost use Rattle.images.specs.Sorted.{AreRising, image_of, added};
-ghost use Rattle.images.specs.Place.{IsPlaceOf};
+ghost use Rattle.std.specs.Prelude.{◌≡◌, ◌+◌, ◌≤◌, ◌<◌, ◌↔◌, true, length, map, IfOk, IfErr, OnOk, OnErr, IsErrOf};
+ghost use Rattle.entry.specs.Text.{text_of, entries_in, are_data};
+ghost use Rattle.entry.specs.View.{shown};
+ghost use Rattle.segment.specs.Bytes.{IsSegmentBytes, IsDataText};
+ghost use Rattle.images.specs.Image.{new_image};
 
-use crate::hints::Hints;
-use segment::Segment;
+use entry::EntryRef;
+use segment::{AppendFault, Segment, SegmentRef, append_text, append_unit, trim_text};
+use std::marker::Model;
 
-/// The image of a segment.
+/// The image of a segment: its number and its text.
 #[derive(Drop)]
 pub struct Image {
     /// The segment's number.
-    pub id: u64,
-    pub segment: Segment,
+    id: u64,
+    text: Vec<u8>,
+    /// How many bytes the text may have without more memory, as promised when it was taken.
+    room: usize,
     /// Whether it still takes appends, so that its memory is taken whole.
-    pub is_whole: bool,
+    is_whole: bool,
 }
 
-/// How many seglets a text of this many bytes fills, the last one perhaps in part.
-pub(crate) fn seglets_of(len: usize, seglet: usize) -> u64
-    requires { 0 < seglet }
-    ensures { result ≡ div_ceil len seglet }
-{
-    len.div_ceil(seglet) as u64
+impl Model for Image {
+    ghost use Rattle.std.specs.Prelude.{◌≤◌, vec_capacity};
+    ghost use Rattle.entry.specs.Text.{entries_in};
+    ghost use Rattle.segment.specs.Bytes.{IsSegmentBytes};
+    ghost use Rattle.images.specs.Image.{Image as ImageValue};
+
+    ghost Value = { ImageValue };
+
+    ghost view = { λ s. record {
+      id = s.id;
+      segment = entries_in s.text.items;
+      is_whole = s.is_whole;
+      room = s.room;
+    } };
+
+    ghost invariant = { λ s. IsSegmentBytes s.text.items × (s.room ≤ vec_capacity s.text) };
 }
 
-/// How many seglets an image counts.
-pub(crate) fn count_of(image: &Image, segment: usize, seglet: usize) -> u64
-    requires { 0 < seglet }
-    ensures { result ≡ count_of segment seglet image.now }
-{
-    if image.is_whole {
-        return (segment / seglet) as u64;
+impl Image {
+    ghost use Rattle.images.specs.Image.{closed_image, whole_image};
+    ghost use Rattle.images.specs.Steps.{with_unit, trimmed, replaced_by};
+
+    /// The image of a segment that takes no appends.
+    #[inline(always)]
+    pub(crate) fn closed(id: u64, segment: Segment) -> Image
+        ensures { result ≡ closed_image id segment }
+    {
+        Image {
+            id,
+            text: segment.into_text(),
+            room: 0,
+            is_whole: false,
+        }
     }
-    seglets_of(image.segment.bytes_len(), seglet)
-}
 
-/// The sum of what the images count, found by a walk over all of them.
-pub(crate) fn recounted(images: &[Image], segment: usize, seglet: usize) -> u64
-    requires seglet { 0 < seglet }
-    requires sum { sum_by (count_of segment seglet) images.now ≤ 2 ^ 32 }
-    ensures { result ≡ sum_by (count_of segment seglet) images.now }
-{
-    let mut sum = 0;
-    for image in images {
-        sum += count_of(image, segment, seglet);
+    /// The image of a segment that takes appends, with memory for so many bytes. If there is none, the segment is handed
+    /// back.
+    pub(crate) fn whole(id: u64, segment: Segment, room: usize) -> Result<Image, Segment>
+        ensures ok { IfOk result (λ image. image ≡ whole_image id segment room) }
+        ensures err { IfErr result (λ back. back ≡ segment) }
+    {
+        let mut text = segment.into_text();
+        let more = room.saturating_sub(text.len());
+        if text.reserve_exact(more).is_err() {
+            return Err(Segment::of_text(text));
+        }
+        Ok(Image {
+            id,
+            text,
+            room,
+            is_whole: true,
+        })
     }
-    sum
-}
 
-/// Where the image of a segment is in a list by rising id. The hint mostly says it, or that there is none. If it
-/// doesn't, the image is searched for.
-#[inline(always)]
-pub(crate) fn place_of(images: &[Image], id: u64, hints: &Hints) -> Option<usize>
-    requires { AreRising images.now }
-    ensures found { IfSome result (IsPlaceOf images.now id) }
-    ensures absent { IfNone result (image_of images.now id ≡ None) }
-{
-    let at = hints.of(id);
-    if is_at(images, id, at) {
-        Some(at)
-    } else if is_between(images, id, at) {
-        None
-    } else {
-        place_among(images, id)
+    /// The segment's number.
+    #[inline(always)]
+    pub fn id(&self) -> u64
+        ensures { result ≡ self.now.id }
+    {
+        self.id
+    }
+
+    /// The segment as it lies here, without a copy.
+    #[inline(always)]
+    pub fn segment(&self) -> SegmentRef<'_>
+        ensures { result ≡ self.entry.now.segment }
+    {
+        SegmentRef::of_text(self.text.as_slice())
+    }
+
+    /// Whether it still takes appends.
+    #[inline(always)]
+    pub fn is_whole(&self) -> bool
+        ensures { result ≡ self.now.is_whole }
+    {
+        self.is_whole
+    }
+
+    /// How many bytes the text has.
+    #[inline(always)]
+    pub fn bytes_len(&self) -> usize
+        ensures { result ≡ length (text_of self.now.segment) }
+    {
+        self.text.len()
+    }
+
+    /// Appends objects and tombstones, all or none of them, if the text then has at most `limit` bytes, for which it has
+    /// room. The answer is the offset of the first. No memory is taken.
+    #[inline(always)]
+    pub(crate) fn append(
+        &mut self,
+        unit: &[EntryRef<'_>],
+        limit: usize,
+    ) -> Result<usize, AppendFault>
+        requires data { are_data (map shown unit.now) ≡ true }
+        requires limit { limit ≤ 8388608 }
+        requires room { limit ≤ self.old.room }
+        ensures ok { OnOk result (self.new ≡ with_unit (map shown unit.now) self.old) }
+        ensures place { IfOk result (λ at. at ≡ length (text_of self.old.segment)) }
+        ensures full { IsErrOf result AppendFault.Full ↔
+            (limit < length (text_of self.old.segment) + length (text_of (map shown unit.now))) }
+        ensures fault { IfErr result (λ fault. fault ≡ AppendFault.Full) }
+        ensures err { OnErr result (self.new ≡ self.old) }
+    {
+        append_unit(&mut self.text, unit, limit)
+    }
+
+    /// Appends the objects and tombstones whose text this is, as `append` does.
+    #[inline(always)]
+    pub(crate) fn append_text(&mut self, more: &[u8], limit: usize) -> Result<usize, AppendFault>
+        requires data { IsDataText more.now }
+        requires limit { limit ≤ 8388608 }
+        requires room { limit ≤ self.old.room }
+        ensures ok { OnOk result (self.new ≡ with_unit (entries_in more.now) self.old) }
+        ensures place { IfOk result (λ at. at ≡ length (text_of self.old.segment)) }
+        ensures full { IsErrOf result AppendFault.Full ↔
+            (limit < length (text_of self.old.segment) + length more.now) }
+        ensures fault { IfErr result (λ fault. fault ≡ AppendFault.Full) }
+        ensures err { OnErr result (self.new ≡ self.old) }
+    {
+        append_text(&mut self.text, more, limit)
+    }
+
+    /// It takes no more appends, and gives back the memory beyond this many bytes, as `trim_text` does.
+    pub(crate) fn trim(&mut self, len: usize)
+        ensures { self.new ≡ trimmed self.old }
+    {
+        self.room = 0;
+        self.is_whole = false;
+        trim_text(&mut self.text, len);
+    }
+
+    /// Another segment comes in its place, which takes no appends.
+    pub(crate) fn replace(&mut self, segment: Segment)
+        ensures { self.new ≡ replaced_by segment self.old }
+    {
+        self.room = 0;
+        self.is_whole = false;
+        self.text = segment.into_text();
+    }
+
+    /// The text alone.
+    #[inline(always)]
+    pub(crate) fn into_text(self) -> Vec<u8>
+        ensures valid { IsSegmentBytes result.items }
+        ensures entries { entries_in result.items ≡ self.segment }
+    {
+        self.text
+    }
+
+    /// The segment alone.
+    pub(crate) fn into_segment(self) -> Segment
+        ensures { result ≡ self.segment }
+    {
+        Segment::of_text(self.text)
     }
 }
 
-/// Whether the image of this id is at this place.
-#[inline(always)]
-fn is_at(images: &[Image], id: u64, at: usize) -> bool
-    ensures { result ≡ true → IsPlaceOf images.now id at }
+/// The image of a segment, which takes appends or not. One that does has memory for so many bytes. If there is none, the
+/// segment is handed back.
+pub(crate) fn new_image(
+    id: u64,
+    segment: Segment,
+    is_whole: bool,
+    room: usize,
+) -> Result<Image, Segment>
+    ensures ok { IfOk result (λ image. image ≡ new_image room id segment is_whole) }
+    ensures err { IfErr result (λ back. (back ≡ segment) × (is_whole ≡ true)) }
 {
-    at < images.len() && images[at].id == id
-}
-
-/// Whether all images before this place have lower ids, and those from there on higher ones.
-#[inline(always)]
-fn is_between(images: &[Image], id: u64, at: usize) -> bool
-    requires { AreRising images.now }
-    ensures { result ≡ true → image_of images.now id ≡ None }
-{
-    if at >= images.len() || images[at].id <= id {
-        return false;
+    if is_whole {
+        return Image::whole(id, segment, room);
     }
-    at == 0 || images[at - 1].id < id
-}
-
-/// Where the image is, by a binary search.
-fn place_among(images: &[Image], id: u64) -> Option<usize>
-    requires { AreRising images.now }
-    ensures found { IfSome result (IsPlaceOf images.now id) }
-    ensures absent { IfNone result (image_of images.now id ≡ None) }
-{
-    images.binary_search_by_key(&id, |image| image.id).ok()
-}
-
-/// Where an image with this id belongs in a list by rising id: behind all that have no higher one.
-pub(crate) fn place_for(images: &[Image], id: u64) -> usize
-    requires { AreRising images.now }
-    ensures within { result ≤ length images.now }
-    ensures place { (image : Image) → image.id ≡ id → insert images.now result image ≡ added image images.now }
-{
-    images.partition_point(|image| image.id <= id)
+    Ok(Image::closed(id, segment))
 }

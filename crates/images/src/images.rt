@@ -1,20 +1,23 @@
 //! Images in memory, with the sum of what they count.
 
-ghost use Rattle.std.specs.Prelude.{◌≡◌, ◌+◌, ◌<◌, ◌≤◌, ◌↔◌, ◌∷◌, [], true, None, length, map, sum_by};
+ghost use Rattle.std.specs.Prelude.{◌≡◌, ◌+◌, ◌<◌, ◌≤◌, ◌↔◌, ◌∷◌, [], true, false, None, length, map, sum_by};
 ghost use Rattle.std.specs.Prelude.{IfOk, IfErr, OnOk, OnErr, IsErrAnd, IsErrOf, IsErr, IsSome, IfSome};
 ghost use Rattle.std.specs.Int.{div_ceil};
-ghost use Rattle.std.specs.Option.{option_copied};
+ghost use Rattle.entry.specs.declared.entry.Entry.{Entry};
+ghost use Rattle.entry.specs.declared.entry.Role.{Role};
 ghost use Rattle.entry.specs.Format.{spelling};
 ghost use Rattle.entry.specs.Text.{text_of, are_data};
 ghost use Rattle.entry.specs.View.{shown};
 
 use crate::copying::copy_entry;
+use crate::counting::{count_of, new_count, recounted, seglets_of};
 use crate::fault::ImagesFault;
 use crate::hints::Hints;
-use crate::image::{Image, count_of, place_for, place_of, recounted, seglets_of};
+use crate::image::{Image, new_image};
+use crate::placing::{place_for, place_of};
 use crate::spares::Spares;
 use entry::{EntryRef, NoMemory};
-use segment::{AppendFault, Segment};
+use segment::{AppendFault, Segment, SegmentRef};
 use std::alloc::Global;
 use std::marker::Model;
 
@@ -60,7 +63,7 @@ impl Model for Images {
 }
 
 impl Images {
-    ghost use Rattle.images.specs.declared.image.Image.{Image as ImageValue};
+    ghost use Rattle.images.specs.Image.{closed_image, whole_image, new_image};
     ghost use Rattle.images.specs.Images.{ImagesValue, IsImages, AreSizes};
     ghost use Rattle.images.specs.Images.{count_of, count_at, used_seglets, free_seglets};
     ghost use Rattle.images.specs.Sorted.{IsWhole, image_of, segment_of, added, changed, without};
@@ -134,12 +137,13 @@ impl Images {
         self.images.as_slice()
     }
 
-    /// The segment of this number.
-    pub fn get(&self, id: u64) -> Option<&Segment>
-        ensures { option_copied result ≡ segment_of self.entry.now.images id }
+    /// The segment of this number, without a copy.
+    #[inline(always)]
+    pub fn get(&self, id: u64) -> Option<SegmentRef<'_>>
+        ensures { result ≡ segment_of self.entry.now.images id }
     {
         let at = place_of(self.images.as_slice(), id, &self.hints)?;
-        Some(&self.images[at].segment)
+        Some(self.images[at].segment())
     }
 
     /// Memory for a whole segment, if an image that was dropped has left some.
@@ -162,9 +166,9 @@ impl Images {
     }
 
     /// Adds the image of a segment, at its place. No image has its number, and it has at most `segment` bytes. A whole
-    /// one still takes appends, and the caller took its memory whole (`Segment::reserve`). An image that isn't added is
-    /// handed back: `NoRoom` comes exactly if it counts more seglets than are free, `NoMemory` only if the list has no
-    /// room for it.
+    /// one still takes appends, and its memory is taken whole here. An image that isn't added is handed back: `NoRoom`
+    /// comes exactly if it counts more seglets than are free. `NoMemory` comes only for a whole image, or if the list has
+    /// no room for another.
     pub fn add(
         &mut self,
         id: u64,
@@ -174,56 +178,77 @@ impl Images {
         requires other { image_of self.old.images id ≡ None }
         requires within { length (text_of segment) ≤ self.old.segment }
         ensures ok { OnOk result (self.new ≡ record self.old {
-          images = added (record { id = id; segment = segment; is_whole = is_whole }) self.old.images;
+          images = added (new_image self.old.segment id segment is_whole) self.old.images;
           room = self.new.room;
         }) }
         ensures err { OnErr result (self.new ≡ self.old) }
         ensures no_room { IsErrAnd result (λ e. e.0 ≡ ImagesFault.NoRoom) ↔ (free_seglets self.old <
-            count_of self.old.segment self.old.seglet (record { id = id; segment = segment; is_whole = is_whole })) }
-        ensures no_memory { IsErrAnd result (λ e. e.0 ≡ ImagesFault.NoMemory) →
+            count_of self.old.segment self.old.seglet (new_image self.old.segment id segment is_whole)) }
+        ensures no_memory { is_whole ≡ false → IsErrAnd result (λ e. e.0 ≡ ImagesFault.NoMemory) →
             self.old.room ≤ length self.old.images }
         ensures back { IfErr result (λ e. e.1 ≡ segment) }
     {
-        let image = Image {
-            id,
-            segment,
-            is_whole,
+        let count = new_count(segment.bytes_len(), is_whole, self.segment, self.seglet);
+        if count > self.seglets - self.used {
+            return Err((ImagesFault::NoRoom, segment));
+        }
+        let image = match new_image(id, segment, is_whole, self.segment) {
+            Ok(image) => image,
+            Err(segment) => return Err((ImagesFault::NoMemory, segment)),
         };
-        if count_of(&image, self.segment, self.seglet) > self.seglets - self.used {
-            return Err((ImagesFault::NoRoom, image.segment));
-        }
         if self.images.reserve(1).is_err() {
-            return Err((ImagesFault::NoMemory, image.segment));
+            return Err((ImagesFault::NoMemory, image.into_segment()));
         }
-        self.add_reserved(id, image.segment, is_whole);
+        self.add_image(image);
         Ok(())
     }
 
-    /// Adds an image as `add` does. The list has room, and the seglets are free. It can't fail, takes no memory,
-    /// and moves only images with a higher number.
-    pub fn add_reserved(&mut self, id: u64, segment: Segment, is_whole: bool)
+    /// Adds the image of a segment that takes no appends, as `add` does. The list has room, and the seglets are free. It
+    /// can't fail, takes no memory, and moves only images with a higher number.
+    pub fn add_closed(&mut self, id: u64, segment: Segment)
         requires other { image_of self.old.images id ≡ None }
         requires within { length (text_of segment) ≤ self.old.segment }
         requires room { length self.old.images < self.old.room }
-        requires free { count_of self.old.segment self.old.seglet
-            (record { id = id; segment = segment; is_whole = is_whole }) ≤ free_seglets self.old }
-        ensures { self.new ≡ record self.old {
-          images = added (record { id = id; segment = segment; is_whole = is_whole }) self.old.images;
-        } }
+        requires free { count_of self.old.segment self.old.seglet (closed_image id segment) ≤ free_seglets self.old }
+        ensures { self.new ≡ record self.old { images = added (closed_image id segment) self.old.images } }
     {
-        let image = Image {
-            id,
-            segment,
-            is_whole,
-        };
+        self.add_image(Image::closed(id, segment));
+    }
+
+    /// The image of a new survivor, with the memory of a whole segment: that of a dropped image, if one has left it. It
+    /// is not added.
+    pub fn begin_survivor(&mut self, alloc: Global, master: u64, id: u64) -> Result<Image, NoMemory>
+        ensures survivor { IfOk result (λ image. image ≡ whole_image id
+            (Entry.Header (record { master = master; segment = id; role = Role.Survivor }) ∷ []) self.old.segment) }
+        ensures same { self.new ≡ self.old }
+    {
+        let mut survivor = Segment::begin_survivor(alloc, master, id)?;
+        if let Some(spare) = self.spares.take() {
+            survivor.move_into(spare);
+        }
+        match Image::whole(id, survivor, self.segment) {
+            Ok(image) => Ok(image),
+            Err(_) => Err(NoMemory),
+        }
+    }
+
+    /// Adds an image, as `add_closed` does. One that takes appends has memory for a whole segment.
+    pub fn add_image(&mut self, image: Image)
+        requires other { image_of self.old.images image.id ≡ None }
+        requires within { length (text_of image.segment) ≤ self.old.segment }
+        requires memory { image.is_whole ≡ true → self.old.segment ≤ image.room }
+        requires room { length self.old.images < self.old.room }
+        requires free { count_of self.old.segment self.old.seglet image ≤ free_seglets self.old }
+        ensures { self.new ≡ record self.old { images = added image self.old.images } }
+    {
         self.used += count_of(&image, self.segment, self.seglet);
-        let at = place_for(self.images.as_slice(), id);
+        let at = place_for(self.images.as_slice(), image.id());
         self.images.insert(at, image).unwrap();
         self.hints.added(self.images.as_slice(), at);
     }
 
     /// Appends a unit to a whole image, all or none of it. The answer is the offset of its first entry. `Full` comes
-    /// exactly if the segment would have too many bytes. No memory is taken if the image's was taken whole.
+    /// exactly if the segment would have too many bytes, and nothing else goes wrong: no memory is taken.
     pub fn append(&mut self, id: u64, unit: &[EntryRef<'_>]) -> Result<usize, AppendFault>
         requires whole { IsWhole self.old.images id }
         requires data { are_data (map shown unit.now) ≡ true }
@@ -233,17 +258,18 @@ impl Images {
         ensures place { IfOk result (λ at. at ≡ len_at self.old.images id) }
         ensures full { IsErrOf result AppendFault.Full ↔
             (self.old.segment < len_at self.old.images id + length (text_of (map shown unit.now))) }
+        ensures fault { IfErr result (λ fault. fault ≡ AppendFault.Full) }
         ensures err { OnErr result (self.new ≡ self.old) }
     {
         let Some(at) = place_of(self.images.as_slice(), id, &self.hints) else {
             unreachable!()
         };
-        self.images[at].segment.append(unit, self.segment)
+        self.images[at].append(unit, self.segment)
     }
 
     /// Appends a copy of the object or tombstone of this length at an offset of one image to a later image, which is
-    /// whole. The answer is its offset there. `Full` comes exactly if the segment would have too many bytes. No memory
-    /// is taken if the image's was taken whole. A refusal changes nothing.
+    /// whole. The answer is its offset there. `Full` comes exactly if the segment would have too many bytes, and nothing
+    /// else goes wrong: no memory is taken. A refusal changes nothing.
     pub fn copy_entry(
         &mut self,
         from: u64,
@@ -259,6 +285,7 @@ impl Images {
         ensures place { IfOk result (λ at. at ≡ len_at self.old.images to) }
         ensures full { IfSome (entry_at self.old.images from at) (λ e. IsErrOf result AppendFault.Full ↔
             (self.old.segment < len_at self.old.images to + length (spelling e))) }
+        ensures fault { IfErr result (λ fault. fault ≡ AppendFault.Full) }
         ensures err { OnErr result (self.new ≡ self.old) }
     {
         copy_entry(
@@ -282,9 +309,8 @@ impl Images {
         };
         let image = &mut self.images[at];
         let before = count_of(image, self.segment, self.seglet);
-        image.is_whole = false;
-        let count = count_of(image, self.segment, self.seglet);
-        image.segment.trim(count as usize * self.seglet);
+        let count = seglets_of(image.bytes_len(), self.seglet);
+        image.trim(count as usize * self.seglet);
         self.used = self.used - before + count;
     }
 
@@ -310,8 +336,7 @@ impl Images {
         if count > self.seglets - others {
             return Err((ImagesFault::NoRoom, segment));
         }
-        image.segment = segment;
-        image.is_whole = false;
+        image.replace(segment);
         self.used = others + count;
         Ok(())
     }
@@ -326,7 +351,7 @@ impl Images {
             self.hints.removed(at);
             self.used -= count_of(&image, self.segment, self.seglet);
             let free = (self.seglets - self.used) as usize * self.seglet;
-            self.spares.leave(image.segment, self.segment, free);
+            self.spares.leave(image.into_text(), self.segment, free);
         }
     }
 }

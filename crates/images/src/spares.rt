@@ -1,6 +1,5 @@
 //! What images that were dropped have left.
 
-use segment::Segment;
 use std::alloc::Global;
 
 /// For how many segments memory is left at most.
@@ -20,10 +19,9 @@ impl Spares {
         }
     }
 
-    /// Leaves the memory of a segment, if it is that of a whole one of this length, and the memory that is left comes to no
+    /// Leaves the memory of an image, if it is that of a whole one of this length, and the memory that is left comes to no
     /// more than what is free. Else it goes back.
-    pub(crate) fn leave(&mut self, segment: Segment, whole: usize, free: usize) {
-        let memory = segment.into_memory();
+    pub(crate) fn leave(&mut self, memory: Vec<u8>, whole: usize, free: usize) {
         let count = self.left.len();
         if memory.capacity() >= whole && count < MOST && free / (count + 1) >= whole {
             let _ = self.left.push(memory);

@@ -31,6 +31,7 @@ pub data LineValue : Type 0 where
   Hex : (segment : ℕ) → LineValue
   Stop : (takes : ℕ) → LineValue
   Fault : (takes : ℕ) (taken : Bool) → LineValue
+  Format : LineValue
   Crash : LineValue
   Lose : (backup : ℕ) → LineValue
   Will : LineValue
@@ -64,6 +65,7 @@ shown_line line.Room = Room
 shown_line (line.Hex segment) = Hex segment
 shown_line (line.Stop takes) = Stop takes
 shown_line (line.Fault takes taken) = Fault takes taken
+shown_line line.Format = Format
 shown_line line.Crash = Crash
 shown_line (line.Lose backup) = Lose backup
 shown_line line.Will = Will
@@ -106,6 +108,7 @@ words_of Room = codes "room" ∷ []
 words_of (Hex segment) = codes "hex" ∷ decimal segment ∷ []
 words_of (Stop takes) = codes "stop" ∷ decimal takes ∷ []
 words_of (Fault takes taken) = codes "fault" ∷ decimal takes ∷ fate_word taken ∷ []
+words_of Format = codes "format" ∷ codes "2" ∷ []
 words_of Crash = codes "crash" ∷ []
 words_of (Lose backup) = codes "lose" ∷ decimal backup ∷ []
 words_of Will = codes "will" ∷ []
@@ -146,6 +149,7 @@ IsLine Room = Unit {0}
 IsLine (Hex segment) = segment < 2 ^ 64
 IsLine (Stop takes) = takes < 2 ^ 64
 IsLine (Fault takes taken) = IsWithin 1 (2 ^ 64 - 1) takes
+IsLine Format = Unit {0}
 IsLine Crash = Unit {0}
 IsLine (Lose backup) = backup < 2 ^ 64
 IsLine Will = Unit {0}

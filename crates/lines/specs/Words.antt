@@ -45,6 +45,7 @@ pub record IsNoLongName (word : List ℕ) : Type 0 where
   pub begin : word ≢ codes "begin"
   pub recover : word ≢ codes "recover"
   pub clients : word ≢ codes "clients"
+  pub format : word ≢ codes "format"
 
 -- the words spell the line
 pub record Spell (words : List (List ℕ)) (line : LineValue) : Type 0 where

@@ -48,6 +48,8 @@ pub enum Line<'a> {
         takes: u64,
         taken: bool,
     },
+    /// Let masters that start later write format 2.
+    Format,
     /// Drop the master.
     Crash,
     /// Take from a backup all that it holds.

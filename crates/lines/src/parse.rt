@@ -66,6 +66,7 @@ fn parse_words(mut words: Words<'_>) -> Option<Line<'_>>
         name if is(name, "begin") => begin(words),
         name if is(name, "recover") => recover(words),
         name if is(name, "clients") => clients(words),
+        name if is(name, "format") => format(words),
         name => only_name(name, words),
     }
 }
@@ -287,6 +288,16 @@ fn clients(mut words: Words<'_>) -> Option<Line<'_>>
         rounds,
         passes,
     })
+}
+
+/// The word behind `format`: 2.
+#[inline(never)]
+fn format(mut words: Words<'_>) -> Option<Line<'_>>
+    ensures { ReadsWords (codes "format" ∷ words.entry) result }
+{
+    let is_two = is(words.next_word()?, "2");
+    words.end()?;
+    is_two.then_some(Line::Format)
 }
 
 /// The words as one number.

@@ -46,6 +46,7 @@ pub enum Shape {
     Order,
     Alone,
     Clients,
+    Format,
 }
 
 impl Shape {
@@ -69,6 +70,7 @@ impl Shape {
             Shape::Clients => {
                 " has a number of clients (1 to 63), of rounds (1 to 1000000) and of passes"
             }
+            Shape::Format => " has the word 2",
         }
     }
 }

@@ -23,6 +23,7 @@ const COMMANDS: &[(&str, Shape)] = &[
     ("hex", Shape::Segment),
     ("stop", Shape::Ops),
     ("fault", Shape::Fault),
+    ("format", Shape::Format),
     ("crash", Shape::Alone),
     ("lose", Shape::Backup),
     ("will", Shape::Alone),
@@ -122,7 +123,7 @@ fn wrong_word(rest: Option<&[u8]>, shape: Shape) -> Option<Reason>
             rest,
             &[WordKind::Number, WordKind::Number, WordKind::Number],
         ),
-        Shape::Order | Shape::Alone => None,
+        Shape::Order | Shape::Alone | Shape::Format => None,
     }
 }
 

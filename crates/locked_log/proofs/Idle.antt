@@ -87,8 +87,7 @@ module _ (s t : World) where
     in_pass test e = ap (λ (o : Option OpenPass). option_map_or test o false) opened ∙ e
 
     copies : not (is_at_end p) ≡ true → Never Copy
-    copies more x = ⊎_elim (λ e. not_idle_at_work s.knows.is_halted _
-        (in_pass (λ (q : OpenPass). not (is_at_end q)) more) e) (λ e. not_memory (sym e.1)) x.1
+    copies more x = not_idle_at_work s.knows.is_halted _ (in_pass (λ (q : OpenPass). not (is_at_end q)) more) x.1
 
     seals : not (is_at_end p) ≡ false → nat_lt p.sealed s.knows.config.replicas ≡ true → Never Seal
     seals done more (inl x) = not_idle_at_work s.knows.is_halted _

@@ -19,6 +19,7 @@ keeps_same most w = record {
   origin = refl;
   takes = (omega arith, omega arith);
   others = λ b m s other. refl;
+  least = refl;
   durable = omega arith;
   history = ([], sym (append-nil w.knows.history));
 }

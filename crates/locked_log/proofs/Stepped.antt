@@ -164,6 +164,7 @@ module _ (s : Held) (n : ℕ) (w : World) (is : w ≡ limited_world s.world n) (
     origin = refl;
     takes = (omega arith, omega arith);
     others = λ b m k other. refl;
+    least = refl;
     durable = omega arith;
     history = ([], sym (append-nil s.world.knows.history));
   })

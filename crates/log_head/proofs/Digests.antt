@@ -7,6 +7,8 @@ use Rattle.std.specs.List.{list_any}
 use Rattle.std.specs.Option.{option_len, option_map, option_map_or, option_to_list}
 use Rattle.std.proofs.lemmas.List.{length-append, drop_all}
 use Rattle.std.proofs.lemmas.Option.{same_Some}
+use Rattle.entry.specs.declared.digest.Digest.{Digest}
+use Rattle.entry.specs.declared.digest.Digest.TheVariants as digest
 use Rattle.entry.specs.Text.{Opening}
 use Rattle.log_model.specs.Ids.{has, inserted, all_inserted, without}
 use Rattle.log_head.specs.Head.{digest_of}
@@ -19,7 +21,7 @@ without_none [] = refl
 without_none (s ∷ ids) = ap (λ (l : List ℕ). s ∷ l) (without_none ids)
 
 pub ordinary_keeps : OrdinaryKeeps
-ordinary_keeps h id safe = λ i. record { id = id; others = without_none (digest_of h.image) i; safe = safe }
+ordinary_keeps h len id safe = without_none (digest_of h.image)
 
 -- ---- victims
 
@@ -140,7 +142,7 @@ module _ (victims ids : List ℕ) (survivor : Option ℕ) (pushed : List ℕ) (w
 
 -- ---- the digest in force
 
-pub digest_some : (o : Option Opening) (ids : List ℕ) → Some ids ≡ option_map (λ (o : Opening). o.ids) o
-    → option_map_or (λ (o : Opening). o.ids) o [] ≡ ids
-digest_some None ids is = absurd (cc)
-digest_some (Some o) ids is = sym (same_Some ids o.ids is)
+pub digest_some : (o : Option Opening) (d : Digest) → Some d ≡ option_map (λ (o : Opening). o.digest) o
+    → option_map_or (λ (o : Opening). o.digest) o (digest.Ids []) ≡ d
+digest_some None d is = absurd (cc)
+digest_some (Some o) d is = sym (same_Some d o.digest is)

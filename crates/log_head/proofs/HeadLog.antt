@@ -1,22 +1,30 @@
 -- The head of the log that an image holds, through each step of a head.
 use Rattle.std.proofs.Common.{◌≡◌, ℕ, zero, suc, true, ◌+◌, ◌-◌, ◌≤◌, List, [], ◌∷◌, ◌++◌, length, take, drop, refl}
 use Rattle.std.proofs.Common.{sym, ap, subst, ◌∙◌, append_assoc, arith}
-use Rattle.std.specs.Prelude.{filter}
+use Rattle.std.specs.Prelude.{Option, Some, None, IfSome, map, filter}
 use Rattle.std.specs.List.{AllByRecursion}
 use Rattle.std.proofs.lemmas.List.{append-nil, length-append, take_at, take_all}
+use Rattle.entry.specs.declared.digest.Listed.{Listed}
+use Rattle.entry.specs.declared.digest.Digest.{Digest}
+use Rattle.entry.specs.declared.digest.Digest.TheVariants as digest
 use Rattle.entry.specs.declared.entry.Entry.{Entry}
+use Rattle.entry.specs.Limits.{ids_in}
 use Rattle.entry.specs.Format.{IsEntry}
-use Rattle.entry.specs.Text.{text_of, is_data, is_whole, entries_in, data_in, opening_of, IsSegment}
+use Rattle.entry.specs.Text.{text_of, is_data, is_whole, entries_in, data_in, Opening, opening_of, listed_ids}
+use Rattle.entry.specs.Text.{IsSegment}
 use Rattle.entry.proofs.TextLemmas.{entries_in-text}
 use Rattle.entry.proofs.ListLemmas.{all_split}
 use Rattle.segment.proofs.RowLemmas.{text_of-append}
-use Rattle.log_model.specs.Data.{Start, LogUnit, Head, start_entries, entries_of, head_entries}
+use Rattle.log_model.specs.Data.{Start, LogUnit, Head, listed_with, own_listed, digest_with, digest_for}
+use Rattle.log_model.specs.Data.{start_entries, entries_of, head_entries}
 use Rattle.log_model.specs.Steps.{units_between}
+use Rattle.log_model.proofs.Lengths.{ids_listed}
 use Rattle.log_model.proofs.Segments.{data_split, data_alone, start_order}
 use Rattle.log_head.specs.declared.head.UnitEnd.{UnitEnd}
 use Rattle.log_head.specs.Head.{HeadValue, end_of}
 use Rattle.log_head.specs.Steps.{fresh_head, with_unit_end}
-use Rattle.log_head.specs.Log.{but_last, start_in, entries_between, units_from, loaded_in, head_of, AreEnds, IsImageOf}
+use Rattle.log_head.specs.Log.{but_last, other_lens, start_in, HasLens, entries_between, units_from, loaded_in}
+use Rattle.log_head.specs.Log.{head_of, AreEnds, IsImageOf}
 use Rattle.log_head.proofs.Heads.{text_more}
 
 -- ---- the opening
@@ -25,6 +33,50 @@ pub but_last_is : (xs : List ℕ) (x : ℕ) → but_last (xs ++ x ∷ []) ≡ xs
 but_last_is [] x = refl
 but_last_is (y ∷ []) x = refl
 but_last_is (y ∷ z ∷ zs) x = ap (λ (l : List ℕ). y ∷ l) (but_last_is (z ∷ zs) x)
+
+lens_with : (others ns : List ℕ) → length ns ≡ length others
+    → map (λ (s : Listed). s.len) (listed_with others ns) ≡ ns
+lens_with [] [] same = refl
+lens_with [] (n ∷ ns) same = absurd (omega arith)
+lens_with (s ∷ others) [] same = absurd (omega arith)
+lens_with (s ∷ others) (n ∷ ns) same = ap (λ (l : List ℕ). n ∷ l) (lens_with others ns (omega arith))
+
+lens_push : (ss : List Listed) (own : Listed)
+    → map (λ (s : Listed). s.len) (ss ++ own ∷ []) ≡ map (λ (s : Listed). s.len) ss ++ own.len ∷ []
+lens_push [] own = refl
+lens_push (s ∷ ss) own = ap (λ (l : List ℕ). s.len ∷ l) (lens_push ss own)
+
+lens_read : (others : List ℕ) (lens : Option (List ℕ)) (id : ℕ)
+    → IfSome lens (λ (ns : List ℕ). length ns ≡ length others) → other_lens (digest_with others lens id) ≡ lens
+lens_read others None id same = refl
+lens_read others (Some ns) id same =
+    ap (λ (l : List ℕ). Some (but_last l)) (lens_push (listed_with others ns) (own_listed others id))
+    ∙ ap (λ (l : List ℕ). Some l)
+    (but_last_is (map (λ (s : Listed). s.len) (listed_with others ns)) (own_listed others id).len
+    ∙ lens_with others ns same)
+
+-- what a head begins with is read from its opening
+pub start_read : (n : Start) → HasLens n
+    → start_in n.id (Some (record { digest = digest_for n; safe = n.safe })) ≡ n
+start_read n has =
+    let others = ap but_last (ids_listed n) ∙ but_last_is n.others n.id in
+    let lens = lens_read n.others n.lens n.id has in
+    (λ i. record { id = n.id; others = others i; lens = lens i; safe = n.safe })
+
+-- there is a length for each id that is read
+length_last : (ss : List Listed) → length (but_last (map (λ (s : Listed). s.len) ss)) ≡ length (but_last (ids_in ss))
+length_last [] = refl
+length_last (s ∷ []) = refl
+length_last (s ∷ t ∷ ss) = ap suc (length_last (t ∷ ss))
+
+lens_listed : (d : Digest)
+    → IfSome (other_lens d) (λ (ns : List ℕ). length ns ≡ length (but_last (listed_ids d)))
+lens_listed (digest.Ids ids) = tt
+lens_listed (digest.Lengths segments) = length_last segments
+
+pub read_has : (id : ℕ) (o : Option Opening) → HasLens (start_in id o)
+read_has id None = tt
+read_has id (Some o) = lens_listed o.digest
 
 -- ---- the units
 
@@ -97,8 +149,7 @@ module _ (master : ℕ) (h : HeadValue) (l : Head) (is : IsImageOf master h l) w
       let split = all_split IsEntry base_entries (entries_of l.units) each in
       let start : start_in h.id (opening_of h.image) ≡ l.start =
       (λ i. start_in (sym is.id i) (opening_of (image_is i)))
-      ∙ ap (λ (ids : List ℕ). record { id = l.start.id; others = ids; safe = l.start.safe })
-      (but_last_is l.start.others l.start.id) in
+      ∙ start_read l.start is.lens in
       let order : is_whole (base_entries ++ entries_of l.units) ≡ true =
       subst (λ (es : List Entry). is_whole es ≡ true) image_is segment.order in
       let objects = data_split l.loaded (entries_of l.units)
@@ -246,6 +297,7 @@ module _ (master : ℕ) (h : HeadValue) (l : Head) (is : IsImageOf master h l) w
       let end = text_more h.image unit in
       record {
         id = is.id;
+        lens = is.lens;
         image = ap (λ (es : List Entry). es ++ unit) image_is
             ∙ append_assoc base_entries (entries_of l.units) unit
             ∙ ap (λ (es : List Entry). base_entries ++ es) (sym (entries_push l.units u) ∙ ap entries_of (sym all))
@@ -261,6 +313,7 @@ module _ (master : ℕ) (h : HeadValue) (l : Head) (is : IsImageOf master h l) w
   pub image_with_counts : (ks : List ℕ) → IsImageOf master (record h { taken = ks }) (record l { taken = ks })
   image_with_counts ks = record {
     id = is.id;
+    lens = is.lens;
     image = is.image;
     base = is.base;
     ends = is.ends;
@@ -268,8 +321,14 @@ module _ (master : ℕ) (h : HeadValue) (l : Head) (is : IsImageOf master h l) w
   }
 
 -- a head that begins
-pub image_fresh : (master replicas : ℕ) (start : Start)
+pub image_fresh : (master replicas : ℕ) (start : Start) → HasLens start
     → IsImageOf master (fresh_head master replicas start)
     (record { start = start; loaded = []; units = []; taken = [] })
-image_fresh master replicas start =
-    record { id = refl; image = sym (append-nil (start_entries master start)); base = refl; ends = tt; taken = refl }
+image_fresh master replicas start has = record {
+  id = refl;
+  lens = has;
+  image = sym (append-nil (start_entries master start));
+  base = refl;
+  ends = tt;
+  taken = refl;
+}

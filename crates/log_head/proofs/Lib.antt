@@ -5,3 +5,4 @@ pub mod RisingIds
 pub mod Rolls
 pub mod RollLog
 pub mod SettledLog
+pub mod Listing

@@ -1,35 +1,54 @@
 -- What a roll of a head is to the log.
-use Rattle.std.proofs.Common.{◌≡◌, ℕ, suc, ◌<◌, true, false, List, length, refl, sym, ap, subst, ◌∙◌, arith}
-use Rattle.std.specs.Prelude.{Option, Some, None, ◌==◌, if◌then◌else◌}
+use Rattle.std.proofs.Common.{◌≡◌, ℕ, suc, ◌<◌, Bool, true, false, List, [], ◌∷◌, length, refl, sym, ap, subst, ◌∙◌, arith}
+use Rattle.std.specs.Prelude.{Option, Some, None, IfSome, map, ◌==◌, if◌then◌else◌}
 use Rattle.std.proofs.lemmas.Bool.Decides.{nat_tests}
 use Rattle.std.proofs.lemmas.List.{append-nil}
 use Rattle.entry.specs.declared.entry.Entry.{Entry}
-use Rattle.entry.specs.Text.{Opening, text_of, opening_of, IsSegment}
+use Rattle.entry.specs.Text.{Opening, text_of, opening_of, lists_lengths, IsSegment}
 use Rattle.log_model.specs.Data.{Start, Head, Opened, Closed, ids_of, start_entries}
+use Rattle.log_model.specs.Ids.{all_inserted, without}
 use Rattle.log_model.specs.Steps.{one_opened, new_head}
+use Rattle.log_model.proofs.Lengths.{ids_listed}
 use Rattle.log_head.specs.declared.head.Roll.{Roll}
-use Rattle.log_head.specs.Head.{HeadValue, digest_of}
-use Rattle.log_head.specs.Log.{start_in, start_of, phase_in, head_of, IsImageOf, IsNewImage}
-use Rattle.log_head.specs.Steps.{fresh_roll, in_force}
-use Rattle.log_head.proofs.HeadLog.{but_last_is, head_is}
+use Rattle.log_head.specs.Head.{HeadValue, digest_in, digest_of}
+use Rattle.log_head.specs.Log.{start_in, start_of, HasLens, phase_in, head_of, IsImageOf, IsNewImage}
+use Rattle.log_head.specs.Steps.{len_after, lens_after, start_after, fresh_roll, in_force}
+use Rattle.log_head.proofs.HeadLog.{start_read, read_has, head_is}
 
 -- ---- a roll begins
 
-pub start_is : (master : ℕ) (n : Start) → start_of (fresh_roll master n) ≡ n
-start_is master n = ap (λ (ids : List ℕ). record { id = n.id; others = ids; safe = n.safe }) (but_last_is n.others n.id)
+pub start_is : (master : ℕ) (n : Start) → HasLens n → start_of (fresh_roll master n) ≡ n
+start_is master n has = start_read n has
 
-pub opening_is : (master : ℕ) (n : Start) → IsNewImage master (fresh_roll master n)
-opening_is master n = ap (start_entries master) (sym (start_is master n))
+pub opening_is : (master : ℕ) (n : Start) → HasLens n → IsNewImage master (fresh_roll master n)
+opening_is master n has = ap (start_entries master) (sym (start_is master n has))
 
-pub phase_begun : (h : HeadValue) (master : ℕ) (n : Start) → 0 < h.replicas
+pub phase_begun : (h : HeadValue) (master : ℕ) (n : Start) → HasLens n → 0 < h.replicas
     → phase_in h.replicas (fresh_roll master n) ≡ Opened 0 n
-phase_begun h master n some =
+phase_begun h master n has some =
     let test : (0 == h.replicas) ≡ false = grind (arith, nat_tests) in
-    rw test (ap (λ (s : Start). Opened 0 s) (start_is master n))
+    rw test (ap (λ (s : Start). Opened 0 s) (start_is master n has))
+
+-- the digest lists as many lengths as ids
+lens_any : (b : Bool) (len : ℕ → ℕ) (ids : List ℕ)
+    → IfSome (if b then Some (map len ids) else None) (λ (ns : List ℕ). length ns ≡ length ids)
+lens_any true len [] = refl
+lens_any true len (s ∷ ids) = ap suc (lens_any true len ids)
+lens_any false len ids = tt
+
+pub lens_after_has : (head : ℕ) (image : List Entry) (survivors : List ℕ) (len : ℕ) (others : List ℕ)
+    → IfSome (lens_after head image survivors len others) (λ (ns : List ℕ). length ns ≡ length others)
+lens_after_has head image survivors len others =
+    lens_any (lists_lengths (digest_in image)) (len_after head image survivors len) others
+
+pub start_after_has : (h : HeadValue) (victims survivors : List ℕ) (len id safe : ℕ)
+    → HasLens (start_after h victims survivors len id safe)
+start_after_has h victims survivors len id safe =
+    lens_after_has h.id h.image survivors len (all_inserted survivors (without victims (digest_of h.image)))
 
 -- an image of the log bears the digest of its head
 pub digest_is : (master : ℕ) (h : HeadValue) (l : Head) → IsImageOf master h l → digest_of h.image ≡ ids_of l.start
-digest_is master h l is = ap digest_of is.image
+digest_is master h l is = ap digest_of is.image ∙ ids_listed l.start
 
 -- ---- a replica of the new head is opened
 
@@ -58,6 +77,7 @@ module _ (master : ℕ) (h : HeadValue) (r : Roll) (new : IsNewImage master r) (
   in_force_image : IsImageOf master (in_force h r) (new_head h.replicas (start_of r))
   in_force_image = record {
     id = start_in_id r.id (opening_of r.image);
+    lens = read_has r.id (opening_of r.image);
     image = new ∙ sym (append-nil (start_entries master (start_of r)));
     base = ap (λ (es : List Entry). length (text_of es)) new;
     ends = tt;

@@ -32,6 +32,7 @@ module _ (master : ℕ) (h : HeadValue) (l : Head) (is : IsImageOf master h l) (
       is.image ∙ ap (λ (es : List Entry). start_entries master l.start ++ es) (sym (append-nil loaded)) in
       record {
         id = is.id;
+        lens = is.lens;
         image = image;
         base = ap (λ (es : List Entry). length (text_of es)) image;
         ends = tt;

@@ -1,8 +1,10 @@
 -- The head of the log.
 use Rattle.std.specs.Prelude.{◌≡◌, ℕ, zero, suc, ◌+◌, ◌<◌, ◌≤◌, ◌==◌, ◌&&◌, List, [], ◌∷◌, length, take, Bool, false}
 use Rattle.std.specs.Prelude.{Option, Some, None, IfSome, is_none, slice_get, nat_le, nat_lt, if◌then◌else◌}
+use Rattle.entry.specs.declared.digest.Digest.{Digest}
+use Rattle.entry.specs.declared.digest.Digest.TheVariants as digest
 use Rattle.entry.specs.declared.entry.Entry.{Entry}
-use Rattle.entry.specs.Text.{Opening, text_of, opening_of, IsSegment}
+use Rattle.entry.specs.Text.{Opening, text_of, opening_of, IsSegment, listed_ids}
 use Rattle.std.specs.List.{AllByRecursion}
 use Rattle.std.specs.Option.{option_map, option_map_or}
 use Rattle.log_model.specs.Data.{fewest}
@@ -23,9 +25,13 @@ pub record HeadValue : Type 0 where
   -- the roll that is under way
   pub roll : Option Roll
 
--- the ids of the digest that an image bears
+-- the digest that an image bears
+abbrev pub digest_in : List Entry → Digest
+digest_in image = option_map_or (λ (o : Opening). o.digest) (opening_of image) (digest.Ids [])
+
+-- the ids of it
 abbrev pub digest_of : List Entry → List ℕ
-digest_of image = option_map_or (λ (o : Opening). o.ids) (opening_of image) []
+digest_of image = listed_ids (digest_in image)
 
 -- all replicas are open, and no roll is under way
 abbrev pub is_open : HeadValue → Bool

@@ -11,7 +11,7 @@ use Rattle.log_head.specs.declared.head.Roll.{Roll}
 use Rattle.log_head.specs.declared.rolling.Leaving.{Leaving}
 use Rattle.log_head.specs.Head.{HeadValue, IsRollValue, digest_of, end_of}
 use Rattle.log_head.specs.Steps.{fresh_head, with_unit_end, settled, start_after, others_after, fresh_roll, in_force}
-use Rattle.log_head.specs.Log.{head_of, settled_head, start_of, phase_in, IsImageOf, IsNewImage}
+use Rattle.log_head.specs.Log.{HasLens, head_of, settled_head, start_of, phase_in, IsImageOf, IsNewImage}
 
 -- An image holds one head of the log, and that is the head which is read from it.
 abbrev pub HeadIsRead : Type 0
@@ -36,7 +36,7 @@ PartsAreUnits = (master : ℕ) (h : HeadValue) (l : Head) (m n : ℕ) → IsImag
 
 -- A new head has no units. Each unit that is appended is one more.
 abbrev pub FreshIsImage : Type 0
-FreshIsImage = (master replicas : ℕ) (start : Start)
+FreshIsImage = (master replicas : ℕ) (start : Start) → HasLens start
     → IsImageOf master (fresh_head master replicas start)
     (record { start = start; loaded = []; units = []; taken = [] })
 
@@ -60,13 +60,13 @@ SettledIsImage = (master : ℕ) (h : HeadValue) (l : Head) → IsImageOf master 
 
 -- A new roll is to a head with this start, and its image is the opening of that head.
 abbrev pub RollBegins : Type 0
-RollBegins = (master : ℕ) (h : HeadValue) (n : Start) → 0 < h.replicas
+RollBegins = (master : ℕ) (h : HeadValue) (n : Start) → HasLens n → 0 < h.replicas
     → (phase_in h.replicas (fresh_roll master n) ≡ Opened 0 n) × IsNewImage master (fresh_roll master n)
 
 -- With no victims and no survivors the other ids of the new head's digest are those of the digest in force.
 abbrev pub OrdinaryKeeps : Type 0
-OrdinaryKeeps = (h : HeadValue) (id safe : ℕ)
-    → start_after h [] [] id safe ≡ record { id = id; others = digest_of h.image; safe = safe }
+OrdinaryKeeps = (h : HeadValue) (len id safe : ℕ)
+    → (start_after h [] [] len id safe).others ≡ digest_of h.image
 
 -- The ids of the new head's digest rise, if those of the digest in force and then the new id do, and the survivor is
 -- another id below the new one.

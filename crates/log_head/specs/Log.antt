@@ -1,9 +1,12 @@
 -- What a head is to the log: its opening, what was loaded, and the units in its image between the ends.
 use Rattle.std.specs.Prelude.{◌≡◌, ℕ, ◌+◌, ◌-◌, ◌==◌, List, [], ◌∷◌, length, take, drop, Option, Some, None}
-use Rattle.std.specs.Prelude.{if◌then◌else◌}
+use Rattle.std.specs.Prelude.{map, IfSome, if◌then◌else◌}
 use Rattle.std.specs.Option.{option_map_or}
+use Rattle.entry.specs.declared.digest.Listed.{Listed}
+use Rattle.entry.specs.declared.digest.Digest.{Digest}
+use Rattle.entry.specs.declared.digest.Digest.TheVariants as digest
 use Rattle.entry.specs.declared.entry.Entry.{Entry}
-use Rattle.entry.specs.Text.{text_of, entries_in, data_in, Opening, opening_of}
+use Rattle.entry.specs.Text.{text_of, entries_in, data_in, Opening, opening_of, listed_ids}
 use Rattle.log_model.specs.Data.{Start, LogUnit, Head, Phase, Ready, Opened, Closed, start_entries, front_entries}
 use Rattle.log_model.specs.Data.{head_entries}
 use Rattle.log_model.specs.Steps.{no_units}
@@ -17,10 +20,24 @@ but_last [] = []
 but_last (x ∷ []) = []
 but_last (x ∷ y ∷ ys) = x ∷ but_last (y ∷ ys)
 
+-- the lengths of a digest without the last, if it lists lengths
+abbrev pub other_lens : Digest → Option (List ℕ)
+other_lens (digest.Ids ids) = None
+other_lens (digest.Lengths segments) = Some (but_last (map (λ (s : Listed). s.len) segments))
+
 -- what a head with this id begins with, if its image has this opening
 abbrev pub start_in : ℕ → Option Opening → Start
-start_in id None = record { id = id; others = []; safe = 0 }
-start_in id (Some o) = record { id = id; others = but_last o.ids; safe = o.safe }
+start_in id None = record { id = id; others = []; lens = None; safe = 0 }
+start_in id (Some o) = record {
+  id = id;
+  others = but_last (listed_ids o.digest);
+  lens = other_lens o.digest;
+  safe = o.safe;
+}
+
+-- if there are lengths, there is one for each other id
+abbrev pub HasLens : Start → Type 0
+HasLens n = IfSome n.lens (λ (ns : List ℕ). length ns ≡ length n.others)
 
 -- the entries in the bytes between two offsets
 abbrev pub entries_between : List ℕ → ℕ → ℕ → List Entry
@@ -81,6 +98,7 @@ AreEnds from (e ∷ es) [] = ⊥
 -- The image holds this head of the log, and the units end where `h` says.
 pub record IsImageOf (master : ℕ) (h : HeadValue) (l : Head) : Type 0 where
   pub id : l.start.id ≡ h.id
+  pub lens : HasLens l.start
   pub image : h.image ≡ head_entries master l (length l.units)
   pub base : h.base ≡ length (text_of (head_entries master l 0))
   pub ends : AreEnds h.base h.units l.units

@@ -9,7 +9,7 @@ ghost use Rattle.entry.specs.View.{shown};
 ghost use Rattle.std.specs.Prelude.{nat_le, Option, ◌==◌};
 ghost use Rattle.std.specs.Option.{option_map, option_copied};
 
-use entry::{EntryRef, Ids, NoMemory, SafeVersion};
+use entry::{Digest, EntryRef, Ids, Lengths, Listed, NoMemory, SafeVersion};
 use segment::{AppendFault, Segment};
 use std::alloc::Global;
 use std::marker::Model;
@@ -88,21 +88,22 @@ impl Head {
     ghost use Rattle.log_head.specs.Next.{bytes_between};
     ghost use Rattle.log_model.specs.Data.{Start};
 
-    /// The first head of a master. Its image holds the opening alone, and has room for `room` bytes more. No replica is
-    /// open.
+    /// The first head of a master, in this format. Its image holds the opening alone, and has room for `room` bytes more.
+    /// No replica is open.
     pub fn begin(
         alloc: Global,
         master: u64,
         replicas: usize,
+        format: u64,
         safe: SafeVersion,
         room: usize,
     ) -> Result<Head, NoMemory>
         requires { replicas ≤ 64 }
-        ensures begun { IfOk result (λ head. head ≡ fresh_head master replicas (lone_start safe)) }
+        ensures begun { IfOk result (λ head. head ≡ fresh_head master replicas (lone_start format safe)) }
         ensures valid { IfOk result (λ head. IsHeadValue head) }
     {
         let taken = Vec::with_capacity(alloc, replicas)?;
-        let mut image = first_image(alloc, master, safe)?;
+        let mut image = first_image(alloc, master, format, safe)?;
         image.reserve(room)?;
         let base = image.bytes().len();
         Ok(Head {
@@ -298,15 +299,34 @@ impl Head {
 
 ghost use Rattle.log_head.specs.Head.{IsLagging};
 ghost use Rattle.log_head.specs.Steps.{lone_start};
-ghost use Rattle.log_model.specs.Data.{start_entries};
+ghost use Rattle.log_model.specs.Data.{digest_with, start_entries};
+ghost use Rattle.log_model.specs.Steps.{no_lens};
 
 /// The opening of a master's first head. Its digest lists that head alone.
-fn first_image(alloc: Global, master: u64, safe: SafeVersion) -> Result<Segment, NoMemory>
-    ensures { IfOk result (λ image. image ≡ start_entries master (lone_start safe)) }
+fn first_image(
+    alloc: Global,
+    master: u64,
+    format: u64,
+    safe: SafeVersion,
+) -> Result<Segment, NoMemory>
+    ensures { IfOk result (λ image. image ≡ start_entries master (lone_start format safe)) }
 {
+    let digest = first_digest(alloc, format)?;
+    Segment::begin_head(alloc, master, 1, digest, safe)
+}
+
+/// The digest of a master's first head. Its own length is that of its opening.
+fn first_digest(alloc: Global, format: u64) -> Result<Digest, NoMemory>
+    ensures { IfOk result (λ digest. digest ≡ digest_with [] (no_lens format) 1) }
+{
+    if format == 2 {
+        let mut segments = Vec::with_capacity(alloc, 1)?;
+        segments.push(Listed { id: 1, len: 48 })?;
+        return Ok(Digest::Lengths(Lengths::new(segments)));
+    }
     let mut ids = Vec::with_capacity(alloc, 1)?;
     ids.push(1)?;
-    Segment::begin_head(alloc, master, 1, &Ids::new(ids), safe)
+    Ok(Digest::Ids(Ids::new(ids)))
 }
 
 /// The first place of the least number, if that is below `units`.

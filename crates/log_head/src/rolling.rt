@@ -1,21 +1,24 @@
 //! What a head pushes next, and how it rolls to the next head.
 
 ghost use Rattle.std.specs.Prelude.{◌≡◌, ◌+◌, ◌<◌, ◌≤◌, ◌++◌, ◌∷◌, [], ℕ, List, None, Some, true, length, IfOk, IfSome};
-ghost use Rattle.std.specs.Prelude.{IsSome, OnOk, OnErr, is_some, vec_len, vec_capacity};
+ghost use Rattle.std.specs.Prelude.{IsSome, OnOk, OnErr, is_some, vec_len, vec_capacity, ◌⊎◌, ◌==◌, if◌then◌else◌};
+ghost use Rattle.std.specs.Prelude.{unwrap_or};
+ghost use Rattle.entry.specs.Limits.{ids_in};
+ghost use Rattle.entry.specs.Text.{text_of, lists_lengths, IsSegment};
 ghost use Rattle.std.specs.List.Sorted.{IsStrictlyIncreasing};
 ghost use Rattle.std.specs.Option.{option_len, option_to_list};
 ghost use Rattle.entry.specs.View.{shown_ids};
-ghost use Rattle.log_model.specs.Data.{start_entries};
+ghost use Rattle.log_model.specs.Data.{digest_with, start_entries};
 ghost use Rattle.log_model.specs.Ids.{has, all_inserted, without};
 ghost use Rattle.replica.specs.Op.{shown_op};
-ghost use Rattle.log_head.specs.Head.{digest_of, is_open, is_up_to, lacks_to, record_at, IsHeadValue};
+ghost use Rattle.log_head.specs.Head.{digest_in, digest_of, is_open, is_up_to, lacks_to, record_at, IsHeadValue};
 ghost use Rattle.log_head.specs.Next.{IsNextPush, op_of};
 ghost use Rattle.log_head.specs.Steps.{start_after, others_after, with_roll, with_new_replica, with_closed_replica};
-ghost use Rattle.log_head.specs.Steps.{old_image};
+ghost use Rattle.log_head.specs.Steps.{old_image, len_after, lens_after, IsLen, AreListedBy, listed_some};
 
 use crate::head::{Head, Roll};
 use crate::next::Next;
-use entry::{DigestRef, Ids, NoMemory, SafeVersion};
+use entry::{Digest, DigestRef, Ids, Lengths, Listed, NoMemory, SafeVersion};
 use replica::{Act, Op};
 use segment::Segment;
 use std::alloc::Global;
@@ -28,6 +31,8 @@ pub struct Leaving<'a> {
     pub victims: &'a [u64],
     /// The id that it takes in, at its place.
     pub survivor: Option<u64>,
+    /// How many bytes that segment has.
+    pub survivor_len: u64,
 }
 
 /// The memory of the two images of a roll.
@@ -128,12 +133,15 @@ impl Head {
         let leaving = Leaving {
             victims: &[],
             survivor: None,
+            survivor_len: 0,
         };
         next_ids(alloc, &self.image, leaving)
     }
 
     /// Begins a roll to the head with this id. Its digest lists the ids of the digest in force, less the victims and
-    /// with the survivor, and then the id. An ordinary roll has no victims and no survivor. A refusal changes nothing.
+    /// with the survivor, and then the id. If the digest in force lists lengths, so does it: this head's is that of its
+    /// image, and the new head's is that of its opening. An ordinary roll has no victims and no survivor. A refusal
+    /// changes nothing.
     pub fn begin_roll(
         &mut self,
         alloc: Global,
@@ -147,13 +155,15 @@ impl Head {
         requires some { 0 < self.old.replicas }
         requires rise { IsStrictlyIncreasing (others_after self.old.image leaving ++ id ∷ []) }
         requires count { length (others_after self.old.image leaving) < 262144 }
+        requires len { IfSome leaving.survivor (λ s. IsLen leaving.survivor_len) }
         ensures begun { let survivors = option_to_list leaving.entry.survivor in
-            let start = start_after self.old leaving.entry.victims.now survivors id safe in
+            let len = leaving.entry.survivor_len in
+            let start = start_after self.old leaving.entry.victims.now survivors len id safe in
             OnOk result (self.new ≡ with_roll self.old master start) }
         ensures valid { OnOk result (IsHeadValue self.new) }
         ensures err { OnErr result (self.new ≡ self.old) }
     {
-        let mut image = next_image(alloc, &self.image, master, id, safe, leaving)?;
+        let mut image = next_image(alloc, self.id, &self.image, master, id, safe, leaving)?;
         let RollMemory { spare, room, kept } = memory;
         if let Some(spare) = spare {
             image.move_into(spare);
@@ -281,9 +291,10 @@ fn push_some(ids: &mut Vec<u64>, id: Option<u64>)
     }
 }
 
-/// The opening of the head with this id.
+/// The opening of the head with this id, after the head `old`.
 fn next_image(
     alloc: Global,
+    old: u64,
     image: &Segment,
     master: u64,
     id: u64,
@@ -292,10 +303,136 @@ fn next_image(
 ) -> Result<Segment, NoMemory>
     requires rise { IsStrictlyIncreasing (others_after image.now leaving ++ id ∷ []) }
     requires count { length (others_after image.now leaving) < 262144 }
+    requires segment { IsSegment image.now }
+    requires limit { length (text_of image.now) ≤ 8388608 }
+    requires len { IfSome leaving.survivor (λ s. IsLen leaving.survivor_len) }
     ensures { let others = others_after image.now leaving.entry in
-        IfOk result (λ next. next ≡ start_entries master (record { id = id; others = others; safe = safe })) }
+        let lens = lens_after old image.now (option_to_list leaving.entry.survivor) leaving.entry.survivor_len others in
+        IfOk result (λ next. next
+        ≡ start_entries master (record { id = id; others = others; lens = lens; safe = safe })) }
 {
+    let digest = next_digest(alloc, old, image, id, leaving)?;
+    Segment::begin_head(alloc, master, id, digest, safe)
+}
+
+/// The digest of the head with this id.
+fn next_digest(
+    alloc: Global,
+    old: u64,
+    image: &Segment,
+    id: u64,
+    leaving: Leaving<'_>,
+) -> Result<Digest, NoMemory>
+    requires rise { IsStrictlyIncreasing (others_after image.now leaving ++ id ∷ []) }
+    requires count { length (others_after image.now leaving) < 262144 }
+    requires segment { IsSegment image.now }
+    requires limit { length (text_of image.now) ≤ 8388608 }
+    requires len { IfSome leaving.survivor (λ s. IsLen leaving.survivor_len) }
+    ensures { let others = others_after image.now leaving.entry in
+        let lens = lens_after old image.now (option_to_list leaving.entry.survivor) leaving.entry.survivor_len others in
+        IfOk result (λ digest. digest ≡ digest_with others lens id) }
+{
+    if lists_lengths(image) {
+        let mut segments = next_segments(alloc, old, image, leaving)?;
+        let len = 32 + 16 * (segments.len() as u64 + 1);
+        segments.push_reserved(Listed { id, len });
+        return Ok(Digest::Lengths(Lengths::new(segments)));
+    }
     let mut ids = next_ids(alloc, image, leaving)?;
     ids.push_reserved(id);
-    Segment::begin_head(alloc, master, id, &Ids::new(ids), safe)
+    Ok(Digest::Ids(Ids::new(ids)))
+}
+
+/// Whether the digest in force lists lengths.
+fn lists_lengths(image: &Segment) -> bool
+    ensures { result ≡ lists_lengths (digest_in image.now) }
+{
+    match image.view().digest() {
+        Some(digest) => digest.lists_lengths(),
+        None => false,
+    }
+}
+
+/// The segments of the next head's digest but for its own, in a vector that has room for one more.
+fn next_segments(
+    alloc: Global,
+    old: u64,
+    image: &Segment,
+    leaving: Leaving<'_>,
+) -> Result<Vec<Listed>, NoMemory>
+    requires lists { lists_lengths (digest_in image.now) ≡ true }
+    requires segment { IsSegment image.now }
+    requires limit { length (text_of image.now) ≤ 8388608 }
+    requires len { IfSome leaving.survivor (λ s. IsLen leaving.survivor_len) }
+    ensures ids { IfOk result (λ segments. ids_in segments.items ≡ others_after image.now leaving.entry) }
+    ensures lens { let survivors = option_to_list leaving.entry.survivor in
+        let len = len_after old image.now survivors leaving.entry.survivor_len in
+        IfOk result (λ segments. AreListedBy len segments.items) }
+    ensures room { IfOk result (λ segments. vec_len segments < vec_capacity segments) }
+{
+    let mut waits = leaving.survivor;
+    let Some(digest) = image.view().digest() else {
+        unreachable!();
+    };
+    let whole = image.bytes_len() as u64;
+    let left = count_left(&digest, leaving.victims);
+    let mut segments = Vec::with_capacity(alloc, left + waits.is_some() as usize + 1)?;
+    let listed = digest.count();
+    for place in 0..listed {
+        let segment = digest.id(place);
+        if is_victim(leaving.victims, segment) {
+            continue;
+        }
+        waits = list_before(&mut segments, waits, leaving.survivor_len, segment);
+        let len = len_of(leaving, old, whole, segment, digest.len(place));
+        segments.push_reserved(Listed { id: segment, len });
+    }
+    list_some(&mut segments, waits, leaving.survivor_len);
+    Ok(segments)
+}
+
+/// The length that the next digest lists for a segment that has this one in the digest in force.
+fn len_of(leaving: Leaving<'_>, old: u64, whole: u64, id: u64, listed: Option<u64>) -> u64
+    ensures { result ≡ (if has (option_to_list leaving.entry.survivor) id then leaving.entry.survivor_len
+        else if id == old then whole else unwrap_or listed whole) }
+{
+    if leaving.survivor == Some(id) {
+        return leaving.survivor_len;
+    }
+    if id == old {
+        return whole;
+    }
+    listed.unwrap_or(whole)
+}
+
+/// Pushes the segment that waits, if its id is less than this one. What waits from then on is the result.
+fn list_before(segments: &mut Vec<Listed>, waits: Option<u64>, len: u64, id: u64) -> Option<u64>
+    requires { vec_len segments.old + option_len waits ≤ vec_capacity segments.old }
+    ensures waits { (result ≡ None) ⊎ (result ≡ waits) }
+    ensures lens { (f : ℕ → ℕ) → IfSome waits (λ s. IsLen len × (len ≡ f s)) → AreListedBy f segments.old.items
+        → AreListedBy f segments.new.items }
+    ensures ids { (rest : List ℕ) → ids_in segments.new.items ++ id ∷ all_inserted (option_to_list result) rest
+        ≡ ids_in segments.old.items ++ all_inserted (option_to_list waits) (id ∷ rest) }
+    ensures capacity { vec_capacity segments.new ≡ vec_capacity segments.old }
+{
+    match waits {
+        Some(other) if other < id => {
+            segments.push_reserved(Listed { id: other, len });
+            None
+        }
+        _ => waits,
+    }
+}
+
+/// Pushes a segment, if there is one.
+fn list_some(segments: &mut Vec<Listed>, id: Option<u64>, len: u64)
+    requires { vec_len segments.old + option_len id ≤ vec_capacity segments.old }
+    ensures items { segments.new.items ≡ segments.old.items ++ listed_some id len }
+    ensures lens { (f : ℕ → ℕ) → IfSome id (λ s. IsLen len × (len ≡ f s)) → AreListedBy f segments.old.items
+        → AreListedBy f segments.new.items }
+    ensures capacity { vec_capacity segments.new ≡ vec_capacity segments.old }
+{
+    if let Some(id) = id {
+        segments.push_reserved(Listed { id, len });
+    }
 }

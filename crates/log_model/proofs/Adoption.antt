@@ -115,6 +115,8 @@ adopted_is_kept d p st is = record {
       opened = λ older. no_units_length d.config.replicas;
       under_way = subst (IsUnderWay d.config.replicas) (sym is.ready) tt;
       new = λ n new. absurd (none_new d p st is n new);
+      lens = is.held.logged.lens;
+      new_lens = λ n new. absurd (none_new d p st is n new);
       whole = λ some. let none = ap (opened_of d.config.replicas) is.ready in absurd (omega arith);
     };
     mirrored = mirrored d p st is;

@@ -15,10 +15,12 @@ use Rattle.log_model.specs.Log.{Texts, IsSegmentOf, IsHeadLog, IsWhole, IsNewLog
 use Rattle.log_model.specs.Mirror.{head_replica, IsReplica, IsMirrored}
 use Rattle.log_model.specs.Steps.{with_unit, with_appended, MayAppend, texts_appended}
 use Rattle.log_model.proofs.Fronts.{unit_front, unit_longer, unit_entries}
+use Rattle.log_model.proofs.Lengths.{lens_each, lens_other}
+use Rattle.log_model.proofs.Lists.{below_at}
 use Rattle.log_model.proofs.Replicas.{older_no_head}
 use Rattle.log_model.proofs.SameTexts.{still_new, still_older}
 use Rattle.log_model.proofs.Segments.{both_of_tablets, units_all}
-use Rattle.log_model.proofs.Texts.{text_there, text_other}
+use Rattle.log_model.proofs.Texts.{text_there, text_other, text_again}
 
 -- while a roll is under way nothing is appended
 pub quiet : (d : LogData) (unit : List Entry) → MayAppend d unit → (n : Start) → new_of d.phase ≡ Some n → unit ≡ []
@@ -148,7 +150,18 @@ module _ (d : LogData) (texts : Texts) (p : Picture) (history : List Record) (un
   append_held : IsLogHeld e texts_now p
   append_held = record {
     placed = held.placed;
-    logged = record { head = head_log; opened = log.opened; under_way = log.under_way; new = new_log; whole = whole };
+    logged = record {
+      head = head_log;
+      opened = log.opened;
+      under_way = log.under_way;
+      new = new_log;
+      lens = log.lens ∙ lens_other d.config.format texts id (texts id ++ unit) d.head.start.others
+          (λ m. let lt = below_at id d.head.start.others id log.head.below m in omega arith);
+      new_lens = λ n is_new. log.new_lens n is_new
+          ∙ lens_each d.config.format texts texts_now n.others (λ s m. sym (text_again texts id (texts id ++ unit) s
+          (sym (ap (λ (u : List Entry). texts id ++ u) (quiet d unit may n is_new) ∙ append-nil (texts id)))));
+      whole = whole;
+    };
     mirrored = record {
       each = λ b s q there. each_then b s q (mir.each b s q there);
       head = λ j count b home is.

@@ -8,9 +8,9 @@ use Rattle.std.proofs.lemmas.Grind.{flat_map-append}
 use Rattle.std.proofs.lemmas.Option.{same_Some}
 use Rattle.entry.specs.declared.entry.Entry.{Entry}
 use Rattle.entry.specs.Bag.{IsAmong}
-use Rattle.entry.specs.Text.{is_data, data_in, Opening, opening_in, opening_of}
+use Rattle.entry.specs.Text.{is_data, data_in, Opening, opening_in, opening_of, listed_ids}
 use Rattle.replica.specs.declared.holding.Holding.{Holding}
-use Rattle.replica.specs.Picture.{Replica, Picture, left_on, IsHeld}
+use Rattle.replica.specs.Picture.{Replica, Picture, left_on, shown_by, IsHeld}
 use Rattle.replica.specs.Choice.{Choice, IsUsableOf, bag_of}
 use Rattle.versioned_map.specs.Represents.{Represents}
 use Rattle.versioned_map.specs.Versioned.{State}
@@ -22,6 +22,7 @@ use Rattle.log_model.specs.Mirror.{IsHeadReplica, IsNewReplica, IsOlder, IsRepli
 use Rattle.log_model.specs.Sound.{IsSurvivingChoice}
 use Rattle.log_model.proofs.Counts.{before_le, before_rise, fewest_below}
 use Rattle.log_model.proofs.Fronts.{after_all}
+use Rattle.log_model.proofs.Lengths.{ids_listed}
 use Rattle.log_model.proofs.Lists.{same_front, among_data}
 use Rattle.log_model.proofs.Replicas.{opening_for, IsAll, head_segment, head_bears, head_data, new_bears, new_data}
 use Rattle.log_model.proofs.Replicas.{older_bears, other_all, new_other_all}
@@ -98,7 +99,7 @@ module _ (d : LogData) (texts : Texts) (p : Picture) (held : IsLogHeld d texts p
               (λ e k m at. here.segment.keys e k (among_data e (texts s) m) at) more.keys;
         }
 
-    module _ (c : Choice) (choice : IsSurvivingChoice d p keep c) where
+    module _ (c : Choice) (choice : IsSurvivingChoice d (shown_by p) keep c) where
       abbrev chosen : Replica
       chosen = shown_in c.head
 
@@ -118,7 +119,7 @@ module _ (d : LogData) (texts : Texts) (p : Picture) (held : IsLogHeld d texts p
 
         ids : map (λ (h : Holding). h.segment) c.others ≡ n.others
         ids = same_front (map (λ (h : Holding). h.segment) c.others) n.others c.head.segment n.id
-            (choice.ids ∙ ap (λ (o : Opening). o.ids) opening)
+            (choice.ids ∙ ap (λ (o : Opening). listed_ids o.digest) opening ∙ ids_listed n)
 
         -- and whose other segments are whole
         module _ (all : AreAll n.others) (es : List Entry) (own : data_in c.head.bytes ≡ es) (count : ℕ)

@@ -181,6 +181,8 @@ module _ (d : LogData) (texts : Texts) (p : Picture) (held : IsLogHeld d texts p
         opened = log.opened;
         under_way = more;
         new = λ m is. log.new m (is_new ∙ is);
+        lens = log.lens;
+        new_lens = λ m is. log.new_lens m (is_new ∙ is);
         whole = λ some. whole;
       };
       mirrored = record {
@@ -305,6 +307,8 @@ module _ (d : LogData) (texts : Texts) (p : Picture) (held : IsLogHeld d texts p
             opened = λ older. size;
             under_way = tt;
             new = λ m is. absurd (cc);
+            lens = log.new_lens n is_new;
+            new_lens = λ m is. absurd (cc);
             whole = λ none. absurd (omega arith);
           };
           mirrored = record {

@@ -172,6 +172,8 @@ module _ (d : LogData) (texts : Texts) (p : Picture) (held : IsLogHeld d texts p
         opened = opened_then;
         under_way = log.under_way;
         new = log.new;
+        lens = log.lens;
+        new_lens = log.new_lens;
         whole = λ some. absurd (lacks (log.whole some));
       };
       mirrored = record {

@@ -1,5 +1,6 @@
 pub mod Lists
 pub mod Texts
+pub mod Lengths
 pub mod Pictures
 pub mod Segments
 pub mod Counts

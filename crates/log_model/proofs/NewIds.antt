@@ -1,5 +1,5 @@
 -- The text of a segment that no digest names is changed, and an id is taken for one.
-use Rattle.std.proofs.Common.{refl, ℕ, suc, inl, inr, List, [], ◌++◌, sym, subst, arith}
+use Rattle.std.proofs.Common.{refl, ℕ, suc, inl, inr, List, [], ◌++◌, sym, subst, ◌∙◌, arith}
 use Rattle.entry.specs.declared.entry.Entry.{Entry}
 use Rattle.replica.specs.Picture.{Replica, Picture}
 use Rattle.versioned_map.specs.Represents.{Represents}
@@ -10,6 +10,7 @@ use Rattle.log_model.specs.Log.{Texts, with_text, state_before, IsLogged, IsStan
 use Rattle.log_model.specs.Mirror.{IsReplica, IsOther}
 use Rattle.log_model.specs.Spares.{IsFree}
 use Rattle.log_model.specs.Steps.{id_taken, texts_taken}
+use Rattle.log_model.proofs.Lengths.{lens_other}
 use Rattle.log_model.proofs.Lists.{below_at}
 use Rattle.log_model.proofs.PastHeads.{id_taken_is_past}
 use Rattle.log_model.proofs.SameTexts.{still_head, still_new, still_older}
@@ -29,6 +30,9 @@ module _ (d : LogData) (texts : Texts) (s : ℕ) (es : List Entry) (free : IsFre
     under_way = log.under_way;
     new = λ n is. still_new d.config d.next d.next texts texts_now (omega arith) d.head.start.id n
         (text_other texts s es n.id (λ e. free.new n is (sym e))) (log.new n is);
+    lens = log.lens ∙ lens_other d.config.format texts s es d.head.start.others (λ m. free.others (inl m));
+    new_lens = λ n is. log.new_lens n is
+        ∙ lens_other d.config.format texts s es n.others (λ m. free.others (inr (n, is, m, free.head)));
     whole = log.whole;
   }
 
@@ -68,6 +72,8 @@ logged_later d texts log = record {
   under_way = log.under_way;
   new = λ n is.
       still_new d.config d.next (suc d.next) texts texts (omega arith) d.head.start.id n refl (log.new n is);
+  lens = log.lens;
+  new_lens = log.new_lens;
   whole = log.whole;
 }
 

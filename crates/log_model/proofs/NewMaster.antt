@@ -11,17 +11,21 @@ use Rattle.log_model.specs.Kept.{IsLogHeld, IsPast}
 use Rattle.log_model.specs.Laws.{FreshIsKept}
 use Rattle.log_model.specs.Log.{Texts, IsPlaced, IsHeadLog, IsStanding}
 use Rattle.log_model.specs.Mirror.{IsOther, IsMirrored}
-use Rattle.log_model.specs.Steps.{fresh, MayBegin}
+use Rattle.log_model.specs.Steps.{no_lens, fresh, MayBegin}
 use Rattle.log_model.proofs.PastHeads.{rises_none}
 use Rattle.log_model.proofs.Segments.{start_segment}
 
+-- its first head, which records this safe version
+abbrev pub first_with : LogConfig → ℕ → Start
+first_with c safe = record { id = 1; others = []; lens = no_lens c.format; safe = safe }
+
 -- whatever safe version its head records, and whatever its opening is
 module _ (c : LogConfig) (p : Picture) (safe : ℕ) (st : State) (placed : IsPlaced c)
-    (segment : IsSegment (start_entries c.master (record { id = 1; others = []; safe = safe })))
-    (limit : length (text_of (start_entries c.master (record { id = 1; others = []; safe = safe }))) ≤ 8388608)
+    (segment : IsSegment (start_entries c.master (first_with c safe)))
+    (limit : length (text_of (start_entries c.master (first_with c safe))) ≤ 8388608)
     (nothing : (b s : ℕ) → p b c.master s ≡ None) where
   abbrev start : Start
-  start = record { id = 1; others = []; safe = safe }
+  start = first_with c safe
 
   abbrev d : LogData
   d = record {
@@ -68,6 +72,8 @@ module _ (c : LogConfig) (p : Picture) (safe : ℕ) (st : State) (placed : IsPla
       opened = λ older. absurd (older refl);
       under_way = tt;
       new = λ n is. absurd (cc);
+      lens = refl;
+      new_lens = λ n is. absurd (cc);
       whole = λ none. absurd (omega arith);
     };
     mirrored = mirrored;

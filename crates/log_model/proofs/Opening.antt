@@ -157,6 +157,8 @@ module _ (d : LogData) (texts : Texts) (p : Picture) (held : IsLogHeld d texts p
         opened = log.opened;
         under_way = more.under_way;
         new = λ m is. log.new m (its_new m is);
+        lens = log.lens;
+        new_lens = λ m is. log.new_lens m (its_new m is);
         whole = λ some. whole;
       };
       mirrored = record {

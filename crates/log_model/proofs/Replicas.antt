@@ -5,11 +5,12 @@ use Rattle.std.proofs.lemmas.Option.{same_Some, slice_get-get_or, slice_get_with
 use Rattle.entry.specs.declared.entry.Entry.{Entry}
 use Rattle.entry.specs.Bag.{IsAmong}
 use Rattle.entry.specs.Meaning.{among}
-use Rattle.entry.specs.Text.{is_data, data_in, Opening, opening_in, opening_of}
+use Rattle.entry.specs.Text.{text_of, is_data, data_in, Opening, opening_in, opening_of}
 use Rattle.entry.proofs.BagLemmas.{among_right, among_push}
 use Rattle.replica.specs.Picture.{Replica, Picture, shown_by}
 use Rattle.replica.specs.Survival.{HoldsHead}
-use Rattle.log_model.specs.Data.{Start, Phase, Ready, Opened, Closed, LogData, IsHome, ids_of, start_entries}
+use Rattle.log_model.specs.Data.{Start, Phase, Ready, Opened, Closed, LogData, IsHome, digest_for}
+use Rattle.log_model.specs.Data.{start_entries}
 use Rattle.log_model.specs.Data.{front_entries, head_entries, new_of, opened_of, closed_of}
 use Rattle.log_model.specs.Kept.{IsLogHeld}
 use Rattle.log_model.specs.Laws.{ReplicasAreTexts, DigestIsWhole}
@@ -22,7 +23,7 @@ use Rattle.log_model.proofs.Segments.{reads_opening, reads_data, is_text, front_
 
 -- the opening of a head
 abbrev pub opening_for : Start → Opening
-opening_for n = record { ids = ids_of n; safe = n.safe }
+opening_for n = record { digest = digest_for n; safe = n.safe }
 
 -- there is one new head
 pub one_new : (ph : Phase) (n m : Start) → new_of ph ≡ Some n → new_of ph ≡ Some m → n ≡ m
@@ -187,23 +188,26 @@ module _ (d : LogData) (texts : Texts) (p : Picture) (held : IsLogHeld d texts p
 
   pub bearing : (b t : ℕ) → HoldsHead (shown_by p) master b t → Bearing b t
   bearing b t holds =
-      let given = some_given (p b master t) (λ (r : Replica). IsSome (opening_in r.bytes)) holds.bears in
+      let given = some_given (p b master t) (λ (r : Replica). IsSome (opening_in r.bytes)) holds in
       bears_one b t given.0 given.2 (mir.each b t given.0 given.1)
 
   -- ---- segments that a choice takes whole
 
   -- This replica is the whole text of its segment.
   pub record IsAll (s : ℕ) (r : Replica) : Type 0 where
+    pub bytes : r.bytes ≡ text_of (texts s)
     pub entries : data_in r.bytes ≡ filter is_data (texts s)
     pub segment : IsSegmentOf d.config s (texts s)
 
   older_all : (s : ℕ) (r : Replica) → IsOlder d.config d.next id texts s r → IsAll s r
-  older_all s r is = record { entries = older_data s r is; segment = is.segment }
+  older_all s r is = record { bytes = is.bytes; entries = older_data s r is; segment = is.segment }
 
   -- a replica of the head that has all units
   head_all : (b : ℕ) (r : Replica) (is : IsHeadReplica d.config d.head (closed_of d.phase) b r)
       → is.count ≡ length d.head.units → IsAll id r
   head_all b r is all = record {
+    bytes = ap (λ (q : Replica). q.bytes) is.same ∙ ap (λ (k : ℕ). text_of (head_entries master d.head k)) all
+        ∙ sym (ap text_of log.head.text);
     entries = head_data b r is ∙ ap (front_entries d.head) all
         ∙ sym (ap (filter is_data) log.head.text
         ∙ front_data d.config d.head (length d.head.units) (head_segment (length d.head.units)));

@@ -7,7 +7,7 @@ use Rattle.std.proofs.lemmas.Grind.{flat_map-append}
 use Rattle.std.proofs.lemmas.Option.{same_Some}
 use Rattle.entry.specs.declared.entry.Entry.{Entry}
 use Rattle.entry.specs.Bag.{IsAmong}
-use Rattle.entry.specs.Text.{is_data}
+use Rattle.entry.specs.Text.{text_of, is_data}
 use Rattle.entry.proofs.BagLemmas.{among_push}
 use Rattle.replica.specs.Picture.{Replica, Picture}
 use Rattle.versioned_map.specs.Represents.{Represents}
@@ -16,10 +16,12 @@ use Rattle.log_model.specs.Data.{Start, LogData, IsHome, ids_of, start_entries, 
 use Rattle.log_model.specs.Data.{closed_of, state_of}
 use Rattle.log_model.specs.Kept.{IsLogHeld}
 use Rattle.log_model.specs.Laws.{RollingIsHeld, RollingIsStanding, RollingIsKept, OrdinaryIsRoll}
-use Rattle.log_model.specs.Log.{Texts, base_of, state_before, IsSegmentOf, IsNewLog, IsLogged, IsStanding}
+use Rattle.log_model.specs.Log.{Texts, base_of, lens_in, state_before, IsSegmentOf, AreLens, IsNewLog, IsLogged}
+use Rattle.log_model.specs.Log.{IsStanding}
 use Rattle.log_model.specs.Mirror.{head_replica, IsHeadReplica, IsReplica, IsOther, IsMirrored}
-use Rattle.log_model.specs.Steps.{next_start, rolling, texts_rolling, MayRoll, IsRoll}
+use Rattle.log_model.specs.Steps.{head_len, len_now, next_start, rolling, texts_rolling, MayRoll, IsRoll}
 use Rattle.log_model.proofs.Fronts.{present_stands}
+use Rattle.log_model.proofs.Lengths.{lens_other, lens_known, len_known}
 use Rattle.log_model.proofs.Lists.{below_at, all_below}
 use Rattle.log_model.proofs.PastHeads.{rolling_is_past}
 use Rattle.log_model.proofs.Replicas.{head_segment}
@@ -28,7 +30,7 @@ use Rattle.log_model.proofs.Segments.{start_segment, front_data, units_all}
 use Rattle.log_model.proofs.Texts.{text_there, text_other, base_other}
 
 module _ (d : LogData) (texts : Texts) (p : Picture) (n : Start) (held : IsLogHeld d texts p)
-    (roll : IsRoll d p n) where
+    (roll : IsRoll d texts p n) where
   abbrev log : IsLogged d texts
   log = held.logged
 
@@ -55,6 +57,17 @@ module _ (d : LogData) (texts : Texts) (p : Picture) (n : Start) (held : IsLogHe
       → base_of texts_now m.others ≡ base_of texts m.others
   same_base m below =
       base_other texts n.id (start_entries master n) m.others (λ k. let lt = below n.id k in omega arith)
+
+  -- ids of the digest in force are below the new one
+  old_below : (s : ℕ) → IsAmong s d.head.start.others → s < n.id
+  old_below s m =
+      let lt = below_at id d.head.start.others s log.head.below m in
+      let less = log.head.next in
+      let next = roll.next in omega arith
+
+  still_lens : (ids : List ℕ) → (IsAmong n.id ids → ⊥)
+      → lens_in d.config.format texts ids ≡ lens_in d.config.format texts_now ids
+  still_lens ids other = lens_other d.config.format texts n.id (start_entries master n) ids other
 
   -- ---- texts
 
@@ -98,6 +111,9 @@ module _ (d : LogData) (texts : Texts) (p : Picture) (n : Start) (held : IsLogHe
       opened = log.opened;
       under_way = held.placed.some;
       new = λ m is. subst (λ (x : Start). IsNewLog d.config (suc d.next) id texts_now x) (same_Some n m is) own_log;
+      lens = log.lens ∙ still_lens d.head.start.others (λ m. let lt = old_below n.id m in omega arith);
+      new_lens = λ m is. subst (AreLens d.config texts_now) (same_Some n m is)
+          (roll.lens ∙ still_lens n.others (λ m. let lt = below_at n.id n.others n.id roll.below m in omega arith));
       whole = λ none. absurd (omega arith);
     };
     mirrored = record {
@@ -123,16 +139,11 @@ module _ (d : LogData) (texts : Texts) (p : Picture) (n : Start) (held : IsLogHe
     numbers = standing.numbers;
     fronts = λ k le. subst (λ (b : List Entry). Represents d.head.start.safe (b ++ front_entries d.head k)
         (state_before d k))
-        (sym (same_base d.head.start (λ s m. old s m)))
+        (sym (same_base d.head.start old_below))
         (standing.fronts k le);
     new = λ m is. subst (λ (x : Start). Represents x.safe (base_of texts_now x.others) (state_of d))
         (same_Some n m is) (own_stands stands);
-  } where
-    old : (s : ℕ) → IsAmong s d.head.start.others → s < n.id
-    old s m =
-        let lt = below_at id d.head.start.others s log.head.below m in
-        let less = log.head.next in
-        let next = roll.next in omega arith
+  }
 
 pub rolling_is_held : RollingIsHeld
 rolling_is_held d texts p n held roll = rolling_held d texts p n held roll
@@ -177,11 +188,14 @@ whole_base d texts p held =
 
 -- an ordinary roll of a master that is still loading too
 pub ordinary_held : (d : LogData) (texts : Texts) (p : Picture) → IsLogHeld d texts p → MayRoll d
-    → IsRoll d p (next_start d)
+    → IsRoll d texts p (next_start d)
 ordinary_held d texts p held may = record {
   ready = may.ready;
   next = refl;
   below = all_below d.next (ids_of d.head.start) below;
+  lens = lens_known d.config texts d.head.start held.logged.lens (len_now d) (ids_of d.head.start)
+      (λ two s m. len_known d.config texts d.head.start held.logged.lens two (head_len d)
+      (ap (λ (es : List Entry). length (text_of es)) held.logged.head.text) s m);
   segment = may.segment;
   limit = may.limit;
   held = there;

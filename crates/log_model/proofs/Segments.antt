@@ -9,7 +9,7 @@ use Rattle.entry.specs.declared.key.Key.{Key}
 use Rattle.entry.specs.declared.entry.Header.{Header}
 use Rattle.entry.specs.declared.entry.Entry.{Entry}
 use Rattle.entry.specs.Text.{text_of, is_data, are_data, is_whole, ends_with, entries_in, data_in, header_of}
-use Rattle.entry.specs.Text.{opening_in, opening_of, IsSegment}
+use Rattle.entry.specs.Text.{opening_in, opening_of, listed_ids, IsSegment}
 use Rattle.entry.specs.Meaning.{IsOfKey, among}
 use Rattle.entry.specs.Tablet.{have_key}
 use Rattle.entry.proofs.TextLemmas.{entries_in-text}
@@ -17,7 +17,7 @@ use Rattle.entry.specs.Format.{IsEntry}
 use Rattle.entry.proofs.ListLemmas.{all_split}
 use Rattle.entry.proofs.BagLemmas.{among_left, among_either}
 use Rattle.segment.proofs.RowLemmas.{text_of-append}
-use Rattle.log_model.specs.Data.{LogConfig, Start, LogUnit, Head, ids_of, start_entries, entries_of, front_entries}
+use Rattle.log_model.specs.Data.{LogConfig, Start, LogUnit, Head, digest_for, start_entries, entries_of, front_entries}
 use Rattle.log_model.specs.Data.{head_entries}
 use Rattle.log_model.specs.Log.{AreOfTablets, IsSegmentOf}
 use Rattle.log_model.specs.Sound.{IsTextOfSegment}
@@ -90,8 +90,8 @@ start_segment c n segment limit = record {
 
 -- behind the opening come objects and tombstones
 pub start_order : (master : ℕ) (n : Start) (es : List Entry) → is_whole (start_entries master n ++ es) ≡ true
-    → (ends_with n.id (ids_of n) ≡ true) × (are_data es ≡ true)
-start_order master n es e = and_parts (ends_with n.id (ids_of n)) (are_data es) e
+    → (ends_with n.id (listed_ids (digest_for n)) ≡ true) × (are_data es ≡ true)
+start_order master n es e = and_parts (ends_with n.id (listed_ids (digest_for n))) (are_data es) e
 
 -- the first entries of a head's text are a head's text
 shorter : (c : LogConfig) (n : Start) (xs ys : List Entry)

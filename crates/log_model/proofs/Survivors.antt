@@ -1,27 +1,28 @@
 -- If both survive, what is left has a choice.
 use Rattle.std.proofs.Common.{◌≡◌, ℕ, zero, suc, ◌<◌, ◌≤◌, ◌⊎◌, inl, inr, Bool, true, false, cond, List, [], ◌∷◌, ◌++◌}
 use Rattle.std.proofs.Common.{length, map, Some, refl, sym, ap, subst, ◌∙◌, arith}
-use Rattle.std.specs.Prelude.{Option, None, IsSome, IsSomeAnd, slice_get, nat_lt}
+use Rattle.std.specs.Prelude.{Option, None, IfSome, IsSome, IsSomeAnd, slice_get, nat_lt}
 use Rattle.std.specs.List.{AllByRecursion}
 use Rattle.std.proofs.lemmas.Bool.{cases_eq}
 use Rattle.std.proofs.lemmas.Bool.Decides.{nat_tests}
 use Rattle.std.proofs.lemmas.Option.{slice_get_within}
 use Rattle.entry.specs.Bag.{IsAmong}
-use Rattle.entry.specs.Text.{Opening, opening_in}
+use Rattle.entry.specs.Text.{Opening, opening_in, listed_len}
 use Rattle.entry.proofs.BagLemmas.{among_left}
 use Rattle.replica.specs.declared.holding.Holding.{Holding}
 use Rattle.replica.specs.Picture.{Replica, Picture, left_on, shown_by, IsHeld}
 use Rattle.replica.specs.Choice.{Choice, IsUsableOf}
 use Rattle.replica.specs.Survival.{HoldsHead, IsHeadLeft, HeadSurvives, SegmentsSurvive, BothSurvive}
-use Rattle.log_model.specs.Data.{Start, LogData, IsHome, new_of, opened_of, closed_of}
+use Rattle.log_model.specs.Data.{Start, LogData, IsHome, digest_for, new_of, opened_of, closed_of}
 use Rattle.log_model.specs.Kept.{IsLogHeld}
 use Rattle.log_model.specs.Log.{Texts, IsLogged}
 use Rattle.log_model.specs.Mirror.{head_replica, new_replica, IsHeadReplica, IsNewReplica, HoldOnly, IsMirrored}
 use Rattle.log_model.specs.Sound.{IsSurvivingChoice}
 use Rattle.log_model.proofs.Choices.{held_by, shown_in}
+use Rattle.log_model.proofs.Lengths.{ids_listed, long_enough}
 use Rattle.log_model.proofs.Lists.{below_at, some_given, some_is}
 use Rattle.log_model.proofs.Replicas.{opening_for, one_new, head_bears, home_held, whole_held, new_bears}
-use Rattle.log_model.proofs.Replicas.{bearing}
+use Rattle.log_model.proofs.Replicas.{bearing, other_all, new_other_all}
 
 -- ---- homes that are left
 
@@ -65,12 +66,9 @@ left_or_not keep (x ∷ homes) (suc limit) = first (keep x) refl (left_or_not ke
 
 holds : (p : Picture) (master b s : ℕ) (r : Replica) (o : Opening) → p b master s ≡ Some r
     → opening_in r.bytes ≡ Some o → HoldsHead (shown_by p) master b s
-holds p master b s r o is bears = record {
-  bears =
-      subst (λ (x : Option Replica). IsSomeAnd x (λ (q : Replica). IsSome (opening_in q.bytes))) (sym is)
-      (subst IsSome (sym bears) refl);
-  usable = omega arith;
-}
+holds p master b s r o is bears =
+    subst (λ (x : Option Replica). IsSomeAnd x (λ (q : Replica). IsSome (opening_in q.bytes))) (sym is)
+    (subst IsSome (sym bears) refl)
 
 -- ---- a choice from a head that is left
 
@@ -96,24 +94,30 @@ shown_held : (p : Picture) (keep : ℕ → Bool) (b master s : ℕ) (r : Replica
 shown_held p keep b master s r is_kept there =
     ap (λ (t : Bool). cond t (p b master s) None) is_kept ∙ there
 
-module _ (p : Picture) (master : ℕ) (opening : Opening) (keep : ℕ → Bool) where
+module _ (p : Picture) (master : ℕ) (n : Start) (keep : ℕ → Bool) where
   abbrev Held : Holding → Type 0
-  Held h = IsHeld (left_on keep p) h × IsUsableOf master opening h
+  Held h = IsHeld (left_on keep p) h × IsUsableOf master (opening_for n) h
+
+  -- this replica of a listed segment may be used
+  abbrev IsLong : ℕ → Replica → Type 0
+  IsLong s r = IfSome (listed_len s (digest_for n)) (λ (len : ℕ). len ≤ length r.bytes)
 
   record Others (ids : List ℕ) : Type 0 where
     hs : List Holding
     ids_are : map (λ (h : Holding). h.segment) hs ≡ ids
     each : AllByRecursion Held hs
 
-  others_found : (ids : List ℕ) → ((id : ℕ) → IsAmong id ids → Found p master keep id) → Others ids
-  others_found [] all = record { hs = []; ids_are = refl; each = tt }
-  others_found (id ∷ ids) all =
+  others_found : (ids : List ℕ) → ((id : ℕ) → IsAmong id ids → Found p master keep id)
+      → ((b id : ℕ) (r : Replica) → IsAmong id ids → p b master id ≡ Some r → IsLong id r) → Others ids
+  others_found [] all long = record { hs = []; ids_are = refl; each = tt }
+  others_found (id ∷ ids) all long =
       let here = all id (inl refl) in
-      let rest = others_found ids (λ t m. all t (inr m)) in
+      let rest = others_found ids (λ t m. all t (inr m)) (λ b t r m there. long b t r (inr m) there) in
+      let usable = long here.b id here.r (inl refl) here.there in
       record {
         hs = shown_as here.b master id here.r ∷ rest.hs;
         ids_are = ap (λ (l : List ℕ). id ∷ l) rest.ids_are;
-        each = ((shown_held p keep here.b master id here.r here.is_kept here.there, (refl, tt)), rest.each);
+        each = ((shown_held p keep here.b master id here.r here.is_kept here.there, (refl, inr usable)), rest.each);
       }
 
 -- a head that is left, open, and the newest
@@ -128,6 +132,9 @@ record HeadFound (d : LogData) (p : Picture) (keep : ℕ → Bool) : Type 0 wher
   newest : (t : ℕ) → IsHeadLeft (shown_by p) d.config.master keep t → t ≤ n.id
   others : (id b : ℕ) → IsAmong id n.others → IsHome d id b → (q : Replica) × (p b d.config.master id ≡ Some q)
   below : (id : ℕ) → IsAmong id n.others → id < n.id
+  -- each replica of another id is as long as the digest says
+  long : (b id : ℕ) (q : Replica) → IsAmong id n.others → p b d.config.master id ≡ Some q
+      → IsLong p d.config.master n keep id q
 
 module _ (d : LogData) (p : Picture) (keep : ℕ → Bool)
     (segments : SegmentsSurvive (IsHome d) (shown_by p) d.config.master keep)
@@ -142,16 +149,15 @@ module _ (d : LogData) (p : Picture) (keep : ℕ → Bool)
         is_kept = h.is_kept;
         held = h.there;
         bears = h.bears;
-        usable = omega arith;
         newest = h.newest;
-      }) id (among_left id h.n.others (h.n.id ∷ []) m) (λ e. omega arith) in
+      }) id (subst (IsAmong id) (sym (ids_listed h.n)) (among_left id h.n.others (h.n.id ∷ []) m)) (λ e. omega arith) in
       let there = h.others id left.0 m left.1 in
       record { b = left.0; r = there.0; is_kept = left.2; there = there.1 }
 
-  chosen : Others p d.config.master (opening_for h.n) keep h.n.others
-  chosen = others_found p d.config.master (opening_for h.n) keep h.n.others other_left
+  chosen : Others p d.config.master h.n keep h.n.others
+  chosen = others_found p d.config.master h.n keep h.n.others other_left h.long
 
-  choose : (c : Choice) × IsSurvivingChoice d p keep c
+  choose : (c : Choice) × IsSurvivingChoice d (shown_by p) keep c
   choose = (
     record { opening = opening_for h.n; head = shown_as h.b d.config.master h.n.id h.r; others = chosen.hs },
     record {
@@ -166,7 +172,7 @@ module _ (d : LogData) (p : Picture) (keep : ℕ → Bool)
           let heads = holds p d.config.master g.backup g.segment (shown_in g) opening.0 there.1 opening.1 in
           h.newest g.segment (g.backup, there.0, heads);
       others = chosen.each;
-      ids = ap (λ (l : List ℕ). l ++ h.n.id ∷ []) chosen.ids_are;
+      ids = ap (λ (l : List ℕ). l ++ h.n.id ∷ []) chosen.ids_are ∙ sym (ids_listed h.n);
     },
   )
 
@@ -239,6 +245,8 @@ module _ (d : LogData) (texts : Texts) (p : Picture) (held : IsLogHeld d texts p
           | inr other ↦ some_is (p b master s) (mir.others s b (inr (n, is_new, m, other)) home)
         ];
         below = λ s m. below_at n.id n.others s (log.new n is_new).below m;
+        long = λ b s q m there. long_enough d.config texts n (log.new_lens n is_new) s m q.bytes
+            (new_other_all d texts p held n is_new (log.whole (omega arith)) b s q m there).bytes;
       }
 
   -- the head in force, open, if no replica of a new one is left
@@ -262,6 +270,8 @@ module _ (d : LogData) (texts : Texts) (p : Picture) (held : IsLogHeld d texts p
         ];
         others = λ s c m home. some_is (p c master s) (mir.others s c (inl m) home);
         below = λ s m. below_at id d.head.start.others s log.head.below m;
+        long = λ c s q m there. long_enough d.config texts d.head.start log.lens s m q.bytes
+            (other_all d texts p held c s q m there).bytes;
       }
 
   -- a head that is left is that in force, if no replica of a new one is left and it isn't older
@@ -318,8 +328,8 @@ module _ (d : LogData) (texts : Texts) (p : Picture) (held : IsLogHeld d texts p
   first_survives : NoNew → closed ≡ 0 → HoldOnly p master id
       → HeadSurvives (IsHome d) None (shown_by p) master keep → HeadFound d p keep
   first_survives no_new shut only survives =
-      let left = survives.1 in
-      let given = some_given (p left.0 master survives.0) (λ (r : Replica). IsSome (opening_in r.bytes)) left.2.bears in
+      let left = survives.2 in
+      let given = some_given (p left.0 master survives.0) (λ (r : Replica). IsSome (opening_in r.bytes)) left.2 in
       let same = only left.0 survives.0 given.0 given.1 in old_by_left no_new shut survives.0 (omega arith) left
 
   module _ (o : Option ℕ) (survives : HeadSurvives (IsHome d) o (shown_by p) master keep) where
@@ -334,7 +344,7 @@ module _ (d : LogData) (texts : Texts) (p : Picture) (held : IsLogHeld d texts p
     old_found_by no_new (inr (shut, inr x)) = first_survives no_new shut x.0 (survives_as None x.1)
 
   pub surviving_choice : (o : Option ℕ) → IsOnHomes d p o → BothSurvive (IsHome d) o (shown_by p) master keep
-      → (c : Choice) × IsSurvivingChoice d p keep c
+      → (c : Choice) × IsSurvivingChoice d (shown_by p) keep c
   surviving_choice o on survive = choose d p keep survive.segments
       (elim (new_left_or_not (new_of d.phase) refl) as (λ _. HeadFound d p keep) [
         | inl x ↦ new_found x.0 x.1 x.2

@@ -1,11 +1,15 @@
 -- What a master knows of its log, its fleet apart.
-use Rattle.std.specs.Prelude.{◌≡◌, ℕ, zero, suc, List, [], ◌∷◌, ◌++◌, length, take, Option, Some, None, slice_get}
-use Rattle.std.specs.Prelude.{min, ◌==◌, nat_lt, if◌then◌else◌}
+use Rattle.std.specs.Prelude.{◌≡◌, ℕ, zero, suc, ◌+◌, ◌*◌, List, [], ◌∷◌, ◌++◌, length, take, Option, Some, None}
+use Rattle.std.specs.Prelude.{slice_get, map, min, unwrap_or, ◌==◌, nat_lt, if◌then◌else◌}
 use Rattle.std.specs.List.{flat_map}
 use Rattle.entry.specs.declared.tablet.Tablet.{Tablet}
+use Rattle.entry.specs.declared.digest.Listed.{Listed}
+use Rattle.entry.specs.declared.digest.Digest.{Digest}
+use Rattle.entry.specs.declared.digest.Digest.TheVariants as digest
 use Rattle.entry.specs.declared.entry.Entry.{Entry}
 use Rattle.entry.specs.declared.entry.Entry.TheVariants as entry
 use Rattle.entry.specs.declared.entry.Role.TheVariants as role
+use Rattle.entry.specs.Text.{lists_lengths, listed_len}
 use Rattle.versioned_map.specs.declared.command.Record.{Record}
 use Rattle.versioned_map.specs.History.{commands_of}
 use Rattle.versioned_map.specs.Versioned.{State, after}
@@ -19,11 +23,15 @@ pub record LogConfig : Type 0 where
   -- the backups of each segment's replicas
   pub homes : ℕ → List ℕ
   pub tablets : List Tablet
+  -- 1 or 2: under format 2 digests list the lengths of segments
+  pub format : ℕ
 
--- What a head begins with: its id, the other ids of its digest, and the recorded safe version.
+-- What a head begins with: its id, the other ids of its digest, their lengths if the digest lists these, and the
+-- recorded safe version.
 pub record Start : Type 0 where
   pub id : ℕ
   pub others : List ℕ
+  pub lens : Option (List ℕ)
   pub safe : ℕ
 
 -- What one record appended, which is something.
@@ -76,13 +84,45 @@ IsHome d s b = (j : ℕ) × IsHomeAt d s j b
 abbrev pub ids_of : Start → List ℕ
 ids_of n = n.others ++ n.id ∷ []
 
+-- these ids, each with its length
+abbrev pub listed_with : List ℕ → List ℕ → List Listed
+listed_with [] ns = []
+listed_with (s ∷ ids) [] = record { id = s; len = 0 } ∷ listed_with ids []
+listed_with (s ∷ ids) (n ∷ ns) = record { id = s; len = n } ∷ listed_with ids ns
+
+-- the length of an opening whose digest lists this many segments with their lengths
+abbrev pub opening_len : ℕ → ℕ
+opening_len count = 32 + 16 * count
+
+-- a head as its own digest lists it: as long as its opening
+abbrev pub own_listed : List ℕ → ℕ → Listed
+own_listed others id = record { id = id; len = opening_len (suc (length others)) }
+
+-- the digest of a head with this id, after these other ids and their lengths
+abbrev pub digest_with : List ℕ → Option (List ℕ) → ℕ → Digest
+digest_with others None id = digest.Ids (others ++ id ∷ [])
+digest_with others (Some ns) id = digest.Lengths (listed_with others ns ++ own_listed others id ∷ [])
+
+-- the digest of a head
+abbrev pub digest_for : Start → Digest
+digest_for n = digest_with n.others n.lens n.id
+
+-- the length that the next digest lists for a segment: for the head what its text has, for another one what this
+-- digest lists
+abbrev pub len_next : Digest → ℕ → ℕ → ℕ → ℕ
+len_next digest head len s = if s == head then len else unwrap_or (listed_len s digest) len
+
+-- the lengths of these segments, if this digest lists lengths
+abbrev pub lens_next : Digest → (ℕ → ℕ) → List ℕ → Option (List ℕ)
+lens_next digest len ids = if lists_lengths digest then Some (map len ids) else None
+
 -- what a head opens with
 abbrev pub start_entries : ℕ → Start → List Entry
 start_entries master n = entry.Header (record {
   master = master;
   segment = n.id;
   role = role.Head;
-}) ∷ entry.Digest (ids_of n) ∷ entry.Safe n.safe ∷ []
+}) ∷ entry.Digest (digest_for n) ∷ entry.Safe n.safe ∷ []
 
 -- the entries of units, in order
 abbrev pub entries_of : List LogUnit → List Entry

@@ -4,7 +4,7 @@ use Rattle.entry.specs.declared.entry.Entry.{Entry}
 use Rattle.entry.specs.Bag.{IsAmong}
 use Rattle.entry.specs.Meaning.{among}
 use Rattle.entry.specs.Text.{text_of, data_in}
-use Rattle.replica.specs.Picture.{Replica, Picture, FleetState}
+use Rattle.replica.specs.Picture.{Replica, Picture, FleetState, shown_by}
 use Rattle.replica.specs.Take.{taken as fleet_taken, Refuses}
 use Rattle.replica.specs.declared.op.TakeFault.TheVariants as take_fault
 use Rattle.versioned_map.specs.declared.command.Record.{Record}
@@ -26,7 +26,7 @@ use Rattle.log_model.specs.Steps.{texts_taken, extend_act, Extends, IsNext, Goes
 
 -- Backups that hold a log hold a sound picture of it, in every phase of a roll.
 abbrev pub KeptIsSound : Type 0
-KeptIsSound = (d : LogData) (p : Picture) → IsKept d p → IsSound d p
+KeptIsSound = (d : LogData) (p : Picture) → IsKept d p → IsSound d (shown_by p)
 
 -- The count of the records before the first unit that some replica lacks is the durable count.
 abbrev pub KeptIsDurable : Type 0
@@ -87,29 +87,29 @@ AppliedIsKept = (d : LogData) (p : Picture) (segment : ℕ) (r : Record) → IsK
 
 -- A roll that begins leaves the backups as they are, of a master that is still loading too.
 abbrev pub RollingIsHeld : Type 0
-RollingIsHeld = (d : LogData) (texts : Texts) (p : Picture) (n : Start) → IsLogHeld d texts p → IsRoll d p n
+RollingIsHeld = (d : LogData) (texts : Texts) (p : Picture) (n : Start) → IsLogHeld d texts p → IsRoll d texts p n
     → IsLogHeld (rolling d n) (texts_rolling d texts n) p
 
 -- The new head's base stands for the present state if it did before.
 abbrev pub RollingIsStanding : Type 0
-RollingIsStanding = (d : LogData) (texts : Texts) (p : Picture) (n : Start) → IsLogHeld d texts p → IsRoll d p n
-    → IsStanding d texts → Represents n.safe (base_of texts n.others) (state_of d)
+RollingIsStanding = (d : LogData) (texts : Texts) (p : Picture) (n : Start) → IsLogHeld d texts p
+    → IsRoll d texts p n → IsStanding d texts → Represents n.safe (base_of texts n.others) (state_of d)
     → IsStanding (rolling d n) (texts_rolling d texts n)
 
 -- The heads before stay as they are, whatever the new digest leaves out or takes in.
 abbrev pub RollingIsPast : Type 0
 RollingIsPast = (d : LogData) (texts : Texts) (p : Picture) (past : List Head) (n : Start) → IsLogHeld d texts p
-    → IsRoll d p n → IsPast d texts past → IsPast (rolling d n) (texts_rolling d texts n) past
+    → IsRoll d texts p n → IsPast d texts past → IsPast (rolling d n) (texts_rolling d texts n) past
 
 -- So a log is kept when a roll begins whose digest stands for the present state.
 abbrev pub RollingIsKept : Type 0
-RollingIsKept = (d : LogData) (p : Picture) (n : Start) (kept : IsKept d p) → IsRoll d p n
+RollingIsKept = (d : LogData) (p : Picture) (n : Start) (kept : IsKept d p) → IsRoll d kept.texts p n
     → Represents n.safe (base_of kept.texts n.others) (state_of d) → IsKept (rolling d n) p
 
 -- A log is kept when an ordinary roll begins.
 abbrev pub OrdinaryIsRoll : Type 0
 OrdinaryIsRoll = (d : LogData) (p : Picture) (kept : IsKept d p) → MayRoll d
-    → IsRoll d p (next_start d)
+    → IsRoll d kept.texts p (next_start d)
     × Represents (next_start d).safe (base_of kept.texts (next_start d).others) (state_of d)
 
 -- ---- an id is taken
@@ -182,7 +182,7 @@ NextIsNeverWrong = (d e : LogData) (f g : FleetState) (o : LogOp) → IsKept d f
 -- If an op was taken and nobody knows it, the picture is sound for what the master knew.
 abbrev pub NextIsSound : Type 0
 NextIsSound = (d e : LogData) (p q : Picture) (o : LogOp) → IsKept d p → IsNext d o e
-    → taken p d.config.master o ≡ Some q → IsSound d q
+    → taken p d.config.master o ≡ Some q → IsSound d (shown_by q)
 
 -- And what the master knew to be durable is on the backups.
 abbrev pub NextIsReplicated : Type 0

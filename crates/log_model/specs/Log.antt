@@ -1,6 +1,6 @@
 -- What a master's log holds, and what it stands for.
-use Rattle.std.specs.Prelude.{◌≡◌, ℕ, suc, ◌<◌, ◌≤◌, ◌==◌, List, [], ◌∷◌, ◌++◌, length, filter, true, Some}
-use Rattle.std.specs.Prelude.{IsSomeAnd, slice_get, if◌then◌else◌}
+use Rattle.std.specs.Prelude.{◌≡◌, ℕ, suc, ◌<◌, ◌≤◌, ◌==◌, List, [], ◌∷◌, ◌++◌, length, map, filter, true}
+use Rattle.std.specs.Prelude.{Option, Some, None, IsSomeAnd, slice_get, if◌then◌else◌}
 use Rattle.std.specs.List.{flat_map, AllByRecursion}
 use Rattle.entry.specs.declared.key.Key.{Key}
 use Rattle.entry.specs.declared.entry.Header.{Header}
@@ -33,6 +33,14 @@ with_text texts id es = λ s. if s == id then es else texts s
 abbrev pub base_of : Texts → List ℕ → List Entry
 base_of texts ids = flat_map (λ (s : ℕ). filter is_data (texts s)) ids
 
+-- how long the texts of these segments are
+abbrev pub text_lens : Texts → List ℕ → List ℕ
+text_lens texts ids = map (λ (s : ℕ). length (text_of (texts s))) ids
+
+-- the lengths that a digest lists: under format 2 those of its segments' texts
+abbrev pub lens_in : ℕ → Texts → List ℕ → Option (List ℕ)
+lens_in format texts ids = if format == 2 then Some (text_lens texts ids) else None
+
 -- the entries have keys of the master's tablets alone
 abbrev pub AreOfTablets : LogConfig → List Entry → Type 0
 AreOfTablets c es = (e : Entry) (k : Key) → among es e → IsOfKey k e → have_key c.tablets k ≡ true
@@ -49,6 +57,10 @@ pub record IsSegmentOf (c : LogConfig) (s : ℕ) (es : List Entry) : Type 0 wher
 -- the other ids of a digest are below the head's
 abbrev pub AreBelow : Start → Type 0
 AreBelow n = AllByRecursion (λ (s : ℕ). s < n.id) n.others
+
+-- the digest of a head lists the lengths of its other segments' texts, if the log has format 2
+abbrev pub AreLens : LogConfig → Texts → Start → Type 0
+AreLens c texts n = n.lens ≡ lens_in c.format texts n.others
 
 -- The text of the head in force, below the first unused id.
 pub record IsHeadLog (c : LogConfig) (unused : ℕ) (h : Head) (texts : Texts) : Type 0 where
@@ -85,6 +97,8 @@ pub record IsLogged (d : LogData) (texts : Texts) : Type 0 where
   pub opened : (d.head.start.others ≡ [] → ⊥) → length d.head.taken ≡ d.config.replicas
   pub under_way : IsUnderWay d.config.replicas d.phase
   pub new : (n : Start) → new_of d.phase ≡ Some n → IsNewLog d.config d.next d.head.start.id texts n
+  pub lens : AreLens d.config texts d.head.start
+  pub new_lens : (n : Start) → new_of d.phase ≡ Some n → AreLens d.config texts n
   -- the old head is whole once a replica of the new one is open
   pub whole : 0 < opened_of d.config.replicas d.phase → IsWhole d.config.replicas d.head
 

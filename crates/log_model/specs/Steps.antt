@@ -1,6 +1,6 @@
 -- What a master becomes: a command is applied, a roll begins, an id is taken, an op is taken.
 use Rattle.std.specs.Prelude.{◌≡◌, ℕ, zero, suc, ◌<◌, ◌≤◌, ◌⊎◌, ◌==◌, List, [], ◌∷◌, ◌++◌, length, take, drop}
-use Rattle.std.specs.Prelude.{true, Some, None, IsSome, slice_get, slice_set, if◌then◌else◌}
+use Rattle.std.specs.Prelude.{true, Option, Some, None, IsSome, slice_get, slice_set, if◌then◌else◌}
 use Rattle.entry.specs.declared.entry.Entry.{Entry}
 use Rattle.entry.specs.Bag.{IsAmong}
 use Rattle.entry.specs.Tablet.{have_key}
@@ -11,15 +11,19 @@ use Rattle.versioned_map.specs.declared.command.Record.{Record}
 use Rattle.versioned_map.specs.Command.{command_key}
 use Rattle.versioned_map.specs.Represents.{unit_of, empty_state}
 use Rattle.log_model.specs.Data.{LogConfig, Start, LogUnit, Head, Phase, Ready, Opened, Closed, LogData, IsHomeAt}
-use Rattle.log_model.specs.Data.{IsHome, ids_of, start_entries, entries_of, head_entries, new_of, opened_of, state_of}
-use Rattle.log_model.specs.Log.{Texts, with_text, AreOfTablets, IsPlaced, AreBelow}
+use Rattle.log_model.specs.Data.{IsHome, ids_of, digest_for, len_next, lens_next, start_entries, entries_of, head_entries, new_of, opened_of, state_of}
+use Rattle.log_model.specs.Log.{Texts, with_text, AreOfTablets, IsPlaced, AreBelow, AreLens}
 use Rattle.log_model.specs.Ops.{LogOp}
 
 -- ---- a new master
 
--- the first head's id, digest and safe version
-abbrev pub first_start : Start
-first_start = record { id = 1; others = []; safe = 1 }
+-- the lengths of no segments, which a digest lists under format 2
+abbrev pub no_lens : ℕ → Option (List ℕ)
+no_lens format = if format == 2 then Some [] else None
+
+-- the first head's id, digest and safe version, in this format
+abbrev pub first_start : ℕ → Start
+first_start format = record { id = 1; others = []; lens = no_lens format; safe = 1 }
 
 -- a master without a history, of which no replica was opened
 abbrev pub fresh : LogConfig → LogData
@@ -27,7 +31,7 @@ fresh c = record {
   config = c;
   opening = empty_state;
   history = [];
-  head = record { start = first_start; loaded = []; units = []; taken = [] };
+  head = record { start = first_start c.format; loaded = []; units = []; taken = [] };
   phase = Ready;
   next = 2;
 }
@@ -35,8 +39,8 @@ fresh c = record {
 -- Nothing is held of the master.
 pub record MayBegin (c : LogConfig) (p : Picture) : Type 0 where
   pub placed : IsPlaced c
-  pub segment : IsSegment (start_entries c.master first_start)
-  pub limit : length (text_of (start_entries c.master first_start)) ≤ 8388608
+  pub segment : IsSegment (start_entries c.master (first_start c.format))
+  pub limit : length (text_of (start_entries c.master (first_start c.format))) ≤ 8388608
   pub nothing : (b s : ℕ) → p b c.master s ≡ None
 
 -- ---- a command
@@ -87,9 +91,22 @@ texts_applied d texts segment r = texts_appended d texts (unit_now d segment r)
 
 -- ---- a roll begins
 
+-- how long the head's text is
+abbrev pub head_len : LogData → ℕ
+head_len d = length (text_of (head_entries d.config.master d.head (length d.head.units)))
+
+-- the length that the next digest lists for a segment of the digest in force
+abbrev pub len_now : LogData → ℕ → ℕ
+len_now d s = len_next (digest_for d.head.start) d.head.start.id (head_len d) s
+
 -- the next head of an ordinary roll
 abbrev pub next_start : LogData → Start
-next_start d = record { id = d.next; others = ids_of d.head.start; safe = (state_of d).safe }
+next_start d = record {
+  id = d.next;
+  others = ids_of d.head.start;
+  lens = lens_next (digest_for d.head.start) (len_now d) (ids_of d.head.start);
+  safe = (state_of d).safe;
+}
 
 -- the master once a roll to this head has begun
 abbrev pub rolling : LogData → Start → LogData
@@ -106,11 +123,12 @@ pub record MayRoll (d : LogData) : Type 0 where
   pub limit : length (text_of (start_entries d.config.master (next_start d))) ≤ 8388608
 
 -- A roll to this head may begin, whatever its digest leaves out or takes in: the other ids of it are held at their
--- homes.
-pub record IsRoll (d : LogData) (p : Picture) (n : Start) : Type 0 where
+-- homes, and the lengths of it are those of their texts.
+pub record IsRoll (d : LogData) (texts : Texts) (p : Picture) (n : Start) : Type 0 where
   pub ready : d.phase ≡ Ready
   pub next : n.id ≡ d.next
   pub below : AreBelow n
+  pub lens : AreLens d.config texts n
   pub segment : IsSegment (start_entries d.config.master n)
   pub limit : length (text_of (start_entries d.config.master n)) ≤ 8388608
   pub held : (s b : ℕ) → IsAmong s n.others → (s ≡ d.head.start.id → ⊥) → IsHome d s b

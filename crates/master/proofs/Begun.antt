@@ -18,7 +18,7 @@ use Rattle.entry.specs.Text.{text_of, is_data}
 use Rattle.entry.proofs.BagLemmas.{among_image}
 use Rattle.entry.proofs.ListLemmas.{all_among}
 use Rattle.places.specs.declared.place.Place.{Place}
-use Rattle.images.specs.declared.image.Image.{Image}
+use Rattle.images.specs.Image.{Image}
 use Rattle.images.specs.Sorted.{AreBelow, image_of, segment_of}
 use Rattle.images.proofs.Adding.{newest_last, segment_found}
 use Rattle.log_head.specs.declared.head.Roll.{Roll}
@@ -72,7 +72,7 @@ ids_of o = record { victims = victims_of o; survivors = survivors_of o }
 -- what a core becomes when a pass over these begins
 abbrev begun_data : MasterData → List ℕ → Cursor → MasterData
 begun_data d victims cursor = record d {
-  closed = d.closed ++ new_image d.config.master d.next ∷ [];
+  closed = d.closed ++ new_image d.config d.next ∷ [];
   next = d.next + 1;
   pass = Some (fresh_pass victims d.next cursor);
 }
@@ -111,9 +111,9 @@ module _ (d : MasterData) (core : IsCore d) (victims : List ℕ) (cursor : Curso
   segment_then : (s : ℕ) → segment_of x.closed s ≡ (if d.next == s then Some (survivor_entries d.config.master d.next)
       else segment_of d.closed s)
   segment_then s =
-      let last = newest_last (new_image d.config.master d.next) d.closed are_below in
+      let last = newest_last (new_image d.config d.next) d.closed are_below in
       ap (λ (cs : List Image). segment_of cs s) (sym last.1)
-      ∙ segment_found (new_image d.config.master d.next) d.closed s last.0
+      ∙ segment_found (new_image d.config d.next) d.closed s last.0
 
   not_head : d.head.id ≡ d.next → ⊥
   not_head same = let lt = core.used in omega arith
@@ -142,7 +142,7 @@ module _ (d : MasterData) (core : IsCore d) (victims : List ℕ) (cursor : Curso
   images_none =
       closed_among d.head d.closed d.next not_head not_new
       ∙ ap (λ (o : Option (List Entry)). unwrap_or o []) (go
-      (newest_last (new_image d.config.master d.next) d.closed are_below).0)
+      (newest_last (new_image d.config d.next) d.closed are_below).0)
     where
       go : image_of d.closed d.next ≡ None → segment_of d.closed d.next ≡ None
       go is = ap (option_map (λ (c : Image). c.segment)) is

@@ -22,7 +22,7 @@ use Rattle.entry.specs.Text.{text_of, is_data}
 use Rattle.places.specs.declared.place.Place.{Place}
 use Rattle.places.specs.Relocation.{names}
 use Rattle.places.proofs.Words.{names_still, names_moved, named_found}
-use Rattle.images.specs.declared.image.Image.{Image}
+use Rattle.images.specs.Image.{Image}
 use Rattle.images.specs.Sorted.{changed}
 use Rattle.images.specs.Steps.{with_unit}
 use Rattle.replica.specs.Picture.{FleetState}

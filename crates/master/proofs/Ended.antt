@@ -12,7 +12,6 @@ use Rattle.entry.specs.Bag.{IsAmong}
 use Rattle.entry.proofs.BagLemmas.{among_left, among_right, among_either, among_push}
 use Rattle.places.specs.declared.place.Place.{Place}
 use Rattle.places.specs.Map.{found}
-use Rattle.images.specs.declared.image.Image.{Image}
 use Rattle.compactor.specs.Places.{keys_in}
 use Rattle.replica.specs.Picture.{Picture, FleetState}
 use Rattle.log_head.specs.declared.head.Roll.{Roll}
@@ -27,7 +26,8 @@ use Rattle.clean_model.specs.Steps.{finished}
 use Rattle.clean_model.proofs.KeptEntries.{is_has}
 use Rattle.master_state.specs.Budget.{victims_of, survivors_of, is_committing}
 use Rattle.master_state.specs.Data.{MasterData}
-use Rattle.master_state.specs.Images.{closed_image, with_closed, leaving}
+use Rattle.images.specs.Image.{Image, closed_image}
+use Rattle.master_state.specs.Images.{with_closed, leaving}
 use Rattle.master_state.specs.Invariant.{AreApart, IsCore}
 use Rattle.master_state.specs.Log.{log_of, image_of, images_of, find, entry_place, freed_of, memory_of}
 use Rattle.master_state.specs.Steps.{pass_ended}

@@ -19,7 +19,9 @@ use Rattle.master_state.specs.Log.{log_of, memory_of}
 use Rattle.master_state.specs.Steps.{halted, refusal_of, failed_data}
 use Rattle.master_state.proofs.Beginning.{halted_core}
 use Rattle.master.specs.Invariant.{IsKeptAs}
+use Rattle.master.specs.Registry.{IsUnraised}
 use Rattle.master.specs.Steps.{FailsTake}
+use Rattle.master.proofs.Unraised.{unraised_on}
 
 -- The backups before it take the op.
 module _ {Holds : LogData → Memory → Picture → Type 0} (d : MasterData) (f : FleetState) (kept : IsKeptAs Holds d f)
@@ -44,10 +46,13 @@ module _ {Holds : LogData → Memory → Picture → Type 0} (d : MasterData) (f
 
   -- the fleet is the one that took the op
   picture_is : (g : FleetState) → fleet_taken f o.backup (op_of d.config.master o) ≡ Some g → (q ≡ g.picture)
-      × (g.backups ≡ f.backups)
+      × (g.backups ≡ f.backups) × (g.least ≡ f.least)
   picture_is g is =
-      let same = same_Some (with_taken f q) g (sym fits ∙ is) in
-      (ap (λ (h : FleetState). h.picture) same, sym (ap (λ (h : FleetState). h.backups) same))
+      let same = same_Some (with_taken f q) g (sym fits ∙ is) in (
+        ap (λ (h : FleetState). h.picture) same,
+        sym (ap (λ (h : FleetState). h.backups) same),
+        sym (ap (λ (h : FleetState). h.least) same),
+      )
 
   pub handed_kept : (e : MasterData) (g : FleetState) → IsCore e → e.config ≡ d.config → AreApart e.waiting
       → Holds (log_of e) (memory_of e) q → fleet_taken f o.backup (op_of d.config.master o) ≡ Some g
@@ -60,6 +65,8 @@ module _ {Holds : LogData → Memory → Picture → Type 0} (d : MasterData) (f
         holds = then_holds;
         backups = (let le = kept.backups in let count = same.1 in
             let own = ap (λ (c : Config). c.backups) config in omega arith);
+        least = unraised_on e.config.master f g same.2
+            (subst (λ (c : Config). IsUnraised c.master f) (sym config) kept.least);
         now = inl (sym same.0);
         running = λ going. sym same.0;
         apart = apart;
@@ -74,6 +81,7 @@ module _ {Holds : LogData → Memory → Picture → Type 0} (d : MasterData) (f
       before = kept.before;
       holds = kept.holds;
       backups = count refused;
+      least = unraised refused;
       now = after refused;
       running = λ never. absurd (cc);
       apart = kept.apart;
@@ -85,6 +93,13 @@ module _ {Holds : LogData → Memory → Picture → Type 0} (d : MasterData) (f
           let le = kept.backups in
           let is : g.backups ≡ t.0.backups = ap (λ (h : FleetState). h.backups) t.2 in
           let was = (picture_is t.0 t.1.1).1 in omega arith
+
+      unraised : Refuses f o.backup (op_of d.config.master o) take_fault.Fault g → IsUnraised d.config.master g
+      unraised (inl same) =
+          unraised_on d.config.master f g (ap (λ (h : FleetState). h.least) same) kept.least
+      unraised (inr t) =
+          unraised_on d.config.master f g
+          (ap (λ (h : FleetState). h.least) t.2 ∙ (picture_is t.0 t.1.1).2) kept.least
 
       after : Refuses f o.backup (op_of d.config.master o) take_fault.Fault g
           → IsFault (log_of d) (memory_of d) kept.before g.picture
@@ -126,6 +141,7 @@ unhanded_kept d e f kept running core config waiting then_holds = record {
   before = kept.before;
   holds = then_holds;
   backups = subst (λ (c : Config). c.backups ≤ f.backups) (sym config) kept.backups;
+  least = subst (λ (c : Config). IsUnraised c.master f) (sym config) kept.least;
   now = inl (kept.running running);
   running = λ going. kept.running running;
   apart = subst AreApart (sym waiting) kept.apart;

@@ -45,6 +45,7 @@ keeps_same most w = record {
   origin = refl;
   takes = (omega arith, omega arith);
   others = λ b m s other. refl;
+  least = refl;
   durable = omega arith;
   history = ([], sym (append-nil w.knows.history));
 }
@@ -60,6 +61,7 @@ keeps_on m n a b c first later =
       takes = (omega arith, omega arith);
       others = λ k o s other. later.others k o s (λ is. other (is ∙ ap (λ c. c.master) first.config))
           ∙ first.others k o s other;
+      least = later.least ∙ first.least;
       durable = omega arith;
       history = (
         first.history.0 ++ later.history.0,
@@ -76,13 +78,14 @@ keeps_pushed a b c steps s first last =
 
 -- ---- an op
 
--- The other fleet has at most one more op taken, and of other masters the same replicas.
+-- The other fleet has at most one more op taken, of other masters the same replicas, and the same least heads.
 pub record IsBeside (master : ℕ) (f g : FleetState) : Type 0 where
   pub takes : (f.takes ≤ g.takes) × (g.takes ≤ f.takes + 1)
   pub others : (b m s : ℕ) → (m ≡ master → ⊥) → g.picture b m s ≡ f.picture b m s
+  pub least : g.least ≡ f.least
 
 pub beside_same : (master : ℕ) (f : FleetState) → IsBeside master f f
-beside_same master f = record { takes = (omega arith, omega arith); others = λ b m s other. refl }
+beside_same master f = record { takes = (omega arith, omega arith); others = λ b m s other. refl; least = refl }
 
 elsewhere : (b m s c n t : ℕ) → (n ≡ m → ⊥) → is_same_place b m s c n t ≡ false
 elsewhere b m s c n t other = elim (place_tells b m s c n t) as (λ _. is_same_place b m s c n t ≡ false) [
@@ -97,6 +100,7 @@ module _ (f : FleetState) (b : ℕ) (op : OpValue) where
   effect_beside g (Some r) is = subst (IsBeside op.master f) (same_Some _ g is) (record {
     takes = (omega arith, omega arith);
     others = λ c n t other. (let away = elsewhere b op.master op.segment c n t other in rw away refl);
+    least = refl;
   })
 
   pub taken_beside : (g : FleetState) → taken f b op ≡ Some g → IsBeside op.master f g
@@ -108,10 +112,11 @@ module _ (f : FleetState) (b : ℕ) (op : OpValue) where
 
   pub fault_beside : (g : FleetState) → Refuses f b op take_fault.Fault g → IsBeside op.master f g
   fault_beside g (inl same) = subst (IsBeside op.master f) (sym same)
-      (record { takes = (omega arith, omega arith); others = λ c m s other. refl })
+      (record { takes = (omega arith, omega arith); others = λ c m s other. refl; least = refl })
   fault_beside g (inr took) =
       let taken = taken_beside took.0 took.1.1 in
-      subst (IsBeside op.master f) (sym took.2) (record { takes = taken.takes; others = taken.others })
+      subst (IsBeside op.master f) (sym took.2)
+      (record { takes = taken.takes; others = taken.others; least = taken.least })
 
 -- a take that failed changed nothing, or halted the master
 pub take_failed : {P : Type 0} (IsOp : LogOp → Type 0) (old new : World) (r : Refusal)
@@ -171,6 +176,7 @@ module _ (old new : World) (kept : IsWellKept old.knows old.fleet) where
     origin = origin;
     takes = beside.takes;
     others = beside.others;
+    least = beside.least;
     durable = durable;
     history = ([], history ∙ sym (append-nil old.knows.history));
   }
@@ -188,6 +194,7 @@ module _ (old new : World) (kept : IsWellKept old.knows old.fleet) where
         origin = ap (λ (x : MasterData). x.origin) a.rest;
         takes = beside.takes;
         others = beside.others;
+        least = beside.least;
         durable = subst (λ (l : LogData). durable_of (log_of old.knows) ≤ durable_of l) (sym a.log)
             (durable_stays_applied (log_of d) kept.before (dead_segment d command)
             (record_now d seat command) log_kept);

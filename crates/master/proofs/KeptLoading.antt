@@ -19,7 +19,13 @@ use Rattle.master.proofs.Pushed.{same_rest}
 module _ (old new : World) where
   beside : new.knows.config ≡ old.knows.config → new.knows.origin ≡ old.knows.origin
       → IsBeside old.knows.config.master old.fleet new.fleet → KeepsLoading old new
-  beside config origin is = record { config = config; origin = origin; takes = is.takes; others = is.others }
+  beside config origin is = record {
+    config = config;
+    origin = origin;
+    takes = is.takes;
+    others = is.others;
+    least = is.least;
+  }
 
   quiet : new.knows.config ≡ old.knows.config → new.knows.origin ≡ old.knows.origin → new.fleet ≡ old.fleet
       → KeepsLoading old new

@@ -2,6 +2,7 @@ pub mod Placing
 pub mod LogSets
 pub mod KeptByEntries
 pub mod Victims
+pub mod Unraised
 pub mod Handed
 pub mod Agreeing
 pub mod OpenPasses

@@ -33,6 +33,7 @@ use Rattle.master_state.proofs.Imaging.{same_id, other_id, appended_own, appende
 use Rattle.master_commands.proofs.LoadedCore.{pushed_open, pushed_ready, pushed_whole}
 use Rattle.master_state.proofs.Refusals.{has_homes, open_parts}
 use Rattle.master.specs.Invariant.{IsWellKept, IsWellLoaded}
+use Rattle.master.specs.Registry.{IsUnraised}
 use Rattle.master.proofs.Applied.{images_beside, images_at}
 use Rattle.master.proofs.Lasting.{loading_lasts}
 use Rattle.master.proofs.Models.{IsModel, LeavesPass, is_model, own_holds}
@@ -46,10 +47,10 @@ module _ (c : Config) (safe : ℕ) (f : FleetState) (ok : config_fault c ≡ Non
   first = restored_memory (log_config c) safe
 
   image_at : (s : ℕ) → IsAmong s (log_ids (log_of (restored_data c safe)) (restored_memory (log_config c) safe))
-      → images_of (restored_data c safe) s ≡ start_entries c.master (restored_start safe)
+      → images_of (restored_data c safe) s ≡ start_entries c.master (restored_start c.format safe)
   image_at s among =
       elim (subst (λ (l : LogData). IsAmong s (log_ids l (restored_memory (log_config c) safe))) log among)
-      as (λ _. images_of (restored_data c safe) s ≡ start_entries c.master (restored_start safe)) [
+      as (λ _. images_of (restored_data c safe) s ≡ start_entries c.master (restored_start c.format safe)) [
         | inl is ↦ sym (ap (images_of (restored_data c safe)) is)
         | inr none ↦ absurd none
       ]
@@ -68,8 +69,8 @@ module _ (c : Config) (safe : ℕ) (f : FleetState) (ok : config_fault c ≡ Non
   }
 
   pub restored_loaded : c.backups ≤ f.backups → ((b s : ℕ) → f.picture b c.master s ≡ None)
-      → IsWellLoaded (restored_data c safe) f
-  restored_loaded backups nothing = record {
+      → IsUnraised c.master f → IsWellLoaded (restored_data c safe) f
+  restored_loaded backups nothing least = record {
     core = core;
     bare = bare;
     before = f.picture;
@@ -83,6 +84,7 @@ module _ (c : Config) (safe : ℕ) (f : FleetState) (ok : config_fault c ≡ Non
           nothing = nothing;
         }))) first_model;
     backups = backups;
+    least = least;
     running = λ going. refl;
     halted = λ never. absurd (cc);
   }
@@ -178,6 +180,7 @@ module _ (d e : MasterData) (f : FleetState) (o : Object) (loaded : IsWellLoaded
     before = loaded.before;
     loading = own_holds loading_lasts e core then_memory loaded.before then_loading then_model;
     backups = subst (λ (x : MasterData). x.config.backups ≤ f.backups) (sym is.rest) loaded.backups;
+    least = subst (λ (x : MasterData). IsUnraised x.config.master f) (sym is.rest) loaded.least;
     running = λ going. loaded.running (sym (ap (λ (x : MasterData). x.is_halted) is.rest) ∙ going);
     halted = λ stopped. ap (λ (x : MasterData). is_pushed x.head) is.rest ∙ unit_lags d loaded.core 0 unit;
   }
@@ -207,6 +210,7 @@ module _ (d e : MasterData) (f : FleetState) (loaded : IsWellLoaded d f) (pushed
     before = loaded.before;
     holds = intact;
     backups = subst (λ (x : MasterData). x.config.backups ≤ f.backups) (sym is.rest) loaded.backups;
+    least = subst (λ (x : MasterData). IsUnraised x.config.master f) (sym is.rest) loaded.least;
     now = inl (loaded.running running);
     running = λ going. loaded.running running;
     apart = subst AreApart (sym (ap (λ (x : MasterData). x.waiting) is.rest ∙ loaded.bare.waiting)) tt;

@@ -6,7 +6,7 @@ use Rattle.std.proofs.lemmas.Bool.{eqb-true}
 use Rattle.entry.specs.declared.entry.Entry.{Entry}
 use Rattle.entry.specs.Bag.{IsAmong}
 use Rattle.entry.proofs.BagLemmas.{among_left, among_right, among_either, among_push}
-use Rattle.images.specs.declared.image.Image.{Image}
+use Rattle.images.specs.Image.{Image}
 use Rattle.images.specs.Sorted.{segment_of}
 use Rattle.compactor.specs.Kept.{has_id}
 use Rattle.compactor.specs.Places.{IsAtPlace}

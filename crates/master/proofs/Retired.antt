@@ -14,6 +14,7 @@ use Rattle.master_state.specs.Steps.{halted}
 use Rattle.master_state.proofs.Beginning.{halted_core}
 use Rattle.master.specs.Invariant.{IsWellKept}
 use Rattle.master.specs.World.{retired_data}
+use Rattle.master.proofs.Unraised.{unraised_on}
 
 -- the number of the master is that of its configuration
 pub of_master : (f g : FleetState) (n m : ℕ) (result : Result Unit TakeFault) → n ≡ m → Retires f n result g
@@ -32,6 +33,7 @@ retired_kept d f g result kept retires =
       holds = own_is_intact (log_of d) (memory_of d) kept.before before kept.holds
           (λ b s. own_here master kept.before g.picture b s);
       backups = (let le = kept.backups in let count = spares.backups in omega arith);
+      least = unraised_on master f g spares.least kept.least;
       now = own_is_fault (log_of d) (memory_of d) kept.before f.picture g.picture kept.now spares.same;
       running = λ going. own_all master kept.before g.picture
           (λ b s. spares.same b s ∙ ap (λ (p : Picture). p b master s) (kept.running going));
@@ -45,6 +47,7 @@ halted_kept d f kept = record {
   before = kept.before;
   holds = kept.holds;
   backups = kept.backups;
+  least = kept.least;
   now = kept.now;
   running = λ never. absurd (cc);
   apart = kept.apart;

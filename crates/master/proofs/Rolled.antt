@@ -28,7 +28,8 @@ use Rattle.master_state.specs.Budget.{victims_of, survivors_of, is_ready, is_com
 use Rattle.master_state.specs.Data.{MasterData}
 use Rattle.master_state.specs.Invariant.{IsCore}
 use Rattle.master_state.specs.Log.{log_of, state_now, images_of, find, entry_place, rest_now, memory_of}
-use Rattle.master_state.specs.Steps.{start_now, rolling_data, next_now, BeginsRoll, MayRollNow}
+use Rattle.master_state.specs.Steps.{survivor_bytes, start_now, rolling_data, next_now, BeginsRoll, MayRollNow}
+use Rattle.master_space.proofs.RollStarts.{start_has}
 use Rattle.master_state.proofs.Finding.{each_of, index_of}
 use Rattle.master_state.proofs.Imaging.{same_id, rolled_own, rolled_other, rolled_grow}
 use Rattle.master_state.proofs.Indexing.{Grow, found_grown}
@@ -90,8 +91,8 @@ module _ {Holds : LogData → Memory → Picture → Type 0} (lasts : Lasts Hold
 
   abbrev start_by : Bool → Start
   start_by ready =
-      if ready then start_after d.head (victims_of d.pass) (survivors_of d.pass) d.next d.safe
-      else start_after d.head [] [] d.next d.safe
+      if ready then start_after d.head (victims_of d.pass) (survivors_of d.pass) (survivor_bytes d) d.next d.safe
+      else start_after d.head [] [] 0 d.next d.safe
 
   abbrev n : Start
   n = next_now d
@@ -114,7 +115,7 @@ module _ {Holds : LogData → Memory → Picture → Type 0} (lasts : Lasts Hold
   start_same : start_now d ≡ n
   start_same =
       same_Some (start_now d) n
-      (ap Some (sym (start_is d.config.master (start_now d))) ∙ sym (new_now (rolling_data d) roll refl)
+      (ap Some (sym (start_is d.config.master (start_now d) (start_has d))) ∙ sym (new_now (rolling_data d) roll refl)
       ∙ ap (λ (x : MasterData). new_of (phase_of x.head)) (sym is.rest) ∙ ap (λ (l : LogData). new_of l.phase) is.log)
 
   running : d.is_halted ≡ false

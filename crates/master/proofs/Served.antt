@@ -40,6 +40,7 @@ as_kept d f loaded running = record {
   before = loaded.before;
   holds = loaded.loading;
   backups = loaded.backups;
+  least = loaded.least;
   now = inl (loaded.running running);
   running = loaded.running;
   apart = subst AreApart (sym loaded.bare.waiting) tt;
@@ -53,6 +54,7 @@ from_kept d f kept bare running = record {
   before = kept.before;
   loading = kept.holds;
   backups = kept.backups;
+  least = kept.least;
   running = kept.running;
   halted = λ is. absurd (let both = sym is ∙ running in cc);
 }
@@ -101,6 +103,7 @@ module _ (d : MasterData) (push : Next) (f : FleetState) (running : d.is_halted 
           before = kept.before;
           loading = kept.holds;
           backups = kept.backups;
+          least = kept.least;
           running = kept.running;
           halted = λ is. lags;
         }

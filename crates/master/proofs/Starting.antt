@@ -16,15 +16,17 @@ use Rattle.master_state.specs.Config.{config_fault}
 use Rattle.master_state.specs.Data.{fresh_data}
 use Rattle.master_state.specs.Invariant.{IsCore}
 use Rattle.master_state.specs.Log.{log_config, opening_of, log_of, images_of}
+use Rattle.master_state.proofs.Beginning.{lone_has}
 use Rattle.master.specs.Invariant.{IsWellKept}
+use Rattle.master.specs.Registry.{IsUnraised}
 use Rattle.master.proofs.Models.{IsModel, own_intact}
 use Rattle.master.proofs.Placing.{placed}
 
 module _ (c : Config) (f : FleetState) (ok : config_fault c ≡ None) (core : IsCore (fresh_data c)) where
   log_fresh : log_of (fresh_data c) ≡ fresh (log_config c)
   log_fresh =
-      let same = head_is c.master (fresh_head c.master c.replicas first_start) _
-      (image_fresh c.master c.replicas first_start) core.head.segment in
+      let same = head_is c.master (fresh_head c.master c.replicas (first_start c.format)) _
+      (image_fresh c.master c.replicas (first_start c.format) (lone_has c.format 1)) core.head.segment in
       λ i. record {
         config = log_config c;
         opening = opening_of (fresh_data c);
@@ -35,10 +37,10 @@ module _ (c : Config) (f : FleetState) (ok : config_fault c ≡ None) (core : Is
       }
 
   image_at : (s : ℕ) → IsAmong s (log_ids (log_of (fresh_data c)) (first_memory (log_config c)))
-      → images_of (fresh_data c) s ≡ start_entries c.master first_start
+      → images_of (fresh_data c) s ≡ start_entries c.master (first_start c.format)
   image_at s among =
       elim (subst (λ (l : LogData). IsAmong s (log_ids l (first_memory (log_config c)))) log_fresh among)
-      as (λ _. images_of (fresh_data c) s ≡ start_entries c.master first_start) [
+      as (λ _. images_of (fresh_data c) s ≡ start_entries c.master (first_start c.format)) [
         | inl is ↦ sym (ap (images_of (fresh_data c)) is)
         | inr none ↦ absurd none
       ]
@@ -56,8 +58,9 @@ module _ (c : Config) (f : FleetState) (ok : config_fault c ≡ None) (core : Is
     freed = λ s waits. absurd waits;
   }
 
-  pub fresh_kept : c.backups ≤ f.backups → ((b s : ℕ) → f.picture b c.master s ≡ None) → IsWellKept (fresh_data c) f
-  fresh_kept backups nothing = record {
+  pub fresh_kept : c.backups ≤ f.backups → ((b s : ℕ) → f.picture b c.master s ≡ None) → IsUnraised c.master f
+      → IsWellKept (fresh_data c) f
+  fresh_kept backups nothing least = record {
     core = core;
     before = f.picture;
     holds = own_intact (fresh_data c) core (first_memory (log_config c)) f.picture
@@ -70,6 +73,7 @@ module _ (c : Config) (f : FleetState) (ok : config_fault c ≡ None) (core : Is
           nothing = nothing;
         }))) model;
     backups = backups;
+    least = least;
     now = inl refl;
     running = λ going. refl;
     apart = tt;

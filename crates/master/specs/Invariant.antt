@@ -12,6 +12,7 @@ use Rattle.master_state.specs.Data.{MasterData}
 use Rattle.master_state.specs.Invariant.{AreApart, IsCore}
 use Rattle.master_state.specs.Loading.{IsBare}
 use Rattle.master_state.specs.Log.{log_of, memory_of}
+use Rattle.master.specs.Registry.{IsUnraised}
 
 -- All of it, whatever holds of the log, memory and the backups.
 pub record IsKeptAs (Holds : LogData → Memory → Picture → Type 0) (d : MasterData) (f : FleetState) : Type 0 where
@@ -20,6 +21,7 @@ pub record IsKeptAs (Holds : LogData → Memory → Picture → Type 0) (d : Mas
   pub before : Picture
   pub holds : Holds (log_of d) (memory_of d) before
   pub backups : d.config.backups ≤ f.backups
+  pub least : IsUnraised d.config.master f
   -- now they hold the same, or one op more
   pub now : IsFault (log_of d) (memory_of d) before f.picture
   pub running : d.is_halted ≡ false → f.picture ≡ before
@@ -38,6 +40,7 @@ pub record IsWellLoaded (d : MasterData) (f : FleetState) : Type 0 where
   pub before : Picture
   pub loading : IsLoading (log_of d) (memory_of d) before
   pub backups : d.config.backups ≤ f.backups
+  pub least : IsUnraised d.config.master f
   pub running : d.is_halted ≡ false → f.picture ≡ before
   -- some replica lacks a part of what was loaded
   pub halted : d.is_halted ≡ true → is_pushed d.head ≡ false

@@ -5,5 +5,6 @@ pub mod Passes
 pub mod Valid
 pub mod Steps
 pub mod Loading
+pub mod Registry
 pub mod Invariant
 pub mod Shown

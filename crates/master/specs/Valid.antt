@@ -1,7 +1,7 @@
 -- What is true of every master and its fleet, after each step.
 use Rattle.std.specs.Prelude.{◌≡◌, ◌≤◌, ◌↔◌, ℕ, List, length, true, None, IsSome}
 use Rattle.entry.specs.Bag.{IsAmong}
-use Rattle.replica.specs.Picture.{Picture, FleetState}
+use Rattle.replica.specs.Picture.{Picture, FleetState, shown_of}
 use Rattle.versioned_map.specs.History.{IsLegal}
 use Rattle.log_model.specs.Data.{Head, LogData, durable_of}
 use Rattle.log_model.specs.Durable.{IsDurable, IsReplicated, IsPastOf}
@@ -13,6 +13,7 @@ use Rattle.master_state.specs.Causes.{is_pushed}
 use Rattle.master_state.specs.Config.{config_fault}
 use Rattle.master_state.specs.Data.{MasterData}
 use Rattle.master_state.specs.Log.{opening_of, log_of, state_now, image_of, memory_of, IsIndexed}
+use Rattle.master.specs.Registry.{IsUnraised}
 
 -- The durable count is the most records, from the first on, that are durable: for each of their units, every replica of
 -- the head that it was appended to took the unit whole and answered Ok. Each backup of such a segment of the log holds
@@ -44,7 +45,9 @@ pub record IsValid (d : MasterData) (f : FleetState) : Type 0 where
   -- no more seglets of memory are counted than there are
   pub budget : used_seglets d ≤ d.config.seglets
   -- whatever backups are left, they hold a prefix that has each durable command, or a loss is named
-  pub sound : IsSound (log_of d) f.picture
+  pub sound : IsSound (log_of d) (shown_of f d.config.master)
+  -- any head of the master may be used, and any of a later one
+  pub least : IsUnraised d.config.master f
   -- memory and the replicas of the log hold the map
   pub covered : IsCovered (log_of d) (memory_of d) f.picture
   pub durable : CountsDurable (log_of d) f.picture

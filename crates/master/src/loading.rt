@@ -6,6 +6,7 @@ ghost use Rattle.master_state.specs.Causes.{is_pushed};
 ghost use Rattle.master_state.specs.Config.{config_fault};
 ghost use Rattle.master_state.specs.Loading.{restored_data, IsNewObject, Loads, Settles};
 ghost use Rattle.master.specs.Loading.{IsNewEntry, LoadsEntry, DeclinesLoad, KeepsLoading};
+ghost use Rattle.master.specs.Registry.{IsUnraised};
 ghost use Rattle.master.specs.Steps.{Accepts, Declines};
 ghost use Rattle.master.specs.Valid.{IsValid};
 ghost use Rattle.master.specs.World.{world};
@@ -49,6 +50,7 @@ impl<F: Fleet> Master<F> {
         requires config { config_fault config ≡ None }
         requires backups { config.backups ≤ (F.state fleet).backups }
         requires none { (b s : ℕ) → (F.state fleet).picture b config.master s ≡ None }
+        requires least { IsUnraised config.master (F.state fleet) }
         ensures made { IfOk result (λ l. (l.knows ≡ restored_data config safe) × (l.fleet ≡ fleet)) }
         ensures refused { IfErr result (λ e. e.1 ≡ fleet) }
     {
@@ -65,10 +67,10 @@ impl<F: Fleet> Master<F> {
 impl<F: Fleet> Loading<F> {
     /// Makes the index as large as it is to be for so many objects, as far as memory is given: it then doesn't grow while
     /// they are loaded. Nothing else changes, and an index that has a key stays as it is.
-    pub fn expect(&mut self, objects: usize)
+    pub fn presize(&mut self, objects: usize)
         ensures { self.new ≡ self.old }
     {
-        self.core.expect(objects);
+        self.core.presize(objects);
     }
 
     /// Loads an object with its own version: it is appended to the head, and the history begins with it. The fleet

@@ -12,6 +12,7 @@ ghost use Rattle.master_state.specs.Data.{fresh_data};
 ghost use Rattle.master_state.specs.Log.{log_of};
 ghost use Rattle.master.specs.Invariant.{IsWellKept};
 ghost use Rattle.master.specs.Keeps.{Keeps};
+ghost use Rattle.master.specs.Registry.{IsUnraised};
 ghost use Rattle.master.specs.Steps.{Accepts, Declines, Steps, PushesFor, IsRun};
 ghost use Rattle.master.specs.Valid.{IsValid};
 ghost use Rattle.master.specs.World.{world};
@@ -73,6 +74,7 @@ impl<F: Fleet> Master<F> {
         requires config { config_fault config ≡ None }
         requires backups { config.backups ≤ (F.state fleet).backups }
         requires none { (b s : ℕ) → (F.state fleet).picture b config.master s ≡ None }
+        requires least { IsUnraised config.master (F.state fleet) }
         ensures made { IfOk result (λ m. (m.knows ≡ fresh_data config) × (m.fleet ≡ fleet)) }
         ensures valid { IfOk result (λ m. IsValid m.knows (F.state m.fleet)) }
         ensures refused { IfErr result (λ e. e.1 ≡ fleet) }

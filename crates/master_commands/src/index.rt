@@ -18,7 +18,7 @@ use hash_index::{Held, Index, Place, Resolve};
 use images::Images;
 use log_head::Head;
 use master_state::image_of;
-use segment::Segment;
+use segment::SegmentRef;
 
 /// The images of a log, which tell the index what key stands at a place.
 #[derive(Drop)]
@@ -41,7 +41,7 @@ impl<'a> Resolve for LogImages<'a> {
 
 /// The object that begins at an offset of the image.
 #[inline(always)]
-fn object_in(image: &Segment, at: usize) -> Option<ObjectRef<'_>>
+fn object_in<'a>(image: &SegmentRef<'a>, at: usize) -> Option<ObjectRef<'a>>
     ensures { option_map shown_object result ≡ object_in image.entry.now at }
 {
     match image.entry_at(at) {
@@ -61,7 +61,7 @@ pub(crate) fn object_there<'a>(
         object_there (images_among head.entry.now closed.entry.now.images) place }
 {
     let image = image_of(head, closed, place.segment)?;
-    object_in(image, place.at)
+    object_in(&image, place.at)
 }
 
 /// The place and the object of a key of this hash. If its candidate is its place, the image is looked up once, and the

@@ -28,7 +28,7 @@ pub trait Loads {
     ghost may_begin: { Self → Type 0 };
 
     /// Makes the index as large as it is to be for so many objects, as far as memory is given. Nothing else changes.
-    fn expect(&mut self, objects: usize);
+    fn presize(&mut self, objects: usize);
 
     /// Loads an object with its own version: it is appended to the head, and the history begins with it. Or it is
     /// refused, and nothing changes. Its key was not loaded before, and its version is below the safe one.
@@ -48,10 +48,10 @@ impl Loads for Core {
 
     ghost may_begin = { λ core. IsBare core × (is_pushed core.head ≡ true) };
 
-    fn expect(&mut self, objects: usize)
+    fn presize(&mut self, objects: usize)
         ensures { self.new ≡ self.old }
     {
-        self.index.expect(objects);
+        self.index.presize(objects);
     }
 
     fn load(&mut self, object: &ObjectRef<'_>) -> Result<(), Refusal>

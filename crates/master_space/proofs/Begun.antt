@@ -14,12 +14,13 @@ use Rattle.entry.specs.Bag.{IsAmong}
 use Rattle.entry.specs.Text.{text_of}
 use Rattle.log_head.specs.declared.head.Roll.{Roll}
 use Rattle.log_head.specs.Head.{IsHeadValue}
-use Rattle.log_head.specs.Log.{head_of}
+use Rattle.log_head.specs.Log.{head_of, HasLens}
 use Rattle.log_head.specs.Steps.{fresh_roll, with_roll}
 use Rattle.log_head.proofs.RollLog.{start_is, opening_is}
-use Rattle.log_model.specs.Data.{Start, start_entries}
+use Rattle.log_model.specs.Data.{Start, digest_for, start_entries}
+use Rattle.log_model.proofs.Lengths.{ids_listed}
 use Rattle.log_model.specs.Ids.{all_inserted}
-use Rattle.segment.proofs.UnitLemmas.{length-head}
+use Rattle.segment.proofs.UnitLemmas.{head_few}
 use Rattle.std.proofs.Math.Nat.{mul-div-le}
 use Rattle.std.proofs.lemmas.List.{length-append}
 use Rattle.master_state.specs.Budget.{most_segments, used_seglets, survivors_of}
@@ -35,12 +36,12 @@ use Rattle.master_space.proofs.Placed.{closed_each, left_less}
 use Rattle.master_state.proofs.Refusals.{sizes_of}
 
 -- the next head of a core
-abbrev pub next_with : MasterData → List ℕ → Start
-next_with d ids = record { id = d.next; others = ids; safe = d.safe }
+abbrev pub next_with : MasterData → List ℕ → Option (List ℕ) → Start
+next_with d ids lens = record { id = d.next; others = ids; lens = lens; safe = d.safe }
 
--- a core that rolls to a head which lists these ids, with this pass
-abbrev pub begun : MasterData → List ℕ → Option Pass → MasterData
-begun d ids o = record d { head = with_roll d.head d.config.master (next_with d ids); next = d.next + 1; pass = o }
+-- a core that rolls to a head which lists these ids with these lengths, with this pass
+abbrev pub begun : MasterData → List ℕ → Option (List ℕ) → Option Pass → MasterData
+begun d ids lens o = record d { head = with_roll d.head d.config.master (next_with d ids lens); next = d.next + 1; pass = o }
 
 -- an id more in the log set is none below it
 one_more : (xs : List ℕ) (h : ℕ) (o : Option Roll) (next z : ℕ) → o ≡ None → z < next
@@ -58,13 +59,14 @@ one_more (x ∷ xs) h o next z none lt is = go (x == z) (one_more xs h o next z 
   go true later is = refl
   go false later is = later is
 
-module _ (d : MasterData) (core : IsCore d) (ids : List ℕ) (o : Option Pass) (none : d.head.roll ≡ None)
-    (valid : IsHeadValue (with_roll d.head d.config.master (next_with d ids))) where
+module _ (d : MasterData) (core : IsCore d) (ids : List ℕ) (lens : Option (List ℕ)) (o : Option Pass)
+    (none : d.head.roll ≡ None) (valid : IsHeadValue (with_roll d.head d.config.master (next_with d ids lens)))
+    (has : HasLens (next_with d ids lens)) where
   abbrev e : MasterData
-  e = begun d ids o
+  e = begun d ids lens o
 
   abbrev roll : Roll
-  roll = fresh_roll d.config.master (next_with d ids)
+  roll = fresh_roll d.config.master (next_with d ids lens)
 
   grow : Grow (images_of d) (images_of e)
   grow = rolled_grow d.head d.closed roll none (no_segment d.closed d.next (no_next d core))
@@ -113,10 +115,10 @@ module _ (d : MasterData) (core : IsCore d) (ids : List ℕ) (o : Option Pass) (
   -- ---- all
 
   new_within : length ids + 1 ≤ most_segments d.config → length
-      (text_of (start_entries d.config.master (next_with d ids))) ≤ d.config.segment
+      (text_of (start_entries d.config.master (next_with d ids lens))) ≤ d.config.segment
   new_within few =
-      let len = length-head d.config.master d.next (ids ++ d.next ∷ []) d.safe in
-      let count = length-append ids (d.next ∷ []) in
+      let bytes = head_few d.config.master d.next (digest_for (next_with d ids lens)) d.safe in
+      let count = ap length (ids_listed (next_with d ids lens)) ∙ length-append ids (d.next ∷ []) in
       let least = (sizes_of d.config core.config).least_segment in
       let parts = mul-div-le d.config.segment 32 in
       omega arith
@@ -153,6 +155,7 @@ module _ (d : MasterData) (core : IsCore d) (ids : List ℕ) (o : Option Pass) (
     head = valid;
     image = (let is = core.image in record {
       id = is.id;
+      lens = is.lens;
       image = is.image;
       base = is.base;
       ends = is.ends;
@@ -165,8 +168,8 @@ module _ (d : MasterData) (core : IsCore d) (ids : List ℕ) (o : Option Pass) (
     used = (let lt = core.used in omega arith);
     next = omega arith;
     roll = record {
-      image = opening_is d.config.master (next_with d ids);
-      lists = ap (λ (n : Start). n.others) (start_is d.config.master (next_with d ids)) ∙ lists;
+      image = opening_is d.config.master (next_with d ids lens) has;
+      lists = ap (λ (n : Start). n.others) (start_is d.config.master (next_with d ids lens) has) ∙ lists;
       within = new_within few;
       newer = core.used;
       used = omega arith;

@@ -2,7 +2,7 @@
 use Rattle.std.proofs.Common.{ℕ, ◌+◌, ◌-◌, ◌≤◌, arith}
 use Rattle.std.specs.Prelude.{Option, Some, None, IsSome, sum_by}
 use Rattle.std.specs.Option.{option_map_or}
-use Rattle.images.specs.declared.image.Image.{Image}
+use Rattle.images.specs.Image.{Image}
 use Rattle.images.specs.Images.{ImagesValue, count_of, free_seglets}
 use Rattle.log_head.specs.declared.head.Roll.{Roll}
 use Rattle.master_state.specs.declared.config.Config.{Config}

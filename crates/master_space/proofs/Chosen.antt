@@ -11,7 +11,7 @@ use Rattle.entry.proofs.BagLemmas.{among_image}
 use Rattle.entry.proofs.ListLemmas.{all_among, all_from_among}
 use Rattle.cleaner.specs.declared.pass.Pass.{Pass}
 use Rattle.compactor.specs.Kept.{has_id, kept_of}
-use Rattle.images.specs.declared.image.Image.{Image}
+use Rattle.images.specs.Image.{Image}
 use Rattle.images.specs.Sorted.{AreRising, segment_of}
 use Rattle.log_head.specs.declared.head.Roll.{Roll}
 use Rattle.log_head.specs.Log.{head_of}

@@ -5,7 +5,6 @@ use Rattle.std.specs.Option.{option_map_or}
 use Rattle.std.proofs.lemmas.Option.{same_Some}
 use Rattle.cleaner.specs.declared.pass.Pass.{Pass}
 use Rattle.entry.specs.declared.entry.Entry.{Entry}
-use Rattle.images.specs.declared.image.Image.{Image}
 use Rattle.images.specs.Sorted.{added}
 use Rattle.log_head.specs.declared.head.Roll.{Roll}
 use Rattle.log_head.specs.declared.next.Next.{Next}
@@ -15,7 +14,8 @@ use Rattle.log_head.specs.Next.{IsNextPush}
 use Rattle.log_head.specs.Steps.{with_closed_replica, old_image}
 use Rattle.master_state.specs.Data.{MasterData}
 use Rattle.master_space.specs.Ends.{pass_left, closed_left, waiting_left}
-use Rattle.master_state.specs.Images.{closed_image, with_closed}
+use Rattle.images.specs.Image.{Image, closed_image}
+use Rattle.master_state.specs.Images.{with_closed}
 use Rattle.master_state.specs.Invariant.{IsCore}
 use Rattle.master_state.specs.Steps.{roll_ended, closed_data, taken_data}
 use Rattle.master_space.proofs.Taken.{closed_core}

@@ -21,7 +21,7 @@ use Rattle.places.specs.declared.place.Place.{Place}
 use Rattle.places.specs.Law.{AreToldAgain}
 use Rattle.places.specs.Map.{Places, found}
 use Rattle.places.proofs.Words.{kept_again, found_again, HasKey, each_told, all_then}
-use Rattle.images.specs.declared.image.Image.{Image}
+use Rattle.images.specs.Image.{Image}
 use Rattle.images.specs.Images.{count_of}
 use Rattle.images.specs.Sorted.{segment_of, changed}
 use Rattle.images.specs.Steps.{trimmed}

@@ -1,10 +1,9 @@
 -- A segment that is compacted: its image, what is counted, and what the index leads to.
 use Rattle.std.proofs.Common.{◌≡◌, ℕ, ◌+◌, ◌≤◌, ◌<◌, Bool, true, false, List, [], ◌∷◌, length, refl, sym, ap, subst}
 use Rattle.std.proofs.Common.{◌∙◌, inl, inr, arith}
-use Rattle.std.specs.Borrow.{Bor}
 use Rattle.std.specs.Prelude.{Option, Some, None, IfSome, IsSome, is_some, unwrap_or, not, ◌==◌, ◌||◌, if◌then◌else◌}
 use Rattle.std.specs.List.{AllByRecursion}
-use Rattle.std.specs.Option.{option_copied, option_map_or}
+use Rattle.std.specs.Option.{option_map_or}
 use Rattle.std.proofs.lemmas.Bool.{eqb-true, not-false, or_parts}
 use Rattle.std.proofs.Math.Bool.{or-false}
 use Rattle.cleaner.specs.declared.pass.Pass.{Pass as OpenPass}
@@ -21,7 +20,7 @@ use Rattle.log_head.proofs.Digests.{has_any}
 use Rattle.log_head.proofs.RollLog.{digest_is}
 use Rattle.log_model.specs.Data.{ids_of}
 use Rattle.log_model.specs.Ids.{has, all_inserted}
-use Rattle.images.specs.declared.image.Image.{Image}
+use Rattle.images.specs.Image.{Image}
 use Rattle.images.specs.Images.{AreWithin}
 use Rattle.images.specs.Sorted.{AreRising, segment_of, changed}
 use Rattle.images.specs.Steps.{replaced_by}
@@ -39,7 +38,6 @@ use Rattle.master_state.specs.Steps.{kept_now, compacted_data}
 use Rattle.master_state.proofs.Imaging.{same_id, ids_in}
 use Rattle.master_state.proofs.Passing.{has_among}
 use Rattle.master_state.proofs.Rising.{has_more, has_put}
-use Rattle.compactor.proofs.Ids.{copied_some}
 use Rattle.compactor.proofs.KeptEntries.{kept_length, kept_segment}
 use Rattle.master_state.proofs.Refusals.{passes, sizes_of}
 use Rattle.master_space.proofs.Replacing.{same_ids, changed_there, changed_here, changed_each, changed_count, each_one}
@@ -112,10 +110,10 @@ module _ (d : MasterData) (core : IsCore d) (id : ℕ) where
         ∙ ap (λ (ids : List ℕ). has ids id) (sym core.closed) ∙ closed_listed d.closed id
 
     -- by what was got
-    listed_got : (got : Option (Bor (List Entry))) (t : Bool)
-        → option_copied got ≡ segment_of d.closed id → is_some got ≡ t
+    listed_got : (got : Option (List Entry)) (t : Bool)
+        → got ≡ segment_of d.closed id → is_some got ≡ t
         → has_id (digest_of d.head.image) id ≡ t
-    listed_got got t is some = listed_by ∙ ap is_some (sym is) ∙ copied_some got ∙ some
+    listed_got got t is some = listed_by ∙ ap is_some (sym is) ∙ some
 
 -- what the tests answer
 module _ (d : MasterData) (core : IsCore d) (id : ℕ) (running : d.is_halted ≡ false)
@@ -123,8 +121,8 @@ module _ (d : MasterData) (core : IsCore d) (id : ℕ) (running : d.is_halted �
   pub survivor_refused : has_id (survivors_of d.pass) id ≡ true → compact_refusal d id ≡ Some (Pass (NotInLog id))
   survivor_refused has = let unlisted = survivor_unlisted d core id has in rw (running, older, unlisted) refl
 
-  module _ (away : has_id (survivors_of d.pass) id ≡ false) (got : Option (Bor (List Entry)))
-      (is : option_copied got ≡ segment_of d.closed id) where
+  module _ (away : has_id (survivors_of d.pass) id ≡ false) (got : Option (List Entry))
+      (is : got ≡ segment_of d.closed id) where
     pub not_listed_refused : is_some got ≡ false → compact_refusal d id ≡ Some (Pass (NotInLog id))
     not_listed_refused none =
         let unlisted = listed_got d core id older away got false is none in rw (running, older, unlisted) refl

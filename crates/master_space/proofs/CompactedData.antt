@@ -1,15 +1,13 @@
 -- What a core becomes by the values that a compaction has at hand.
 use Rattle.std.proofs.Common.{◌≡◌, ◌↔◌, ℕ, ◌+◌, ◌<◌, ◌≤◌, List, length, refl, sym, ap, subst, ◌∙◌}
-use Rattle.std.specs.Borrow.{Bor}
 use Rattle.std.specs.Prelude.{Option, Some, None, Result, Ok, Err, IsErr}
 use Rattle.std.specs.Int.{div_ceil}
-use Rattle.std.specs.Option.{option_copied}
 use Rattle.std.proofs.lemmas.List.{length-map}
 use Rattle.std.proofs.lemmas.Option.{same_Some}
 use Rattle.entry.specs.declared.entry.Entry.{Entry}
 use Rattle.entry.specs.Text.{text_of}
 use Rattle.places.specs.Map.{Places}
-use Rattle.images.specs.declared.image.Image.{Image}
+use Rattle.images.specs.Image.{Image}
 use Rattle.images.specs.Images.{ImagesValue, IsImages, AreWithin, free_seglets, count_at}
 use Rattle.images.specs.Sorted.{AreRising, segment_of, changed}
 use Rattle.images.specs.Steps.{replaced_by}
@@ -36,14 +34,13 @@ module _ (d : MasterData) (core : IsCore d) (id : ℕ) (passed : compact_refusal
   there : segment_of d.closed id ≡ Some (images_of d id)
   there = old_there d core id (admitted d id passed)
 
-  pub never_none : (got : Option (Bor (List Entry))) → option_copied got ≡ segment_of d.closed id → got ≡ None → ⊥
+  pub never_none : (got : Option (List Entry)) → got ≡ segment_of d.closed id → got ≡ None → ⊥
   never_none got is none =
-      let never : None ≡ Some (images_of d id) = ap option_copied (sym none) ∙ is ∙ there in cc
+      let never : None ≡ Some (images_of d id) = sym none ∙ is ∙ there in cc
 
-  pub image_is : (got : Option (Bor (List Entry))) (image : Bor (List Entry))
-      → option_copied got ≡ segment_of d.closed id
-      → got ≡ Some image → image.now ≡ images_of d id
-  image_is got image is some = same_Some image.now (images_of d id) (ap option_copied (sym some) ∙ is ∙ there)
+  pub image_is : (got : Option (List Entry)) (image : List Entry) → got ≡ segment_of d.closed id
+      → got ≡ Some image → image ≡ images_of d id
+  image_is got image is some = same_Some image (images_of d id) (sym some ∙ is ∙ there)
 
   -- the closed segments, and what was found out
   module _ (closed : ImagesValue) (own : closed.images ≡ d.closed) (valid : IsImages closed)

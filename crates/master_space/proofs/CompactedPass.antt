@@ -15,7 +15,7 @@ use Rattle.entry.proofs.ListLemmas.{all_among, all_from_among}
 use Rattle.places.specs.declared.place.Place.{Place}
 use Rattle.places.specs.Relocation.{names}
 use Rattle.places.proofs.Words.{named_gone}
-use Rattle.images.specs.declared.image.Image.{Image}
+use Rattle.images.specs.Image.{Image}
 use Rattle.images.specs.Sorted.{segment_of}
 use Rattle.images.specs.Steps.{replaced_by}
 use Rattle.images.proofs.Finding.{other_changed}

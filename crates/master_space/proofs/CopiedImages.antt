@@ -13,7 +13,7 @@ use Rattle.entry.proofs.ListLemmas.{all_push, all_weaker}
 use Rattle.segment.proofs.OrderLemmas.{is_whole-append}
 use Rattle.cleaner.specs.Passes.{images_in, images_with}
 use Rattle.cleaner.proofs.Images.{grown_own}
-use Rattle.images.specs.declared.image.Image.{Image}
+use Rattle.images.specs.Image.{Image}
 use Rattle.images.specs.Images.{count_of}
 use Rattle.images.specs.Sorted.{AreRising, IsWhole, image_of, changed}
 use Rattle.images.specs.Steps.{with_unit}

@@ -6,6 +6,7 @@ use Rattle.log_head.specs.Head.{digest_of}
 use Rattle.log_head.specs.Log.{head_of, start_of}
 use Rattle.log_head.proofs.RollLog.{digest_is}
 use Rattle.log_model.specs.Data.{ids_of}
+use Rattle.log_model.proofs.Lengths.{ids_listed}
 use Rattle.master_state.specs.Data.{MasterData}
 use Rattle.master_state.specs.Invariant.{IsCore, listed_now}
 use Rattle.master_space.proofs.RollEnds.{rolls_of, id_then}
@@ -22,5 +23,5 @@ module _ (d : MasterData) (core : IsCore d) where
     -- that of a begun roll has one id more than the log, or than what a commit leaves of it
     pub begun : digest_of r.image ≡ listed_now d ++ r.id ∷ []
     begun =
-        ap digest_of (rolls_of d core r rolls).image
+        ap digest_of (rolls_of d core r rolls).image ∙ ids_listed (start_of r)
         ∙ (λ i. (rolls_of d core r rolls).lists i ++ id_is i ∷ [])

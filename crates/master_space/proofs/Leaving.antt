@@ -5,7 +5,7 @@ use Rattle.std.specs.Prelude.{◌==◌, filter, sum_by, None}
 use Rattle.std.specs.List.{AllByRecursion}
 use Rattle.std.proofs.lemmas.Bool.{eqb-true}
 use Rattle.std.proofs.lemmas.List.Sums.{sum_by-cons}
-use Rattle.images.specs.declared.image.Image.{Image}
+use Rattle.images.specs.Image.{Image}
 use Rattle.images.specs.Sorted.{image_of}
 use Rattle.log_model.specs.Ids.{has, without}
 use Rattle.master_state.specs.Images.{staying, leaving}

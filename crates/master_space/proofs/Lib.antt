@@ -23,6 +23,7 @@ pub mod Leaving
 pub mod Placed
 pub mod Begun
 pub mod RollStarts
+pub mod SurvivorLens
 pub mod RollLaws
 pub mod Committed
 pub mod Taken

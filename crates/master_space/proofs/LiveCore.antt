@@ -14,7 +14,7 @@ use Rattle.entry.specs.Meaning.{Versioned, versioned, contents_of}
 use Rattle.entry.proofs.BagLemmas.{among_left, among_right, among_either}
 use Rattle.places.specs.declared.place.Place.{Place}
 use Rattle.places.specs.Relocation.{names}
-use Rattle.images.specs.declared.image.Image.{Image}
+use Rattle.images.specs.Image.{Image}
 use Rattle.images.specs.Sorted.{segment_of}
 use Rattle.log_head.specs.declared.head.Roll.{Roll}
 use Rattle.log_head.specs.Log.{start_of}

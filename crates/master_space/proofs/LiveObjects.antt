@@ -22,7 +22,7 @@ use Rattle.places.specs.declared.place.Place.{Place}
 use Rattle.places.specs.Map.{Places, found}
 use Rattle.places.specs.Relocation.{names}
 use Rattle.places.proofs.Words.{named_found, found_named}
-use Rattle.images.specs.declared.image.Image.{Image}
+use Rattle.images.specs.Image.{Image}
 use Rattle.compactor.specs.Places.{LiesAt, IsAtPlace, object_there, keys_in}
 use Rattle.master_state.specs.Index.{LiesFound}
 use Rattle.master_state.specs.Sizes.{AreOnce, live_at, live_from, live_closed}

@@ -23,7 +23,7 @@ use Rattle.cleaner.proofs.Keeping.{kept_no_more, kept_same}
 use Rattle.compactor.specs.Kept.{has_id, kept}
 use Rattle.compactor.specs.Places.{IsAtPlace}
 use Rattle.places.specs.declared.place.Place.{Place}
-use Rattle.images.specs.declared.image.Image.{Image}
+use Rattle.images.specs.Image.{Image}
 use Rattle.images.specs.Sorted.{IsWhole, image_of as image_in, segment_of, added}
 use Rattle.images.proofs.Adding.{newest_last, segment_found}
 use Rattle.images.proofs.Callers.{whole_added}
@@ -43,7 +43,7 @@ use Rattle.master_space.proofs.PlaceRows.{places_lie, lies_among, has_before}
 
 module _ (d : MasterData) (core : IsCore d) (victims : List ℕ) (may : MayBegin d victims) where
   abbrev pub survivor : Image
-  survivor = survivor_image d.config.master d.next
+  survivor = survivor_image d.config d.next
 
   abbrev pub closed_then : List Image
   closed_then = d.closed ++ survivor ∷ []

@@ -16,12 +16,13 @@ use Rattle.cleaner.specs.declared.pass.Pass.{Pass}
 use Rattle.cleaner.specs.Passes.{images_in}
 use Rattle.compactor.specs.Kept.{has_id}
 use Rattle.compactor.proofs.Ids.{copied_some}
-use Rattle.images.specs.declared.image.Image.{Image}
+use Rattle.images.specs.Image.{Image}
 use Rattle.images.specs.Sorted.{segment_of}
 use Rattle.log_head.specs.declared.head.Roll.{Roll}
 use Rattle.log_head.specs.Head.{digest_of}
 use Rattle.log_head.specs.Log.{head_of, start_of}
 use Rattle.log_head.proofs.RollLog.{digest_is}
+use Rattle.log_model.proofs.Lengths.{ids_listed}
 use Rattle.log_model.specs.Data.{ids_of}
 use Rattle.log_model.specs.Ids.{has, all_inserted}
 use Rattle.master_state.specs.Budget.{newest_digest, survivors_of}
@@ -210,7 +211,7 @@ module _ (d : MasterData) (core : IsCore d) where
         go (Some r) is rolls =
             ap (λ (x : Option Roll). length (newest_of x)) is
             ∙ ap (λ (es : List Entry). length (digest_of es)) rolls.image
-            ∙ length-append (start_of r).others ((start_of r).id ∷ [])
+            ∙ ap length (ids_listed (start_of r)) ∙ length-append (start_of r).others ((start_of r).id ∷ [])
             ∙ ap (λ (ids : List ℕ). length ids + 1) (rolls.lists ∙ not_committing)
             ∙ ap (λ (n : ℕ). n + 1) in_force
             ∙ more
@@ -218,10 +219,10 @@ module _ (d : MasterData) (core : IsCore d) where
 
 -- by what was got
 pub got_listed : (d : MasterData) (core : IsCore d) → d.pass ≡ None → (s : ℕ) → is_head d.head s ≡ false
-    → (got : Option (Bor (List Entry)))
-    → (t : Bool) → option_copied got ≡ segment_of d.closed s → is_some got ≡ t → has_id (digest_of d.head.image) s ≡ t
+    → (got : Option (List Entry))
+    → (t : Bool) → got ≡ segment_of d.closed s → is_some got ≡ t → has_id (digest_of d.head.image) s ≡ t
 got_listed d core none s not_head got t is some =
-    listed_closed d core none s not_head ∙ ap is_some (sym is) ∙ copied_some got ∙ some
+    listed_closed d core none s not_head ∙ ap is_some (sym is) ∙ some
 
 -- ---- the victims of a pass that may begin
 

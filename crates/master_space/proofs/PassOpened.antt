@@ -24,7 +24,7 @@ use Rattle.cleaner.specs.declared.pass.Pass.{Pass}
 use Rattle.cleaner.specs.Passes.{images_in, places_of, rest_of, IsCursorAt}
 use Rattle.compactor.specs.Places.{LiesAt}
 use Rattle.places.specs.declared.place.Place.{Place}
-use Rattle.images.specs.declared.image.Image.{Image}
+use Rattle.images.specs.Image.{Image}
 use Rattle.images.specs.Images.{ImagesValue, count_of, free_seglets as free_images}
 use Rattle.log_head.specs.declared.head.Roll.{Roll}
 use Rattle.log_head.specs.Log.{head_of}

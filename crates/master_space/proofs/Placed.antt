@@ -20,7 +20,7 @@ use Rattle.entry.proofs.ListLemmas.{all_among}
 use Rattle.segment.specs.Bytes.{standing_at}
 use Rattle.places.specs.declared.place.Place.{Place}
 use Rattle.places.specs.Map.{Places}
-use Rattle.images.specs.declared.image.Image.{Image}
+use Rattle.images.specs.Image.{Image}
 use Rattle.compactor.specs.Kept.{has_id}
 use Rattle.compactor.specs.Places.{LiesAt, IsAtPlace}
 

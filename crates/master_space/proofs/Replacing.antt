@@ -13,7 +13,7 @@ use Rattle.std.proofs.lemmas.Option.{same_Some}
 use Rattle.entry.specs.declared.entry.Entry.{Entry}
 use Rattle.entry.specs.Text.{text_of}
 use Rattle.entry.proofs.ListLemmas.{all_weaker}
-use Rattle.images.specs.declared.image.Image.{Image}
+use Rattle.images.specs.Image.{Image}
 use Rattle.images.specs.Images.{ImagesValue, IsImages, count_of, count_at, free_seglets}
 use Rattle.images.specs.Sorted.{AreRising, image_of, segment_of, changed}
 use Rattle.images.specs.Steps.{replaced_by}

@@ -19,7 +19,6 @@ use Rattle.entry.specs.Format.{IsEntry}
 use Rattle.entry.specs.Text.{text_of, IsSegment}
 use Rattle.places.specs.declared.place.Place.{Place}
 use Rattle.places.specs.Map.{found, AreKept}
-use Rattle.images.specs.declared.image.Image.{Image}
 use Rattle.images.specs.Images.{count_of}
 use Rattle.images.specs.Sorted.{image_of, segment_of, added}
 use Rattle.images.proofs.Adding.{image_found, segment_found, all_added, sum_added}
@@ -37,7 +36,7 @@ use Rattle.log_model.specs.Steps.{new_head}
 use Rattle.master_state.specs.Budget.{newest_digest, whole_seglets, seglets_of, used_seglets, survivors_of}
 use Rattle.master_state.specs.Budget.{is_committing}
 use Rattle.master_state.specs.Data.{MasterData}
-use Rattle.master_state.specs.Images.{closed_image}
+use Rattle.images.specs.Image.{Image, closed_image}
 use Rattle.master_state.specs.Index.{LiesFound}
 use Rattle.master_state.specs.Invariant.{AreVictims, IsSurvivor, IsSpare, IsRollOf, IsOpenPass, IsIndex, IsCore}
 use Rattle.master_state.specs.Invariant.{NameBelow}
@@ -121,6 +120,7 @@ module _ (d : MasterData) (core : IsCore d) (r : Roll) (is : d.head.roll ≡ Som
       head = valid;
       image = (let own = core.image in record {
         id = own.id;
+        lens = own.lens;
         image = own.image;
         base = own.base;
         ends = own.ends;

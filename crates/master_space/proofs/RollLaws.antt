@@ -1,5 +1,5 @@
 -- What a roll that begins is to the log.
-use Rattle.std.proofs.Common.{◌≡◌, suc, ◌+◌, ◌<◌, ◌≤◌, true, false, [], length, refl, sym, ap, subst, ◌∙◌, add-one}
+use Rattle.std.proofs.Common.{◌≡◌, ℕ, suc, ◌+◌, ◌<◌, ◌≤◌, Bool, true, false, List, [], length, refl, sym, ap, subst, ◌∙◌, add-one}
 use Rattle.std.proofs.Common.{arith}
 use Rattle.std.specs.Prelude.{Option, Some, None, map, ◌==◌, if◌then◌else◌}
 use Rattle.std.specs.Option.{option_map_or}
@@ -8,39 +8,81 @@ use Rattle.cleaner.specs.declared.pass.Pass.{Pass}
 use Rattle.cleaner.specs.Passes.{images_in, rest_of, is_at_end, is_ready as is_ready_pass}
 use Rattle.cleaner.proofs.Ends.{end_none}
 use Rattle.clean_model.specs.Intact.{IsCommit, IsReady}
-use Rattle.clean_model.specs.Steps.{commit_start, MayCommit}
+use Rattle.clean_model.specs.Steps.{commit_len, commit_lens, commit_start, MayCommit}
 use Rattle.clean_model.proofs.CommitDigest.{commit_digest}
+use Rattle.entry.specs.declared.entry.Entry.{Entry}
 use Rattle.entry.specs.Text.{text_of, IsSegment}
 use Rattle.log_head.specs.declared.head.Roll.{Roll}
-use Rattle.log_head.specs.Head.{IsHeadValue, digest_of}
+use Rattle.log_head.specs.Head.{IsHeadValue, digest_in, digest_of}
 use Rattle.log_head.specs.Log.{head_of, phase_in, phase_of}
 use Rattle.log_head.specs.Steps.{with_roll}
 use Rattle.log_head.proofs.RollLog.{phase_begun, digest_is}
-use Rattle.log_model.specs.Data.{Start, Opened, Ready, start_entries}
-use Rattle.log_model.specs.Ids.{all_inserted, without}
-use Rattle.log_model.specs.Steps.{next_start, rolling, MayRoll}
+use Rattle.log_model.specs.Data.{Start, Head, Opened, Ready, digest_for, len_next, lens_next, start_entries, head_entries}
+use Rattle.log_model.specs.Ids.{has, all_inserted, without}
+use Rattle.log_model.specs.Steps.{len_now, next_start, rolling, MayRoll}
 use Rattle.master_state.specs.declared.step.StepAnswer.TheVariants.{Rolling as RollingTo}
 use Rattle.master_state.specs.Budget.{victims_of, survivors_of, is_ready}
 use Rattle.master_state.specs.Causes.{roll_refusal}
 use Rattle.master_state.specs.Data.{MasterData}
 use Rattle.master_state.specs.Invariant.{IsCore}
-use Rattle.master_state.specs.Log.{log_config, opening_of, log_of, memory_of, entry_place}
-use Rattle.master_state.specs.Steps.{BeginsRoll, MayRollNow, start_now, rolling_data, next_now}
+use Rattle.master_state.specs.Log.{log_config, opening_of, log_of, images_of, memory_of, entry_place}
+use Rattle.master_state.specs.Steps.{BeginsRoll, MayRollNow, survivor_in, survivor_bytes, start_now, rolling_data, next_now}
+use Rattle.master_space.proofs.RollStarts.{start_has}
+use Rattle.master_space.proofs.SurvivorLens.{one_has, survivor_there}
 use Rattle.master_state.proofs.Refusals.{may_begin, open_parts, has_homes}
 use Rattle.master_state.proofs.Rising.{without_none}
 
 module _ (d : MasterData) (core : IsCore d) where
+  abbrev head : Head
+  head = head_of d.head
+
+  -- the image is the head's text, under the head's digest
+  image_is : d.head.image ≡ head_entries d.config.master head (length head.units)
+  image_is = core.image.image
+
+  digest_same : digest_in d.head.image ≡ digest_for head.start
+  digest_same = ap digest_in image_is
+
+  len_same : (s : ℕ) → len_next (digest_in d.head.image) d.head.id (length (text_of d.head.image)) s
+      ≡ len_now (log_of d) s
+  len_same s = λ i. len_next (digest_same i) (sym core.image.id i) (length (text_of (image_is i))) s
+
+  -- the survivor's length is that of its image
+  survivor_same : (s : ℕ) → (if has (survivors_of d.pass) s then survivor_bytes d
+      else len_next (digest_in d.head.image) d.head.id (length (text_of d.head.image)) s)
+      ≡ commit_len (log_of d) (memory_of d) s
+  survivor_same s = go (has (survivors_of d.pass) s) refl where
+    own : has (survivors_of d.pass) s ≡ true → survivor_bytes d ≡ length (text_of (images_of d s))
+    own there = by_pass d.pass refl there where
+      by_pass : (o : Option Pass) → d.pass ≡ o → has (survivors_of o) s ≡ true
+          → survivor_in o d.closed ≡ length (text_of (images_of d s))
+      by_pass None is there = absurd (cc)
+      by_pass (Some p) is there =
+          let same : p.survivor ≡ s = one_has p.survivor s there in
+          ap (λ (es : List Entry). length (text_of es)) (sym (survivor_there d core p is))
+          ∙ ap (λ (z : ℕ). length (text_of (images_of d z))) same
+
+    go : (b : Bool) → has (survivors_of d.pass) s ≡ b
+        → (if b then survivor_bytes d
+        else len_next (digest_in d.head.image) d.head.id (length (text_of d.head.image)) s)
+        ≡ (if b then length (text_of (images_of d s)) else len_now (log_of d) s)
+    go true is = own is
+    go false is = len_same s
+
   -- the next head is the one that the log's model says
   pub next_is : start_now d ≡ next_now d
   next_is =
-      let digest = digest_is d.config.master d.head (head_of d.head) core.image in
+      let digest = digest_is d.config.master d.head head core.image in
       λ i. if is_ready d then record {
         id = d.next;
         others = all_inserted (survivors_of d.pass) (without (victims_of d.pass) (digest i));
+        lens = lens_next (digest_same i) (λ s. survivor_same s i)
+            (all_inserted (survivors_of d.pass) (without (victims_of d.pass) (digest i)));
         safe = core.index.safe i;
       } else record {
         id = d.next;
         others = (without_none (digest_of d.head.image) ∙ digest) i;
+        lens = lens_next (digest_same i) (λ s. len_same s i) ((without_none (digest_of d.head.image) ∙ digest) i);
         safe = core.index.safe i;
       }
 
@@ -51,7 +93,7 @@ module _ (d : MasterData) (core : IsCore d) where
       opening = opening_of d;
       history = d.history;
       head = head_of d.head;
-      phase = (phase_begun d.head d.config.master (start_now d) some ∙ ap (λ (n : Start). Opened 0 n) next_is) i;
+      phase = (phase_begun d.head d.config.master (start_now d) (start_has d) some ∙ ap (λ (n : Start). Opened 0 n) next_is) i;
       next = more i;
     } where
       some : 0 < d.head.replicas
@@ -100,6 +142,7 @@ module _ (d : MasterData) (core : IsCore d) where
               survivors = survivors_of d.pass;
             })) (sym is) (commit_digest (log_of d) (memory_of d));
             next = ap (λ (n : Start). n.id) is;
+            lens = ap (λ (n : Start). n.lens) is ∙ ap (λ (n : Start). commit_lens (log_of d) (memory_of d) n.others) (sym is);
             safe = ap (λ (n : Start). n.safe) is;
             segment = segment_now;
             limit = limit_now;

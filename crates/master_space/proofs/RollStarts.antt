@@ -14,10 +14,11 @@ use Rattle.entry.specs.Text.{text_of}
 use Rattle.images.proofs.Counts.{within_whole}
 use Rattle.log_head.specs.declared.head.Roll.{Roll}
 use Rattle.log_head.specs.Head.{IsHeadValue, digest_of}
-use Rattle.log_head.specs.Log.{head_of}
+use Rattle.log_head.specs.Log.{head_of, HasLens}
 use Rattle.log_head.specs.Steps.{start_after, with_roll}
-use Rattle.log_head.proofs.RollLog.{digest_is}
+use Rattle.log_head.proofs.RollLog.{digest_is, start_after_has}
 use Rattle.log_model.specs.Data.{Start, ids_of}
+use Rattle.log_model.proofs.Lengths.{ids_listed}
 use Rattle.log_model.specs.Ids.{has, all_inserted, without}
 use Rattle.master_state.specs.Budget.{newest_digest, most_segments, whole_seglets, seglets_of, head_seglets}
 use Rattle.master_state.specs.Budget.{used_seglets, free_seglets}
@@ -25,7 +26,7 @@ use Rattle.master_state.specs.Budget.{victims_of, survivors_of, is_ready, has_sp
 use Rattle.master_state.specs.Causes.{roll_refusal}
 use Rattle.master_state.specs.Data.{MasterData}
 use Rattle.master_state.specs.Invariant.{IsOpenPass, IsSpare, IsCore, listed_now}
-use Rattle.master_state.specs.Steps.{start_now, rolling_data}
+use Rattle.master_state.specs.Steps.{survivor_bytes, start_now, rolling_data}
 use Rattle.master_space.proofs.Begun.{begun, next_with, pass_then, begun_core}
 use Rattle.master_space.proofs.Leaving.{length_left}
 use Rattle.master_state.proofs.LogIds.{rises, others_below, open_of}
@@ -44,16 +45,35 @@ new_ids d =
 abbrev pub pass_now : MasterData → Option Pass
 pass_now d = option_map (λ (p : Pass). record p { is_committing = is_ready_pass d.config.replicas p }) d.pass
 
-pub start_now_is : (d : MasterData) → start_now d ≡ next_with d (new_ids d)
+-- what it begins with, if it is a commit's or isn't
+abbrev pub start_by : MasterData → Bool → Start
+start_by d t =
+    if t then start_after d.head (victims_of d.pass) (survivors_of d.pass) (survivor_bytes d) d.next d.safe
+    else start_after d.head [] [] 0 d.next d.safe
+
+-- the lengths of these, if it lists lengths
+abbrev pub new_lens : MasterData → Option (List ℕ)
+new_lens d = (start_now d).lens
+
+pub start_now_is : (d : MasterData) → start_now d ≡ next_with d (new_ids d) (new_lens d)
 start_now_is d = go (is_ready d) where
-  go : (t : Bool) → (if t then start_after d.head (victims_of d.pass) (survivors_of d.pass) d.next d.safe
-      else start_after d.head [] [] d.next d.safe)
+  go : (t : Bool) → start_by d t
       ≡ next_with d (if t then all_inserted (survivors_of d.pass) (without (victims_of d.pass) (digest_of d.head.image))
-      else without [] (digest_of d.head.image))
+      else without [] (digest_of d.head.image)) (start_by d t).lens
   go true = refl
   go false = refl
 
-pub rolling_is : (d : MasterData) → rolling_data d ≡ begun d (new_ids d) (pass_now d)
+-- as many as ids
+pub start_has : (d : MasterData) → HasLens (start_now d)
+start_has d = go (is_ready d) where
+  go : (t : Bool) → HasLens (start_by d t)
+  go true = start_after_has d.head (victims_of d.pass) (survivors_of d.pass) (survivor_bytes d) d.next d.safe
+  go false = start_after_has d.head [] [] 0 d.next d.safe
+
+pub new_has : (d : MasterData) → HasLens (next_with d (new_ids d) (new_lens d))
+new_has d = subst HasLens (start_now_is d) (start_has d)
+
+pub rolling_is : (d : MasterData) → rolling_data d ≡ begun d (new_ids d) (new_lens d) (pass_now d)
 rolling_is d = ap (λ (n : Start). record d {
   head = with_roll d.head d.config.master n;
   next = d.next + 1;
@@ -61,14 +81,14 @@ rolling_is d = ap (λ (n : Start). record d {
 }) (start_now_is d)
 
 -- the parts that are handed to the head
-pub start_parts : (d : MasterData) (vs ss : List ℕ) → vs ≡ (if is_ready d then victims_of d.pass else [])
-    → ss ≡ (if is_ready d then survivors_of d.pass else []) → start_after d.head vs ss d.next d.safe ≡ start_now d
-start_parts d vs ss victims survivors = (λ i. start_after d.head (victims i) (survivors i) d.next d.safe)
+pub start_parts : (d : MasterData) (vs ss : List ℕ) (len : ℕ) → vs ≡ (if is_ready d then victims_of d.pass else [])
+    → ss ≡ (if is_ready d then survivors_of d.pass else []) → len ≡ (if is_ready d then survivor_bytes d else 0)
+    → start_after d.head vs ss len d.next d.safe ≡ start_now d
+start_parts d vs ss len victims survivors same =
+    (λ i. start_after d.head (victims i) (survivors i) (same i) d.next d.safe)
     ∙ go (is_ready d) where
       go : (t : Bool) → start_after d.head (if t then victims_of d.pass else [])
-          (if t then survivors_of d.pass else []) d.next d.safe
-          ≡ (if t then start_after d.head (victims_of d.pass) (survivors_of d.pass) d.next d.safe
-          else start_after d.head [] [] d.next d.safe)
+          (if t then survivors_of d.pass else []) (if t then survivor_bytes d else 0) d.next d.safe ≡ start_by d t
       go true = refl
       go false = refl
 
@@ -254,7 +274,7 @@ module _ (d : MasterData) (core : IsCore d) (passed : roll_refusal d ≡ None) w
   -- ---- the core then
 
   abbrev e : MasterData
-  e = begun d (new_ids d) (pass_now d)
+  e = begun d (new_ids d) (new_lens d) (pass_now d)
 
   survivors_same : survivors_of (pass_now d) ≡ survivors_of d.pass
   survivors_same = go d.pass where
@@ -269,7 +289,7 @@ module _ (d : MasterData) (core : IsCore d) (passed : roll_refusal d ≡ None) w
         → (if option_map_or (is_ready_pass d.config.replicas) o false
         then all_inserted (survivors_of o) (without (victims_of o) (digest_of d.head.image))
         else without [] (digest_of d.head.image))
-        ≡ listed_now (begun d (new_ids d) (option_map (λ (p : Pass). record p
+        ≡ listed_now (begun d (new_ids d) (new_lens d) (option_map (λ (p : Pass). record p
         { is_committing = is_ready_pass d.config.replicas p }) o))
     go None = without_none (digest_of d.head.image) ∙ digest
     go (Some p) =
@@ -317,7 +337,7 @@ module _ (d : MasterData) (core : IsCore d) (passed : roll_refusal d ≡ None) w
 
   -- what an ordinary roll leaves for the open pass
   spare_then : (p : Pass) → d.pass ≡ Some p → HasSpace d
-      → IsSpare (begun d (without [] (digest_of d.head.image)) (pass_now d)) (length p.victims)
+      → IsSpare (begun d (without [] (digest_of d.head.image)) (new_lens d) (pass_now d)) (length p.victims)
   spare_then p is s =
       let own = counted in
       let budget = core.budget in
@@ -330,18 +350,19 @@ module _ (d : MasterData) (core : IsCore d) (passed : roll_refusal d ≡ None) w
       ap (λ (n : ℕ). (2 - n) * whole_seglets d.config) one ∙ omega arith in
       let free = s.free in
       let left = s.left in
-      let count = length-append (without [] (digest_of d.head.image)) (d.next ∷ []) in
+      let count = ap length (ids_listed (next_with d (without [] (digest_of d.head.image)) (new_lens d)))
+      ∙ length-append (without [] (digest_of d.head.image)) (d.next ∷ []) in
       let least = (sizes_of d.config core.config).least_segment in
       let most : 16 ≤ most_segments d.config = omega arith in
       record { free = omega arith; listed = omega arith }
 
-  module _ (valid : IsHeadValue (with_roll d.head d.config.master (next_with d (new_ids d)))) where
+  module _ (valid : IsHeadValue (with_roll d.head d.config.master (next_with d (new_ids d) (new_lens d)))) where
     pass_of : (o : Option Pass) → d.pass ≡ o → HasReady d ⊎ HasSpace d
         → IfSome (option_map (λ (p : Pass). record p { is_committing = is_ready_pass d.config.replicas p }) o)
         (IsOpenPass e)
     pass_of None is cases = tt
     pass_of (Some p) is cases =
-        pass_then d core (new_ids d) (pass_now d) none valid p (is_ready_pass d.config.replicas p) (open_of d core p is)
+        pass_then d core (new_ids d) (new_lens d) (pass_now d) none valid (new_has d) p (is_ready_pass d.config.replicas p) (open_of d core p is)
         (spares cases) (λ ready. ready)
       where
         readiness : is_ready d ≡ is_ready_pass d.config.replicas p
@@ -351,7 +372,7 @@ module _ (d : MasterData) (core : IsCore d) (passed : roll_refusal d ≡ None) w
         spares (inl s) not = (let never : true ≡ false = sym s.test ∙ readiness ∙ not in absurd (cc))
         spares (inr s) not =
             let test = s.test in
-            subst (λ (ids : List ℕ). IsSpare (begun d ids (pass_now d)) (length p.victims)) (sym (ids_then test))
+            subst (λ (ids : List ℕ). IsSpare (begun d ids (new_lens d) (pass_now d)) (length p.victims)) (sym (ids_then test))
             (spare_then p is s)
           where
             ids_then : is_ready d ≡ false → new_ids d ≡ without [] (digest_of d.head.image)
@@ -361,5 +382,5 @@ module _ (d : MasterData) (core : IsCore d) (passed : roll_refusal d ≡ None) w
     rolled_core =
         let cases = ready_or_space d passed in
         subst IsCore (sym (rolling_is d))
-        (begun_core d core (new_ids d) (pass_now d) none valid may.ids survivors_same lists_then new_few
+        (begun_core d core (new_ids d) (new_lens d) (pass_now d) none valid (new_has d) may.ids survivors_same lists_then new_few
         (budget_of cases) (pass_of d.pass refl cases))

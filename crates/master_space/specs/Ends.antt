@@ -1,7 +1,7 @@
 -- What becomes of an open pass, the closed segments and those that wait when a roll ends.
 use Rattle.std.specs.Prelude.{ℕ, List, ◌++◌, Option, Some, None, if◌then◌else◌}
 use Rattle.cleaner.specs.declared.pass.Pass.{Pass}
-use Rattle.images.specs.declared.image.Image.{Image}
+use Rattle.images.specs.Image.{Image}
 use Rattle.master_state.specs.Images.{after_pass, leaving}
 
 -- a commit ends its pass

@@ -58,9 +58,10 @@ fn best(core: &Core) -> Result<Vec<Candidate>, NoMemory>
     let images = core.closed.as_slice();
     for at in (0..images.len()).rev() {
         let image = &images[at];
-        if !is_survivor(core, image.id) {
-            let kept = kept_bytes(image.id, &image.segment, &core.index, &log);
-            rank(&mut best, Candidate { id: image.id, kept });
+        let id = image.id();
+        if !is_survivor(core, id) {
+            let kept = kept_bytes(id, &image.segment(), &core.index, &log);
+            rank(&mut best, Candidate { id, kept });
         }
     }
     Ok(best)

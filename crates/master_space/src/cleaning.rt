@@ -2,8 +2,6 @@
 
 ghost use Rattle.std.specs.Prelude.{◌⊎◌, ◌≡◌, ◌<◌, ◌≤◌, ◌==◌, ◌∷◌, [], ℕ, None, Some, false, length, is_none, slice_get};
 ghost use Rattle.std.specs.Prelude.{IfOk, IfErr, IfSome, IfNone, OnOk, OnErr, IsSome, if◌then◌else◌};
-ghost use Rattle.entry.specs.declared.entry.Entry.{Entry};
-ghost use Rattle.entry.specs.declared.entry.Role.{Role};
 ghost use Rattle.clean_model.specs.Steps.{MayBeginClean, seal_op};
 ghost use Rattle.log_model.specs.Ops.{op_of};
 ghost use Rattle.replica.specs.Op.{shown_op};
@@ -16,12 +14,9 @@ ghost use Rattle.master_state.specs.Waits.{next_seal, next_free};
 use crate::compacting::opening_id;
 use crate::victims::admit_pass;
 use cleaner::{Copied, Pass};
-use entry::{NoMemory, Row};
-use images::Images;
+use entry::Row;
 use master_state::{Core, Refusal, StepAnswer, image_of};
 use replica::{Act, Op};
-use segment::Segment;
-use std::alloc::Global;
 
 /// The steps of a pass: it begins, it copies entry by entry, its survivor is sealed, and what it leaves is freed.
 pub trait Cleans {
@@ -37,7 +32,7 @@ pub trait Cleans {
     fn begin_clean(&mut self, victims: Row<u64>) -> Result<StepAnswer, Refusal>;
 
     /// Copies the next entry of the open pass, if it is kept, and passes it over otherwise. Or it is refused, and
-    /// nothing changes.
+    /// nothing changes. It takes no memory.
     fn copy(&mut self) -> Result<StepAnswer, Refusal>;
 
     /// The replica of the survivor that is sealed next. `None` if no pass is open, if it has entries to copy, or if all
@@ -77,16 +72,12 @@ impl Cleans for Core {
     {
         let near = admit_pass(self, victims.as_slice())?;
         let id = self.next_id;
-        let survivor = new_survivor(
-            self.alloc,
-            &mut self.closed,
-            self.config.master,
-            id,
-            self.config.segment as usize,
-        )?;
+        let survivor = self
+            .closed
+            .begin_survivor(self.alloc, self.config.master, id)?;
         self.closed.reserve(2)?;
         let pass = Pass::begin(victims, near, id, &self.closed, &self.index);
-        self.closed.add_reserved(id, survivor, true);
+        self.closed.add_image(survivor);
         self.next_id += 1;
         self.pass = Some(pass);
         Ok(StepAnswer::Begun(id))
@@ -95,8 +86,7 @@ impl Cleans for Core {
     fn copy(&mut self) -> Result<StepAnswer, Refusal>
         ensures copied { IfOk result (λ answer. Copies self.old answer self.new) }
         ensures valid { OnOk result (IsCore self.new) }
-        ensures refused { IfErr result (λ r. (copy_refusal self.old ≡ Some r)
-            ⊎ ((copy_refusal self.old ≡ None) × (r ≡ Refusal.NoMemory))) }
+        ensures refused { IfErr result (λ r. copy_refusal self.old ≡ Some r) }
         ensures err { OnErr result (self.new ≡ self.old) }
     {
         if self.is_halted {
@@ -111,7 +101,7 @@ impl Cleans for Core {
         if pass.is_at_end() {
             return Err(Refusal::Nothing);
         }
-        let copied = pass.copy_one(&mut self.closed, &mut self.index, head, new)?;
+        let copied = pass.copy_one(&mut self.closed, &mut self.index, head, new);
         Ok(copy_answer(copied))
     }
 
@@ -185,26 +175,6 @@ impl Cleans for Core {
             self.freed = 0;
         }
     }
-}
-
-/// The image of a survivor, with the memory of a whole segment: that of a dropped image, if one has left it.
-fn new_survivor(
-    alloc: Global,
-    closed: &mut Images,
-    master: u64,
-    id: u64,
-    segment: usize,
-) -> Result<Segment, NoMemory>
-    ensures survivor { IfOk result (λ survivor. survivor ≡
-        Entry.Header (record { master = master; segment = id; role = Role.Survivor }) ∷ []) }
-    ensures same { closed.new ≡ closed.old }
-{
-    let mut survivor = Segment::begin_survivor(alloc, master, id)?;
-    if let Some(spare) = closed.take_spare() {
-        survivor.move_into(spare);
-    }
-    survivor.reserve(segment)?;
-    Ok(survivor)
 }
 
 /// What a copy answers.

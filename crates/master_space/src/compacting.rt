@@ -40,7 +40,7 @@ impl Compacts for Core {
         let Some(image) = self.closed.get(id) else {
             unreachable!()
         };
-        let segment = compact(self.alloc, id, image, &mut self.index, &log)?;
+        let segment = compact(self.alloc, id, &image, &mut self.index, &log)?;
         let len = segment.bytes().len() as u64;
         let Ok(()) = self.closed.replace(id, segment) else {
             unreachable!()

@@ -47,8 +47,9 @@ fn add_leaving(victims: &[u64], images: &[Image], waiting: &mut Vec<u64>)
     ensures { waiting.new.items ≡ waiting.old.items ++ leaving victims.now images.now }
 {
     for image in images {
-        if is_victim(victims, image.id) {
-            waiting.push_reserved(image.id);
+        let id = image.id();
+        if is_victim(victims, id) {
+            waiting.push_reserved(id);
         }
     }
 }

@@ -12,11 +12,12 @@ ghost use Rattle.master_state.specs.Budget.{victims_of, survivors_of};
 ghost use Rattle.master_state.specs.Causes.{roll_refusal};
 ghost use Rattle.master_state.specs.Invariant.{IsCore};
 ghost use Rattle.master_state.specs.Log.{log_of};
-ghost use Rattle.master_state.specs.Steps.{BeginsRoll, MayRollNow, taken_data};
+ghost use Rattle.master_state.specs.Steps.{survivor_in, BeginsRoll, MayRollNow, taken_data};
 
 use crate::ending::end_pass;
 use cleaner::Pass;
 use entry::MAX_SEGMENT_ID;
+use images::Images;
 use log_head::{Leaving, Next, RollMemory};
 use master_state::{Core, Refusal, StepAnswer};
 
@@ -73,6 +74,7 @@ impl Rolls for Core {
         let leaving = Leaving {
             victims,
             survivor: entering_survivor(&self.pass, is_commit),
+            survivor_len: entering_len(&self.pass, &self.closed, is_commit),
         };
         self.head.begin_roll(
             self.alloc,
@@ -115,7 +117,7 @@ impl Rolls for Core {
             Next::CloseOld(_) => {
                 let id = self.head.id();
                 if let Some(image) = self.head.close_old() {
-                    self.closed.add_reserved(id, image, false);
+                    self.closed.add_closed(id, image);
                     end_pass(&mut self.pass, &mut self.closed, &mut self.waiting);
                 }
             }
@@ -159,6 +161,19 @@ fn entering_survivor(pass: &Option<Pass>, is_commit: bool) -> Option<u64>
     match pass {
         Some(pass) if is_commit => Some(pass.survivor),
         _ => None,
+    }
+}
+
+/// How many bytes that segment has, as they were sealed.
+fn entering_len(pass: &Option<Pass>, closed: &Images, is_commit: bool) -> u64
+    ensures { result ≡ (if is_commit then survivor_in pass.now closed.now.images else 0) }
+{
+    match pass {
+        Some(pass) if is_commit => match closed.get(pass.survivor) {
+            Some(image) => image.bytes().len() as u64,
+            None => 0,
+        },
+        _ => 0,
     }
 }
 

@@ -11,7 +11,7 @@ ghost use Rattle.master_state.specs.Sizes.{AreSizesOf, size_of, live_at, live_fr
 use entry::{EntryRef, NoMemory, OBJECT_LEN, Size};
 use hash_index::{Held, Index, Place};
 use master_state::Core;
-use segment::Segment;
+use segment::SegmentRef;
 
 /// The sizes of the live objects.
 pub trait Measures {
@@ -37,9 +37,10 @@ fn live_sizes(core: &Core) -> Result<Vec<Size>, NoMemory>
 {
     let mut sizes = Vec::with_capacity(core.alloc, core.index.len())?;
     for image in core.closed.as_slice() {
-        add_sizes(image.id, &image.segment, &core.index, &mut sizes)?;
+        add_sizes(image.id(), &image.segment(), &core.index, &mut sizes)?;
     }
-    add_sizes(core.head.id(), core.head.image(), &core.index, &mut sizes)?;
+    let head = core.head.image().view();
+    add_sizes(core.head.id(), &head, &core.index, &mut sizes)?;
     Ok(sizes)
 }
 
@@ -66,7 +67,7 @@ fn live_size(entry: &EntryRef<'_>, place: Place, index: &Index) -> Option<Size>
 /// Adds the sizes of the live objects of a segment.
 fn add_sizes(
     id: u64,
-    segment: &Segment,
+    segment: &SegmentRef<'_>,
     index: &Index,
     sizes: &mut Vec<Size>,
 ) -> Result<(), NoMemory>

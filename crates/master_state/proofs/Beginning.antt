@@ -1,16 +1,17 @@
 -- A new core, and a core of which replicas took something or failed.
-use Rattle.std.proofs.Common.{◌≡◌, inl, inr, ℕ, ◌<◌, Bool, true, false, ◌==◌, List, [], ◌∷◌, refl, sym, ap, subst}
+use Rattle.std.proofs.Common.{◌≡◌, inl, inr, ℕ, ◌<◌, Bool, true, false, ◌==◌, List, [], length, refl, sym, ap, subst}
 use Rattle.std.proofs.Common.{arith}
-use Rattle.std.specs.Prelude.{Option, Some, None, IfSome}
+use Rattle.std.specs.Prelude.{Option, Some, None, IfSome, if◌then◌else◌}
 use Rattle.cleaner.specs.declared.pass.Pass.{Pass as OpenPass}
 use Rattle.entry.specs.declared.entry.Entry.TheVariants as entry
 use Rattle.entry.specs.Bag.{IsAmong}
 use Rattle.log_head.specs.declared.head.Roll.{Roll}
 use Rattle.log_head.specs.Head.{HeadValue, IsHeadValue}
-use Rattle.log_head.specs.Log.{head_of, IsImageOf}
+use Rattle.log_head.specs.Log.{head_of, HasLens, IsImageOf}
 use Rattle.log_head.specs.Steps.{lone_start, fresh_head}
 use Rattle.log_head.proofs.HeadLog.{head_is, image_fresh, image_with_counts}
-use Rattle.log_model.specs.Data.{Head, Ready, start_entries}
+use Rattle.log_model.specs.Data.{Head, Ready, digest_for, start_entries}
+use Rattle.log_model.proofs.Lengths.{ids_listed}
 use Rattle.clean_model.specs.Loading.{restored}
 use Rattle.log_model.specs.Log.{AreBelow}
 use Rattle.master_state.specs.declared.config.Config.{Config}
@@ -22,12 +23,19 @@ use Rattle.master_state.specs.Log.{log_config, opening_of, log_of, images_of}
 use Rattle.master_state.specs.Steps.{halted}
 use Rattle.master_state.proofs.Refusals.{has_homes, sizes_of}
 use Rattle.master_state.proofs.Passing.{GoesOn, goes_on}
-use Rattle.segment.proofs.UnitLemmas.{length-head}
+use Rattle.segment.proofs.UnitLemmas.{head_few}
+
+-- its digest lists no other segments, nor lengths of them
+pub lone_has : (format safe : ℕ) → HasLens (lone_start format safe)
+lone_has format safe = go (format == 2) where
+  go : (b : Bool) → IfSome (if b then Some [] else None) (λ (ns : List ℕ). length ns ≡ 0)
+  go true = refl
+  go false = tt
 
 -- the opening of the first head has no tombstone
 named_first : (c : Config) (safe : ℕ) → NameBelow (images_of (restored_data c safe)) 2
 named_first c safe s t m = go (1 == s) refl where
-  never : IsAmong (entry.Tombstone t) (start_entries c.master (lone_start safe)) → ⊥
+  never : IsAmong (entry.Tombstone t) (start_entries c.master (lone_start c.format safe)) → ⊥
   never (inl is) = cc
   never (inr (inl is)) = cc
   never (inr (inr (inl is))) = cc
@@ -37,16 +45,17 @@ named_first c safe s t m = go (1 == s) refl where
   go true here = absurd (never (rw here at m))
   go false away = absurd (rw away at m)
 
-module _ (c : Config) (safe : ℕ) (head : IsHeadValue (fresh_head c.master c.replicas (lone_start safe))) where
+module _ (c : Config) (safe : ℕ) (head : IsHeadValue (fresh_head c.master c.replicas (lone_start c.format safe))) where
   abbrev first : HeadValue
-  first = fresh_head c.master c.replicas (lone_start safe)
+  first = fresh_head c.master c.replicas (lone_start c.format safe)
 
-  pub head_first : head_of first ≡ record { start = lone_start safe; loaded = []; units = []; taken = [] }
-  head_first = head_is c.master first _ (image_fresh c.master c.replicas (lone_start safe)) head.segment
+  pub head_first : head_of first ≡ record { start = lone_start c.format safe; loaded = []; units = []; taken = [] }
+  head_first = head_is c.master first _ (image_fresh c.master c.replicas (lone_start c.format safe) (lone_has c.format safe)) head.segment
 
   pub restored_core : config_fault c ≡ None → IsCore (restored_data c safe)
   restored_core ok =
-      let len = length-head c.master 1 (1 ∷ []) safe in
+      let few = head_few c.master 1 (digest_for (lone_start c.format safe)) safe in
+      let one = ap (λ (l : List ℕ). length l) (ids_listed (lone_start c.format safe)) in
       let least = (sizes_of c ok).least_segment in
       let enough = (sizes_of c ok).least_seglets in
       record {
@@ -55,7 +64,7 @@ module _ (c : Config) (safe : ℕ) (head : IsHeadValue (fresh_head c.master c.re
         history = omega arith;
         head = head;
         image = subst (λ (l : Head). IsImageOf c.master first l) (sym head_first)
-            (image_fresh c.master c.replicas (lone_start safe));
+            (image_fresh c.master c.replicas (lone_start c.format safe) (lone_has c.format safe));
         within = omega arith;
         closed = sym (ap (λ (l : Head). l.start.others) head_first);
         segments = tt;

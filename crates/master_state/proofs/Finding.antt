@@ -15,7 +15,7 @@ use Rattle.places.specs.declared.place.Place.{Place}
 use Rattle.places.specs.Map.{Places, found}
 use Rattle.log_head.specs.declared.head.Roll.{Roll}
 use Rattle.log_head.specs.Head.{HeadValue, IsHeadValue, IsRollValue}
-use Rattle.images.specs.declared.image.Image.{Image}
+use Rattle.images.specs.Image.{Image}
 use Rattle.master_state.specs.Data.{MasterData}
 use Rattle.master_state.specs.Images.{images_among}
 use Rattle.compactor.specs.Places.{IsAtPlace, object_there, keys_in}

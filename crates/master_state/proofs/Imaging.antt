@@ -12,10 +12,10 @@ use Rattle.entry.specs.Text.{IsSegment}
 use Rattle.log_head.specs.declared.head.Roll.{Roll}
 use Rattle.log_head.specs.Head.{HeadValue}
 use Rattle.log_head.specs.Steps.{in_force}
-use Rattle.images.specs.declared.image.Image.{Image}
 use Rattle.images.specs.Sorted.{image_of, segment_of, added}
 use Rattle.images.proofs.Adding.{segment_found}
-use Rattle.master_state.specs.Images.{closed_image, new_image_or, image_among, images_among, with_closed}
+use Rattle.images.specs.Image.{Image, closed_image}
+use Rattle.master_state.specs.Images.{new_image_or, image_among, images_among, with_closed}
 use Rattle.master_state.proofs.Indexing.{Grow}
 
 -- ---- tests of ids

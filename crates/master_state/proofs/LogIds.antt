@@ -9,14 +9,20 @@ use Rattle.std.proofs.lemmas.List.{length-append}
 use Rattle.cleaner.specs.declared.pass.Pass.{Pass}
 use Rattle.cleaner.specs.Passes.{images_in}
 use Rattle.entry.specs.declared.entry.Entry.{Entry}
-use Rattle.entry.specs.Format.{IsEntry}
-use Rattle.images.specs.declared.image.Image.{Image}
+use Rattle.std.specs.List.Sorted.{IsStrictlyIncreasing}
+use Rattle.entry.specs.declared.digest.Digest.{Digest}
+use Rattle.entry.specs.declared.digest.Digest.TheVariants as digest
+use Rattle.entry.specs.Format.{IsEntry, IsDigest}
+use Rattle.entry.specs.Text.{listed_ids}
+use Rattle.entry.proofs.LengthLemmas.{length-ids_in}
+use Rattle.images.specs.Image.{Image}
 use Rattle.images.specs.Sorted.{image_of, segment_of}
 use Rattle.log_head.specs.declared.head.Roll.{Roll}
 use Rattle.log_head.specs.Head.{digest_of}
 use Rattle.log_head.specs.Log.{head_of}
 use Rattle.log_head.proofs.RollLog.{digest_is}
-use Rattle.log_model.specs.Data.{Start, ids_of, start_entries}
+use Rattle.log_model.specs.Data.{Start, ids_of, digest_for, start_entries}
+use Rattle.log_model.proofs.Lengths.{ids_listed}
 use Rattle.log_model.specs.Ids.{has, all_inserted}
 use Rattle.master_state.specs.Budget.{newest_digest, survivors_of, segments_taken}
 use Rattle.master_state.specs.Data.{MasterData}
@@ -44,18 +50,28 @@ count_ids (c ∷ cs) = ap suc (count_ids cs)
 
 -- ---- ids of a start, whose image is a segment
 
+-- the ids of a digest rise, with lengths or without
+ids_rise : (d : Digest) → IsDigest d → IsStrictlyIncreasing (listed_ids d)
+ids_rise (digest.Ids ids) is = is.rise
+ids_rise (digest.Lengths segments) is = is.rise
+
+-- and they are few
+ids_few : (d : Digest) → IsDigest d → length (listed_ids d) < 2 ^ 32
+ids_few (digest.Ids ids) is = is.count
+ids_few (digest.Lengths segments) is = let same = length-ids_in segments in let few = is.count in omega arith
+
 pub start_rises : (master : ℕ) (n : Start) (more : List Entry)
     → AllByRecursion IsEntry (start_entries master n ++ more) → Rise (ids_of n)
-start_rises master n more each = rises_of (ids_of n) each.1.0.rise
+start_rises master n more each =
+    rises_of (ids_of n) (subst IsStrictlyIncreasing (ids_listed n) (ids_rise (digest_for n) each.1.0))
 
 module _ (d : MasterData) (core : IsCore d) where
   abbrev start : Start
   start = (head_of d.head).start
 
   pub rises : Rise (ids_of start)
-  rises =
-      rises_of (ids_of start)
-      (subst (λ (image : List Entry). AllByRecursion IsEntry image) core.image.image core.head.segment.each).1.0.rise
+  rises = start_rises d.config.master start _
+      (subst (λ (image : List Entry). AllByRecursion IsEntry image) core.image.image core.head.segment.each)
 
   pub others_rise : Rise start.others
   others_rise = rise_front start.others start.id rises
@@ -155,9 +171,9 @@ module _ (d : MasterData) (core : IsCore d) where
   -- a digest has few ids
   pub few_closed : length d.closed ≤ 2 ^ 32
   few_closed =
-      let few = (subst (λ (image : List Entry). AllByRecursion IsEntry image) core.image.image
-      core.head.segment.each).1.0.count in
-      let ids = length-append start.others (start.id ∷ []) in
+      let few = ids_few (digest_for start) (subst (λ (image : List Entry). AllByRecursion IsEntry image)
+      core.image.image core.head.segment.each).1.0 in
+      let ids = ap length (ids_listed start) ∙ length-append start.others (start.id ∷ []) in
       let closed : length d.closed ≡ length (all_inserted (survivors_of d.pass) start.others) = sym (count_ids d.closed)
       ∙ ap length core.closed in
       let more = with_one d.pass in

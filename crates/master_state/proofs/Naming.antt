@@ -11,7 +11,7 @@ use Rattle.entry.specs.Meaning.{object_at}
 use Rattle.entry.proofs.BagLemmas.{among_right}
 use Rattle.entry.proofs.ListLemmas.{all_among}
 use Rattle.places.specs.declared.place.Place.{Place}
-use Rattle.images.specs.declared.image.Image.{Image}
+use Rattle.images.specs.Image.{Image}
 use Rattle.images.specs.Sorted.{segment_of}
 use Rattle.log_head.specs.declared.head.Roll.{Roll}
 use Rattle.log_head.specs.Log.{head_of}

@@ -5,7 +5,7 @@ use Rattle.entry.specs.Tablet.{are_tablets}
 use Rattle.master_state.specs.declared.config.Config.{Config}
 use Rattle.master_state.specs.declared.config.ConfigFault.{ConfigFault}
 use Rattle.master_state.specs.declared.config.ConfigFault.TheVariants.{BadBackups, BadStep, BadSegment, BadSeglet}
-use Rattle.master_state.specs.declared.config.ConfigFault.TheVariants.{BadBudget, BadTablets, BadHistory}
+use Rattle.master_state.specs.declared.config.ConfigFault.TheVariants.{BadBudget, BadTablets, BadHistory, BadFormat}
 
 -- at least one replica, on as many backups or more, and at most 64 of those
 abbrev pub has_backups : Config → Bool
@@ -30,6 +30,9 @@ has_tablets c = are_tablets c.tablets
 abbrev pub has_history : Config → Bool
 has_history c = is_within 1 1048576 c.history
 
+abbrev pub has_format : Config → Bool
+has_format c = is_within 1 2 c.format
+
 -- what is wrong with a configuration: the first test that fails
 abbrev pub config_fault : Config → Option ConfigFault
 config_fault c =
@@ -40,4 +43,5 @@ config_fault c =
     else if not (has_budget c) then Some BadBudget
     else if not (has_tablets c) then Some BadTablets
     else if not (has_history c) then Some BadHistory
+    else if not (has_format c) then Some BadFormat
     else None

@@ -2,7 +2,7 @@
 use Rattle.std.specs.Prelude.{ℕ, List, [], Bool, false, Option, None}
 use Rattle.cleaner.specs.declared.pass.Pass.{Pass}
 use Rattle.entry.specs.declared.entry.Object.{Object}
-use Rattle.images.specs.declared.image.Image.{Image}
+use Rattle.images.specs.Image.{Image}
 use Rattle.versioned_map.specs.declared.command.Record.{Record}
 use Rattle.log_model.specs.Steps.{first_start}
 use Rattle.log_head.specs.Head.{HeadValue}
@@ -47,7 +47,7 @@ pub record MasterData : Type 0 where
 abbrev pub fresh_data : Config → MasterData
 fresh_data config = record {
   config = config;
-  head = fresh_head config.master config.replicas first_start;
+  head = fresh_head config.master config.replicas (first_start config.format);
   closed = [];
   next = 2;
   index = no_places (secret_seed config.hasher.secret);

@@ -1,13 +1,14 @@
 -- The images of a log.
-use Rattle.std.specs.Prelude.{◌==◌, ℕ, List, [], map, filter, not, Option, Some, None, unwrap_or, true, false}
+use Rattle.std.specs.Prelude.{◌==◌, ℕ, List, [], map, filter, not, Option, Some, None, unwrap_or}
 use Rattle.std.specs.Prelude.{if◌then◌else◌}
 use Rattle.cleaner.specs.declared.pass.Pass.{Pass}
 use Rattle.clean_model.specs.Intact.{survivor_entries}
 use Rattle.entry.specs.declared.entry.Entry.{Entry}
-use Rattle.images.specs.declared.image.Image.{Image}
+use Rattle.images.specs.Image.{Image, closed_image, whole_image}
 use Rattle.images.specs.Sorted.{segment_of, added, changed}
 use Rattle.images.specs.Steps.{trimmed}
 use Rattle.log_model.specs.Ids.{has}
+use Rattle.master_state.specs.declared.config.Config.{Config}
 use Rattle.log_head.specs.declared.head.Roll.{Roll}
 use Rattle.log_head.specs.Head.{HeadValue}
 
@@ -24,10 +25,6 @@ image_among h cs id = if h.id == id then Some h.image else new_image_or h.roll i
 abbrev pub images_among : HeadValue → List Image → ℕ → List Entry
 images_among h cs id = unwrap_or (image_among h cs id) []
 
--- a segment that is closed, and counts its length
-abbrev pub closed_image : ℕ → List Entry → Image
-closed_image id image = record { id = id; segment = image; is_whole = false }
-
 -- one more closed segment at its place, if there is an image
 abbrev pub with_closed : List Image → ℕ → Option (List Entry) → List Image
 with_closed cs id None = cs
@@ -36,8 +33,8 @@ with_closed cs id (Some image) = added (closed_image id image) cs
 -- ---- a pass
 
 -- the image of a new survivor, whose memory is taken whole
-abbrev pub survivor_image : ℕ → ℕ → Image
-survivor_image master id = record { id = id; segment = survivor_entries master id; is_whole = true }
+abbrev pub survivor_image : Config → ℕ → Image
+survivor_image c id = whole_image id (survivor_entries c.master id) c.segment
 
 -- the images but for those of victims
 abbrev pub staying : List ℕ → List Image → List Image

@@ -30,7 +30,7 @@ use Rattle.master_state.specs.Steps.{rolling_data, taken_data, halted}
 -- a new master that is loaded with objects of versions below this one, which its head records
 abbrev pub restored_data : Config → ℕ → MasterData
 restored_data config safe = record (fresh_data config) {
-  head = fresh_head config.master config.replicas (lone_start safe);
+  head = fresh_head config.master config.replicas (lone_start config.format safe);
   safe = safe;
   origin = record { objects = []; safe = safe };
 }

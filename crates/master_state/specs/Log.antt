@@ -43,6 +43,7 @@ log_config c = record {
   replicas = c.replicas;
   homes = λ segment. homes_from c segment 0 c.replicas;
   tablets = c.tablets;
+  format = c.format;
 }
 
 -- the state that the history begins with: a new master has no keys, and a loaded one has what was loaded

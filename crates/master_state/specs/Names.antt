@@ -7,7 +7,7 @@ use Rattle.master_state.specs.declared.step.Refusal.TheVariants.{Halted, Rolling
 use Rattle.master_state.specs.declared.step.Refusal.TheVariants.{NoTablet, Pass}
 use Rattle.master_state.specs.declared.config.ConfigFault.{ConfigFault}
 use Rattle.master_state.specs.declared.config.ConfigFault.TheVariants.{BadBackups, BadStep, BadSegment, BadSeglet}
-use Rattle.master_state.specs.declared.config.ConfigFault.TheVariants.{BadBudget, BadTablets, BadHistory}
+use Rattle.master_state.specs.declared.config.ConfigFault.TheVariants.{BadBudget, BadTablets, BadHistory, BadFormat}
 
 -- its name; that of a pass's fault, with its number
 abbrev pub refusal_text : Refusal → List ℕ
@@ -32,3 +32,4 @@ config_fault_name BadSeglet = codes "BadSeglet"
 config_fault_name BadBudget = codes "BadBudget"
 config_fault_name BadTablets = codes "BadTablets"
 config_fault_name BadHistory = codes "BadHistory"
+config_fault_name BadFormat = codes "BadFormat"

@@ -13,7 +13,7 @@ use Rattle.entry.specs.Meaning.{Contents, contents_of}
 use Rattle.places.specs.declared.place.Place.{Place}
 use Rattle.places.specs.Map.{Places}
 use Rattle.places.specs.Relocation.{names}
-use Rattle.images.specs.declared.image.Image.{Image}
+use Rattle.images.specs.Image.{Image}
 use Rattle.tablet_will.specs.Sizes.{are_in_order}
 use Rattle.master_state.specs.Data.{MasterData}
 

@@ -14,6 +14,7 @@ use Rattle.entry.specs.declared.entry.Entry.{Entry}
 use Rattle.entry.specs.declared.key.Key.{Key}
 use Rattle.entry.specs.Text.{text_of}
 use Rattle.places.specs.declared.place.Place.{Place}
+use Rattle.images.specs.declared.image.Image.{Image}
 use Rattle.images.specs.Sorted.{changed}
 use Rattle.images.specs.Steps.{replaced_by}
 use Rattle.compactor.specs.Kept.{kept_of, moved_all}
@@ -89,12 +90,19 @@ AppliesAs d r place e = Applies d r.seat r.command (Applied place r.reply) e
 abbrev pub MayApplyNow : MasterData → ℕ → Command → Type 0
 MayApplyNow d seat command = MayApply (log_of d) (dead_segment d command) (record_now d seat command)
 
+-- how many bytes the survivor of an open pass has
+abbrev pub survivor_in : Option Pass → List Image → ℕ
+survivor_in pass closed = option_map_or (λ (p : Pass). length (text_of (images_in closed p.survivor))) pass 0
+
+abbrev pub survivor_bytes : MasterData → ℕ
+survivor_bytes d = survivor_in d.pass d.closed
+
 -- What the next head begins with. It lists the log, and records the safe version of now. If a pass is ready, it lists
 -- the pass's survivor in place of its victims.
 abbrev pub start_now : MasterData → Start
 start_now d =
-    if is_ready d then start_after d.head (victims_of d.pass) (survivors_of d.pass) d.next d.safe
-    else start_after d.head [] [] d.next d.safe
+    if is_ready d then start_after d.head (victims_of d.pass) (survivors_of d.pass) (survivor_bytes d) d.next d.safe
+    else start_after d.head [] [] 0 d.next d.safe
 
 -- what a core becomes when a roll begins; the roll of a pass that is ready is its commit
 abbrev pub rolling_data : MasterData → MasterData
@@ -154,7 +162,7 @@ pub record BeginsPass (d : MasterData) (victims : List ℕ) (answer : StepAnswer
   pub begins : rest_of (images_in d.closed) (fresh_pass victims d.next cursor) ≡ places_of (images_in d.closed) victims
   pub log : log_of e ≡ id_taken (log_of d)
   pub rest : e ≡ record d {
-    closed = d.closed ++ survivor_image d.config.master d.next ∷ [];
+    closed = d.closed ++ survivor_image d.config d.next ∷ [];
     next = d.next + 1;
     pass = Some (fresh_pass victims d.next cursor);
   }

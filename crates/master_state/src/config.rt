@@ -36,6 +36,8 @@ pub struct Config {
     /// How the index hashes keys. With a secret, whoever picks keys can't make many of them fall into one bucket. No
     /// answer depends on it.
     pub hasher: KeyHasher,
+    /// The format of the log, 1 or 2. Under format 2 the digest of each head lists the lengths of its segments.
+    pub format: u64,
 }
 
 /// What is wrong with a configuration.
@@ -48,6 +50,7 @@ pub enum ConfigFault {
     BadBudget,
     BadTablets,
     BadHistory,
+    BadFormat,
 }
 
 impl Error for ConfigFault {}
@@ -73,13 +76,14 @@ impl ConfigFault {
             ConfigFault::BadBudget => "BadBudget",
             ConfigFault::BadTablets => "BadTablets",
             ConfigFault::BadHistory => "BadHistory",
+            ConfigFault::BadFormat => "BadFormat",
         }
     }
 }
 
 impl Config {
     /// Whether the configuration is within its limits. The first thing that is wrong is named, in this order: backups,
-    /// step, seglet, segment, budget, tablets, history.
+    /// step, seglet, segment, budget, tablets, history, format.
     pub fn check(&self) -> Result<(), ConfigFault>
         ensures { result_err result ≡ config_fault self.now }
     {
@@ -106,6 +110,9 @@ impl Config {
         }
         if self.history < 1 || self.history > 1_048_576 {
             return Err(ConfigFault::BadHistory);
+        }
+        if self.format < 1 || self.format > 2 {
+            return Err(ConfigFault::BadFormat);
         }
         Ok(())
     }

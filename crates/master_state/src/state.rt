@@ -127,6 +127,7 @@ impl Core {
             alloc,
             config.master,
             replicas,
+            config.format,
             safe,
             config.segment as usize,
         )?;

@@ -3,6 +3,7 @@
 ghost use Rattle.std.specs.Prelude.{◌≡◌, ◌≤◌, ◌==◌, ℕ, None, IfSome};
 ghost use Rattle.std.specs.List.{list_any};
 ghost use Rattle.backup.specs.State.{fleet_state};
+ghost use Rattle.master.specs.Registry.{IsUnraised};
 ghost use Rattle.master_state.specs.Config.{config_fault};
 ghost use Rattle.replica.specs.declared.holding.Holding.{Holding as HoldingValue};
 
@@ -31,6 +32,7 @@ fn config_on(alloc: Global, fleet: &MemoryFleet, seglets: u64) -> Option<Config>
     ensures backups { IfSome result (λ config. config.backups ≤ (fleet_state fleet.now).backups) }
     ensures none { IfSome result (λ config.
         (b s : ℕ) → (fleet_state fleet.now).picture b config.master s ≡ None) }
+    ensures least { IfSome result (λ config. IsUnraised config.master (fleet_state fleet.now)) }
 {
     let config = config_of(alloc, 2, seglets)?;
     let Ok(inventory) = fleet.inventory(alloc) else {
@@ -39,7 +41,7 @@ fn config_on(alloc: Global, fleet: &MemoryFleet, seglets: u64) -> Option<Config>
     if has_replica(inventory.as_slice(), config.master) {
         return None;
     }
-    if fleet.backups() < config.backups {
+    if fleet.backups() < config.backups || !fleet.is_unraised(config.master) {
         return None;
     }
     Some(config)
@@ -86,6 +88,7 @@ fn is_adopted(
     requires config { config_fault config ≡ None }
     requires backups { config.backups ≤ (fleet_state fleet).backups }
     requires none { (b s : ℕ) → (fleet_state fleet).picture b config.master s ≡ None }
+    requires least { IsUnraised config.master (fleet_state fleet) }
 {
     let mut adopted = adopt(alloc, rebuilt, config, fleet);
     is_told(alloc, &mut adopted, want)

@@ -8,6 +8,7 @@ use entry::{Entry, EntryRef, Object, ObjectRef};
 use master::{Command, Look, Master, Reply, Shown, Step};
 use recovery::{GroupOrder, recover};
 use replay::{Objects, Rebuilt};
+use replica::Fleet;
 use segment::SegmentRef;
 use std::alloc::Global;
 use versioned_map::{VersionedMap, meaning};
@@ -131,7 +132,15 @@ fn is_meant(alloc: Global, master: &Master<MemoryFleet>, map: &VersionedMap) -> 
 pub fn rebuilt(alloc: Global, fleet: &MemoryFleet) -> Option<Rebuilt> {
     let inventory = fleet.inventory(alloc).ok()?;
     let will = will_of(alloc, &[])?;
-    recover(alloc, &inventory, 1, &will, &GroupOrder::Forward).ok()
+    recover(
+        alloc,
+        &inventory,
+        1,
+        fleet.least(1),
+        &will,
+        &GroupOrder::Forward,
+    )
+    .ok()
 }
 
 fn is_rebuilt(alloc: Global, fleet: &MemoryFleet, map: &VersionedMap) -> bool {

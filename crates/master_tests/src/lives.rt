@@ -32,6 +32,7 @@ fn copy_of(alloc: Global, config: &Config) -> Option<Config>
         tablets: Tablets::new(tablets),
         history: config.history,
         hasher: config.hasher,
+        format: config.format,
     })
 }
 

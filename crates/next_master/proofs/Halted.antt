@@ -24,6 +24,7 @@ valid_halted d f valid = record {
   imaged = valid.imaged;
   budget = valid.budget;
   sound = valid.sound;
+  least = valid.least;
   covered = valid.covered;
   durable = valid.durable;
   pushed = valid.pushed;
@@ -44,6 +45,7 @@ left_halted d l f of = record {
   opened = of.opened;
   shown = of.shown;
   backups = of.backups;
+  least = of.least;
 }
 
 of_halted : (d : MasterData) (f : FleetState) (new : Node) → IsOf new (Some (left_now (halted d) f)) (halted d)

@@ -80,6 +80,10 @@ pub after_backups : (a : Answer) (f : FleetState) → (after_answer a f).backups
 after_backups answer.Stopped f = refl
 after_backups a f = refl
 
+pub after_least : (a : Answer) (f : FleetState) → (after_answer a f).least ≡ f.least
+after_least answer.Stopped f = refl
+after_least a f = refl
+
 -- ---- a recovery that wants memory, or finds a master
 
 pub up_ends : (node : Node) (options : Options) (a : Asked) → is_up node ≡ true

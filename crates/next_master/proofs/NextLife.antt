@@ -1,5 +1,6 @@
 -- Recoveries, told of the life that ends and of the one that begins.
-use Rattle.std.proofs.Common.{[], ◌≡◌, ℕ, suc, ◌≤◌, max, List, ◌∷◌, length, inl, inr, refl, sym, ap, subst, ◌∙◌, arith}
+use Rattle.std.proofs.Common.{[], ◌≡◌, ℕ, suc, ◌≤◌, max, Bool, List, ◌∷◌, length, inl, inr, refl, sym, ap, subst, ◌∙◌}
+use Rattle.std.proofs.Common.{arith}
 use Rattle.std.proofs.lemmas.List.{append-nil}
 use Rattle.std.proofs.lemmas.Option.{same_Some}
 use Rattle.std.specs.Prelude.{Option, Some, None, Err}
@@ -15,6 +16,7 @@ use Rattle.replica.specs.declared.op.TakeFault.{TakeFault}
 use Rattle.replica.specs.declared.op.TakeFault.TheVariants as take_fault
 use Rattle.replica.specs.Picture.{Replica, Picture, FleetState, AreHeld}
 use Rattle.versioned_map.specs.declared.command.Record.{Record}
+use Rattle.master.specs.Registry.{IsUnraised}
 use Rattle.master.specs.Valid.{IsValid}
 use Rattle.master.specs.World.{MasterValue, World, world}
 use Rattle.master_state.specs.declared.config.Config.{Config}
@@ -27,7 +29,7 @@ use Rattle.answers.specs.declared.answer.Answer.TheVariants as answer
 use Rattle.node.specs.declared.node.Node.{Node}
 use Rattle.node.specs.declared.node.Node.TheVariants.{Up, Down}
 use Rattle.replay.specs.Adopting.{IsAdopted, IsAdoptedOn}
-use Rattle.next_master.specs.Configuration.{config_of}
+use Rattle.next_master.specs.Configuration.{config_of, later_options}
 use Rattle.node.specs.Lives.{life_to, HasLived, Left, left_now, Position}
 use Rattle.next_master.specs.Numbers.{greatest_of}
 use Rattle.next_master.specs.Recoveries.{Adopts, BeginsNext, EndsFreeing, Frees, HasNoOther, IsCut, IsDeclined}
@@ -36,7 +38,9 @@ use Rattle.driving.specs.Served.{IsSpent}
 use Rattle.node.specs.Served.{AnswersLine, IsLeftOf, IsNodeAt, IsOf, Refuses, fleet_of, life_of, refusal_answer}
 use Rattle.next_master.specs.Succession.{EndsRecovery}
 use Rattle.node.specs.Told.{HoldsLeft, IsUnadopted, Tells}
-use Rattle.next_master.proofs.HowItEnds.{after_backups, after_picture, down_final, fleet_held}
+use Rattle.next_master.proofs.Later.{later_checked, next_config_is}
+use Rattle.next_master.proofs.HowItEnds.{after_backups, after_least, after_picture, down_final, fleet_held}
+use Rattle.master.proofs.Unraised.{unraised_above, unraised_on}
 use Rattle.node.proofs.Standing.{legal_of}
 
 -- ---- numbers
@@ -64,8 +68,9 @@ next_unused hs p master number held is b s = go (p b number s) refl
 -- another master's replicas alone changed
 pub spared_left : (d : MasterData) (l : Left) (old mid new : FleetState) (other : ℕ) → (d.config.master ≡ other → ⊥)
     → IsAdoptedOn other old mid
-    → new.picture ≡ mid.picture → new.backups ≡ mid.backups → IsLeftOf d l old → IsLeftOf d l new
-spared_left d l old mid new other apart on picture backups of = record {
+    → new.picture ≡ mid.picture → new.backups ≡ mid.backups → new.least ≡ mid.least → IsLeftOf d l old
+    → IsLeftOf d l new
+spared_left d l old mid new other apart on picture backups least of = record {
   crashed = of.crashed;
   valid = of.valid;
   picture = of.picture;
@@ -73,6 +78,7 @@ spared_left d l old mid new other apart on picture backups of = record {
   shown = λ b s. ap (λ (p : Picture). p b d.config.master s) picture
       ∙ on.others b d.config.master s apart ∙ of.shown b s;
   backups = let was = of.backups in let same = on.backups in let last = backups in omega arith;
+  least = least ∙ on.least ∙ of.least;
 }
 
 -- ---- an adoption that is refused, and a retirement that is cut short
@@ -128,8 +134,8 @@ not_of_cut d new a told is = subst (IsCut told.0) is told.3
 
 -- ---- a recovery of what is left on this fleet
 
-module _ (fleet : MemoryFleet) (options : Options) (master : ℕ) (r : Rebuilt) (config : Config)
-    (found : IsFoundIn fleet options master r config)
+module _ (fleet : MemoryFleet) (options : Options) (lists : Bool) (master : ℕ) (r : Rebuilt) (config : Config)
+    (found : IsFoundIn fleet options lists master r config)
     (old : Node) (down : old ≡ Down fleet) (order : ReplayOrder) where
   was : (d : MasterData) (at : Position) → IsNodeAt old (config_of options master) d at
       → IsNodeAt (Down fleet) (config_of options master) d at
@@ -142,8 +148,7 @@ module _ (fleet : MemoryFleet) (options : Options) (master : ℕ) (r : Rebuilt) 
       let valid = (was d at s).node_of.2.valid in
       let old_one : config_fault (config_of options master) ≡ None =
       ap config_fault (sym s.configured) ∙ valid.config in
-      let new_one : config_fault (config_of options config.master) ≡ None = old_one in
-      ap config_fault found.configured ∙ new_one
+      ap config_fault found.configured ∙ later_checked lists options master config.master old_one
 
   pub has_backups : (d : MasterData) (at : Position) → IsNodeAt old (config_of options master) d at
       → config.backups ≤ (fleet_state fleet).backups
@@ -152,6 +157,16 @@ module _ (fleet : MemoryFleet) (options : Options) (master : ℕ) (r : Rebuilt) 
       let here = ap (λ (c : Config). c.backups) s.configured in
       let there = ap (λ (c : Config). c.backups) found.configured in
       omega arith
+
+  -- any head may be used of the master that is to adopt the table
+  pub is_unraised : (d : MasterData) (at : Position) → IsNodeAt old (config_of options master) d at
+      → IsUnraised config.master (fleet_state fleet)
+  is_unraised d at s =
+      let of = (was d at s).node_of.2 in
+      let here = ap (λ (c : Config). c.master) s.configured in
+      let up = found.greater in
+      unraised_above d.config.master config.master (fleet_state fleet) (omega arith)
+      (unraised_on d.config.master of.crashed (fleet_state fleet) of.least of.valid.least)
 
   declined : (d : MasterData) (at : Position) → IsNodeAt old (config_of options master) d at → (why : Refusal)
       → IsUnadopted (config_of options master) (life_of d) at (Recover order) why at
@@ -182,7 +197,8 @@ module _ (fleet : MemoryFleet) (options : Options) (master : ℕ) (r : Rebuilt) 
             before.node_of.1,
             spared_left d l (fleet_state fleet) refused.left (fleet_state final.0) config.master apart refused.on
                 (ap (λ (f : FleetState). f.picture) final.2 ∙ after_picture a refused.left)
-                (ap (λ (f : FleetState). f.backups) final.2 ∙ after_backups a refused.left) before.node_of.2,
+                (ap (λ (f : FleetState). f.backups) final.2 ∙ after_backups a refused.left)
+                (ap (λ (f : FleetState). f.least) final.2 ∙ after_least a refused.left) before.node_of.2,
           );
           configured = s.configured;
           made = s.made;
@@ -198,7 +214,7 @@ module _ (fleet : MemoryFleet) (options : Options) (master : ℕ) (r : Rebuilt) 
                 r,
                 table.2,
                 config,
-                (found.greater, found.configured),
+                next_config_is lists options master config found.configured found.greater,
                 (fleet_state fleet, refused.left, holds, refused.declines),
               ),
               refl,
@@ -208,7 +224,7 @@ module _ (fleet : MemoryFleet) (options : Options) (master : ℕ) (r : Rebuilt) 
   -- it is adopted
   module _ (e : MasterData) (adopted : IsAdopted config r e) where
     abbrev pub next : Config
-    next = config_of options config.master
+    next = config_of (later_options lists options) config.master
 
     configured : e.config ≡ next
     configured = adopted.config ∙ found.configured
@@ -237,7 +253,7 @@ module _ (fleet : MemoryFleet) (options : Options) (master : ℕ) (r : Rebuilt) 
             was = table.1;
             table = r;
             found = table.2;
-            config = (found.greater, refl);
+            config = next_config_is lists options master next refl found.greater;
             opening = adopted.opening;
             made = refl;
             acknowledged = refl;

@@ -11,7 +11,7 @@ use Rattle.entry.specs.Bag.{IsAmong}
 use Rattle.entry.specs.Meaning.{IsMeaning, among, contents_of}
 use Rattle.claims.specs.declared.rebuilt.Rebuilt.{Rebuilt}
 use Rattle.replica.specs.declared.holding.Holding.{Holding}
-use Rattle.replica.specs.Picture.{Picture, FleetState, left_on, shown_by, survivors, IsHeld, AreHeld}
+use Rattle.replica.specs.Picture.{Picture, FleetState, left_on, shown_by, shown_of, survivors, IsHeld, AreHeld}
 use Rattle.replica.specs.Choice.{IsShownChoice}
 use Rattle.replica.specs.Survival.{BothSurvive}
 use Rattle.recovery_plan.specs.declared.fault.PlanFault.TheVariants as plan_fault
@@ -27,6 +27,7 @@ use Rattle.recovery.specs.Recovered.{IsSomePrefix, IsWant}
 use Rattle.recovery_plan.specs.Planned.{IsPlanFault, NamesLoss}
 use Rattle.recovery.specs.declared.recovery.RecoveryFault.{RecoveryFault}
 use Rattle.recovery.specs.declared.recovery.RecoveryFault.TheVariants as fault
+use Rattle.master.proofs.Unraised.{own_least}
 use Rattle.recovery.proofs.Choices.{bag-of-plan, surviving-choice}
 use Rattle.recovery.proofs.Counting.{orders_name}
 use Rattle.answers.specs.declared.answer.Answer.TheVariants as answer
@@ -74,7 +75,8 @@ module _ (node : Node) (fleet : MemoryFleet) (config : Config) (d : MasterData) 
   abbrev left : (l : Left) × (at.left ≡ Some l) × IsLeftOf d l (fleet_state fleet)
   left = left_at node fleet config d at down s
 
-  module _ (hs : List Holding) (master : ℕ) (number : config.master ≡ master)
+  module _ (hs : List Holding) (least master : ℕ) (old : least ≡ (fleet_state fleet).least master)
+      (number : config.master ≡ master)
       (shown : (h : Holding) → IsAmong h hs ↔ IsHeld (fleet_state fleet).picture h) where
     of_master : d.config.master ≡ master
     of_master = ap (λ (c : Config). c.master) s.configured ∙ number
@@ -82,19 +84,31 @@ module _ (node : Node) (fleet : MemoryFleet) (config : Config) (d : MasterData) 
     shows : Shows hs (survivors (is_left left.0.lost) (shown_by left.0.picture)) master
     shows = shows_left hs d left.0 (fleet_state fleet) master of_master left.2 shown
 
-    sound : IsSound (log_of d) left.0.picture
-    sound = subst (λ (p : Picture). IsSound (log_of d) p) (sym left.2.picture) left.2.valid.sound
+    -- no head of it was made too old
+    crashed_least : left.2.crashed.least d.config.master ≡ 0
+    crashed_least = own_least d.config.master left.2.crashed left.2.valid.least
+
+    none_old : 0 ≡ least
+    none_old =
+        sym (old ∙ ap (λ (g : ℕ → ℕ). g master) left.2.least ∙ ap left.2.crashed.least (sym of_master) ∙ crashed_least)
+
+    sound : IsSound (log_of d) (shown_by left.0.picture)
+    sound = subst (IsSound (log_of d)) same left.2.valid.sound
+      where
+        same : shown_of left.2.crashed d.config.master ≡ shown_by left.0.picture
+        same = λ i. record { holds = sym left.2.picture i; least = crashed_least i }
 
     -- a table of the choice that the plan has
-    pub table_found : (r : Rebuilt) → IsSomePrefix hs master r → (will : List Part) (order : GroupOrder)
-        → IsRebuiltFrom hs master will order r
+    pub table_found : (r : Rebuilt) → IsSomePrefix hs least master r → (will : List Part) (order : GroupOrder)
+        → IsRebuiltFrom hs least master will order r
         → (l : Left) × (at.left ≡ Some l) × IsFoundAt config (life_of d) at l r
     table_found r recovers will order from =
-        let found = recovers (log_of d) left.0.picture (is_left left.0.lost) sound of_master shows in
+        let found =
+        recovers (log_of d) (shown_by left.0.picture) (is_left left.0.lost) sound of_master none_old shows in
         let c = from.planned.0 in
-        let choice = surviving-choice hs master (log_of d) left.0.picture
-        (is_left left.0.lost) of_master shows c from.planned.1.choice in
-        let bag = bag-of-plan hs master c from.plan from.planned.1 in (
+        let choice = surviving-choice hs least master (log_of d) (shown_by left.0.picture)
+        (is_left left.0.lost) of_master none_old shows c from.planned.1.choice in
+        let bag = bag-of-plan hs least master c from.plan from.planned.1 in (
           left.0,
           left.1,
           (
@@ -110,24 +124,28 @@ module _ (node : Node) (fleet : MemoryFleet) (config : Config) (d : MasterData) 
 
     -- what is named is lost to these backups
     loss_named : (e : RecoveryFault) (will : List Part) (order : GroupOrder) → IsLossOrMemory e
-        → IsRefusedFrom hs master will order e
+        → IsRefusedFrom hs least master will order e
         → IsWant e ⊎ NamesLossOf config left.0 e
     loss_named (fault.Plan loss) will order is from = inr (
       hs,
       held_of_left config d left.0 (fleet_state fleet) hs s.configured left.2 shown,
-      subst (λ (n : ℕ). IsPlanFault hs n loss) (sym number) from.0,
-      subst (λ (n : ℕ). NamesLoss hs n loss) (sym number) from.1,
+      subst (λ (n : ℕ). IsPlanFault hs 0 n loss) (sym number)
+          (subst (λ (n : ℕ). IsPlanFault hs n master loss) (sym none_old) from.0),
+      subst (λ (n : ℕ). NamesLoss hs 0 n loss) (sym number)
+          (subst (λ (n : ℕ). NamesLoss hs n master loss) (sym none_old) from.1),
     )
     loss_named (fault.Replay refused) will order is from = inl is
 
-    pub loss_told : (e : RecoveryFault) (will : List Part) (order : GroupOrder) → IsSomeLoss hs master will order e
-        → IsRefusedFrom hs master will order e → Covers config.tablets will
-        → NamesGroups hs master will order → (asked : ReplayOrder)
+    pub loss_told : (e : RecoveryFault) (will : List Part) (order : GroupOrder)
+        → IsSomeLoss hs least master will order e
+        → IsRefusedFrom hs least master will order e → Covers config.tablets will
+        → NamesGroups hs least master will order → (asked : ReplayOrder)
         → Tells config (life_of d) at (Recover asked) (answer.NotRecovered e) at
     loss_told e will order refuses from covers names asked =
         let here : Covers d.config.tablets will = subst (λ (k : Config). Covers k.tablets will)
         (sym s.configured) covers in
-        let loss = refuses (log_of d) left.0.picture (is_left left.0.lost) sound of_master shows here names in (
+        let loss =
+        refuses (log_of d) (shown_by left.0.picture) (is_left left.0.lost) sound of_master none_old shows here names in (
           (asked, refl),
           left.0,
           left.1,
@@ -153,8 +171,8 @@ module _ (node : Node) (fleet : MemoryFleet) (config : Config) (d : MasterData) 
 -- ---- orders
 
 -- the order that a line names has each group once
-pub names_groups : (order : ReplayOrder) (hs : List Holding) (master : ℕ) (will : List Part)
-    → NamesGroups hs master will (order_named order)
-names_groups Forward hs master will = (orders_name hs master will).0
-names_groups Reverse hs master will = (orders_name hs master will).1
-names_groups (Threads workers) hs master will = (orders_name hs master will).0
+pub names_groups : (order : ReplayOrder) (hs : List Holding) (least master : ℕ) (will : List Part)
+    → NamesGroups hs least master will (order_named order)
+names_groups Forward hs least master will = (orders_name hs least master will).0
+names_groups Reverse hs least master will = (orders_name hs least master will).1
+names_groups (Threads workers) hs least master will = (orders_name hs least master will).0

@@ -1,5 +1,5 @@
 -- The configuration that the command line stands for.
-use Rattle.std.specs.Prelude.{[], ℕ, zero, suc, ◌-◌, ◌^◌, List, ◌∷◌, ◌++◌, map}
+use Rattle.std.specs.Prelude.{[], ℕ, zero, suc, ◌-◌, ◌^◌, List, ◌∷◌, ◌++◌, map, Bool, true, false}
 use Rattle.entry.specs.declared.tablet.Tablet.{Tablet}
 use Rattle.tablet_will.specs.declared.part.Part.{Part}
 use Rattle.command_line.specs.declared.settings.Options.{Options}
@@ -28,7 +28,17 @@ config_of o master = record {
   tablets = tables_to o.tables;
   history = o.history;
   hasher = fast_hasher;
+  format = o.format;
 }
+
+-- the format of masters that start later: once format 2 was asked for, they list each segment with its length
+abbrev pub later_format : Bool → ℕ → ℕ
+later_format true format = 2
+later_format false format = format
+
+-- the options of those
+abbrev pub later_options : Bool → Options → Options
+later_options lists o = record o { format = later_format lists o.format }
 
 -- the will that is one partition over all tablets
 abbrev pub one_partition : List Tablet → List Part

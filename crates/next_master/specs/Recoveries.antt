@@ -1,5 +1,5 @@
 -- What a recovery makes of a node, by how it ends.
-use Rattle.std.specs.Prelude.{[], ◌≡◌, ◌⊎◌, ℕ, ◌<◌, max, List, true, false, Option, Some, None, Result, Ok, Err}
+use Rattle.std.specs.Prelude.{[], ◌≡◌, ◌⊎◌, ℕ, ◌<◌, max, List, Bool, true, false, Option, Some, None, Result, Ok, Err}
 use Rattle.std.specs.Option.{option_map}
 use Rattle.backup.specs.State.{fleet_state}
 use Rattle.backup.specs.declared.fleet.MemoryFleet.{MemoryFleet}
@@ -22,7 +22,7 @@ use Rattle.claims.specs.declared.rebuilt.Rebuilt.{Rebuilt}
 use Rattle.replay.specs.Adopting.{IsAdopted, IsAdoptedOn, DeclinesList}
 use Rattle.replica.specs.declared.op.TakeFault.{TakeFault}
 use Rattle.replica.specs.declared.op.TakeFault.TheVariants as take_fault
-use Rattle.replica.specs.Picture.{FleetState}
+use Rattle.replica.specs.Picture.{FleetState, shown_of}
 use Rattle.replica.specs.Retire.{Retires}
 use Rattle.replica.specs.Take.{limited, no_limit}
 use Rattle.tablet_will.specs.declared.part.Part.{Part}
@@ -32,7 +32,7 @@ use Rattle.answers.specs.declared.answer.Answer.TheVariants.{Stopped}
 use Rattle.answers.specs.declared.answer.Answer.TheVariants as answers
 use Rattle.node.specs.declared.node.Node.{Node}
 use Rattle.node.specs.declared.node.Node.TheVariants.{Up, Down}
-use Rattle.next_master.specs.Configuration.{config_of}
+use Rattle.next_master.specs.Configuration.{config_of, later_options}
 use Rattle.node.specs.Lives.{Left, left_now, Position}
 use Rattle.next_master.specs.Numbers.{IsNextNumber}
 use Rattle.driving.specs.Served.{IsSpent}
@@ -61,7 +61,7 @@ order_named (replay_order.Threads workers) = group_order.Forward
 
 -- what such a recovery rebuilds of what a fleet holds, or why it rebuilds nothing
 abbrev pub Rebuilds : FleetState → Asked → Result Rebuilt RecoveryFault → Type 0
-Rebuilds f a result = IsOfHeld f.picture a.master a.will a.order result
+Rebuilds f a result = IsOfHeld (shown_of f a.master) a.master a.will a.order result
 
 -- ---- a table that is found
 
@@ -74,11 +74,12 @@ abbrev pub FindsTable : MemoryFleet → Config → Rebuilt → Type 0
 FindsTable fleet config r = (d : MasterData) (at : Position) → IsNodeAt (Down fleet) config d at →
     (l : Left) × (at.left ≡ Some l) × IsFoundAt config (life_of d) at l r
 
--- A table was found, and a configuration for a master with a greater number. The fleet holds no replica of that one.
-pub record IsFoundIn (fleet : MemoryFleet) (options : Options) (master : ℕ) (r : Rebuilt)
+-- A table was found, and a configuration for a master with a greater number, by the options of later masters. The fleet
+-- holds no replica of that one.
+pub record IsFoundIn (fleet : MemoryFleet) (options : Options) (lists : Bool) (master : ℕ) (r : Rebuilt)
     (config : Config) : Type 0 where
   pub table : FindsTable fleet (config_of options master) r
-  pub configured : config ≡ config_of options config.master
+  pub configured : config ≡ config_of (later_options lists options) config.master
   pub greater : master < config.master
   pub unused : (b s : ℕ) → (fleet_state fleet).picture b config.master s ≡ None
 
@@ -180,7 +181,8 @@ pub record IsTakenOver (f : FleetState) (r : Rebuilt) (config : Config) (new : N
   pub stands : StandsAfter next freed new
 
 -- A recovery of what this fleet holds ended, and a later one is for the master with this number. Nothing was found, and
--- nothing changed. Or a table was found, and a master with the next number was to adopt it: it did, or it didn't.
+-- nothing changed. Or a table was found, and a master with the next number and these options was to adopt it: it did, or
+-- it didn't.
 abbrev pub EndsOn : FleetState → Options → Asked → ℕ → Node → Node → Answer → ℕ → Type 0
 EndsOn f options a used old new answer number =
     (FindsNothing f a answer × (new ≡ old) × (number ≡ a.master) × (used ≡ a.used))
@@ -210,8 +212,8 @@ BeginsNext old config order new next answer = (d : MasterData) (at : Position) �
     × (fleet_of new ≡ Some s.fleet)
 
 -- What a recovery makes of a node, and of the number that a later recovery asks for. The life of the master goes on, or
--- the next begins.
-abbrev pub Recovers : Node → Options → ℕ → ReplayOrder → Node → Answer → ℕ → Type 0
-Recovers old options master order new answer number =
+-- the next begins, by the options of later masters.
+abbrev pub Recovers : Node → Options → Bool → ℕ → ReplayOrder → Node → Answer → ℕ → Type 0
+Recovers old options lists master order new answer number =
     ((number ≡ master) × AnswersLine old (config_of options master) (Recover order) new answer)
-    ⊎ BeginsNext old (config_of options master) order new (config_of options number) answer
+    ⊎ BeginsNext old (config_of options master) order new (config_of (later_options lists options) number) answer

@@ -4,11 +4,12 @@
 //! of all others. `specs/Recoveries.antt` says each way in which it ends, and `specs/Succession.antt` that one life
 //! ends and the next begins with the table that was found. The next master has the least number above all that were
 //! used and all that the backups show (`specs/Numbers.antt`). `configuration` and `whole_will` make the configuration
-//! of a master and its first will from the options of the command line. The crate stands on `node` and `recovery`.
+//! of a master and its first will from the options of the command line, and `later_options` says which options later
+//! masters have. The crate stands on `node` and `recovery`.
 #![tactic(auto)]
 
 mod recovering;
 mod setup;
 
 pub use recovering::{Recovery, next_number, recover_node};
-pub use setup::{configuration, whole_will};
+pub use setup::{configuration, later_options, whole_will};

@@ -4,6 +4,7 @@ ghost use Rattle.std.specs.Prelude.{◌≡◌, ◌⊎◌, ◌≤◌, ◌<◌, �
 ghost use Rattle.std.specs.Prelude.{IfSome, ◌^◌, ◌-◌};
 ghost use Rattle.backup.specs.State.{fleet_state};
 ghost use Rattle.backup.specs.declared.fleet.MemoryFleet.{MemoryFleet as FleetValue};
+ghost use Rattle.master.specs.Registry.{IsUnraised};
 ghost use Rattle.master.specs.World.{World};
 ghost use Rattle.master_state.specs.Config.{config_fault};
 ghost use Rattle.master_state.specs.Data.{MasterData};
@@ -11,7 +12,7 @@ ghost use Rattle.node.specs.declared.node.Node.TheVariants.{Up, Down};
 ghost use Rattle.recovery.specs.Orders.{Covers};
 ghost use Rattle.recovery.specs.Recovered.{IsRebuiltFrom, IsRefusedFrom, IsSomeLoss, IsSomePrefix};
 ghost use Rattle.lines.specs.Grammar.{IsOrder};
-ghost use Rattle.next_master.specs.Configuration.{config_of, tables_to};
+ghost use Rattle.next_master.specs.Configuration.{config_of, later_options, tables_to};
 ghost use Rattle.next_master.specs.Numbers.{greatest_of, AreSpent, IsNextNumber, Renumbers};
 ghost use Rattle.next_master.specs.Recoveries.{Adopts, Ends, EndsFreeing, FindsNone, FindsNothing, IsFoundIn};
 ghost use Rattle.next_master.specs.Recoveries.{Rebuilds, Recovers, RetiresOthers, ask, order_named};
@@ -19,7 +20,7 @@ ghost use Rattle.node.specs.Served.{IsNodeAt, IsOf, world_of};
 ghost use Rattle.node.specs.Served.{fleet_of, is_up};
 ghost use Rattle.node.specs.Lives.{Position};
 
-use crate::setup::configuration;
+use crate::setup::{configuration, later_options};
 use answers::Answer;
 use backup::MemoryFleet;
 use command_line::Options;
@@ -30,7 +31,7 @@ use master::{Config, Refusal};
 use node::Node;
 use recovery::{GroupOrder, PlanFault, Rebuilt, RecoveryFault, recover, recover_threads};
 use replay::adopt_list;
-use replica::{Bench, Holding, Inventory, TakeFault};
+use replica::{Bench, Fleet, Holding, Inventory, TakeFault};
 use std::alloc::Global;
 use std::mem::replace;
 use std::sync::Wait;
@@ -94,14 +95,15 @@ fn recover_by<H: Threads + Wait + Sync>(
     alloc: Global,
     inventory: &Inventory<'_>,
     master: u64,
+    least: u64,
     will: &Will,
     order: ReplayOrder,
 ) -> Result<Rebuilt, RecoveryFault>
     requires order { IsOrder order }
-    ensures ok { IfOk result (IsSomePrefix inventory.now master) }
-    ensures refused { IfErr result (IsSomeLoss inventory.now master will.now (order_named order)) }
-    ensures rebuilt { IfOk result (IsRebuiltFrom inventory.now master will.now (order_named order)) }
-    ensures fault { IfErr result (IsRefusedFrom inventory.now master will.now (order_named order)) }
+    ensures ok { IfOk result (IsSomePrefix inventory.now least master) }
+    ensures refused { IfErr result (IsSomeLoss inventory.now least master will.now (order_named order)) }
+    ensures rebuilt { IfOk result (IsRebuiltFrom inventory.now least master will.now (order_named order)) }
+    ensures fault { IfErr result (IsRefusedFrom inventory.now least master will.now (order_named order)) }
 {
     let groups = groups_in(order);
     match order {
@@ -110,22 +112,24 @@ fn recover_by<H: Threads + Wait + Sync>(
             alloc,
             inventory,
             master,
+            least,
             will,
             &groups,
             workers as usize,
             &NoGate,
         ),
-        _ => recover(alloc, inventory, master, will, &groups),
+        _ => recover(alloc, inventory, master, least, will, &groups),
     }
 }
 
 /// Recovers the table of the master with this number, and chooses the number of the next master, above all that were
-/// used.
+/// used. That one has the options of later masters.
 fn find_inheritance<H: Threads + Wait + Sync>(
     rt: &H,
     alloc: Global,
     fleet: &MemoryFleet,
     options: &Options,
+    lists_lengths: bool,
     master: u64,
     used: u64,
     will: &Will,
@@ -133,7 +137,8 @@ fn find_inheritance<H: Threads + Wait + Sync>(
 ) -> Result<Inheritance, Answer>
     requires covers { Covers (tables_to options.now.tables) will.now }
     requires order { IsOrder order }
-    ensures found { IfOk result (λ found. IsFoundIn fleet.now options.now master found.rebuilt found.config) }
+    ensures found { IfOk result (λ found.
+        IsFoundIn fleet.now options.now lists_lengths master found.rebuilt found.config) }
     ensures fresh { IfOk result (λ found. used < found.config.master) }
     ensures least { IfOk result (λ found.
         IsNextNumber (max master used) (fleet_state fleet.now).picture found.config.master) }
@@ -149,7 +154,15 @@ fn find_inheritance<H: Threads + Wait + Sync>(
         Ok(inventory) => inventory,
         Err(NoMemory) => return Err(want()),
     };
-    let rebuilt = match recover_by(rt, alloc, &inventory, master, will, order) {
+    let rebuilt = match recover_by(
+        rt,
+        alloc,
+        &inventory,
+        master,
+        fleet.least(master),
+        will,
+        order,
+    ) {
         Ok(rebuilt) => rebuilt,
         Err(fault) => return Err(Answer::NotRecovered(fault)),
     };
@@ -157,19 +170,21 @@ fn find_inheritance<H: Threads + Wait + Sync>(
     let Some(number) = next_number(inventory.as_slice(), greatest) else {
         return Err(Answer::NumbersSpent);
     };
-    match configuration(alloc, options, number) {
+    let later = later_options(options, lists_lengths);
+    match configuration(alloc, &later, number) {
         Ok(config) => Ok(Inheritance { rebuilt, config }),
         Err(NoMemory) => Err(want()),
     }
 }
 
 /// Recovers the table of the master with this number, has the next master adopt it, and frees the replicas of all
-/// others. The will covers the tablets of the options.
+/// others. The will covers the tablets of the options. The next master has the options of later masters.
 pub fn recover_node<H: Threads + Wait + Sync>(
     rt: &H,
     alloc: Global,
     node: &mut Node,
     options: &Options,
+    lists_lengths: bool,
     master: u64,
     used: u64,
     will: &Will,
@@ -178,9 +193,9 @@ pub fn recover_node<H: Threads + Wait + Sync>(
     requires covers { Covers (tables_to options.now.tables) will.now }
     requires order { IsOrder order }
     requires stands { (d : MasterData) × (at : Position) × IsNodeAt node.old (config_of options.now master) d at }
-    ensures recovers { Recovers node.old options.now master order node.new result.answer result.master }
-    ensures ends { Ends node.old options.now (ask master used will.now (order_named order)) result.used node.new
-        result.answer result.master }
+    ensures recovers { Recovers node.old options.now lists_lengths master order node.new result.answer result.master }
+    ensures ends { Ends node.old (later_options lists_lengths options.now)
+        (ask master used will.now (order_named order)) result.used node.new result.answer result.master }
     ensures numbers { Renumbers master used result.master result.used }
     ensures least { (result.used ≡ used)
         ⊎ IfSome (fleet_of node.old) (λ f. IsNextNumber (max master used) f.picture result.used) }
@@ -195,7 +210,15 @@ pub fn recover_node<H: Threads + Wait + Sync>(
         };
     };
     let Inheritance { rebuilt, config } = match find_inheritance(
-        rt, alloc, fleet, options, master, used, will, order,
+        rt,
+        alloc,
+        fleet,
+        options,
+        lists_lengths,
+        master,
+        used,
+        will,
+        order,
     ) {
         Ok(found) => found,
         Err(answer) => {
@@ -234,7 +257,8 @@ fn adopt(alloc: Global, node: &mut Node, rebuilt: &Rebuilt, config: Config) -> O
     requires config { config_fault config ≡ None }
     requires fleet { (fleet : FleetValue) × (node.old ≡ Down fleet)
         × (config.backups ≤ (fleet_state fleet).backups)
-        × ((b s : ℕ) → (fleet_state fleet).picture b config.master s ≡ None) }
+        × ((b s : ℕ) → (fleet_state fleet).picture b config.master s ≡ None)
+        × IsUnraised config.master (fleet_state fleet) }
     ensures { (fleet : FleetValue) → node.old ≡ Down fleet →
         Adopts (fleet_state fleet) rebuilt.now config node.new result }
 {
@@ -278,6 +302,7 @@ fn adopted(
     requires config { config_fault config ≡ None }
     requires backups { config.backups ≤ (fleet_state fleet).backups }
     requires none { (b s : ℕ) → (fleet_state fleet).picture b config.master s ≡ None }
+    requires least { IsUnraised config.master (fleet_state fleet) }
     ensures { Adopts (fleet_state fleet) rebuilt.now config result.0 result.1 }
 {
     match adopt_list(alloc, rebuilt, config, fleet) {

@@ -4,7 +4,7 @@ ghost use Rattle.std.specs.Prelude.{◌≡◌, ◌<◌, None, IfOk, OnErr};
 ghost use Rattle.master_state.specs.Config.{config_fault};
 ghost use Rattle.recovery.specs.Orders.{Covers};
 ghost use Rattle.next_master.specs.Configuration.{config_of, tables_to};
-ghost use Rattle.next_master.specs.Configuration.{one_partition};
+ghost use Rattle.next_master.specs.Configuration.{later_options, one_partition};
 
 use command_line::Options;
 use entry::{NoMemory, Tablet, Tablets};
@@ -45,7 +45,20 @@ pub fn configuration(alloc: Global, options: &Options, master: u64) -> Result<Co
         tablets: Tablets::new(tablets),
         history: options.history,
         hasher: KeyHasher::new(),
+        format: options.format,
     })
+}
+
+/// The options of masters that start later. Once format 2 was asked for, they list each segment with its length.
+pub fn later_options(options: &Options, lists_lengths: bool) -> Options
+    ensures { result ≡ later_options lists_lengths options.now }
+{
+    if !lists_lengths {
+        return *options;
+    }
+    let mut later = *options;
+    later.format = 2;
+    later
 }
 
 /// The will that is one partition over all tablets of the options.

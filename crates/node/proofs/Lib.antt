@@ -7,3 +7,4 @@ pub mod Steps
 pub mod Tries
 pub mod ByHand
 pub mod ClientLines
+pub mod Downs

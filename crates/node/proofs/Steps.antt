@@ -4,7 +4,7 @@ use Rattle.std.proofs.lemmas.List.{append-nil}
 use Rattle.std.specs.Prelude.{Option, Some, None, IfSome, Result, Ok, Err, IfOk}
 use Rattle.std.specs.Option.{option_map}
 use Rattle.lines.specs.Grammar.{LineValue, Idle, Roll, BeginRoll, Compact, Push, Clean, Begin, Copy, Seal, Free, Will}
-use Rattle.lines.specs.Grammar.{Hex, Log, Room, Holdings, Stop, Fault, Crash, Lose, Recover, Clients}
+use Rattle.lines.specs.Grammar.{Hex, Log, Room, Holdings, Stop, Fault, Format, Crash, Lose, Recover, Clients}
 use Rattle.std.specs.declared.alloc.AllocError.{AllocError}
 use Rattle.replica.specs.declared.label.Label.{Label}
 use Rattle.backup.specs.Inventory.{AreRising}
@@ -160,6 +160,7 @@ command_makes old Holdings new a command asks makes = absurd (cc)
 command_makes old Will new a command asks makes = absurd (cc)
 command_makes old (Stop takes) new a command asks makes = absurd (cc)
 command_makes old (Fault takes taken) new a command asks makes = absurd (cc)
+command_makes old Format new a command asks makes = absurd (cc)
 command_makes old Crash new a command asks makes = absurd (cc)
 command_makes old (Lose backup) new a command asks makes = absurd (cc)
 command_makes old (Recover order) new a command asks makes = absurd (cc)

@@ -70,6 +70,7 @@ left_of d fleet valid all = (
     opened = refl;
     shown = λ b s. refl;
     backups = all;
+    least = refl;
   },
 )
 
@@ -116,18 +117,20 @@ lost_of d l old new backup is of = record {
       ∙ ap (λ (r : Option Replica). cond (not (backup == b)) r None) (of.shown b s)
       ∙ cut_twice (backup == b) (is_kept l.lost b) (l.picture b d.config.master s);
   backups = let was = of.backups in let same = ap (λ (f : FleetState). f.backups) is in omega arith;
+  least = ap (λ (f : FleetState). f.least) is ∙ of.least;
 }
 
--- a fleet with the same picture
+-- a fleet with the same picture and the same least heads
 pub same_picture : (d : MasterData) (l : Left) (old new : FleetState) → new.picture ≡ old.picture
-    → new.backups ≡ old.backups → IsLeftOf d l old → IsLeftOf d l new
-same_picture d l old new is same of = record {
+    → new.backups ≡ old.backups → new.least ≡ old.least → IsLeftOf d l old → IsLeftOf d l new
+same_picture d l old new is same least of = record {
   crashed = of.crashed;
   valid = of.valid;
   picture = of.picture;
   opened = of.opened;
   shown = λ b s. (λ i. is i b d.config.master s) ∙ of.shown b s;
   backups = let was = of.backups in omega arith;
+  least = least ∙ of.least;
 }
 
 -- ---- what is left, by hand

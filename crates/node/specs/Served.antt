@@ -5,6 +5,7 @@ use Rattle.backup.specs.State.{fleet_state, lost}
 use Rattle.backup.specs.declared.fleet.MemoryFleet.{MemoryFleet}
 use Rattle.lines.specs.Grammar.{LineValue, Idle, Roll, BeginRoll, Compact, Push, Clean, Begin, Copy, Seal, Free, Will}
 use Rattle.lines.specs.Grammar.{Recover, Hex, Log, Room, Stop, Fault, Crash, Lose, Holdings as HoldingsLine, Clients}
+use Rattle.lines.specs.Grammar.{Format}
 use Rattle.store_seat.specs.declared.fault.CallFault.{CallFault}
 use Rattle.store_seat.specs.declared.fault.CallFault.TheVariants as call_fault
 use Rattle.std.specs.Option.{option_map}
@@ -54,6 +55,7 @@ pub record IsLeftOf (d : MasterData) (l : Left) (f : FleetState) : Type 0 where
   pub opened : l.opened ≡ newest_opened (log_of d)
   pub shown : (b s : ℕ) → f.picture b d.config.master s ≡ left_on (is_left l.lost) l.picture b d.config.master s
   pub backups : d.config.backups ≤ f.backups
+  pub least : f.least ≡ crashed.least
 
 -- a master that is up knows `d`; one that is down knew `d`, and `left` is left of it
 abbrev pub IsOf : Node → Option Left → MasterData → Type 0
@@ -279,7 +281,8 @@ ShowsFleet node answer = Unit {0}
 
 -- What a line makes of the node: just the steps of its command, its step, its roll, its cleaning, or the rounds of its
 -- clients. A line that shows something changes nothing, and shows what this node has. A stop sets just the limit that
--- it names, a fault that is asked for changes no count, and a crash leaves just the fleet. What a recovery makes is said of the session.
+-- it names, a fault that is asked for changes no count, a format nothing of this master, and a crash leaves just the
+-- fleet. What a recovery makes is said of the session.
 abbrev pub MakesLine : Node → LineValue → Node → Answer → Type 0
 MakesLine old Roll new answer = MakesRoll old new answer
 MakesLine old BeginRoll new answer = MakesStep old step.BeginRoll new answer
@@ -298,6 +301,7 @@ MakesLine old HoldingsLine new answer = (new ≡ old) × ShowsFleet old answer
 MakesLine old Will new answer = new ≡ old
 MakesLine old (Stop takes) new answer = LimitsFleet old takes new
 MakesLine old (Fault takes taken) new answer = KeepsFleet old new
+MakesLine old Format new answer = new ≡ old
 MakesLine old Crash new answer = LosesMaster old new
 MakesLine old (Lose backup) new answer = LosesOne old backup new
 MakesLine old (Recover order) new answer = ⊥

@@ -9,7 +9,7 @@ use Rattle.entry.specs.Order.{key_cmp}
 use Rattle.entry.specs.Text.{text_of}
 use Rattle.lines.specs.Grammar.{LineValue, Idle, Put, New, Cas, Get, Del, Compact, Roll, BeginRoll, Push, Log, Room}
 use Rattle.lines.specs.Grammar.{Hex, Stop, Fault, Crash, Lose, Will, Recover, Holdings, Clean, Begin, Copy, Seal, Free}
-use Rattle.lines.specs.Grammar.{Clients}
+use Rattle.lines.specs.Grammar.{Clients, Format}
 use Rattle.lines.specs.declared.line.ReplayOrder.{ReplayOrder}
 use Rattle.backup.specs.Inventory.{AreRising}
 use Rattle.replica.specs.Choice.{Choice, IsShownChoice, bag_of}
@@ -247,9 +247,10 @@ IsRecover line = (order : ReplayOrder) × (line ≡ Recover order)
 abbrev pub IsFoundAt : Config → Life → Position → Left → Rebuilt → Type 0
 IsFoundAt config life at l r = IsRecoveredAt life at r × IsOfLeft config l r
 
--- the same configuration, for a master with a greater number
+-- the same configuration, for a master with a greater number, which writes the same format or format 2
 abbrev pub IsNextConfig : Config → Config → Type 0
-IsNextConfig old new = (old.master < new.master) × (new ≡ record old { master = new.master })
+IsNextConfig old new = (old.master < new.master) × ((new.format ≡ old.format) ⊎ (new.format ≡ 2))
+    × (new ≡ record old { master = new.master; format = new.format })
 
 -- of the master's replicas the fleet holds just what is left
 abbrev pub HoldsLeft : Config → Left → FleetState → Type 0
@@ -271,7 +272,7 @@ IsUnadopted config life at line r next = IsRecover line × ((l : Left) × (at.le
 -- What the backups that are left hold of the master has this fault, and the loss that is named hides the log.
 abbrev pub NamesLossOf : Config → Left → RecoveryFault → Type 0
 NamesLossOf config l (recovery_fault.Plan loss) = (hs : List Holding) × AreLeft config l hs
-    × IsPlanFault hs config.master loss × NamesLoss hs config.master loss
+    × IsPlanFault hs 0 config.master loss × NamesLoss hs 0 config.master loss
 NamesLossOf config l (recovery_fault.Replay refused) = ⊥
 
 -- what the refusal names is lost, or memory ran out; if the backups that are left have head and segments, memory did
@@ -371,6 +372,7 @@ Tells config life at line (answer.NotInLog segment) next = (at.left ≡ None)
     × (line ≡ Hex segment) × IsImageAt config (life_to life at.made) segment None × (next ≡ at)
 Tells config life at line (answer.Stop takes) next = (line ≡ Stop takes) × (next ≡ at)
 Tells config life at line (answer.Fault takes taken) next = (line ≡ Fault takes taken) × (next ≡ at)
+Tells config life at line answer.Format next = (line ≡ Format) × (next ≡ at)
 Tells config life at line answer.Stopped next = ((at.left ≡ None)
     × (l : Left) × IsLeftBySpent config (life_to life next.made) l
     × (IsOut at line (Some l) next

@@ -1,25 +1,20 @@
-//! What is known of masters while there is none, and the next of them.
+//! What outlives a master, and the next of them.
 
-ghost use Rattle.std.specs.Prelude.{◌≡◌, ℕ, suc, max, None, IfOk, IfSome};
+ghost use Rattle.std.specs.Prelude.{IfOk};
 ghost use Rattle.backup.specs.State.{fleet_state};
-ghost use Rattle.one_seat.specs.Lives.{CanBegin};
-ghost use Rattle.replica.specs.Picture.{AreHeld};
-ghost use Rattle.next_master.specs.Numbers.{greatest_of};
+ghost use Rattle.store_lines.specs.Lives.{CanBegin};
 
 use backup::MemoryFleet;
 use entry::NoMemory;
 use lines::ReplayOrder;
 use master::Config;
-use next_master::next_number;
-use recovery::{GroupOrder, PlanFault, Rebuilt, RecoveryFault, Will, make_will, recover};
-use replica::{Holding, Inventory};
+use recovery::{GroupOrder, Rebuilt, RecoveryFault, Will, make_will, recover};
+use replica::{Fleet, Inventory};
 use script::{Answer, Options, configuration};
 use std::alloc::Global;
+use store_lines::{FIRST_MASTER, next_config, want};
 
-/// The number of the first master.
-pub const FIRST_MASTER: u64 = 1;
-
-/// What is known of masters while there is none.
+/// What outlives a master.
 #[derive(Drop)]
 pub struct Coordinator {
     /// The number of the master that a recovery is for.
@@ -28,6 +23,8 @@ pub struct Coordinator {
     pub used: u64,
     /// By which partitions a recovery divides the master's log.
     pub will: Will,
+    /// Whether a line asked for format 2. Then masters that start later list each segment with its length.
+    pub lists_lengths: bool,
 }
 
 /// The table of a master, and what the one that is to adopt it begins with.
@@ -54,6 +51,7 @@ impl Coordinator {
             master: FIRST_MASTER,
             used: FIRST_MASTER,
             will,
+            lists_lengths: false,
         }
     }
 
@@ -70,11 +68,19 @@ impl Coordinator {
         let Ok(inventory) = fleet.inventory(alloc) else {
             return Err(want());
         };
-        let rebuilt = match self.rebuild(alloc, &inventory, order) {
+        let rebuilt = match self.rebuild(alloc, &inventory, fleet.least(self.master), order) {
             Ok(rebuilt) => rebuilt,
             Err(fault) => return Err(Answer::NotRecovered(fault)),
         };
-        let config = match self.next_config(alloc, options, fleet, &inventory) {
+        let greatest = self.master.max(self.used);
+        let config = match next_config(
+            alloc,
+            options,
+            self.lists_lengths,
+            greatest,
+            fleet,
+            &inventory,
+        ) {
             Ok(config) => config,
             Err(answer) => return Err(answer),
         };
@@ -93,6 +99,7 @@ impl Coordinator {
         &self,
         alloc: Global,
         inventory: &Inventory<'_>,
+        least: u64,
         order: ReplayOrder,
     ) -> Result<Rebuilt, RecoveryFault> {
         let groups = match order {
@@ -101,47 +108,6 @@ impl Coordinator {
             // Workers take the groups in order, and give what this one thread gives.
             ReplayOrder::Threads(_) => GroupOrder::Forward,
         };
-        recover(alloc, inventory, self.master, &self.will, &groups)
+        recover(alloc, inventory, self.master, least, &self.will, &groups)
     }
-
-    /// The configuration of the next master.
-    fn next_config(
-        &self,
-        alloc: Global,
-        options: &Options,
-        fleet: &MemoryFleet,
-        inventory: &Inventory<'_>,
-    ) -> Result<Config, Answer>
-        requires { AreHeld inventory.now (fleet_state fleet.now).picture }
-        ensures { IfOk result (CanBegin options.now (fleet_state fleet.now)) }
-    {
-        let greatest = self.master.max(self.used);
-        let Some(number) = next_number(inventory.as_slice(), greatest) else {
-            return Err(Answer::NumbersSpent);
-        };
-        match configuration(alloc, options, number) {
-            Ok(config) => fitting(options, fleet, config),
-            Err(NoMemory) => Err(want()),
-        }
-    }
-}
-
-/// The configuration, if a master can begin with it over the fleet. That it can't never comes.
-fn fitting(options: &Options, fleet: &MemoryFleet, config: Config) -> Result<Config, Answer>
-    requires records { config.history ≡ options.now.history }
-    requires unused { (b s : ℕ) → (fleet_state fleet.now).picture b config.master s ≡ None }
-    ensures { IfOk result (CanBegin options.now (fleet_state fleet.now)) }
-{
-    if config.backups > fleet.backups() {
-        return Err(want());
-    }
-    match config.check() {
-        Ok(()) => Ok(config),
-        Err(_) => Err(want()),
-    }
-}
-
-/// The answer if a recovery lacks memory.
-fn want() -> Answer {
-    Answer::NotRecovered(RecoveryFault::Plan(PlanFault::NoMemory))
 }

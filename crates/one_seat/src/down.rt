@@ -1,8 +1,9 @@
-//! Lines while there is no master: the fleet is limited, loses backups, and is recovered.
+//! Lines while there is no master: the fleet is limited, loses backups and is recovered, and later masters get a
+//! format.
 
 ghost use Rattle.std.specs.Prelude.{◌≡◌, IfOk, IfSome, IsTrue};
 ghost use Rattle.backup.specs.State.{fleet_state};
-ghost use Rattle.one_seat.specs.Lives.{CanBegin, IsOpening};
+ghost use Rattle.store_lines.specs.Lives.{CanBegin, IsOpening};
 
 use crate::coordinator::{Coordinator, Inheritance};
 use backup::MemoryFleet;
@@ -46,7 +47,7 @@ fn find_next<R: Wait, I: BufRead + Drop, O: Write + Drop>(
     alloc: Global,
     dialogue: &mut Dialogue<I, O>,
     options: &Options,
-    coordinator: &Coordinator,
+    coordinator: &mut Coordinator,
     fleet: &mut MemoryFleet,
 ) -> Option<Inheritance>
     ensures { IfSome result (λ f. CanBegin options.now (fleet_state fleet.new) f.config) }
@@ -67,7 +68,7 @@ fn run_text<I: BufRead + Drop, O: Write + Drop>(
     alloc: Global,
     dialogue: &mut Dialogue<I, O>,
     options: &Options,
-    coordinator: &Coordinator,
+    coordinator: &mut Coordinator,
     fleet: &mut MemoryFleet,
 ) -> Option<Inheritance>
     ensures { IfSome result (λ f. CanBegin options.now (fleet_state fleet.new) f.config) }
@@ -88,7 +89,7 @@ fn run_text<I: BufRead + Drop, O: Write + Drop>(
             }
         };
     }
-    match answer_of(alloc, options, fleet, line) {
+    match answer_of(alloc, options, coordinator, fleet, line) {
         Ok(answer) => dialogue.answer(answer),
         Err(fault) => tell(dialogue, fault),
     }
@@ -99,6 +100,7 @@ fn run_text<I: BufRead + Drop, O: Write + Drop>(
 fn answer_of(
     alloc: Global,
     options: &Options,
+    coordinator: &mut Coordinator,
     fleet: &mut MemoryFleet,
     line: Line<'_>,
 ) -> Result<Answer, LineFault> {
@@ -111,6 +113,10 @@ fn answer_of(
         Line::Fault { takes, taken } => {
             fleet.fault_at(takes, taken);
             Ok(Answer::Fault(takes, taken))
+        }
+        Line::Format => {
+            coordinator.lists_lengths = true;
+            Ok(Answer::Format)
         }
         Line::Lose { backup } if backup >= options.backups => {
             Err(LineFault::NoBackup(options.backups))

@@ -1,5 +1,6 @@
 //! A life of a master, behind a store of one seat.
 
+use crate::coordinator::Coordinator;
 use backup::MemoryFleet;
 use entry::NoMemory;
 use lines::Line;
@@ -10,7 +11,6 @@ use std::alloc::Global;
 use std::io::{BufRead, Write};
 use std::sync::Wait;
 use store_lines::{Dialogue, LineFault, command_of, look_line, refuse, renew, turn_line};
-use tablet_will::Will;
 
 /// A store of one seat, and what the seat was answered.
 #[derive(Drop)]
@@ -44,7 +44,7 @@ impl<B: Naming> Life<B> {
         &mut self,
         rt: &R,
         options: &Options,
-        will: &mut Will,
+        coordinator: &mut Coordinator,
         line: Line<'_>,
     ) -> Result<Answer, LineFault> {
         if let Line::Command(command) = line {
@@ -57,7 +57,7 @@ impl<B: Naming> Life<B> {
         if let Some(answer) = look_line(rt, &self.store, line) {
             return Ok(answer);
         }
-        self.run_other(rt, options, will, line)
+        self.run_other(rt, options, coordinator, line)
     }
 
     /// Runs a line that isn't a command, a turn or a look.
@@ -65,7 +65,7 @@ impl<B: Naming> Life<B> {
         &mut self,
         rt: &R,
         options: &Options,
-        will: &mut Will,
+        coordinator: &mut Coordinator,
         line: Line<'_>,
     ) -> Result<Answer, LineFault> {
         match line {
@@ -77,8 +77,12 @@ impl<B: Naming> Life<B> {
                 self.store.fault_at(rt, takes, taken);
                 Ok(Answer::Fault(takes, taken))
             }
+            Line::Format => {
+                coordinator.lists_lengths = true;
+                Ok(Answer::Format)
+            }
             Line::Crash => Ok(Answer::Crashed),
-            Line::Will => Ok(renew(rt, self.alloc, &self.store, options, will)),
+            Line::Will => Ok(renew(rt, self.alloc, &self.store, options, &mut coordinator.will)),
             Line::Lose { backup } if backup >= options.backups => {
                 Err(LineFault::NoBackup(options.backups))
             }

@@ -1,7 +1,6 @@
 //! One life of a master after another.
 
-ghost use Rattle.std.specs.Prelude.{IfOk};
-ghost use Rattle.one_seat.specs.Lives.{IsChecked, IsOpening};
+ghost use Rattle.store_lines.specs.Lives.{IsChecked, IsOpening};
 
 use crate::coordinator::{Coordinator, whole_will};
 use crate::down::wait;
@@ -13,7 +12,7 @@ use script::{Options, ScriptFault};
 use std::alloc::Global;
 use std::io::{BufRead, Write};
 use std::sync::Wait;
-use store_lines::Dialogue;
+use store_lines::{Dialogue, first_master};
 
 /// Runs all lines of the script.
 pub fn run_script<R: Wait, I: BufRead + Drop, O: Write + Drop>(
@@ -38,22 +37,6 @@ pub fn run_script<R: Wait, I: BufRead + Drop, O: Write + Drop>(
     }
 }
 
-/// A master over an empty fleet. Its head isn't open yet.
-fn first_master(
-    alloc: Global,
-    options: &Options,
-    config: Config,
-) -> Result<Master<MemoryFleet>, NoMemory>
-    requires { IsChecked options.now config }
-    ensures { IfOk result (λ m. IsOpening options.now m.knows) }
-{
-    let fleet = MemoryFleet::new(alloc, config.backups)?;
-    match Master::new(alloc, config, fleet) {
-        Ok(master) => Ok(master),
-        Err((fault, _)) => Err(fault),
-    }
-}
-
 /// Runs lines through a store over this master, and over each one that a recovery gives.
 fn run_lives<R: Wait, I: BufRead + Drop, O: Write + Drop>(
     rt: &R,
@@ -67,7 +50,7 @@ fn run_lives<R: Wait, I: BufRead + Drop, O: Write + Drop>(
 {
     let mut master = master;
     for _ in rt.forever() {
-        let fleet = live(rt, alloc, dialogue, options, &mut coordinator.will, master);
+        let fleet = live(rt, alloc, dialogue, options, coordinator, master);
         match wait(rt, alloc, dialogue, options, coordinator, fleet) {
             Some(next) => master = next,
             None => return,

@@ -3,8 +3,9 @@
 ghost use Rattle.std.specs.Prelude.{◌≡◌, ◌≤◌};
 ghost use Rattle.locked_log.specs.Ends.{IsFresh};
 ghost use Rattle.locked_log.specs.Made.{IsMade};
-ghost use Rattle.one_seat.specs.Lives.{IsOpening};
+ghost use Rattle.store_lines.specs.Lives.{IsOpening};
 
+use crate::coordinator::Coordinator;
 use crate::life::Life;
 use backup::MemoryFleet;
 use lines::parse_line;
@@ -16,7 +17,6 @@ use std::io::{BufRead, Write};
 use std::marker::Brand;
 use std::sync::Wait;
 use store_lines::{Dialogue, Phase, take_all, tell};
-use tablet_will::Will;
 
 /// Runs lines through a store over this master, until the master is dropped or no line follows.
 pub fn live<R: Wait, I: BufRead + Drop, O: Write + Drop>(
@@ -24,14 +24,14 @@ pub fn live<R: Wait, I: BufRead + Drop, O: Write + Drop>(
     alloc: Global,
     dialogue: &mut Dialogue<I, O>,
     options: &Options,
-    will: &mut Will,
+    coordinator: &mut Coordinator,
     master: Master<MemoryFleet>,
 ) -> MemoryFleet
     requires { IsOpening options.now master.knows }
 {
     match Blank::make(alloc, options.history, 1) {
         Ok(blank) => {
-            live_in::<Brand, R, I, O>(rt, alloc, dialogue, options, will, blank, master)
+            live_in::<Brand, R, I, O>(rt, alloc, dialogue, options, coordinator, blank, master)
         }
         Err(_) => {
             dialogue.fail(ScriptFault::NoMemory);
@@ -46,7 +46,7 @@ fn live_in<B: Naming, R: Wait, I: BufRead + Drop, O: Write + Drop>(
     alloc: Global,
     dialogue: &mut Dialogue<I, O>,
     options: &Options,
-    will: &mut Will,
+    coordinator: &mut Coordinator,
     blank: Blank,
     master: Master<MemoryFleet>,
 ) -> MemoryFleet
@@ -60,7 +60,7 @@ fn live_in<B: Naming, R: Wait, I: BufRead + Drop, O: Write + Drop>(
     match Store::<MemoryFleet, B>::new(alloc, blank, master) {
         Ok((store, seats)) => {
             let mut life = Life::new(alloc, store, seats);
-            run_lines(rt, dialogue, options, will, &mut life);
+            run_lines(rt, dialogue, options, coordinator, &mut life);
             life.close(dialogue)
         }
         Err((_, master)) => {
@@ -75,7 +75,7 @@ fn run_lines<B: Naming, R: Wait, I: BufRead + Drop, O: Write + Drop>(
     rt: &R,
     dialogue: &mut Dialogue<I, O>,
     options: &Options,
-    will: &mut Will,
+    coordinator: &mut Coordinator,
     life: &mut Life<B>,
 ) {
     // Nothing refuses these pushes but want of memory.
@@ -83,7 +83,7 @@ fn run_lines<B: Naming, R: Wait, I: BufRead + Drop, O: Write + Drop>(
         dialogue.fail(ScriptFault::NoMemory);
     }
     for _ in rt.forever() {
-        if !dialogue.advance() || !run_text(rt, dialogue, options, will, life) {
+        if !dialogue.advance() || !run_text(rt, dialogue, options, coordinator, life) {
             return;
         }
     }
@@ -94,7 +94,7 @@ fn run_text<B: Naming, R: Wait, I: BufRead + Drop, O: Write + Drop>(
     rt: &R,
     dialogue: &mut Dialogue<I, O>,
     options: &Options,
-    will: &mut Will,
+    coordinator: &mut Coordinator,
     life: &mut Life<B>,
 ) -> bool {
     let line = match parse_line(dialogue.lines.text()) {
@@ -104,7 +104,7 @@ fn run_text<B: Naming, R: Wait, I: BufRead + Drop, O: Write + Drop>(
             return true;
         }
     };
-    match life.run_line(rt, options, will, line) {
+    match life.run_line(rt, options, coordinator, line) {
         Ok(answer) => print(dialogue, life, answer),
         Err(fault) => {
             tell(dialogue, fault);

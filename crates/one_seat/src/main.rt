@@ -4,7 +4,7 @@
 #![tactic(auto)]
 
 ghost use Rattle.std.specs.Prelude.{IfOk};
-ghost use Rattle.one_seat.specs.Lives.{IsChecked};
+ghost use Rattle.store_lines.specs.Lives.{IsChecked};
 
 mod coordinator;
 mod down;
@@ -14,7 +14,6 @@ mod living;
 
 use clap::Error;
 use clap::error::ErrorKind;
-use coordinator::FIRST_MASTER;
 use lives::run_script;
 use master::Config;
 use script::{ErrorOutput, Options, ScriptFault, configuration, options, report, report_config};
@@ -22,7 +21,7 @@ use std::env;
 use std::io::{self, BufReader, BufWriter, IsTerminal};
 use std::process::ExitCode;
 use std::sync::Wait;
-use store_lines::Dialogue;
+use store_lines::{Dialogue, FIRST_MASTER};
 
 /// The exit status of a bad command line.
 const MISUSE: u8 = 2;

@@ -126,19 +126,22 @@ impl<H: KeyHash, T: Table> PlaceIndex<H, T> {
         }
     }
 
-    /// Takes memory for `more` further keys, so that as many calls of `set` can't fail. The places stay as they are. On
-    /// `Err` nothing changed.
+    /// Takes memory for `more` further keys, so that as many calls of `set` can't fail. It takes none if there is room for
+    /// them. The places stay as they are. On `Err` nothing changed.
     pub fn reserve(&mut self, more: usize) -> Result<(), NoMemory>
         ensures room { OnOk result (more ≤ self.new.room) }
         ensures same { self.new.held ≡ self.old.held }
         ensures err { OnErr result (self.new ≡ self.old) }
+        ensures full { OnErr result (self.old.room < more) }
     {
-        let room = self.room.max(more);
-        if self.len.checked_add(room).is_none() {
+        if more <= self.room {
+            return Ok(());
+        }
+        if self.len.checked_add(more).is_none() {
             return Err(AllocError);
         }
-        self.waiting.reserve(room)?;
-        self.room = room;
+        self.waiting.reserve(more)?;
+        self.room = more;
         Ok(())
     }
 
@@ -162,11 +165,11 @@ impl<H: KeyHash, T: Table> PlaceIndex<H, T> {
 
     /// Makes the table of an index of no keys as large as it is to be for so many, as far as memory is given: until
     /// there are more, `grow` has nothing to do. An index that has a key stays as it is.
-    pub fn expect(&mut self, keys: usize)
+    pub fn presize(&mut self, keys: usize)
         ensures { self.new ≡ self.old }
     {
         if self.len == 0 {
-            self.table.expect(keys);
+            self.table.presize(keys);
         }
     }
 

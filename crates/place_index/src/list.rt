@@ -209,7 +209,7 @@ impl Table for PlaceList {
         Ok(())
     }
 
-    fn expect(&mut self, _keys: usize) {}
+    fn presize(&mut self, _keys: usize) {}
 
     fn grow(&mut self, _keys: usize) {}
 }

@@ -62,7 +62,7 @@ pub trait Table: Drop {
         ensures err { OnErr result (places self.new ≡ places self.old) };
 
     /// A table of no places becomes as large as it is to be for so many keys, as far as there is memory.
-    fn expect(&mut self, keys: usize)
+    fn presize(&mut self, keys: usize)
         requires { places self.old ≡ [] }
         ensures { places self.new ≡ [] };
 

@@ -5,7 +5,7 @@ use Rattle.std.proofs.lemmas.List.Folds.{flat_map-map}
 use Rattle.entry.specs.Bag.{IsAmong}
 use Rattle.entry.specs.Text.{Opening, is_data, entries_in, opening_in}
 use Rattle.replica.specs.declared.holding.Holding.{Holding}
-use Rattle.replica.specs.Picture.{Replica, Picture, left_on, shown_by, survivors, IsHeld}
+use Rattle.replica.specs.Picture.{Replica, Picture, Shown, left_on, survivors, IsHeld}
 use Rattle.replica.specs.Choice.{Choice, IsUsableOf, IsChoice, IsShownChoice, bag_of}
 use Rattle.claims.specs.Bags.{segments_bag}
 use Rattle.recovery_plan.specs.declared.chosen.Plan.{Plan}
@@ -19,19 +19,19 @@ use Rattle.recovery.specs.Recovered.{Shows}
 -- ---- bags
 
 -- the segments of a plan hold the objects and tombstones of the replicas that were chosen
-pub bag-of-plan : (hs : List Holding) (m : ℕ) (c : Choice) (plan : Plan) → IsPlanOf hs m c plan
+pub bag-of-plan : (hs : List Holding) (least m : ℕ) (c : Choice) (plan : Plan) → IsPlanOf hs least m c plan
     → segments_bag plan.segments ≡ bag_of c
-bag-of-plan hs m c plan is =
+bag-of-plan hs least m c plan is =
     ap segments_bag is.segments
     ∙ flat_map-map (filter is_data) (λ (h : Holding). entries_in h.bytes) (c.others ++ c.head ∷ [])
 
 -- ---- choices
 
 -- only the master's replicas count for a choice
-pub choice-of-same : (holds also : Holding → Type 0) (m : ℕ) (c : Choice)
+pub choice-of-same : (holds also : Holding → Type 0) (least m : ℕ) (c : Choice)
     → ((h : Holding) → h.master ≡ m → holds h ↔ also h) →
-    IsChoice holds 0 m c → IsChoice also 0 m c
-choice-of-same holds also m c same choice = record {
+    IsChoice holds least m c → IsChoice also least m c
+choice-of-same holds also least m c same choice = record {
   held = (same c.head choice.of_master).0 choice.held;
   of_master = choice.of_master;
   is_open = choice.is_open;
@@ -54,26 +54,32 @@ left-kept false r x h = absurd (cc)
 pub left-held : (keep : ℕ → Bool) (p : Picture) (h : Holding) → IsHeld (left_on keep p) h → IsHeld p h
 left-held keep p h held = left-kept (keep h.backup) (p h.backup h.master h.segment) _ held
 
-module _ (hs : List Holding) (m : ℕ) (d : LogData) (p : Picture) (keep : ℕ → Bool)
-    (is : d.config.master ≡ m) (shows : Shows hs (survivors keep (shown_by p)) m) where
+module _ (hs : List Holding) (least m : ℕ) (d : LogData) (shown : Shown) (keep : ℕ → Bool)
+    (is : d.config.master ≡ m) (old : shown.least ≡ least) (shows : Shows hs (survivors keep shown) m) where
+  abbrev p : Picture
+  p = shown.holds
+
   -- what is chosen in the inventory is chosen among what survives
-  pub surviving-choice : (c : Choice) → IsChoiceOf hs m c → IsSurvivingChoice d p keep c
+  pub surviving-choice : (c : Choice) → IsChoiceOf hs least m c → IsSurvivingChoice d shown keep c
   surviving-choice c choice =
-      subst (λ n. IsShownChoice (survivors keep (shown_by p)) n c) (sym is)
-      (choice-of-same (λ h. IsAmong h hs) (IsHeld (left_on keep p)) m c shows choice)
+      subst (λ n. IsShownChoice (survivors keep shown) n c) (sym is)
+      (choice-of-same (λ h. IsAmong h hs) (IsHeld (left_on keep p)) shown.least m c shows
+      (subst (λ n. IsChoiceOf hs n m c) (sym old) choice))
 
   -- and back
-  pub shown-choice : (c : Choice) → IsSurvivingChoice d p keep c → IsChoiceOf hs m c
+  pub shown-choice : (c : Choice) → IsSurvivingChoice d shown keep c → IsChoiceOf hs least m c
   shown-choice c choice =
-      choice-of-same (IsHeld (left_on keep p)) (λ h. IsAmong h hs) m c (λ h of. ((shows h of).1, (shows h of).0))
-      (subst (λ n. IsShownChoice (survivors keep (shown_by p)) n c) is choice)
+      subst (λ n. IsChoiceOf hs n m c) old
+      (choice-of-same (IsHeld (left_on keep p)) (λ h. IsAmong h hs) shown.least m c
+      (λ h of. ((shows h of).1, (shows h of).0))
+      (subst (λ n. IsShownChoice (survivors keep shown) n c) is choice))
 
   -- the picture has each replica that is shown
   pub shown-held : (h : Holding) → h.master ≡ m → IsAmong h hs →
       p h.backup d.config.master h.segment ≡ Some (record { bytes = h.bytes; is_open = h.is_open })
   shown-held h of among = ap (λ n. p h.backup n h.segment) (is ∙ sym of) ∙ left-held keep p h ((shows h of).0 among)
 
-  module _ (sound : IsSound d p) where
+  module _ (sound : IsSound d shown) where
     -- each replica of the master is well
     pub shown-good : (h : Holding) → h.master ≡ m → IsAmong h hs → IsGood h
     shown-good h of among =
@@ -91,4 +97,4 @@ module _ (hs : List Holding) (m : ℕ) (d : LogData) (p : Picture) (keep : ℕ �
         ∙ shown-held g gi.0.0 ga)
         (shown-held h hi.0.0 ha) in
         let same : o ≡ q = cc in
-        ap (λ (x : Opening). x.ids) same
+        ap (λ (x : Opening). x.digest) same

@@ -4,4 +4,4 @@ use Rattle.recovery.specs.Orders.{OrdersNameGroups}
 
 -- Forward and Reverse name each group once
 pub orders_name : OrdersNameGroups
-orders_name inventory master will = (λ plan is. IsPermutation-refl _, λ plan is. IsPermutation-reverse _)
+orders_name inventory least master will = (λ plan is. IsPermutation-refl _, λ plan is. IsPermutation-reverse _)

@@ -5,7 +5,7 @@ use Rattle.entry.specs.Bag.{IsAmong}
 use Rattle.tablet_will.specs.declared.part.Part.{Part}
 use Rattle.claims.specs.declared.rebuilt.Rebuilt.{Rebuilt}
 use Rattle.replica.specs.declared.holding.Holding.{Holding}
-use Rattle.replica.specs.Picture.{FleetState, left_on, shown_by, IsHeld}
+use Rattle.replica.specs.Picture.{FleetState, Shown, left_on, shown_of, survivors, IsHeld}
 use Rattle.replica.specs.Survival.{BothSurvive}
 use Rattle.log_model.specs.Data.{IsHome, newest_opened}
 use Rattle.master_state.specs.declared.config.Config.{Config}
@@ -24,7 +24,7 @@ use Rattle.recovery.specs.Kept.{is_kept}
 use Rattle.recovery.specs.Recovered.{IsRecovered, IsLossOrMemory, IsWant, IsRebuiltFrom, IsRefusedFrom, IsSomeLoss}
 use Rattle.recovery.specs.Recovered.{IsSomePrefix}
 
-run_keeps : (old new : World) (steps : List Step) (answers : List (Result StepAnswer Refusal))
+pub run_keeps : (old new : World) (steps : List Step) (answers : List (Result StepAnswer Refusal))
     → IsRun old steps answers new
     → new.knows.config ≡ old.knows.config
 run_keeps old new [] [] run = ap (λ (w : World). w.knows.config) run
@@ -41,15 +41,25 @@ module _ (start stop : World) (steps : List Step) (kept : List ℕ) (will : List
   of_master : stop.knows.config.master ≡ start.knows.config.master
   of_master = ap (λ (c : Config). c.master) same_config
 
+  -- the least head that may be used of its master
+  abbrev least : ℕ
+  least = left.least start.knows.config.master
+
+  abbrev shown_first : Shown
+  shown_first = shown_of left start.knows.config.master
+
+  old : left.least stop.knows.config.master ≡ least
+  old = ap left.least of_master
+
   covers_stop : Covers start.knows.config.tablets will → Covers stop.knows.config.tablets will
   covers_stop = subst (λ (c : Config). Covers c.tablets will) (sym same_config)
 
   -- what some backups show of the fleet gives a prefix, or a loss
   pub drilled : (hs : List Holding) → ((h : Holding) → IsAmong h hs ↔ IsHeld (left_on (is_kept kept) left.picture) h)
-      → (r : Result Rebuilt RecoveryFault) → IfOk r (IsSomePrefix hs start.knows.config.master)
-      → IfErr r (IsSomeLoss hs start.knows.config.master will order)
-      → IfOk r (IsRebuiltFrom hs start.knows.config.master will order)
-      → IfErr r (IsRefusedFrom hs start.knows.config.master will order)
+      → (r : Result Rebuilt RecoveryFault) → IfOk r (IsSomePrefix hs least start.knows.config.master)
+      → IfErr r (IsSomeLoss hs least start.knows.config.master will order)
+      → IfOk r (IsRebuiltFrom hs least start.knows.config.master will order)
+      → IfErr r (IsRefusedFrom hs least start.knows.config.master will order)
       → IsDrill start steps kept will order answers r left
   drilled hs shown r recovered refused rebuilt fault = record {
     stop = stop;
@@ -60,28 +70,30 @@ module _ (start stop : World) (steps : List Step) (kept : List ℕ) (will : List
     prefix = prefix r recovered;
     loss = λ covers names. loss covers names r refused;
   } where
-    asked : (r : Result Rebuilt RecoveryFault) → IfOk r (IsRebuiltFrom hs start.knows.config.master will order)
-        → IfErr r (IsRefusedFrom hs start.knows.config.master will order)
-        → IsOfHeld (left_on (is_kept kept) left.picture) start.knows.config.master will order r
+    asked : (r : Result Rebuilt RecoveryFault) → IfOk r (IsRebuiltFrom hs least start.knows.config.master will order)
+        → IfErr r (IsRefusedFrom hs least start.knows.config.master will order)
+        → IsOfHeld (survivors (is_kept kept) shown_first) start.knows.config.master will order r
     asked (Ok b) is other = (hs, shown, is)
     asked (Err e) other is = inr (hs, shown, is)
 
-    prefix : (r : Result Rebuilt RecoveryFault) → IfOk r (IsSomePrefix hs start.knows.config.master)
+    prefix : (r : Result Rebuilt RecoveryFault) → IfOk r (IsSomePrefix hs least start.knows.config.master)
         → IfOk r (λ b. (count : ℕ) × IsRecovered (log_of stop.knows) count b)
-    prefix (Ok b) is = is (log_of stop.knows) left.picture (is_kept kept) valid.sound of_master (λ h of. shown h)
+    prefix (Ok b) is =
+        is (log_of stop.knows) (shown_of left stop.knows.config.master) (is_kept kept) valid.sound of_master old
+        (λ h of. shown h)
     prefix (Err e) is = tt
 
     loss : Covers start.knows.config.tablets will
-        → NamesHeld (left_on (is_kept kept) left.picture) start.knows.config.master will order
-        → (r : Result Rebuilt RecoveryFault) → IfErr r (IsSomeLoss hs start.knows.config.master will order)
+        → NamesHeld (survivors (is_kept kept) shown_first) start.knows.config.master will order
+        → (r : Result Rebuilt RecoveryFault) → IfErr r (IsSomeLoss hs least start.knows.config.master will order)
         → IfErr r (λ e. IsLossOrMemory e
         × (BothSurvive (IsHome (log_of stop.knows)) (newest_opened (log_of stop.knows))
-        (shown_by left.picture) stop.knows.config.master (is_kept kept)
+        (shown_of left stop.knows.config.master) stop.knows.config.master (is_kept kept)
         → IsWant e))
     loss covers names (Ok b) is = tt
     loss covers names (Err e) is =
-        is (log_of stop.knows) left.picture (is_kept kept) valid.sound of_master (λ h of. shown h) (covers_stop covers)
-        (names hs shown)
+        is (log_of stop.knows) (shown_of left stop.knows.config.master) (is_kept kept) valid.sound of_master old
+        (λ h of. shown h) (covers_stop covers) (names hs shown)
 
   -- if memory for an inventory ran out, nothing is named as lost
   pub drilled_without : (e : RecoveryFault) → IsLossOrMemory e → IsWant e

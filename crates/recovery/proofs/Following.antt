@@ -12,6 +12,7 @@ use Rattle.master_state.specs.declared.step.Refusal.{Refusal}
 use Rattle.master_state.specs.declared.step.Step.{Step}
 use Rattle.master_state.specs.declared.step.StepAnswer.{StepAnswer}
 use Rattle.master_state.specs.Data.{MasterData}
+use Rattle.master.specs.Registry.{IsUnraised}
 use Rattle.master.specs.Valid.{IsValid}
 use Rattle.master.specs.World.{World, world_of, retired_data}
 use Rattle.recovery.specs.declared.recovery.RecoveryFault.{RecoveryFault}
@@ -19,6 +20,7 @@ use Rattle.recovery.specs.declared.succession.Course.{Course}
 use Rattle.recovery.specs.declared.succession.NotAdopted.{NotAdopted}
 use Rattle.recovery.specs.Drilled.{IsDrill}
 use Rattle.recovery.specs.Succession.{IsNewest, with_number, IsDrillBy, IsSuccessor, IsNotAdopted}
+use Rattle.recovery.proofs.Drilling.{run_keeps}
 use Rattle.recovery.proofs.Succeeding.{run_newest, next_newest}
 
 -- ---- the next master
@@ -92,6 +94,14 @@ pub drill_newest : (start : World) (k : Course) (answers : List (Result StepAnsw
 drill_newest start k answers recovered left n same is newest =
     subst (λ (m : ℕ). IsNewest m left.picture) (sym same)
     (run_newest start is.stop k.steps.items answers left is.run is.fleet newest)
+
+-- any head may be used of its master, and of any later one
+pub drill_unraised : (start : World) (k : Course) (answers : List (Result StepAnswer Refusal))
+    (recovered : Result Rebuilt RecoveryFault) (left : FleetState) (n : ℕ) → n ≡ start.knows.config.master
+    → IsDrillBy start k answers recovered left → IsUnraised n left
+drill_unraised start k answers recovered left n same is =
+    let config = run_keeps start is.stop k.steps.items answers is.run in
+    subst (λ (m : ℕ). IsUnraised m left) (ap (λ (c : Config). c.master) config ∙ sym same) is.valid.least
 
 pub is_not_adopted : (c d : Config) (n : ℕ) (r : Rebuilt) (left new : FleetState) (why : NotAdopted)
     → d ≡ with_number d.master c → n ≡ d.master → IsNotAdopted (with_number n c) r left why new

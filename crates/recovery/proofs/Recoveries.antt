@@ -6,7 +6,7 @@ use Rattle.entry.specs.Meaning.{IsMeaning, IsClean, among, bound_of, contents_of
 use Rattle.tablet_will.specs.declared.part.Part.{Part}
 use Rattle.division.specs.Division.{AreCovered}
 use Rattle.replica.specs.declared.holding.Holding.{Holding}
-use Rattle.replica.specs.Picture.{Picture, shown_by, survivors}
+use Rattle.replica.specs.Picture.{Shown, survivors}
 use Rattle.replica.specs.Choice.{Choice, bag_of}
 use Rattle.replica.specs.Survival.{BothSurvive}
 use Rattle.claims.specs.Bags.{segments_bag}
@@ -37,11 +37,11 @@ use Rattle.recovery.proofs.Choices.{bag-of-plan, surviving-choice, shown-choice,
 
 -- ---- what is recovered
 
-pub rebuilt-prefix : (hs : List Holding) (m : ℕ) (c : Choice) (plan : Plan) (r : Rebuilt) →
-    IsPlanOf hs m c plan → IsRebuilt plan.segments plan.safe r → IsSomePrefix hs m r
-rebuilt-prefix hs m c plan r planned rebuilt d p keep sound is shows =
-    let bag = bag-of-plan hs m c plan planned in
-    let found = sound.prefix keep c (surviving-choice hs m d p keep is shows c planned.choice) in
+pub rebuilt-prefix : (hs : List Holding) (least m : ℕ) (c : Choice) (plan : Plan) (r : Rebuilt) →
+    IsPlanOf hs least m c plan → IsRebuilt plan.segments plan.safe r → IsSomePrefix hs least m r
+rebuilt-prefix hs least m c plan r planned rebuilt d shown keep sound is old shows =
+    let bag = bag-of-plan hs least m c plan planned in
+    let found = sound.prefix keep c (surviving-choice hs least m d shown keep is old shows c planned.choice) in
     let prefix = found.1 in
     let meaning : IsMeaning (among (bag_of c)) (contents_of r.objects) =
     subst (λ es. IsMeaning (among es) (contents_of r.objects)) bag rebuilt.meaning in
@@ -61,11 +61,12 @@ rebuilt-prefix hs m c plan r planned rebuilt d p keep sound is shows =
     )
 
 -- what a plan of the inventory gives, by the will and the order, is what the inventory gives
-pub rebuilt-from : (hs : List Holding) (m : ℕ) (will : List Part) (order : GroupOrder) (plan : Plan) (r : Rebuilt)
-    → IsPlan hs m plan → AreCovered will (segments_bag plan.segments)
+pub rebuilt-from : (hs : List Holding) (least m : ℕ) (will : List Part) (order : GroupOrder) (plan : Plan) (r : Rebuilt)
+    → IsPlan hs least m plan → AreCovered will (segments_bag plan.segments)
     → NamesEach (count_of plan.segments will) (order_for plan will order) → IsRebuilt plan.segments plan.safe r
-    → IsRebuilt (replayed plan.segments will (order_for plan will order)) plan.safe r → IsRebuiltFrom hs m will order r
-rebuilt-from hs m will order plan r planned covered whole rebuilt turns = record {
+    → IsRebuilt (replayed plan.segments will (order_for plan will order)) plan.safe r
+    → IsRebuiltFrom hs least m will order r
+rebuilt-from hs least m will order plan r planned covered whole rebuilt turns = record {
   plan = plan;
   planned = planned;
   covered = covered;
@@ -76,14 +77,15 @@ rebuilt-from hs m will order plan r planned covered whole rebuilt turns = record
 
 -- ---- what is refused
 
-module _ (hs : List Holding) (m : ℕ) (d : LogData) (p : Picture) (keep : ℕ → Bool)
-    (sound : IsSound d p) (is : d.config.master ≡ m) (shows : Shows hs (survivors keep (shown_by p)) m) where
+module _ (hs : List Holding) (least m : ℕ) (d : LogData) (shown : Shown) (keep : ℕ → Bool)
+    (sound : IsSound d shown) (is : d.config.master ≡ m) (old : shown.least ≡ least)
+    (shows : Shows hs (survivors keep shown) m) where
   -- if there is nothing to choose, not both survive
-  not-both : ((c : Choice) → IsChoiceOf hs m c → ⊥) → BothSurvive (IsHome d) (newest_opened d)
-      (shown_by p) d.config.master keep → ⊥
+  not-both : ((c : Choice) → IsChoiceOf hs least m c → ⊥) → BothSurvive (IsHome d) (newest_opened d)
+      shown d.config.master keep → ⊥
   not-both none both =
       let some = sound.choice keep both in
-      none some.0 (shown-choice hs m d p keep is shows some.0 some.1)
+      none some.0 (shown-choice hs least m d shown keep is old shows some.0 some.1)
 
   -- no replica of the master is bad
   none-bad : (backup id : ℕ) → IsFirstBad hs m backup id → ⊥
@@ -91,26 +93,27 @@ module _ (hs : List Holding) (m : ℕ) (d : LogData) (p : Picture) (keep : ℕ �
       let there : IsAmong first.bad hs =
       subst (IsAmong first.bad) (sym first.place) (among_right first.bad first.before (first.bad ∷ first.after)
       (inl refl)) in
-      first.is_bad (shown-good hs m d p keep is shows sound first.bad first.of_master there)
+      first.is_bad (shown-good hs least m d shown keep is old shows sound first.bad first.of_master there)
 
-  pub plan-loss : (e : PlanFault) → IsPlanFault hs m e → NamesLoss hs m e →
-      IsPlanLoss e × (BothSurvive (IsHome d) (newest_opened d) (shown_by p) d.config.master keep → IsPlanWant e)
+  pub plan-loss : (e : PlanFault) → IsPlanFault hs least m e → NamesLoss hs least m e →
+      IsPlanLoss e × (BothSurvive (IsHome d) (newest_opened d) shown d.config.master keep → IsPlanWant e)
   plan-loss plan_fault.NoHead says loss = (tt, λ both. absurd (not-both loss both))
+  plan-loss (plan_fault.HeadTooOld id) says loss = (tt, λ both. absurd (not-both loss both))
   plan-loss (plan_fault.HeadClosed id) says loss = (tt, λ both. absurd (not-both loss both))
   plan-loss (plan_fault.Missing id) says loss =
-      (tt, λ both. absurd (not-both (loss.1 (shown-agree hs m d p keep is shows sound)) both))
+      (tt, λ both. absurd (not-both (loss.2 (shown-agree hs least m d shown keep is old shows sound)) both))
   plan-loss (plan_fault.BadReplica backup id) says loss = absurd (none-bad backup id says)
   plan-loss plan_fault.NoMemory says loss = (tt, λ both. tt)
 
   -- the log that was chosen can be rebuilt, by a will that covers the tablets and an order that names its groups once
-  pub rebuildable : (will : List Part) (order : GroupOrder) (c : Choice) (plan : Plan) → IsPlanOf hs m c plan
-      → Covers d.config.tablets will → NamesGroups hs m will order
+  pub rebuildable : (will : List Part) (order : GroupOrder) (c : Choice) (plan : Plan) → IsPlanOf hs least m c plan
+      → Covers d.config.tablets will → NamesGroups hs least m will order
       → CanBeRebuilt plan.segments will (order_for plan will order)
   rebuildable will order c plan planned covers names =
-      let choice = surviving-choice hs m d p keep is shows c planned.choice in
-      let bag = bag-of-plan hs m c plan planned in
+      let choice = surviving-choice hs least m d shown keep is old shows c planned.choice in
+      let bag = bag-of-plan hs least m c plan planned in
       record {
-        ids = ids_differ hs m c plan planned;
+        ids = ids_differ hs least m c plan planned;
         clean = subst (λ es. IsClean (among es)) (sym bag) (sound.clean keep c choice);
         covered =
             subst (AreCovered will) (sym bag)
@@ -121,16 +124,17 @@ module _ (hs : List Holding) (m : ℕ) (d : LogData) (p : Picture) (keep : ℕ �
 memory-want : (e : ReplayFault) → e ≡ replay_fault.NoMemory → IsReplayWant e
 memory-want e is = subst IsReplayWant (sym is) tt
 
-pub refused-plan : (hs : List Holding) (m : ℕ) (will : List Part) (order : GroupOrder) (e : PlanFault)
-    → IsPlanFault hs m e → NamesLoss hs m e → IsSomeLoss hs m will order (fault.Plan e)
-refused-plan hs m will order e says loss d p keep sound is shows covers names =
-    plan-loss hs m d p keep sound is shows e says loss
+pub refused-plan : (hs : List Holding) (least m : ℕ) (will : List Part) (order : GroupOrder) (e : PlanFault)
+    → IsPlanFault hs least m e → NamesLoss hs least m e → IsSomeLoss hs least m will order (fault.Plan e)
+refused-plan hs least m will order e says loss d shown keep sound is old shows covers names =
+    plan-loss hs least m d shown keep sound is old shows e says loss
 
-pub refused-replay : (hs : List Holding) (m : ℕ) (will : List Part) (order : GroupOrder) (c : Choice) (plan : Plan)
-    (e : ReplayFault) → IsPlanOf hs m c plan
+pub refused-replay : (hs : List Holding) (least m : ℕ) (will : List Part) (order : GroupOrder) (c : Choice)
+    (plan : Plan) (e : ReplayFault) → IsPlanOf hs least m c plan
     → (CanBeRebuilt plan.segments will (order_for plan will order) → e ≡ replay_fault.NoMemory)
-    → IsSomeLoss hs m will order (fault.Replay e)
-refused-replay hs m will order c plan e planned whole d p keep sound is shows covers names =
+    → IsSomeLoss hs least m will order (fault.Replay e)
+refused-replay hs least m will order c plan e planned whole d shown keep sound is old shows covers names =
     let want =
-    memory-want e (whole (rebuildable hs m d p keep sound is shows will order c plan planned covers names)) in
+    memory-want e
+    (whole (rebuildable hs least m d shown keep sound is old shows will order c plan planned covers names)) in
     (want, λ both. want)

@@ -7,16 +7,14 @@ use Rattle.std.specs.List.Sorted.{IsStrictlyIncreasing}
 use Rattle.std.proofs.lemmas.Bool.{ne_eqb}
 use Rattle.std.proofs.lemmas.List.{map-append}
 use Rattle.entry.specs.declared.entry.Header.{Header}
-use Rattle.entry.specs.declared.entry.Entry.{Entry}
-use Rattle.entry.specs.declared.entry.Entry.TheVariants as entry
 use Rattle.entry.specs.Bag.{IsAmong}
-use Rattle.entry.specs.Format.{IsEntry}
-use Rattle.entry.specs.Text.{Opening, entries_in, header_in, opening_of}
+use Rattle.entry.specs.Text.{entries_in, header_in, listed_ids}
 use Rattle.replica.specs.declared.holding.Holding.{Holding}
 use Rattle.replica.specs.Choice.{Choice, IsUsableOf}
 use Rattle.recovery_plan.specs.declared.chosen.Plan.{Plan}
 use Rattle.recovery_plan.specs.Good.{IsGood}
 use Rattle.recovery_plan.specs.Planned.{IsPlanOf}
+use Rattle.recovery_plan.proofs.Digests.{digest-of}
 use Rattle.rebuilding.specs.Rebuilds.{header_id, id_of, ids_of}
 
 -- ---- ids that rise
@@ -38,28 +36,6 @@ distinct_risen (x ∷ xs) rise = (differ x x xs (omega arith) rise, distinct_ris
 
 -- ---- the ids of a plan
 
--- the ids of a digest rise
-digest_rises : (es : List Entry) (o : Opening) → AllByRecursion IsEntry es → opening_of es ≡ Some o
-    → IsStrictlyIncreasing o.ids
-digest_rises (entry.Header h ∷ entry.Digest ids ∷ entry.Safe version ∷ rest) o each is =
-    let same : ids ≡ o.ids = cc in
-    subst IsStrictlyIncreasing same each.1.0.rise
-digest_rises [] o each is = absurd (cc)
-digest_rises (entry.Header h ∷ []) o each is = absurd (cc)
-digest_rises (entry.Header h ∷ entry.Header _ ∷ _) o each is = absurd (cc)
-digest_rises (entry.Header h ∷ entry.Digest ids ∷ []) o each is = absurd (cc)
-digest_rises (entry.Header h ∷ entry.Digest ids ∷ entry.Header _ ∷ rest) o each is = absurd (cc)
-digest_rises (entry.Header h ∷ entry.Digest ids ∷ entry.Digest _ ∷ rest) o each is = absurd (cc)
-digest_rises (entry.Header h ∷ entry.Digest ids ∷ entry.Object _ ∷ rest) o each is = absurd (cc)
-digest_rises (entry.Header h ∷ entry.Digest ids ∷ entry.Tombstone _ ∷ rest) o each is = absurd (cc)
-digest_rises (entry.Header h ∷ entry.Safe _ ∷ _) o each is = absurd (cc)
-digest_rises (entry.Header h ∷ entry.Object _ ∷ _) o each is = absurd (cc)
-digest_rises (entry.Header h ∷ entry.Tombstone _ ∷ _) o each is = absurd (cc)
-digest_rises (entry.Digest _ ∷ _) o each is = absurd (cc)
-digest_rises (entry.Safe _ ∷ _) o each is = absurd (cc)
-digest_rises (entry.Object _ ∷ _) o each is = absurd (cc)
-digest_rises (entry.Tombstone _ ∷ _) o each is = absurd (cc)
-
 header_named : (h : Option Header) (master segment : ℕ)
     → IsSomeAnd h (λ (header : Header). (header.master ≡ master) × (header.segment ≡ segment))
     → header_id h ≡ segment
@@ -74,7 +50,7 @@ ids_named (h ∷ hs) good =
     header_named (header_in h.bytes) h.master h.segment good.0.header in
     (λ i. first i ∷ ids_named hs good.1 i)
 
-module _ (hs : List Holding) (m : ℕ) (c : Choice) (plan : Plan) (is : IsPlanOf hs m c plan) where
+module _ (hs : List Holding) (least m : ℕ) (c : Choice) (plan : Plan) (is : IsPlanOf hs least m c plan) where
   head_good : IsGood c.head
   head_good = is.good c.head is.choice.held is.choice.of_master
 
@@ -84,7 +60,7 @@ module _ (hs : List Holding) (m : ℕ) (c : Choice) (plan : Plan) (is : IsPlanOf
   chosen_good (x ∷ xs) all = (is.good x all.0.0 all.0.1.0, chosen_good xs all.1)
 
   -- the ids of the segments are those of the digest
-  ids_of_plan : ids_of plan.segments ≡ c.opening.ids
+  ids_of_plan : ids_of plan.segments ≡ listed_ids c.opening.digest
   ids_of_plan =
       let chosen = c.others ++ c.head ∷ [] in
       ap ids_of is.segments ∙ map_map chosen ∙ ids_named chosen (chosen_good c.others is.choice.others)
@@ -97,6 +73,5 @@ module _ (hs : List Holding) (m : ℕ) (c : Choice) (plan : Plan) (is : IsPlanOf
 
   pub ids_differ : IsDistinct (λ (a b : ℕ). a == b) (ids_of plan.segments)
   ids_differ =
-      let rise = digest_rises (entries_in c.head.bytes) c.opening head_good.segment.text.segment.each
-      is.choice.opening in
-      subst (IsDistinct (λ (a b : ℕ). a == b)) (sym ids_of_plan) (distinct_risen c.opening.ids rise)
+      let rise = (digest-of c.head c.opening head_good is.choice.opening).rise in
+      subst (IsDistinct (λ (a b : ℕ). a == b)) (sym ids_of_plan) (distinct_risen (listed_ids c.opening.digest) rise)

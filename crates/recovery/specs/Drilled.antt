@@ -3,7 +3,7 @@ use Rattle.std.specs.Prelude.{◌≡◌, ◌⊎◌, ℕ, List, Result, Ok, Err, 
 use Rattle.tablet_will.specs.declared.part.Part.{Part}
 use Rattle.claims.specs.declared.rebuilt.Rebuilt.{Rebuilt}
 use Rattle.replica.specs.declared.holding.Holding.{Holding}
-use Rattle.replica.specs.Picture.{FleetState, Picture, AreHeld, left_on, shown_by}
+use Rattle.replica.specs.Picture.{FleetState, Shown, AreHeld, shown_of, survivors}
 use Rattle.replica.specs.Survival.{BothSurvive}
 use Rattle.log_model.specs.Data.{IsHome, newest_opened}
 use Rattle.master_state.specs.declared.step.Refusal.{Refusal}
@@ -19,12 +19,12 @@ use Rattle.recovery.specs.Kept.{is_kept}
 use Rattle.recovery.specs.Orders.{Covers, NamesHeld}
 use Rattle.recovery.specs.Recovered.{IsRecovered, IsLossOrMemory, IsWant, IsRebuiltFrom, IsRefusedFrom}
 
--- What comes back, or the fault, follows from what these backups hold, however they list it. Or memory ran out.
-abbrev pub IsOfHeld : Picture → ℕ → List Part → GroupOrder → Result Rebuilt RecoveryFault → Type 0
-IsOfHeld p master will order (Ok r) =
-    (inventory : List Holding) × AreHeld inventory p × IsRebuiltFrom inventory master will order r
-IsOfHeld p master will order (Err e) =
-    IsWant e ⊎ ((inventory : List Holding) × AreHeld inventory p × IsRefusedFrom inventory master will order e)
+-- What comes back, or the fault, follows from what is shown, however it is listed. Or memory ran out.
+abbrev pub IsOfHeld : Shown → ℕ → List Part → GroupOrder → Result Rebuilt RecoveryFault → Type 0
+IsOfHeld shown master will order (Ok r) = (inventory : List Holding) × AreHeld inventory shown.holds
+    × IsRebuiltFrom inventory shown.least master will order r
+IsOfHeld shown master will order (Err e) = IsWant e ⊎ ((inventory : List Holding) × AreHeld inventory shown.holds
+    × IsRefusedFrom inventory shown.least master will order e)
 
 -- The steps were taken from this start, and left this fleet. Whichever backups are kept, and however segments are
 -- divided and replayed: what is recovered is exactly the map after a prefix that holds each durable command. If the
@@ -37,11 +37,13 @@ pub record IsDrill (start : World) (steps : List Step) (kept : List ℕ) (will :
   pub run : IsRun start steps answers stop
   pub fleet : left ≡ stop.fleet
   pub valid : IsValid stop.knows left
-  pub asked : IsOfHeld (left_on (is_kept kept) left.picture) start.knows.config.master will order recovered
+  pub asked : IsOfHeld (survivors (is_kept kept) (shown_of left start.knows.config.master))
+      start.knows.config.master will order recovered
   pub prefix : IfOk recovered (λ r. (count : ℕ) × IsRecovered (log_of stop.knows) count r)
   pub loss : Covers start.knows.config.tablets will
-      → NamesHeld (left_on (is_kept kept) left.picture) start.knows.config.master will order
+      → NamesHeld (survivors (is_kept kept) (shown_of left start.knows.config.master))
+      start.knows.config.master will order
       → IfErr recovered (λ e. IsLossOrMemory e × (
-      BothSurvive (IsHome (log_of stop.knows)) (newest_opened (log_of stop.knows)) (shown_by left.picture)
-      stop.knows.config.master (is_kept kept)
+      BothSurvive (IsHome (log_of stop.knows)) (newest_opened (log_of stop.knows))
+      (shown_of left stop.knows.config.master) stop.knows.config.master (is_kept kept)
       → IsWant e))

@@ -2,7 +2,7 @@
 use Rattle.std.specs.Prelude.{◌≡◌, ℕ, List, is_some, true}
 use Rattle.entry.specs.declared.tablet.Tablet.{Tablet}
 use Rattle.replica.specs.declared.holding.Holding.{Holding}
-use Rattle.replica.specs.Picture.{Picture, AreHeld}
+use Rattle.replica.specs.Picture.{Shown, AreHeld}
 use Rattle.tablet_will.specs.declared.part.Part.{Part}
 use Rattle.tablet_will.specs.Parts.{partition_at, is_in_one}
 use Rattle.recovery_plan.specs.declared.chosen.Plan.{Plan}
@@ -15,14 +15,14 @@ use Rattle.rebuilding.specs.Orders.{order_for}
 -- ---- orders
 
 -- Of each plan of the inventory the order names each group once.
-abbrev pub NamesGroups : List Holding → ℕ → List Part → GroupOrder → Type 0
-NamesGroups inventory master will order =
-    (plan : Plan) → IsPlan inventory master plan → IsOrderOf (count_of plan.segments will) (order_for plan will order)
+abbrev pub NamesGroups : List Holding → ℕ → ℕ → List Part → GroupOrder → Type 0
+NamesGroups inventory least master will order = (plan : Plan) → IsPlan inventory least master plan
+    → IsOrderOf (count_of plan.segments will) (order_for plan will order)
 
--- the same of what some backups hold, however it is listed
-abbrev pub NamesHeld : Picture → ℕ → List Part → GroupOrder → Type 0
-NamesHeld p master will order =
-    (inventory : List Holding) → AreHeld inventory p → NamesGroups inventory master will order
+-- the same of what is shown, however it is listed
+abbrev pub NamesHeld : Shown → ℕ → List Part → GroupOrder → Type 0
+NamesHeld shown master will order =
+    (inventory : List Holding) → AreHeld inventory shown.holds → NamesGroups inventory shown.least master will order
 
 -- ---- wills
 
@@ -34,5 +34,5 @@ Covers ts qs = (table place : ℕ) → is_in_one ts table place ≡ true → is_
 
 -- Forward and Reverse name each group once, of whatever plan.
 abbrev pub OrdersNameGroups : Type 0
-OrdersNameGroups = (inventory : List Holding) (master : ℕ) (will : List Part)
-    → NamesGroups inventory master will Forward × NamesGroups inventory master will Reverse
+OrdersNameGroups = (inventory : List Holding) (least master : ℕ) (will : List Part)
+    → NamesGroups inventory least master will Forward × NamesGroups inventory least master will Reverse

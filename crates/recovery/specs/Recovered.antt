@@ -6,7 +6,7 @@ use Rattle.entry.specs.Bag.{IsAmong}
 use Rattle.entry.specs.Meaning.{contents_of}
 use Rattle.entry.specs.Order.{key_cmp}
 use Rattle.replica.specs.declared.holding.Holding.{Holding}
-use Rattle.replica.specs.Picture.{Picture, Shown, IsHeld, shown_by, survivors}
+use Rattle.replica.specs.Picture.{Shown, IsHeld, survivors}
 use Rattle.replica.specs.Survival.{BothSurvive}
 use Rattle.tablet_will.specs.declared.part.Part.{Part}
 use Rattle.division.specs.Division.{AreCovered}
@@ -61,6 +61,7 @@ AcknowledgedAreRecovered = (d : LogData) (count : ℕ) (r : Rebuilt) (answered :
 -- a lost head or segment, or memory ran out
 abbrev pub IsPlanLoss : PlanFault → Type 0
 IsPlanLoss plan_fault.NoHead = Unit {0}
+IsPlanLoss (plan_fault.HeadTooOld id) = Unit {0}
 IsPlanLoss (plan_fault.HeadClosed id) = Unit {0}
 IsPlanLoss (plan_fault.Missing id) = Unit {0}
 IsPlanLoss (plan_fault.BadReplica backup id) = ⊥
@@ -86,37 +87,39 @@ IsWant (fault.Replay refused) = IsReplayWant refused
 
 -- ---- any sound state, whatever it is
 
--- of whatever sound state the inventory shows a part: the map after a prefix of its commands, each durable one among
--- them
-abbrev pub IsSomePrefix : List Holding → ℕ → Rebuilt → Type 0
-IsSomePrefix inventory master r = (d : LogData) (p : Picture) (keep : ℕ → Bool)
-    → IsSound d p → d.config.master ≡ master → Shows inventory (survivors keep (shown_by p)) master
-    → (count : ℕ) × IsRecovered d count r
+-- of whatever sound state the inventory shows a part, with this least head: the map after a prefix of its commands,
+-- each durable one among them
+abbrev pub IsSomePrefix : List Holding → ℕ → ℕ → Rebuilt → Type 0
+IsSomePrefix inventory least master r = (d : LogData) (shown : Shown) (keep : ℕ → Bool)
+    → IsSound d shown → d.config.master ≡ master → shown.least ≡ least
+    → Shows inventory (survivors keep shown) master → (count : ℕ) × IsRecovered d count r
 
 -- Of such a state: a loss, or memory ran out; and memory alone if both head and segments survive. The will covers the
 -- tablets, and the order names each group once.
-abbrev pub IsSomeLoss : List Holding → ℕ → List Part → GroupOrder → RecoveryFault → Type 0
-IsSomeLoss inventory master will order e = (d : LogData) (p : Picture) (keep : ℕ → Bool)
-    → IsSound d p → d.config.master ≡ master → Shows inventory (survivors keep (shown_by p)) master
-    → Covers d.config.tablets will → NamesGroups inventory master will order
-    → IsLossOrMemory e × (BothSurvive (IsHome d) (newest_opened d) (shown_by p) d.config.master keep → IsWant e)
+abbrev pub IsSomeLoss : List Holding → ℕ → ℕ → List Part → GroupOrder → RecoveryFault → Type 0
+IsSomeLoss inventory least master will order e = (d : LogData) (shown : Shown) (keep : ℕ → Bool)
+    → IsSound d shown → d.config.master ≡ master → shown.least ≡ least
+    → Shows inventory (survivors keep shown) master
+    → Covers d.config.tablets will → NamesGroups inventory least master will order
+    → IsLossOrMemory e × (BothSurvive (IsHome d) (newest_opened d) shown d.config.master keep → IsWant e)
 
 -- ---- any inventory, whatever it shows
 
 -- What the log of a plan of the inventory stands for. The will divides the log, and sends each key somewhere. The
 -- groups are replayed in the order, which names each once: it is what they have, in their turn, that is rebuilt.
-pub record IsRebuiltFrom (inventory : List Holding) (master : ℕ) (will : List Part) (order : GroupOrder)
+pub record IsRebuiltFrom (inventory : List Holding) (least master : ℕ) (will : List Part) (order : GroupOrder)
     (r : Rebuilt) : Type 0 where
   pub plan : Plan
-  pub planned : IsPlan inventory master plan
+  pub planned : IsPlan inventory least master plan
   pub covered : AreCovered will (segments_bag plan.segments)
   pub whole : NamesEach (count_of plan.segments will) (order_for plan will order)
   pub rebuilt : IsRebuilt plan.segments plan.safe r
   pub turns : IsRebuilt (replayed plan.segments will (order_for plan will order)) plan.safe r
 
 -- The inventory has the fault: there is no plan of it, or the log of its plan is refused, by this will or this order.
-abbrev pub IsRefusedFrom : List Holding → ℕ → List Part → GroupOrder → RecoveryFault → Type 0
-IsRefusedFrom inventory master will order (fault.Plan loss) =
-    IsPlanFault inventory master loss × NamesLoss inventory master loss
-IsRefusedFrom inventory master will order (fault.Replay refused) = (plan : Plan) × IsPlan inventory master plan
+abbrev pub IsRefusedFrom : List Holding → ℕ → ℕ → List Part → GroupOrder → RecoveryFault → Type 0
+IsRefusedFrom inventory least master will order (fault.Plan loss) =
+    IsPlanFault inventory least master loss × NamesLoss inventory least master loss
+IsRefusedFrom inventory least master will order (fault.Replay refused) = (plan : Plan)
+    × IsPlan inventory least master plan
     × IsRebuildFault plan.segments will (order_for plan will order) refused

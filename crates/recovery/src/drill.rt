@@ -48,7 +48,7 @@ pub fn run_drill<F: Fleet>(
     };
     let fleet = master.crash();
     let recovered = match inventory_of(alloc, &fleet, kept) {
-        Ok(inventory) => recover(alloc, &inventory, number, will, order),
+        Ok(inventory) => recover(alloc, &inventory, number, fleet.least(number), will, order),
         Err(NoMemory) => Err(RecoveryFault::Plan(PlanFault::NoMemory)),
     };
     Ok(Drill {

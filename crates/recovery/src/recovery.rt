@@ -64,26 +64,28 @@ fn rebuild_in(
     rebuild(alloc, plan, will, numbers.as_slice())
 }
 
-/// The objects of a master, and a safe version for what follows, from what some backups hold. The will says how each
-/// segment is divided into groups, and the order in which turn each group is replayed.
+/// The objects of a master, and a safe version for what follows, from what some backups hold, if this is the least head
+/// that may be used. The will says how each segment is divided into groups, and the order in which turn each group is
+/// replayed.
 pub fn recover(
     alloc: Global,
     inventory: &Inventory<'_>,
     master: u64,
+    least: u64,
     will: &Will,
     order: &GroupOrder,
 ) -> Result<Rebuilt, RecoveryFault>
     // Of whatever sound state of the master the inventory shows what some backups still hold: exactly the map after a
     // prefix of its commands, each durable one among them. So it is by any will and in any order.
-    ensures ok { IfOk result (IsSomePrefix inventory.now master) }
+    ensures ok { IfOk result (IsSomePrefix inventory.now least master) }
     // Of such a state a fault is a lost head or segment, or memory ran out; and a loss comes only if it hides the log.
     // The will must cover the tablets, and the order name each group once.
-    ensures refused { IfErr result (IsSomeLoss inventory.now master will.now order.now) }
+    ensures refused { IfErr result (IsSomeLoss inventory.now least master will.now order.now) }
     // Of any inventory: what comes back, or the fault, follows from it.
-    ensures rebuilt { IfOk result (IsRebuiltFrom inventory.now master will.now order.now) }
-    ensures fault { IfErr result (IsRefusedFrom inventory.now master will.now order.now) }
+    ensures rebuilt { IfOk result (IsRebuiltFrom inventory.now least master will.now order.now) }
+    ensures fault { IfErr result (IsRefusedFrom inventory.now least master will.now order.now) }
 {
-    let plan = match plan(alloc, inventory, master) {
+    let plan = match plan(alloc, inventory, master, least) {
         Ok(plan) => plan,
         Err(fault) => return Err(RecoveryFault::Plan(fault)),
     };

@@ -2,6 +2,7 @@
 
 ghost use Rattle.std.specs.Prelude.{◌≡◌, ◌≤◌, suc, None, IfOk, IfErr};
 ghost use Rattle.master_state.specs.Config.{config_fault};
+ghost use Rattle.master.specs.Registry.{IsUnraised};
 ghost use Rattle.master.specs.World.{world};
 ghost use Rattle.recovery.specs.Succession.{IsNewest, with_number, IsSuccessor, IsLived, IsNotAdopted, IsLast};
 ghost use Rattle.recovery.specs.Succession.{AreDrilled};
@@ -79,6 +80,7 @@ fn numbered(alloc: Global, config: &Config, master: u64) -> Result<Config, NoMem
         tablets: Tablets::new(tablets),
         history: config.history,
         hasher: config.hasher,
+        format: config.format,
     })
 }
 
@@ -93,6 +95,7 @@ fn succeed<F: Bench>(
     requires config { config_fault config.now ≡ None }
     requires backups { config.now.backups ≤ (F.Fleet.state fleet).backups }
     requires newest { IsNewest number (F.Fleet.state fleet).picture }
+    requires least { IsUnraised number (F.Fleet.state fleet) }
     ensures succeeds { IfOk result (λ r. IsSuccessor (with_number (suc number) config.now) rebuilt.now
         (F.Fleet.state fleet) r.1 (world F.Fleet.state r.0)) }
     ensures newest { IfOk result (λ r. IsNewest (suc number) (F.Fleet.state r.0.fleet).picture) }

@@ -56,6 +56,7 @@ pub fn recover_threads<R: Threads + Wait + Sync, G: Gate + Sync>(
     alloc: Global,
     inventory: &Inventory<'_>,
     master: u64,
+    least: u64,
     will: &Will,
     order: &GroupOrder,
     workers: usize,
@@ -63,12 +64,12 @@ pub fn recover_threads<R: Threads + Wait + Sync, G: Gate + Sync>(
 ) -> Result<Rebuilt, RecoveryFault>
     // The clauses of `recover`, word for word.
     requires workers { (1 ≤ workers) × (workers ≤ 64) }
-    ensures ok { IfOk result (IsSomePrefix inventory.now master) }
-    ensures refused { IfErr result (IsSomeLoss inventory.now master will.now order.now) }
-    ensures rebuilt { IfOk result (IsRebuiltFrom inventory.now master will.now order.now) }
-    ensures fault { IfErr result (IsRefusedFrom inventory.now master will.now order.now) }
+    ensures ok { IfOk result (IsSomePrefix inventory.now least master) }
+    ensures refused { IfErr result (IsSomeLoss inventory.now least master will.now order.now) }
+    ensures rebuilt { IfOk result (IsRebuiltFrom inventory.now least master will.now order.now) }
+    ensures fault { IfErr result (IsRefusedFrom inventory.now least master will.now order.now) }
 {
-    let plan = match plan(alloc, inventory, master) {
+    let plan = match plan(alloc, inventory, master, least) {
         Ok(plan) => plan,
         Err(fault) => return Err(RecoveryFault::Plan(fault)),
     };

@@ -1,7 +1,7 @@
 -- Preferred replicas of growing lists.
 use Rattle.std.proofs.Common.{◌≡◌, ℕ, ◌<◌, inl, inr, Bool, true, false, cond, List, [], ◌∷◌, ◌++◌, refl}
 use Rattle.std.proofs.Common.{sym, ap, subst, ◌∙◌, arith, append_assoc, take, get_or, ◌+◌, ⊎_elim}
-use Rattle.std.specs.Prelude.{Option, Some, None, nat_lt, ◌==◌, ◌&&◌, ◌||◌, ◌⊎◌, length}
+use Rattle.std.specs.Prelude.{Option, Some, None, IfSome, nat_lt, ◌==◌, ◌&&◌, ◌||◌, ◌⊎◌, ◌≤◌, length}
 use Rattle.std.proofs.lemmas.Bool.Decides.{nat_tests}
 use Rattle.std.proofs.lemmas.Bool.{cases_eq}
 use Rattle.std.proofs.lemmas.Grind.{take_at_read}
@@ -10,10 +10,12 @@ use Rattle.std.specs.Ordering.{nat_cmp}
 use Rattle.std.specs.BTreeMap.{is_at}
 use Rattle.std.specs.Borrow.{Bor}
 use Rattle.entry.specs.Bag.{IsAmong}
-use Rattle.entry.specs.Text.{Opening}
+use Rattle.entry.specs.Text.{Opening, listed_len}
 use Rattle.replica.specs.declared.holding.Holding.{Holding}
-use Rattle.recovery_plan.specs.Good.{IsReplicaOf}
+use Rattle.replica.specs.Choice.{IsUsableReplica}
+use Rattle.recovery_plan.specs.Good.{IsOf, IsReplicaOf}
 use Rattle.recovery_plan.specs.Preferred.{is_preferred, better, IsPreferred, IsBest}
+use Rattle.recovery_plan.specs.Looked.{IsUsableFor}
 
 -- ---- membership
 
@@ -76,6 +78,66 @@ preferred-weak : (a b c : Holding) → is_preferred a b ≡ true → is_preferre
 preferred-weak a b c e f =
     prefers-weak a.is_open (length a.bytes) a.backup b.is_open (length b.bytes) b.backup c.is_open (length c.bytes)
     c.backup e f
+
+-- ---- which may be used
+
+-- open or closed and its length, under a listed length
+module _ where
+  abbrev Usable : Bool → ℕ → Option ℕ → Type 0
+  Usable x k n = (x ≡ false) ⊎ IfSome n (λ l. l ≤ k)
+
+  as-long : (k l : ℕ) (n : Option ℕ) → l ≤ k → Usable true l n → IfSome n (λ m. m ≤ k)
+  as-long k l None le may = tt
+  as-long k l (Some m) le (inl shut) = absurd (cc)
+  as-long k l (Some m) le (inr long) = omega arith
+
+  longer-least : (k b l c : ℕ) → longer k b l c ≡ true → l ≤ k
+  longer-least k b l c e = grind (arith, nat_tests)
+
+  longer-most : (k b l c : ℕ) → longer l c k b ≡ false → l ≤ k
+  longer-most k b l c e = grind (arith, nat_tests)
+
+  -- if one may be used, so may one that is preferred to it
+  usable-preferred : (x : Bool) (k b : ℕ) (y : Bool) (l c : ℕ) (n : Option ℕ) → prefers x k b y l c ≡ true
+      → Usable y l n → Usable x k n
+  usable-preferred false k b y l c n e may = inl refl
+  usable-preferred true k b true l c n e may = inr (as-long k l n (longer-least k b l c e) may)
+  usable-preferred true k b false l c n e may = absurd (cc)
+
+  -- and one that it isn't preferred to
+  usable-kept : (x : Bool) (k b : ℕ) (y : Bool) (l c : ℕ) (n : Option ℕ) → prefers y l c x k b ≡ false
+      → Usable y l n → Usable x k n
+  usable-kept false k b y l c n e may = inl refl
+  usable-kept true k b true l c n e may = inr (as-long k l n (longer-most k b l c e) may)
+  usable-kept true k b false l c n e may = absurd (cc)
+
+module _ (o : Opening) (h : Holding) (id : ℕ) (is : h.segment ≡ id) where
+  abbrev UsableAs : ℕ → Type 0
+  UsableAs s = Usable h.is_open (length h.bytes) (listed_len s o.digest)
+
+  -- the segment that the replica is of is that of the digest
+  pub usable-for : IsUsableReplica o h → IsUsableFor o.digest id h
+  usable-for may = subst UsableAs is may
+
+  pub usable-as : IsUsableFor o.digest id h → IsUsableReplica o h
+  usable-as may = subst UsableAs (sym is) may
+
+-- If the preferred replica of a segment may not be used, none may.
+pub none-usable : (hs : List Holding) (m : ℕ) (o : Opening) (id : ℕ) (h : Holding) → IsPreferred (IsOf m id) hs h
+    → (IsUsableReplica o h → ⊥) → (g : Holding) → IsAmong g hs → IsReplicaOf m o id g → ⊥
+none-usable hs m o id h best not g among is =
+    ⊎_elim
+    (λ a. not (usable-preferred h.is_open (length h.bytes) h.backup g.is_open (length g.bytes) g.backup
+    (listed_len h.segment o.digest) (best.earlier g a (is.0.0, is.1)) may))
+    (λ r. ⊎_elim (λ e. not (subst (IsUsableReplica o) (sym e) is.0.1))
+    (λ a. not (usable-kept h.is_open (length h.bytes) h.backup g.is_open (length g.bytes) g.backup
+    (listed_len h.segment o.digest) (best.later g a (is.0.0, is.1)) may)) r)
+    (among-append g best.before (h ∷ best.after) (subst (IsAmong g) best.place among))
+  where
+    may : Usable g.is_open (length g.bytes) (listed_len h.segment o.digest)
+    may =
+        subst (λ (s : ℕ). Usable g.is_open (length g.bytes) (listed_len s o.digest)) (is.1 ∙ sym best.candidate.1)
+        is.0.1
 
 -- ---- one more replica
 
@@ -159,9 +221,9 @@ same_key s q e = grind (arith, nat_tests)
 other_key : (s q : ℕ) → (q ≡ s → ⊥) → is_at (nat_cmp s) q ≡ false
 other_key s q n = grind (arith, nat_tests)
 
-module _ (hs : List Holding) (h : Holding) (m : ℕ) (o : Opening) where
+module _ (hs : List Holding) (h : Holding) (m : ℕ) where
   abbrev Is : ℕ → Holding → Type 0
-  Is id = IsReplicaOf m o id
+  Is id = IsOf m id
 
   -- the best of each segment
   abbrev Bests : List Holding → (ℕ → Option (Bor Holding)) → Type 0
@@ -183,7 +245,7 @@ module _ (hs : List Holding) (h : Holding) (m : ℕ) (o : Opening) where
           let now : option_copied (new id) ≡ Some (better (option_copied (old id)) h) =
           ap option_copied at ∙ ap Some is ∙ ap (λ k. Some (better (option_copied (old k)) h)) (sym e) in
           subst (IsBest (Is id) (hs ++ h ∷ [])) (sym now)
-          (best-more (Is id) hs h (option_copied (old id)) ((master, tt), sym e) (best id))
+          (best-more (Is id) hs h (option_copied (old id)) (master, sym e) (best id))
 
       other : (id ≡ h.segment → ⊥) → IsBest (Is id) (hs ++ h ∷ []) (option_copied (new id))
       other n =
@@ -193,4 +255,4 @@ module _ (hs : List Holding) (h : Holding) (m : ℕ) (o : Opening) where
 
   -- a replica of another master changes nothing
   pub bests-skip : (old : ℕ → Option (Bor Holding)) → (h.master ≡ m → ⊥) → Bests hs old → Bests (hs ++ h ∷ []) old
-  bests-skip old n best id = best-skip (Is id) hs h (option_copied (old id)) (λ p. n p.0.0) (best id)
+  bests-skip old n best id = best-skip (Is id) hs h (option_copied (old id)) (λ p. n p.0) (best id)

@@ -6,9 +6,9 @@ use Rattle.std.specs.Prelude.{◌⊎◌}
 use Rattle.std.proofs.lemmas.Bool.{cases_lt}
 use Rattle.entry.specs.Bag.{IsAmong}
 use Rattle.replica.specs.declared.holding.Holding.{Holding}
-use Rattle.replica.specs.Choice.{IsUsableHeadOf}
-use Rattle.recovery_plan.specs.Good.{IsGood, AreGood, least_head, IsOpenHead, IsNewest, IsNewestOf}
-use Rattle.recovery_plan.specs.Planned.{IsFirstBad, IsHeadClosed, IsOpenNewest, AreNewest}
+use Rattle.replica.specs.Choice.{IsUsableHead}
+use Rattle.recovery_plan.specs.Good.{IsGood, AreGood, IsHeadOf, IsOpenHead, IsNewest, IsNewestOf}
+use Rattle.recovery_plan.specs.Planned.{IsFirstBad, IsTooOld, IsHeadClosed, IsOpenNewest, AreNewest}
 use Rattle.recovery_plan.specs.Preferred.{IsBest}
 use Rattle.recovery_plan.proofs.Bests.{among-append, among-left, among-right, best-skip}
 
@@ -33,10 +33,10 @@ module _ (m : ℕ) (hs : List Holding) (h : Holding) where
       (among-append g hs (h ∷ []) i)
 
   -- one that is no head changes nothing
-  pub newest-skip : (o : Option ℕ) → (IsUsableHeadOf least_head m h → ⊥) → IsNewestOf m hs o
+  pub newest-skip : (o : Option ℕ) → (IsHeadOf m h → ⊥) → IsNewestOf m hs o
       → IsNewestOf m (hs ++ h ∷ []) o
   newest-skip None not none =
-      λ g i head. ⊎_elim (λ a. none g a head) (λ r. ⊎_elim (λ e. not (subst (IsUsableHeadOf least_head m) (sym e) head))
+      λ g i head. ⊎_elim (λ a. none g a head) (λ r. ⊎_elim (λ e. not (subst (IsHeadOf m) (sym e) head))
       (λ n. n) r) (among-append g hs (h ∷ []) i)
   newest-skip (Some id) not newest = record {
     head = newest.head;
@@ -45,18 +45,18 @@ module _ (m : ℕ) (hs : List Holding) (h : Holding) where
     segment = newest.segment;
     greatest =
         λ g i head. ⊎_elim (λ a. newest.greatest g a head)
-        (λ r. ⊎_elim (λ e. absurd (not (subst (IsUsableHeadOf least_head m) (sym e) head))) (λ n. absurd n) r)
+        (λ r. ⊎_elim (λ e. absurd (not (subst (IsHeadOf m) (sym e) head))) (λ n. absurd n) r)
         (among-append g hs (h ∷ []) i);
   }
 
-  pub no-head : (o : Option ℕ) (b : Option Holding) → (IsUsableHeadOf least_head m h → ⊥) → AreNewest m hs o b
+  pub no-head : (o : Option ℕ) (b : Option Holding) → (IsHeadOf m h → ⊥) → AreNewest m hs o b
       → AreNewest m (hs ++ h ∷ []) o b
   no-head o b not are = record {
     newest = newest-skip o not are.newest;
     best = best-skip (IsOpenNewest m o) hs h b (λ p. not (open-head o p)) are.best;
   }
     where
-      open-head : (o : Option ℕ) → IsOpenNewest m o h → IsUsableHeadOf least_head m h
+      open-head : (o : Option ℕ) → IsOpenNewest m o h → IsHeadOf m h
       open-head None p = absurd p
       open-head (Some id) p = p.0
 
@@ -64,7 +64,7 @@ module _ (m : ℕ) (hs : List Holding) (h : Holding) where
   last = among-right h hs (h ∷ []) (inl refl)
 
   -- a head is the newest, or the one before it is
-  pub newest-more : (o : Option ℕ) → IsUsableHeadOf least_head m h → IsNewestOf m hs o
+  pub newest-more : (o : Option ℕ) → IsHeadOf m h → IsNewestOf m hs o
       → IsNewestOf m (hs ++ h ∷ []) (Some (max h.segment (unwrap_or o 0)))
   newest-more None head none =
       let is : h.segment ≡ max h.segment 0 = omega arith in
@@ -80,7 +80,7 @@ module _ (m : ℕ) (hs : List Holding) (h : Holding) where
       }
   newest-more (Some id) head newest = chosen (cases_lt id h.segment)
     where
-      below : (g : Holding) → IsAmong g (hs ++ h ∷ []) → IsUsableHeadOf least_head m g → g.segment ≤ max h.segment id
+      below : (g : Holding) → IsAmong g (hs ++ h ∷ []) → IsHeadOf m g → g.segment ≤ max h.segment id
       below g i p =
           ⊎_elim (λ a. let le : g.segment ≤ id = newest.greatest g a p in omega arith)
           (λ r. ⊎_elim (λ e. let same : h.segment ≡ g.segment = ap (λ (x : Holding). x.segment) e in omega arith)
@@ -98,7 +98,7 @@ module _ (m : ℕ) (hs : List Holding) (h : Holding) where
 
 -- ---- the newest head and its open replica, once one more replica of a head has come
 
-module _ (m : ℕ) (hs : List Holding) (h : Holding) (head : IsUsableHeadOf least_head m h) where
+module _ (m : ℕ) (hs : List Holding) (h : Holding) (head : IsHeadOf m h) where
   -- one of an older head changes nothing
   pub older : (o : Option ℕ) (id s : ℕ) (b : Option Holding) → s ≡ h.segment → o ≡ Some id → s < id
       → AreNewest m hs o b → AreNewest m (hs ++ h ∷ []) o b
@@ -152,15 +152,33 @@ module _ (m : ℕ) (hs : List Holding) (h : Holding) (head : IsUsableHeadOf leas
             omega arith));
       }
 
--- no replica of the newest head is open
-pub head-closed : (m : ℕ) (hs all : List Holding) (o : Option ℕ) (b : Option Holding) (id : ℕ) → hs ≡ all
-    → AreGood m hs → AreNewest m hs o b → o ≡ Some id → b ≡ None → IsHeadClosed all m id
-head-closed m hs all None b id e good are some none = absurd (cc)
-head-closed m hs all (Some k) (Some x) id e good are some none = absurd (cc)
-head-closed m hs all (Some k) None id e good are some none =
+-- the newest head may not be used
+pub head-old : (m least : ℕ) (hs all : List Holding) (o : Option ℕ) (b : Option Holding) (id : ℕ) → hs ≡ all
+    → AreGood m hs → AreNewest m hs o b → o ≡ Some id → id < least → IsTooOld all least m id
+head-old m least hs all None b id e good are some lt = absurd (cc)
+head-old m least hs all (Some k) b id e good are some lt =
+    let same : k ≡ id = cc in
+    record {
+      good = subst (AreGood m) e good;
+      newest = subst (λ n. IsNewest m all n) same (subst (λ l. IsNewest m l k) e are.newest);
+      too_old = lt;
+    }
+
+-- it may be used, and none of its replicas is open
+pub head-closed : (m least : ℕ) (hs all : List Holding) (o : Option ℕ) (b : Option Holding) (id : ℕ) → hs ≡ all
+    → AreGood m hs → AreNewest m hs o b → o ≡ Some id → IsUsableHead least id → b ≡ None
+    → IsHeadClosed all least m id
+head-closed m least hs all None b id e good are some usable none = absurd (cc)
+head-closed m least hs all (Some k) (Some x) id e good are some usable none = absurd (cc)
+head-closed m least hs all (Some k) None id e good are some usable none =
     let same : k ≡ id = cc in
     let now : AreNewest m all (Some k) None = subst (λ l. AreNewest m l (Some k) None) e are in
-    subst (IsHeadClosed all m) same (record { good = subst (AreGood m) e good; newest = now.newest; closed = now.best })
+    record {
+      good = subst (AreGood m) e good;
+      newest = subst (λ n. IsNewest m all n) same now.newest;
+      usable = usable;
+      closed = subst (λ n. (h : Holding) → IsAmong h all → IsOpenHead m n h → ⊥) same now.best;
+    }
 
 -- the first that isn't good
 pub first-bad : (hs : List Holding) (m i : ℕ) (h : Holding) → i < length hs → h ≡ get_or hs i h → AreGood m (take i hs)

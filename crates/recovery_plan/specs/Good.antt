@@ -1,11 +1,11 @@
 -- Which replicas are well.
-use Rattle.std.specs.Prelude.{◌≡◌, ℕ, ◌≤◌, List, true, Option, Some, None, IsSomeAnd}
+use Rattle.std.specs.Prelude.{◌≡◌, ℕ, ◌≤◌, List, true, Option, Some, None, IsSome, IsSomeAnd}
 use Rattle.entry.specs.declared.entry.Header.{Header}
 use Rattle.entry.specs.Bag.{IsAmong}
-use Rattle.entry.specs.Text.{header_in, Opening}
+use Rattle.entry.specs.Text.{header_in, Opening, opening_in}
 use Rattle.segment.specs.Bytes.{IsSegmentBytes}
 use Rattle.replica.specs.declared.holding.Holding.{Holding}
-use Rattle.replica.specs.Choice.{IsUsableHeadOf, IsUsableOf}
+use Rattle.replica.specs.Choice.{IsUsableOf}
 
 -- the bytes are a segment's, whose header names the replica's master and segment
 pub record IsGood (h : Holding) : Type 0 where
@@ -17,15 +17,19 @@ pub record IsGood (h : Holding) : Type 0 where
 abbrev pub AreGood : ℕ → List Holding → Type 0
 AreGood master hs = (h : Holding) → IsAmong h hs → h.master ≡ master → IsGood h
 
--- An inventory names no least head: any of them may be used.
-abbrev pub least_head : ℕ
-least_head = 0
+-- a replica of the master that has a digest
+abbrev pub IsHeadOf : ℕ → Holding → Type 0
+IsHeadOf master h = (h.master ≡ master) × IsSome (opening_in h.bytes)
 
 -- an open replica of this segment of the master, which has a digest
 abbrev pub IsOpenHead : ℕ → ℕ → Holding → Type 0
-IsOpenHead master id h = IsUsableHeadOf least_head master h × (h.segment ≡ id) × (h.is_open ≡ true)
+IsOpenHead master id h = IsHeadOf master h × (h.segment ≡ id) × (h.is_open ≡ true)
 
--- a replica of this segment of the master that may be used for an id of the digest
+-- a replica of this segment of the master
+abbrev pub IsOf : ℕ → ℕ → Holding → Type 0
+IsOf master id h = (h.master ≡ master) × (h.segment ≡ id)
+
+-- one that may be used for another id of the digest than the head's
 abbrev pub IsReplicaOf : ℕ → Opening → ℕ → Holding → Type 0
 IsReplicaOf master opening id h = IsUsableOf master opening h × (h.segment ≡ id)
 
@@ -33,11 +37,11 @@ IsReplicaOf master opening id h = IsUsableOf master opening h × (h.segment ≡ 
 pub record IsNewest (master : ℕ) (hs : List Holding) (id : ℕ) : Type 0 where
   pub head : Holding
   pub among : IsAmong head hs
-  pub is_head : IsUsableHeadOf least_head master head
+  pub is_head : IsHeadOf master head
   pub segment : head.segment ≡ id
-  pub greatest : (h : Holding) → IsAmong h hs → IsUsableHeadOf least_head master h → h.segment ≤ id
+  pub greatest : (h : Holding) → IsAmong h hs → IsHeadOf master h → h.segment ≤ id
 
 -- the newest head; None if no replica has a digest
 abbrev pub IsNewestOf : ℕ → List Holding → Option ℕ → Type 0
-IsNewestOf master hs None = (h : Holding) → IsAmong h hs → IsUsableHeadOf least_head master h → ⊥
+IsNewestOf master hs None = (h : Holding) → IsAmong h hs → IsHeadOf master h → ⊥
 IsNewestOf master hs (Some id) = IsNewest master hs id

@@ -2,24 +2,25 @@
 use Rattle.std.specs.Prelude.{◌≡◌, ℕ, ◌<◌, List, [], ◌∷◌, ◌++◌, map, Option, Some, None}
 use Rattle.std.specs.List.{AllByRecursion}
 use Rattle.entry.specs.Bag.{IsAmong}
-use Rattle.entry.specs.Text.{Opening, entries_in, opening_in}
+use Rattle.entry.specs.Text.{Opening, entries_in, opening_in, listed_ids, listed_len}
 use Rattle.replica.specs.declared.holding.Holding.{Holding}
-use Rattle.replica.specs.Choice.{Choice, IsUsableHeadOf, IsChoice}
+use Rattle.replica.specs.Choice.{Choice, IsUsableHead, IsChoice}
 use Rattle.recovery_plan.specs.declared.chosen.Plan.{Plan}
 use Rattle.recovery_plan.specs.declared.fault.PlanFault.{PlanFault}
 use Rattle.recovery_plan.specs.declared.fault.PlanFault.TheVariants.{NoHead, HeadClosed, Missing, BadReplica, NoMemory}
-use Rattle.recovery_plan.specs.Good.{IsGood, AreGood, least_head, IsOpenHead, IsReplicaOf, IsNewest, IsNewestOf}
+use Rattle.recovery_plan.specs.declared.fault.PlanFault.TheVariants.{HeadTooOld}
+use Rattle.recovery_plan.specs.Good.{IsGood, AreGood, IsHeadOf, IsOpenHead, IsReplicaOf, IsNewest, IsNewestOf}
 use Rattle.recovery_plan.specs.Preferred.{IsPreferred, IsBest}
 
 -- ---- a plan
 
--- a choice of the master's newest log from these replicas
-abbrev pub IsChoiceOf : List Holding → ℕ → Choice → Type 0
-IsChoiceOf hs master c = IsChoice (λ (h : Holding). IsAmong h hs) least_head master c
+-- a choice of the master's newest log from these replicas, if this is the least head that may be used
+abbrev pub IsChoiceOf : List Holding → ℕ → ℕ → Choice → Type 0
+IsChoiceOf hs least master c = IsChoice (λ (h : Holding). IsAmong h hs) least master c
 
 -- The plan has the segments of a choice, in the digest's order, and no other. Each is read from its preferred replica.
-pub record IsPlanOf (hs : List Holding) (master : ℕ) (c : Choice) (p : Plan) : Type 0 where
-  pub choice : IsChoiceOf hs master c
+pub record IsPlanOf (hs : List Holding) (least master : ℕ) (c : Choice) (p : Plan) : Type 0 where
+  pub choice : IsChoiceOf hs least master c
   pub good : AreGood master hs
   pub head : IsPreferred (IsOpenHead master c.head.segment) hs c.head
   pub others : AllByRecursion (λ (h : Holding). IsPreferred (IsReplicaOf master c.opening h.segment) hs h) c.others
@@ -27,8 +28,8 @@ pub record IsPlanOf (hs : List Holding) (master : ℕ) (c : Choice) (p : Plan) :
   pub safe : p.safe ≡ c.opening.safe
 
 -- a plan of the inventory
-abbrev pub IsPlan : List Holding → ℕ → Plan → Type 0
-IsPlan inventory master plan = (c : Choice) × IsPlanOf inventory master c plan
+abbrev pub IsPlan : List Holding → ℕ → ℕ → Plan → Type 0
+IsPlan inventory least master plan = (c : Choice) × IsPlanOf inventory least master c plan
 
 -- ---- a fault
 
@@ -47,12 +48,19 @@ pub record IsFirstBad (hs : List Holding) (master backup id : ℕ) : Type 0 wher
 -- all replicas are well, and none has a digest
 pub record HasNoHead (hs : List Holding) (master : ℕ) : Type 0 where
   pub good : AreGood master hs
-  pub no_head : (h : Holding) → IsAmong h hs → IsUsableHeadOf least_head master h → ⊥
+  pub no_head : (h : Holding) → IsAmong h hs → IsHeadOf master h → ⊥
 
--- all replicas are well, and none of the newest head is open
-pub record IsHeadClosed (hs : List Holding) (master id : ℕ) : Type 0 where
+-- all replicas are well, and the newest head is older than the least that may be used
+pub record IsTooOld (hs : List Holding) (least master id : ℕ) : Type 0 where
   pub good : AreGood master hs
   pub newest : IsNewest master hs id
+  pub too_old : id < least
+
+-- all replicas are well, and the newest head may be used, but none of its replicas is open
+pub record IsHeadClosed (hs : List Holding) (least master id : ℕ) : Type 0 where
+  pub good : AreGood master hs
+  pub newest : IsNewest master hs id
+  pub usable : IsUsableHead least id
   pub closed : (h : Holding) → IsAmong h hs → IsOpenHead master id h → ⊥
 
 -- all replicas are well, and this one of the newest head is taken
@@ -72,11 +80,12 @@ pub record AreNewest (master : ℕ) (hs : List Holding) (id : Option ℕ) (taken
   pub best : IsBest (IsOpenNewest master id) hs taken
 
 -- why no replica of a head is taken
-abbrev pub IsHeadFault : List Holding → ℕ → PlanFault → Type 0
-IsHeadFault hs master (BadReplica backup id) = IsFirstBad hs master backup id
-IsHeadFault hs master NoHead = HasNoHead hs master
-IsHeadFault hs master (HeadClosed id) = IsHeadClosed hs master id
-IsHeadFault hs master _ = ⊥
+abbrev pub IsHeadFault : List Holding → ℕ → ℕ → PlanFault → Type 0
+IsHeadFault hs least master (BadReplica backup id) = IsFirstBad hs master backup id
+IsHeadFault hs least master NoHead = HasNoHead hs master
+IsHeadFault hs least master (HeadTooOld id) = IsTooOld hs least master id
+IsHeadFault hs least master (HeadClosed id) = IsHeadClosed hs least master id
+IsHeadFault hs least master _ = ⊥
 
 -- no replica that may be used for this id of the digest is there
 abbrev pub IsLost : List Holding → ℕ → Opening → ℕ → Type 0
@@ -86,43 +95,47 @@ IsLost hs master opening id = (h : Holding) → IsAmong h hs → IsReplicaOf mas
 abbrev pub IsHere : List Holding → ℕ → Opening → ℕ → Type 0
 IsHere hs master opening id = (h : Holding) × IsAmong h hs × IsReplicaOf master opening id h
 
--- the digest of the head that is taken lists the segment, which is lost; none of those below it is
-pub record IsMissing (hs : List Holding) (master id : ℕ) : Type 0 where
+-- the digest of the head that is taken lists another segment, which is lost; none of those below it is
+pub record IsMissing (hs : List Holding) (least master id : ℕ) : Type 0 where
   pub head : Holding
   pub taken : IsHeadTaken hs master head
+  pub usable : IsUsableHead least head.segment
   pub opening : Opening
   pub opened : opening_in head.bytes ≡ Some opening
-  pub listed : IsAmong id opening.ids
+  pub listed : IsAmong id (listed_ids opening.digest)
+  pub other : id ≡ head.segment → ⊥
   pub lost : IsLost hs master opening id
-  pub lowest : (n : ℕ) → IsAmong n opening.ids → n < id → IsHere hs master opening n
+  pub lowest : (n : ℕ) → IsAmong n (listed_ids opening.digest) → n < id → IsHere hs master opening n
 
--- the head that is taken lists no lost segment
-pub record HasAllListed (hs : List Holding) (master : ℕ) : Type 0 where
+-- the head that is taken lists no other segment that is lost
+pub record HasAllListed (hs : List Holding) (least master : ℕ) : Type 0 where
   pub head : Holding
   pub taken : IsHeadTaken hs master head
+  pub usable : IsUsableHead least head.segment
   pub opening : Opening
   pub opened : opening_in head.bytes ≡ Some opening
-  pub here : (n : ℕ) → IsAmong n opening.ids → IsHere hs master opening n
+  pub here : (n : ℕ) → IsAmong n (listed_ids opening.digest) → (n ≡ head.segment → ⊥) → IsHere hs master opening n
 
 -- what holds of the replicas for each fault, in the order of the tests; memory is wanted only if no test fails
-abbrev pub IsPlanFault : List Holding → ℕ → PlanFault → Type 0
-IsPlanFault hs master (BadReplica backup id) = IsFirstBad hs master backup id
-IsPlanFault hs master NoHead = HasNoHead hs master
-IsPlanFault hs master (HeadClosed id) = IsHeadClosed hs master id
-IsPlanFault hs master (Missing id) = IsMissing hs master id
-IsPlanFault hs master NoMemory = HasAllListed hs master
+abbrev pub IsPlanFault : List Holding → ℕ → ℕ → PlanFault → Type 0
+IsPlanFault hs least master (BadReplica backup id) = IsFirstBad hs master backup id
+IsPlanFault hs least master NoHead = HasNoHead hs master
+IsPlanFault hs least master (HeadTooOld id) = IsTooOld hs least master id
+IsPlanFault hs least master (HeadClosed id) = IsHeadClosed hs least master id
+IsPlanFault hs least master (Missing id) = IsMissing hs least master id
+IsPlanFault hs least master NoMemory = HasAllListed hs least master
 
 -- a fault that may come once it is known which head is taken
-abbrev pub IsLaterFault : List Holding → ℕ → PlanFault → Type 0
-IsLaterFault hs master (Missing id) = IsMissing hs master id
-IsLaterFault hs master NoMemory = HasAllListed hs master
-IsLaterFault hs master _ = ⊥
+abbrev pub IsLaterFault : List Holding → ℕ → ℕ → PlanFault → Type 0
+IsLaterFault hs least master (Missing id) = IsMissing hs least master id
+IsLaterFault hs least master NoMemory = HasAllListed hs least master
+IsLaterFault hs least master _ = ⊥
 
 -- the same, before it is known whether a segment is lost if memory ran out
-abbrev pub IsFoundFault : List Holding → ℕ → PlanFault → Type 0
-IsFoundFault hs master (Missing id) = IsMissing hs master id
-IsFoundFault hs master NoMemory = Unit {0}
-IsFoundFault hs master _ = ⊥
+abbrev pub IsFoundFault : List Holding → ℕ → ℕ → PlanFault → Type 0
+IsFoundFault hs least master (Missing id) = IsMissing hs least master id
+IsFoundFault hs least master NoMemory = Unit {0}
+IsFoundFault hs least master _ = ⊥
 
 -- ---- what a fault means
 
@@ -130,14 +143,19 @@ IsFoundFault hs master _ = ⊥
 abbrev pub AgreeOnDigest : List Holding → ℕ → Type 0
 AgreeOnDigest hs master = (id : ℕ) (g h : Holding) (o q : Opening) → IsNewest master hs id
     → IsAmong g hs → IsAmong h hs → IsOpenHead master id g → IsOpenHead master id h
-    → opening_in g.bytes ≡ Some o → opening_in h.bytes ≡ Some q → o.ids ≡ q.ids
+    → opening_in g.bytes ≡ Some o → opening_in h.bytes ≡ Some q → o.digest ≡ q.digest
 
 -- If the master's replicas are well, a loss is named only if there is no choice: at once for a lost head. For a lost
--- segment no choice takes a head whose digest lists it, so there is none if the open heads agree.
-abbrev pub NamesLoss : List Holding → ℕ → PlanFault → Type 0
-NamesLoss hs master NoHead = (c : Choice) → IsChoiceOf hs master c → ⊥
-NamesLoss hs master (HeadClosed id) = (c : Choice) → IsChoiceOf hs master c → ⊥
-NamesLoss hs master (Missing id) = ((c : Choice) → IsChoiceOf hs master c → IsAmong id c.opening.ids → ⊥)
-    × (AgreeOnDigest hs master → (c : Choice) → IsChoiceOf hs master c → ⊥)
-NamesLoss hs master (BadReplica backup id) = Unit {0}
-NamesLoss hs master NoMemory = Unit {0}
+-- segment no choice has a digest that lists it with the same length, or with none as that does, so there is none if the
+-- open heads agree.
+abbrev pub NamesLoss : List Holding → ℕ → ℕ → PlanFault → Type 0
+NamesLoss hs least master NoHead = (c : Choice) → IsChoiceOf hs least master c → ⊥
+NamesLoss hs least master (HeadTooOld id) = (c : Choice) → IsChoiceOf hs least master c → ⊥
+NamesLoss hs least master (HeadClosed id) = (c : Choice) → IsChoiceOf hs least master c → ⊥
+NamesLoss hs least master (Missing id) =
+    (missing : IsMissing hs least master id)
+    × ((c : Choice) → IsChoiceOf hs least master c → IsAmong id (listed_ids c.opening.digest)
+    → listed_len id c.opening.digest ≡ listed_len id missing.opening.digest → ⊥)
+    × (AgreeOnDigest hs master → (c : Choice) → IsChoiceOf hs least master c → ⊥)
+NamesLoss hs least master (BadReplica backup id) = Unit {0}
+NamesLoss hs least master NoMemory = Unit {0}

@@ -19,6 +19,8 @@ pub enum PlanFault {
     /// The backup and the segment of the first bad replica.
     BadReplica(u64, u64),
     NoMemory,
+    /// The newest head, which is older than the least that may be used.
+    HeadTooOld(u64),
 }
 
 impl Error for PlanFault {}
@@ -33,6 +35,7 @@ impl fmt::Display for PlanFault {
             PlanFault::Missing(segment) => write!(f, "Missing {segment}"),
             PlanFault::BadReplica(backup, segment) => write!(f, "BadReplica {backup} {segment}"),
             PlanFault::NoMemory => write!(f, "NoMemory"),
+            PlanFault::HeadTooOld(segment) => write!(f, "HeadTooOld {segment}"),
         }
     }
 }

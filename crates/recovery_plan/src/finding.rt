@@ -2,8 +2,8 @@
 
 ghost use Rattle.std.specs.Prelude.{◌≡◌, ◌++◌, ◌∷◌, [], ℕ, List, IfOk, IfErr};
 ghost use Rattle.replica.specs.declared.holding.Holding.{Holding as HoldingValue};
-ghost use Rattle.replica.specs.Choice.{IsUsableHeadOf};
-ghost use Rattle.recovery_plan.specs.Good.{least_head, IsOpenHead};
+ghost use Rattle.replica.specs.Choice.{IsUsableHead};
+ghost use Rattle.recovery_plan.specs.Good.{IsHeadOf, IsOpenHead};
 ghost use Rattle.recovery_plan.specs.Preferred.{IsBest};
 ghost use Rattle.recovery_plan.specs.Planned.{IsHeadTaken, IsHeadFault, AreNewest};
 
@@ -21,7 +21,7 @@ struct Newest<'h, 'a> {
 
 /// The open replica of a head that is taken, once this replica of the head has come too.
 fn with_open<'h, 'a>(before: Option<Head<'h, 'a>>, head: Head<'h, 'a>) -> Option<Head<'h, 'a>>
-    ensures { (master : ℕ) (hs : List HoldingValue) → IsUsableHeadOf least_head master head.entry →
+    ensures { (master : ℕ) (hs : List HoldingValue) → IsHeadOf master head.entry →
         IsBest (IsOpenHead master head.entry.segment) hs before.entry →
         IsBest (IsOpenHead master head.entry.segment) (hs ++ head.entry ∷ []) result }
 {
@@ -34,7 +34,7 @@ fn with_open<'h, 'a>(before: Option<Head<'h, 'a>>, head: Head<'h, 'a>) -> Option
 
 /// The newest head, once this replica of a head has come too.
 fn with_head<'h, 'a>(newest: Newest<'h, 'a>, head: Head<'h, 'a>) -> Newest<'h, 'a>
-    ensures { (master : ℕ) (hs : List HoldingValue) → IsUsableHeadOf least_head master head.entry →
+    ensures { (master : ℕ) (hs : List HoldingValue) → IsHeadOf master head.entry →
         AreNewest master hs newest.entry.id newest.entry.taken →
         AreNewest master (hs ++ head.entry ∷ []) result.id result.taken }
 {
@@ -52,13 +52,16 @@ fn with_head<'h, 'a>(newest: Newest<'h, 'a>, head: Head<'h, 'a>) -> Newest<'h, '
     }
 }
 
-/// The replica of the newest head of a master that is taken. Each replica of the master is read, once.
+/// The replica of the newest head of a master that is taken, if this is the least head that may be used. Each replica
+/// of the master is read, once.
 pub(crate) fn newest_head<'h, 'a>(
     holdings: &'h [Holding<'a>],
     master: u64,
+    least: u64,
 ) -> Result<Head<'h, 'a>, PlanFault>
     ensures taken { IfOk result (IsHeadTaken holdings.entry.now master) }
-    ensures fault { IfErr result (IsHeadFault holdings.entry.now master) }
+    ensures usable { IfOk result (λ head. IsUsableHead least head.segment) }
+    ensures fault { IfErr result (IsHeadFault holdings.entry.now least master) }
 {
     let mut newest = Newest {
         id: None,
@@ -77,6 +80,7 @@ pub(crate) fn newest_head<'h, 'a>(
     let Newest { id, taken } = newest;
     match id {
         None => Err(PlanFault::NoHead),
+        Some(id) if id < least => Err(PlanFault::HeadTooOld(id)),
         Some(id) => match taken {
             Some(head) => Ok(head),
             None => Err(PlanFault::HeadClosed(id)),

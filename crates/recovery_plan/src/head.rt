@@ -2,7 +2,7 @@
 
 ghost use Rattle.std.specs.Prelude.{◌≡◌, Some, IfSome, IfNone, IsSome};
 ghost use Rattle.entry.specs.Text.{entries_in, opening_in};
-ghost use Rattle.entry.specs.View.{shown_ids};
+ghost use Rattle.entry.specs.View.{shown_digest};
 ghost use Rattle.recovery_plan.specs.Good.{IsGood};
 ghost use Rattle.recovery_plan.specs.Preferred.{better};
 
@@ -24,7 +24,7 @@ pub struct Head<'h, 'a> {
 impl<'h, 'a> Model for Head<'h, 'a> {
     ghost use Rattle.std.specs.Prelude.{◌≡◌, Some};
     ghost use Rattle.entry.specs.Text.{opening_in};
-    ghost use Rattle.entry.specs.View.{shown_ids};
+    ghost use Rattle.entry.specs.View.{shown_digest};
     ghost use Rattle.replica.specs.declared.holding.Holding.{Holding};
 
     ghost Value = { Holding };
@@ -32,7 +32,7 @@ impl<'h, 'a> Model for Head<'h, 'a> {
     ghost view = { λ h. h.replica.now };
 
     ghost invariant = { λ h.
-        opening_in h.replica.now.bytes ≡ Some (record { ids = shown_ids h.digest; safe = h.safe }) };
+        opening_in h.replica.now.bytes ≡ Some (record { digest = shown_digest h.digest; safe = h.safe }) };
 }
 
 impl<'h, 'a> Head<'h, 'a> {
@@ -71,7 +71,7 @@ impl<'h, 'a> Head<'h, 'a> {
 
     /// The digest and the safe version.
     pub fn opening(&self) -> (DigestRef<'a>, SafeVersion)
-        ensures { opening_in self.now.bytes ≡ Some (record { ids = shown_ids result.0; safe = result.1 }) }
+        ensures { opening_in self.now.bytes ≡ Some (record { digest = shown_digest result.0; safe = result.1 }) }
     {
         (self.digest, self.safe)
     }

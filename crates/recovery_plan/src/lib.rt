@@ -15,6 +15,7 @@ mod missing;
 mod planning;
 mod preferred;
 mod reading;
+mod usable;
 
 pub use chosen::{Plan, Segments};
 pub use fault::PlanFault;

@@ -2,6 +2,7 @@
 
 ghost use Rattle.std.specs.Prelude.{◌≡◌, ℕ, IfOk, IfErr};
 ghost use Rattle.replica.specs.declared.holding.Holding.{Holding};
+ghost use Rattle.replica.specs.Choice.{IsUsableHead};
 ghost use Rattle.recovery_plan.specs.Planned.{IsPlan, IsHeadTaken, IsPlanFault, IsLaterFault, IsFoundFault, NamesLoss};
 
 use crate::chosen::Plan;
@@ -23,8 +24,10 @@ fn found_plan<'h, 'a>(
     head: &Head<'h, 'a>,
 ) -> Result<Plan<'a>, PlanFault>
     requires { IsHeadTaken holdings.now master head.now }
-    ensures ok { IfOk result (IsPlan holdings.entry.now master) }
-    ensures fault { IfErr result (λ fault. IsFoundFault holdings.entry.now master fault) }
+    ensures ok { (least : ℕ) → IsUsableHead least head.now.segment →
+        IfOk result (IsPlan holdings.entry.now least master) }
+    ensures fault { (least : ℕ) → IsUsableHead least head.now.segment →
+        IfErr result (λ fault. IsFoundFault holdings.entry.now least master fault) }
 {
     let (digest, safe) = head.opening();
     let best = best_replicas(alloc, holdings, master)?;
@@ -42,7 +45,8 @@ fn found_plan<'h, 'a>(
 // Why there is no plan if memory ran out: a listed segment is lost, or else memory is all that was wanted.
 fn want(holdings: &[Holding<'_>], master: u64, head: &Head<'_, '_>) -> PlanFault
     requires { IsHeadTaken holdings.now master head.now }
-    ensures { IsLaterFault holdings.now master result }
+    ensures { (least : ℕ) → IsUsableHead least head.now.segment →
+        IsLaterFault holdings.now least master result }
 {
     let (digest, _) = head.opening();
     match first_missing(holdings, master, &digest) {
@@ -59,8 +63,10 @@ fn plan_from<'h, 'a>(
     head: &Head<'h, 'a>,
 ) -> Result<Plan<'a>, PlanFault>
     requires { IsHeadTaken holdings.now master head.now }
-    ensures ok { IfOk result (IsPlan holdings.entry.now master) }
-    ensures fault { IfErr result (λ fault. IsLaterFault holdings.entry.now master fault) }
+    ensures ok { (least : ℕ) → IsUsableHead least head.now.segment →
+        IfOk result (IsPlan holdings.entry.now least master) }
+    ensures fault { (least : ℕ) → IsUsableHead least head.now.segment →
+        IfErr result (λ fault. IsLaterFault holdings.entry.now least master fault) }
 {
     match found_plan(alloc, holdings, master, head) {
         Ok(plan) => Ok(plan),
@@ -69,22 +75,24 @@ fn plan_from<'h, 'a>(
     }
 }
 
-/// The segments of the newest log that the inventory shows of a master. Of the newest head the longest open replica is
-/// taken; of another segment a closed one, else the longest open one; ties go to the lowest backup, then to the first.
-/// Each replica of the master is read once. No text is copied: the plan refers to the bytes that the backups lend.
+/// The segments of the newest log that the inventory shows of a master, if this is the least head that may be used. Of
+/// the newest head the longest open replica is taken; of another segment a closed one, else the longest open one, which
+/// has at least the length that the digest lists; ties go to the lowest backup, then to the first. Each replica of the
+/// master is read once. No text is copied: the plan refers to the bytes that the backups lend.
 pub fn plan<'a>(
     alloc: Global,
     inventory: &Inventory<'a>,
     master: u64,
+    least: u64,
 ) -> Result<Plan<'a>, PlanFault>
     // The plan is a choice of the newest log, and takes the preferred replicas.
-    ensures ok { IfOk result (IsPlan inventory.entry.now master) }
+    ensures ok { IfOk result (IsPlan inventory.entry.now least master) }
     // A fault is the first that the tests find in the inventory. Memory is wanted only if they find none.
-    ensures fault { IfErr result (λ fault. IsPlanFault inventory.entry.now master fault) }
+    ensures fault { IfErr result (λ fault. IsPlanFault inventory.entry.now least master fault) }
     // A loss is named only if there is nothing to choose.
-    ensures loss { IfErr result (λ fault. NamesLoss inventory.entry.now master fault) }
+    ensures loss { IfErr result (λ fault. NamesLoss inventory.entry.now least master fault) }
 {
     let holdings = inventory.as_slice();
-    let head = newest_head(holdings, master)?;
+    let head = newest_head(holdings, master, least)?;
     plan_from(alloc, holdings, master, &head)
 }

@@ -13,7 +13,13 @@ type Shown = (Place, &'static [u8], bool);
 /// A call of the fleet, and its answer.
 enum Call {
     Take(Place, Act<'static>, Result<(), TakeFault>),
+    /// A master, and the id of a head.
+    Raise(u64, u64, Result<(), TakeFault>),
+    /// The least head of a master.
+    Least(u64, u64),
     Limit(u64),
+    /// Which take is to end in a fault, and whether it is taken.
+    Fault(u64, bool),
     End(u64),
     Lose(u64),
     /// The master that is kept.
@@ -74,8 +80,14 @@ fn are_all(alloc: Global, fleet: &MemoryFleet, want: &[Shown]) -> bool {
 fn is_answered(alloc: Global, fleet: &mut MemoryFleet, call: &Call) -> bool {
     match call {
         Call::Take(place, act, want) => is_taken(fleet, *place, *act, *want),
+        Call::Raise(master, id, want) => fleet.raise(*master, *id) == *want,
+        Call::Least(master, want) => fleet.least(*master) == *want,
         Call::Limit(ops) => {
             fleet.limit(*ops);
+            true
+        }
+        Call::Fault(takes, taken) => {
+            fleet.fault_at(*takes, *taken);
             true
         }
         Call::End(want) => fleet.end() == *want,
@@ -117,6 +129,8 @@ const SHUT: Act<'static> = Act::Seal(b"ab");
 const WRONG: Result<(), TakeFault> = Err(TakeFault::Wrong);
 
 const SPENT: Result<(), TakeFault> = Err(TakeFault::Spent);
+
+const FAULT: Result<(), TakeFault> = Err(TakeFault::Fault);
 
 /// An op is taken if it fits.
 const FITS: &[Call] = &[
@@ -161,6 +175,38 @@ const LIMITED: &[Call] = &[
     Call::Limit(u64::MAX),
     Call::End(u64::MAX),
     Call::Take((0, 1, 2), OPEN, Ok(())),
+];
+
+/// A least head is only ever raised, and a raise is a take.
+const RAISED: &[Call] = &[
+    Call::Least(2, 0),
+    Call::Raise(2, 5, Ok(())),
+    Call::Raise(1, 7, Ok(())),
+    Call::Raise(2, 3, Ok(())),
+    Call::Raise(2, 5, Ok(())),
+    Call::Least(1, 7),
+    Call::Least(2, 5),
+    Call::Least(3, 0),
+    Call::Counts(1, 4, 0),
+    // a fault, of a raise that is lost and of one that is taken
+    Call::Fault(2, false),
+    Call::Take((0, 1, 7), OPEN, Ok(())),
+    Call::Raise(2, 6, FAULT),
+    Call::Least(2, 5),
+    Call::Counts(1, 5, 1),
+    Call::Fault(1, true),
+    Call::Raise(2, 6, FAULT),
+    Call::Least(2, 6),
+    Call::Counts(1, 6, 2),
+    // the limit
+    Call::Limit(1),
+    Call::Raise(2, 7, Ok(())),
+    Call::Raise(2, 8, SPENT),
+    Call::Least(2, 7),
+    Call::Counts(1, 7, 2),
+    // a backup that is lost leaves the registry
+    Call::Lose(0),
+    Call::Least(2, 7),
 ];
 
 /// A backup that is lost is empty.
@@ -221,6 +267,7 @@ const RETIRED_IN_PART: &[Call] = &[
 const RUNS: &[(u64, &[Call])] = &[
     (2, FITS),
     (1, LIMITED),
+    (1, RAISED),
     (3, LOST),
     (3, RETIRED),
     (3, RETIRED_IN_PART),

@@ -75,7 +75,7 @@ fn inventory_of<'a>(
 
 /// How many segments the plan has.
 fn planned(alloc: Global, inventory: &Inventory<'_>) -> Option<usize> {
-    match &plan(alloc, inventory, 1) {
+    match &plan(alloc, inventory, 1, 0) {
         Ok(plan) => Some(plan.segments.as_slice().len()),
         Err(_) => None,
     }

@@ -26,7 +26,8 @@ use Rattle.replay.specs.Adopting.{HasRoomMade, LoadsOne, HasLoaded, LoadsAll, De
 -- ---- the fleet
 
 pub adopted_same : (master : ℕ) (f : FleetState) → IsAdoptedOn master f f
-adopted_same master f = record { backups = refl; takes = omega arith; end = refl; others = λ b m s other. refl }
+adopted_same master f =
+    record { backups = refl; takes = omega arith; end = refl; others = λ b m s other. refl; least = refl }
 
 pub adopted_further : (master : ℕ) (f g h : FleetState) → IsAdoptedOn master f g → IsAdoptedOn master g h
     → IsAdoptedOn master f h
@@ -38,6 +39,7 @@ adopted_further master f g h first later =
       takes = omega arith;
       end = later.end ∙ first.end;
       others = λ b m s other. later.others b m s other ∙ first.others b m s other;
+      least = later.least ∙ first.least;
     }
 
 module _ (old new : World) where
@@ -46,7 +48,13 @@ module _ (old new : World) where
       let op = op_of old.knows.config.master p.op in
       let beside = taken_beside old.fleet p.op.backup op new.fleet p.takes.1 in
       let counts = taken_counts old.fleet p.op.backup op new.fleet p.takes.1 in
-      record { backups = counts.backups; takes = beside.takes.0; end = counts.end; others = beside.others }
+      record {
+        backups = counts.backups;
+        takes = beside.takes.0;
+        end = counts.end;
+        others = beside.others;
+        least = beside.least;
+      }
 
   fault_counts : (b : ℕ) (op : OpValue) → Refuses old.fleet b op take_fault.Fault new.fleet
       → (new.fleet.backups ≡ old.fleet.backups) × (new.fleet.end ≡ old.fleet.end)
@@ -68,7 +76,13 @@ module _ (old new : World) where
       let op = op_of old.knows.config.master t.1.0 in
       let beside = fault_beside old.fleet t.1.0.backup op new.fleet t.1.2 in
       let counts = fault_counts t.1.0.backup op t.1.2 in
-      record { backups = counts.0; takes = beside.takes.0; end = counts.1; others = beside.others }
+      record {
+        backups = counts.0;
+        takes = beside.takes.0;
+        end = counts.1;
+        others = beside.others;
+        least = beside.least;
+      }
 
   declined_adopts : (r : Refusal) → Declines old Push r new → IsAdoptedOn old.knows.config.master old.fleet new.fleet
   declined_adopts r (inl t) = same_adopts t.1

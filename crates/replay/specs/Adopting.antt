@@ -86,6 +86,8 @@ pub record IsAdoptedOn (master : ℕ) (old new : FleetState) : Type 0 where
   pub end : new.end ≡ old.end
   -- no replica of another master changed
   pub others : (b m s : ℕ) → (m ≡ master → ⊥) → new.picture b m s ≡ old.picture b m s
+  -- no least head is raised
+  pub least : new.least ≡ old.least
 
 -- A master was restored over this fleet and loaded with the list, and this is the master that it became. A roll began
 -- only if the next object had to wait and the head was open. Pushes were made only for an object that had to wait, or

@@ -4,6 +4,7 @@ ghost use Rattle.std.specs.Prelude.{◌≡◌, ◌≤◌, ℕ, [], ◌∷◌, No
 ghost use Rattle.entry.specs.View.{shown_object};
 ghost use Rattle.master_state.specs.Config.{config_fault};
 ghost use Rattle.master_state.specs.Loading.{restored_data, IsNewObject};
+ghost use Rattle.master.specs.Registry.{IsUnraised};
 ghost use Rattle.master.specs.Valid.{IsValid};
 ghost use Rattle.master.specs.World.{world};
 ghost use Rattle.replay.specs.Adopting.{IsFinal, LoadsOne, IsStuck, LoadsAll, Stops};
@@ -61,12 +62,13 @@ fn restore<F: Fleet>(
     requires config { config_fault config ≡ None }
     requires backups { config.backups ≤ (F.state fleet).backups }
     requires none { (b s : ℕ) → (F.state fleet).picture b config.master s ≡ None }
+    requires least { IsUnraised config.master (F.state fleet) }
     ensures made { IfOk result (λ l. (l.knows ≡ restored_data config rebuilt.now.safe) × (l.fleet ≡ fleet)) }
     ensures refused { IfErr result (λ e. e.1 ≡ fleet) }
 {
     match Master::restore(alloc, config, rebuilt.safe, fleet) {
         Ok(mut loading) => {
-            loading.expect(rebuilt.objects.len());
+            loading.presize(rebuilt.objects.len());
             Ok(loading)
         }
         Err(refused) => Err(refused),
@@ -86,6 +88,7 @@ pub fn adopt_list<F: Fleet>(
     requires config { config_fault config ≡ None }
     requires backups { config.backups ≤ (F.state fleet).backups }
     requires none { (b s : ℕ) → (F.state fleet).picture b config.master s ≡ None }
+    requires least { IsUnraised config.master (F.state fleet) }
     ensures adopted { IfOk result (λ m. IsAdopted config rebuilt.now m.knows) }
     ensures steps { IfOk result (λ m. AdoptsList config rebuilt.now (F.state fleet) (world F.state m)) }
     ensures valid { IfOk result (λ m. IsValid m.knows (F.state m.fleet)) }
@@ -116,6 +119,7 @@ pub fn adopt<F: Fleet>(
     requires config { config_fault config ≡ None }
     requires backups { config.backups ≤ (F.state fleet).backups }
     requires none { (b s : ℕ) → (F.state fleet).picture b config.master s ≡ None }
+    requires least { IsUnraised config.master (F.state fleet) }
     ensures adopted { IfOk result (λ m. IsAdopted config rebuilt m.knows) }
     ensures steps { IfOk result (λ m. AdoptsList config rebuilt (F.state fleet) (world F.state m)) }
     ensures valid { IfOk result (λ m. IsValid m.knows (F.state m.fleet)) }

@@ -15,9 +15,10 @@ use Rattle.replica.specs.Picture.{Replica, Picture, FleetState, with_replica, is
 use Rattle.replica.specs.Take.{effect, taken, with_effect, Takes, Refuses}
 use Rattle.replica.specs.Retire.{AreOthers, freeing, TakesEach, FreesEach, EndsAt, Retires}
 
--- What an op leaves as it is: the backups, the count but for one, and other masters' replicas.
+-- What an op leaves as it is: the backups, the count but for one, the least heads, and other masters' replicas.
 pub record IsOneMore (f : FleetState) (master : ℕ) (g : FleetState) : Type 0 where
   pub backups : g.backups ≡ f.backups
+  pub least : g.least ≡ f.least
   pub takes : g.takes ≡ f.takes + 1
   pub others : (b m s : ℕ) → (master ≡ m → ⊥) → g.picture b m s ≡ f.picture b m s
 
@@ -36,6 +37,7 @@ effect_more f b op (Some r) g is =
     let same = same_Some _ g is in
     subst (λ (h : FleetState). IsOneMore f op.master h) same (record {
       backups = refl;
+      least = refl;
       takes = refl;
       others = λ c n t other. other_master f.picture b op.master op.segment r c n t other;
     })
@@ -72,14 +74,19 @@ frees_more old mid new spots x freed takes =
     let len = length_more spots x in
     record { each = each_more old mid new spots x freed.each takes; takes = omega arith }
 
--- What stays the same of a fleet: the backups, and the replicas of this master.
+-- What stays the same of a fleet: the backups, the least heads, and the replicas of this master.
 pub record IsSparing (f : FleetState) (keep : ℕ) (g : FleetState) : Type 0 where
   pub backups : g.backups ≡ f.backups
+  pub least : g.least ≡ f.least
   pub same : (b s : ℕ) → g.picture b keep s ≡ f.picture b keep s
+
+spares_all : (f : FleetState) (keep : ℕ) → IsSparing f keep f
+spares_all f keep = record { backups = refl; least = refl; same = λ b s. refl }
 
 sparing_after : (f g h : FleetState) (keep : ℕ) → IsSparing f keep g → IsSparing g keep h → IsSparing f keep h
 sparing_after f g h keep one two = record {
   backups = two.backups ∙ one.backups;
+  least = two.least ∙ one.least;
   same = λ b s. two.same b s ∙ one.same b s;
 }
 
@@ -87,12 +94,12 @@ takes_sparing : (f g : FleetState) (keep : ℕ) (x : Spot) → (x.master ≡ kee
     → IsSparing f keep g
 takes_sparing f g keep x other takes =
     let one = taken_more f x.backup (freeing x) g takes.1 in
-    record { backups = one.backups; same = λ b s. one.others b keep s other }
+    record { backups = one.backups; least = one.least; same = λ b s. one.others b keep s other }
 
 each_sparing : (f g : FleetState) (keep : ℕ) (spots : List Spot)
     → ((x : Spot) → IsAmong x spots → x.master ≡ keep → ⊥) → TakesEach f spots g → IsSparing f keep g
 each_sparing f g keep [] others each =
-    subst (λ (h : FleetState). IsSparing f keep h) (sym each) (record { backups = refl; same = λ b s. refl })
+    subst (λ (h : FleetState). IsSparing f keep h) (sym each) (spares_all f keep)
 each_sparing f g keep (x ∷ xs) others each =
     sparing_after f each.0 g keep (takes_sparing f each.0 keep x (others x (inl refl)) each.1)
     (each_sparing each.0 g keep xs (λ y among. others y (inr among)) each.2)
@@ -100,16 +107,18 @@ each_sparing f g keep (x ∷ xs) others each =
 refuses_sparing : (f g : FleetState) (keep : ℕ) (x : Spot) (fault : TakeFault) → (x.master ≡ keep → ⊥)
     → Refuses f x.backup (freeing x) fault g → IsSparing f keep g
 refuses_sparing f g keep x take_fault.NoMemory other is =
-    subst (λ (h : FleetState). IsSparing f keep h) (sym is) (record { backups = refl; same = λ b s. refl })
+    subst (λ (h : FleetState). IsSparing f keep h) (sym is) (spares_all f keep)
 refuses_sparing f g keep x take_fault.Wrong other is =
-    subst (λ (h : FleetState). IsSparing f keep h) (sym is.1) (record { backups = refl; same = λ b s. refl })
+    subst (λ (h : FleetState). IsSparing f keep h) (sym is.1) (spares_all f keep)
 refuses_sparing f g keep x take_fault.Fault other (inl is) =
-    subst (λ (h : FleetState). IsSparing f keep h) (sym is) (record { backups = refl; same = λ b s. refl })
+    subst (λ (h : FleetState). IsSparing f keep h) (sym is)
+    (record { backups = refl; least = refl; same = λ b s. refl })
 refuses_sparing f g keep x take_fault.Fault other (inr took) =
     let one = takes_sparing f took.0 keep x other took.1 in
-    subst (λ (h : FleetState). IsSparing f keep h) (sym took.2) (record { backups = one.backups; same = one.same })
+    subst (λ (h : FleetState). IsSparing f keep h) (sym took.2)
+    (record { backups = one.backups; least = one.least; same = one.same })
 refuses_sparing f g keep x take_fault.Spent other is =
-    subst (λ (h : FleetState). IsSparing f keep h) (sym is.1) (record { backups = refl; same = λ b s. refl })
+    subst (λ (h : FleetState). IsSparing f keep h) (sym is.1) (spares_all f keep)
 
 -- ---- by the answer
 
@@ -132,4 +141,4 @@ retire_spares old new keep (Ok u) (spots, others, freed) =
     each_sparing old new keep spots (λ x among. ((others.each x).0 among).0) freed.each
 retire_spares old new keep (Err why) (inl (spots, others, ends)) = ends_sparing old new keep spots why others ends
 retire_spares old new keep (Err why) (inr none) =
-    subst (λ (h : FleetState). IsSparing old keep h) (sym none.1) (record { backups = refl; same = λ b s. refl })
+    subst (λ (h : FleetState). IsSparing old keep h) (sym none.1) (spares_all old keep)

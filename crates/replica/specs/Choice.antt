@@ -1,8 +1,8 @@
 -- The newest log among some holdings.
-use Rattle.std.specs.Prelude.{◌≡◌, ℕ, ◌≤◌, List, [], ◌∷◌, ◌++◌, map, true, Some, IsSome}
+use Rattle.std.specs.Prelude.{◌≡◌, ◌⊎◌, ℕ, ◌≤◌, List, [], ◌∷◌, ◌++◌, map, length, true, false, Some, IsSome, IfSome}
 use Rattle.std.specs.List.{flat_map, AllByRecursion}
 use Rattle.entry.specs.declared.entry.Entry.{Entry}
-use Rattle.entry.specs.Text.{Opening, opening_in, data_in}
+use Rattle.entry.specs.Text.{Opening, opening_in, data_in, listed_ids, listed_len}
 use Rattle.replica.specs.declared.holding.Holding.{Holding}
 use Rattle.replica.specs.Picture.{Shown, IsHeld}
 
@@ -10,9 +10,11 @@ use Rattle.replica.specs.Picture.{Shown, IsHeld}
 abbrev pub IsUsableHead : ℕ → ℕ → Type 0
 IsUsableHead least segment = least ≤ segment
 
--- replicas of an id of a digest that may be used: any
+-- A replica of a listed segment that may be used: a closed one, and an open one that has at least the listed length. If
+-- the digest lists no lengths, any may be used.
 abbrev pub IsUsableReplica : Opening → Holding → Type 0
-IsUsableReplica opening h = Unit {0}
+IsUsableReplica opening h =
+    (h.is_open ≡ false) ⊎ IfSome (listed_len h.segment opening.digest) (λ n. n ≤ length h.bytes)
 
 -- a replica of the head with its opening, and one replica of each other id of the digest, in the digest's order
 pub record Choice : Type 0 where
@@ -28,7 +30,7 @@ bag_of c = flat_map (λ (h : Holding). data_in h.bytes) (c.others ++ c.head ∷ 
 abbrev pub IsUsableHeadOf : ℕ → ℕ → Holding → Type 0
 IsUsableHeadOf least master h = (h.master ≡ master) × IsSome (opening_in h.bytes) × IsUsableHead least h.segment
 
--- a replica of the master that may be used for an id of the digest
+-- a replica of the master that may be used for another id of the digest than the head's
 abbrev pub IsUsableOf : ℕ → Opening → Holding → Type 0
 IsUsableOf master opening h = (h.master ≡ master) × IsUsableReplica opening h
 
@@ -42,7 +44,7 @@ pub record IsChoice (holds : Holding → Type 0) (least master : ℕ) (c : Choic
   -- no head that may be used is newer
   pub newest : (h : Holding) → holds h → IsUsableHeadOf least master h → h.segment ≤ c.head.segment
   pub others : AllByRecursion (λ (h : Holding). holds h × IsUsableOf master c.opening h) c.others
-  pub ids : map (λ (h : Holding). h.segment) c.others ++ c.head.segment ∷ [] ≡ c.opening.ids
+  pub ids : map (λ (h : Holding). h.segment) c.others ++ c.head.segment ∷ [] ≡ listed_ids c.opening.digest
 
 -- a choice of a master's newest log from what is shown
 abbrev pub IsShownChoice : Shown → ℕ → Choice → Type 0

@@ -4,3 +4,4 @@ pub mod Take
 pub mod Retire
 pub mod Choice
 pub mod Survival
+pub mod Registry

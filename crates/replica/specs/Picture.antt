@@ -68,10 +68,15 @@ IsOnce [] = Unit {0}
 IsOnce (h ∷ hs) = (IsAmong h hs → ⊥) × IsOnce hs
 
 -- A fleet: how many backups it has, numbered from 0, what they hold, how many ops were taken, after how many it is
--- spent, and how many takes ended in a fault.
+-- spent, how many takes ended in a fault, and of each master the least id of a head that a recovery may use.
 pub record FleetState : Type 0 where
   pub backups : ℕ
   pub picture : Picture
   pub takes : ℕ
   pub end : ℕ
   pub faults : ℕ
+  pub least : ℕ → ℕ
+
+-- what the fleet shows a recovery of this master
+abbrev pub shown_of : FleetState → ℕ → Shown
+shown_of f master = record { holds = f.picture; least = f.least master }

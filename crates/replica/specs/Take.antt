@@ -29,6 +29,7 @@ with_effect f b op (Some r) = Some (record {
   takes = f.takes + 1;
   end = f.end;
   faults = f.faults;
+  least = f.least;
 })
 
 -- the fleet after the op; None if there is no such backup or the op doesn't fit

@@ -3,6 +3,7 @@
 ghost use Rattle.std.specs.Prelude.{◌≡◌, ◌≤◌, ℕ, [], IfOk};
 ghost use Rattle.replica.specs.Op.{shown_op};
 ghost use Rattle.replica.specs.Picture.{FleetState, AreHeldBy, IsOnce};
+ghost use Rattle.replica.specs.Registry.{RaiseGives};
 ghost use Rattle.replica.specs.Retire.{Retires};
 ghost use Rattle.replica.specs.Take.{TakeGives, limited};
 
@@ -11,10 +12,11 @@ use crate::op::{Op, TakeFault};
 use entry::NoMemory;
 use std::alloc::Global;
 
-/// Backups that hold replicas.
+/// Backups that hold replicas, and a registry of the least head of each master.
 ///
 /// They are honest: what a backup shows is what it took. A take is whole or not at all; one that ends in a fault may
-/// have been taken. No op changes another replica than the one that it names.
+/// have been taken. No op changes another replica than the one that it names. A raise of the registry is counted as a
+/// take.
 pub trait Fleet {
     /// What the backups hold, and the counts.
     ghost state: { Self → FleetState };
@@ -22,6 +24,14 @@ pub trait Fleet {
     /// Hands an op to a backup.
     fn take(&mut self, backup: u64, op: &Op<'_>) -> Result<(), TakeFault>
         ensures { TakeGives (state self.old) backup (shown_op op.now) result (state self.new) };
+
+    /// Raises the least id of a master's head that a recovery may use. It is never lowered: the greater of both stands.
+    fn raise(&mut self, master: u64, id: u64) -> Result<(), TakeFault>
+        ensures { RaiseGives (state self.old) master id result (state self.new) };
+
+    /// The least id of a master's head that a recovery may use, 0 at first. The call takes no memory.
+    fn least(&self, master: u64) -> u64
+        ensures { result ≡ (state self.now).least master };
 
     /// All replicas that a backup holds, each once; none for a number that is no backup's. Their bytes stay with it.
     fn holdings(&self, alloc: Global, backup: u64) -> Result<Vec<Holding<'_>>, NoMemory>

@@ -27,6 +27,7 @@ has_no_command line.Room other = refl
 has_no_command (line.Hex segment) other = refl
 has_no_command (line.Stop takes) other = refl
 has_no_command (line.Fault takes taken) other = refl
+has_no_command line.Format other = refl
 has_no_command line.Crash other = refl
 has_no_command (line.Lose backup) other = refl
 has_no_command line.Will other = refl

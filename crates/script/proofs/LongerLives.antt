@@ -78,6 +78,7 @@ module _ (config : Config) (life : Life) where
   rises at line (answer.NotInLog segment) next t = as_before at next t.3
   rises at line (answer.Stop takes) next t = as_before at next t.1
   rises at line (answer.Fault takes taken) next t = as_before at next t.1
+  rises at line answer.Format next t = as_before at next t.1
   rises at line answer.Stopped next t = elim t [
     | inl (none, l, spent, inl out) ↦ let made = ap (λ (p : Position). p.made) out.2 in omega arith
     | inl (none, l, spent, inr (inl added)) ↦ let made = ap (λ (p : Position). p.made) added.2 in omega arith
@@ -277,6 +278,7 @@ module _ (config : Config) (opening : State) (history more : List Record) where
       (t.0, t.1, subst (λ (l : Life). IsImageAt config l segment None) (same_front at.made within) t.2, t.3)
   tells_longer at line (answer.Stop takes) next within after t = t
   tells_longer at line (answer.Fault takes taken) next within after t = t
+  tells_longer at line answer.Format next within after t = t
   tells_longer at line answer.Stopped next within after t = elim t [
     | inl (none, l, spent, why) ↦ inl (
       none,

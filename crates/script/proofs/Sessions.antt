@@ -3,17 +3,19 @@ use Rattle.std.proofs.Common.{◌≡◌, ◌∙◌, ◌⊎◌, ℕ, List, Bool, 
 use Rattle.std.specs.Prelude.{Some, Result, Ok, Err, ◌&&◌, true, false, IfOk, is_err}
 use Rattle.versioned_map.specs.declared.command.Command.{Command}
 use Rattle.tablet_will.specs.Parts.{Divides}
-use Rattle.lines.specs.Grammar.{LineValue, Will, Clients, Recover}
+use Rattle.lines.specs.Grammar.{LineValue, Will, Clients, Recover, Format}
 use Rattle.master_state.specs.declared.config.Config.{Config}
 use Rattle.master_state.specs.Data.{MasterData}
 use Rattle.tablet_will.specs.declared.part.Part.{Part}
 use Rattle.answers.specs.declared.answer.Answer.{Answer}
 use Rattle.node.specs.declared.node.Node.{Node}
+use Rattle.command_line.specs.declared.settings.Options.{Options}
 use Rattle.script.specs.declared.session.Session.{Session}
 use Rattle.recovery.specs.Orders.{Covers}
-use Rattle.next_master.specs.Configuration.{config_of, tables_to}
+use Rattle.next_master.specs.Configuration.{config_of, later_options, tables_to}
 use Rattle.node.specs.Served.{DividesAnew, AnswersLine, IsOf, is_up}
-use Rattle.script.specs.Sessions.{KeepsWord, Stands, MakesWill as MakesWillOf}
+use Rattle.script.specs.Sessions.{KeepsWord, MakesFormat, Stands, MakesWill as MakesWillOf}
+use Rattle.script.specs.Sessions.{RenewsOptions}
 use Rattle.node.specs.Told.{command_of}
 use Rattle.backup.specs.declared.fleet.MemoryFleet.{MemoryFleet}
 use Rattle.master.specs.World.{MasterValue}
@@ -56,6 +58,12 @@ pub command_keeps_word : (old : Session) (line : LineValue) (new : Session) (a :
 command_keeps_word old (Clients clients rounds passes) new a same command asks = absurd (cc)
 command_keeps_word old line new a same command asks = same
 
+-- and nothing of the format of later masters
+pub command_keeps_format : (old : Session) (line : LineValue) (new : Session) → new.lists_lengths ≡ old.lists_lengths
+    → (command : Command) → command_of line ≡ Some command → MakesFormat old line new
+command_keeps_format old Format new same command asks = absurd (cc)
+command_keeps_format old line new same command asks = same
+
 -- its master's history may have as many records as the options say
 pub has_records : (s : Session) → Stands s → (m : MasterValue MemoryFleet) → s.node ≡ Up m
     → m.knows.config.history ≡ s.options.history
@@ -70,6 +78,25 @@ pub word_kept : (was known : Bool) (clients rounds : ℕ) (a : Answer)
     → (was && known) ≡ was)
 word_kept true known clients rounds a tells = (λ is. absurd (cc), tells)
 word_kept false known clients rounds a tells = (λ is. refl, λ calls is. refl)
+
+-- ---- its options
+
+-- while a recovery is for the same master they stay
+pub options_stay : (old new : Session) → RenewsOptions old new → new.master ≡ old.master → new.options ≡ old.options
+options_stay old new (inl (number, same)) is = same
+options_stay old new (inr (other, later)) is = absurd (other is)
+
+-- for another master they are those of later masters
+pub options_renewed : (old new : Session) → RenewsOptions old new → (new.master ≡ old.master → ⊥)
+    → new.options ≡ later_options old.lists_lengths old.options
+options_renewed old new (inl (number, same)) other = absurd (other number)
+options_renewed old new (inr (is, later)) other = later
+
+-- but for the format they stay in any case
+pub options_kept : (old new : Session) (format : ℕ) → RenewsOptions old new
+    → record new.options { format = format } ≡ record old.options { format = format }
+options_kept old new format (inl (number, same)) = ap (λ (o : Options). record o { format = format }) same
+options_kept old new format (inr (other, later)) = ap (λ (o : Options). record o { format = format }) later
 
 -- ---- recoveries that are not made
 

@@ -36,6 +36,7 @@ use Rattle.next_master.specs.Succession.{Standing, Succeeds}
 use Rattle.script.specs.Telling.{at_first, Moves, AreTelling, TellLives, Told}
 use Rattle.node.specs.Told.{Tells}
 use Rattle.script.specs.Turns.{RunsText, IsPrinted, PrintsText, TakesTurn, IsNoMore}
+use Rattle.script.proofs.Sessions.{options_kept, options_renewed, options_stay}
 use Rattle.script.proofs.Succeeding.{nothing_more, telling_longer, telling_more, with_more}
 use Rattle.node.proofs.Standing.{legal_of, same_opening}
 use Rattle.entry.specs.Meaning.{contents_of}
@@ -114,7 +115,8 @@ pub record Running (options : Options) (session : Session) (had left held holds 
   pub start : Session
   pub knows : MasterData
   pub at : Position
-  pub set : session.options ≡ options
+  -- only the format may be another
+  pub set : record session.options { format = options.format } ≡ options
   pub begins : BeginsSession options start
   pub run : AreRunOn start told session
   pub covers : IsCovered session
@@ -141,7 +143,7 @@ starts_running options session had held begins =
       start = session;
       knows = d;
       at = at_start;
-      set = set;
+      set = ap (λ (o : Options). record o { format = options.format }) set;
       begins = begins;
       run = refl;
       covers = begins.covers;
@@ -204,10 +206,13 @@ line_leads old new line a (inl r) d at s = answers_lead old new line a d at r.op
 line_leads old new line a (inr r) d at s =
     subst (λ (l : LineValue). LeadsOn old l a new d at) (sym r.asks)
     (elim r.recovers [
-      | inl (number, answers) ↦ answers_lead old new (Recover r.order) a d at r.options number answers s
+      | inl (number, answers) ↦
+          answers_lead old new (Recover r.order) a d at (options_stay old new r.options number) number answers s
       | inr begins ↦
           let next = begins d at s in
-          let options = sym r.options in
+          let above = next.4.config.0 in
+          let other : new.master ≡ old.master → ⊥ = λ same. absurd (omega arith) in
+          let options = sym (options_renewed old new r.options other) in
           let from = standing_of (config_of old.options old.master) d at in (
             next.0,
             next.1,
@@ -226,9 +231,10 @@ covers_on : (old new : Session) (line : LineValue) (a : Answer) → RunsLine old
 covers_on old new line a (inl r) stands = r.covers stands
 covers_on old new line a (inr r) stands = r.covers stands
 
-options_on : (old new : Session) (line : LineValue) (a : Answer) → RunsLine old line new a → new.options ≡ old.options
-options_on old new line a (inl r) = r.options
-options_on old new line a (inr r) = r.options
+options_on : (old new : Session) (line : LineValue) (a : Answer) (format : ℕ) → RunsLine old line new a
+    → record new.options { format = format } ≡ record old.options { format = format }
+options_on old new line a format (inl r) = ap (λ (o : Options). record o { format = format }) r.options
+options_on old new line a format (inr r) = options_kept old new format r.options
 
 -- one line more was run
 runs_more : (first : Session) (told : List Told) (old : Session) (t : Told) (new : Session) → AreRunOn first told old
@@ -324,7 +330,7 @@ module _ (options : Options) (old : Session) (had mid left held wrote holds : Op
           start = r.start;
           knows = after_line.0;
           at = after_line.1;
-          set = options_on old new runs.line a runs.runs ∙ r.set;
+          set = options_on old new runs.line a options.format runs.runs ∙ r.set;
           begins = r.begins;
           run = run_on;
           covers = covers_on old new runs.line a runs.runs (r.covers, (r.knows, r.at, r.stands));

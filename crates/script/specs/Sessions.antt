@@ -2,7 +2,7 @@
 use Rattle.std.specs.Prelude.{◌≡◌, ◌⊎◌, ℕ, true, false, Some, IfSome, max}
 use Rattle.backup.specs.State.{new_fleet}
 use Rattle.command_line.specs.declared.settings.Options.{Options}
-use Rattle.lines.specs.Grammar.{LineValue, Will, Recover, Clients}
+use Rattle.lines.specs.Grammar.{LineValue, Will, Recover, Clients, Format}
 use Rattle.replica.specs.Picture.{FleetState}
 use Rattle.versioned_map.specs.declared.command.Command.{Command}
 use Rattle.versioned_map.specs.declared.command.Reply.{Reply}
@@ -18,7 +18,7 @@ use Rattle.node.specs.declared.node.Node.{Node}
 use Rattle.script.specs.declared.outcome.Outcome.{Outcome}
 use Rattle.script.specs.declared.outcome.Outcome.TheVariants as outcome
 use Rattle.script.specs.declared.session.Session.{Session}
-use Rattle.next_master.specs.Configuration.{config_of, tables_to, one_partition}
+use Rattle.next_master.specs.Configuration.{config_of, later_options, tables_to, one_partition}
 use Rattle.node.specs.Lives.{Position, at_start}
 use Rattle.recovery.specs.Orders.{Covers}
 use Rattle.driving.specs.Rolls.{PushesUntil}
@@ -57,6 +57,8 @@ pub record BeginsSession (options : Options) (s : Session) : Type 0 where
   pub covers : IsCovered s
   pub will : s.will ≡ one_partition (tables_to options.tables)
   pub known : s.is_known ≡ true
+  -- no line asked for a format
+  pub format : s.lists_lengths ≡ false
 
 -- ---- wills
 
@@ -78,6 +80,11 @@ KeepsWord old (Clients clients rounds passes) new answer = (old.is_known ≡ fal
     × ((calls : ℕ) → answer ≡ Counted clients rounds calls → new.is_known ≡ old.is_known)
 KeepsWord old line new answer = new.is_known ≡ old.is_known
 
+-- what a line makes of the format of later masters: the line `format 2` sets it, and no other line changes it
+abbrev pub MakesFormat : Session → LineValue → Session → Type 0
+MakesFormat old Format new = new.lists_lengths ≡ true
+MakesFormat old line new = new.lists_lengths ≡ old.lists_lengths
+
 -- What a line makes of a session that goes on with the life of its master.
 pub record SessionAnswers (old : Session) (line : LineValue) (new : Session) (answer : Answer) : Type 0 where
   pub number : new.master ≡ old.master
@@ -88,6 +95,7 @@ pub record SessionAnswers (old : Session) (line : LineValue) (new : Session) (an
   pub makes : MakesLine old.node line new.node answer
   pub wills : MakesWill old line new answer
   pub word : KeepsWord old line new answer
+  pub format : MakesFormat old line new
 
 -- The answer of a line whose command waited for a roll. It is told of what the node stood for before the command had to
 -- wait.
@@ -101,6 +109,7 @@ pub record AnswersAfterRoll (mid : Session) (line : LineValue) (new : Session) (
   pub makes : (command : Command) → command_of line ≡ Some command → MakesTryAfterRoll mid.node command new.node answer
   pub will : new.will ≡ mid.will
   pub known : new.is_known ≡ mid.is_known
+  pub format : new.lists_lengths ≡ mid.lists_lengths
 
 -- ---- recoveries
 
@@ -113,7 +122,8 @@ asked_of s order = ask s.master s.used s.will (order_named order)
 abbrev pub EndsFor : Session → ReplayOrder → Session → Answer → Type 0
 EndsFor old order new answer =
     (((is_up old.node ≡ true) ⊎ (old.is_known ≡ true))
-    × Ends old.node old.options (asked_of old order) new.used new.node answer new.master)
+    × Ends old.node (later_options old.lists_lengths old.options) (asked_of old order) new.used new.node answer
+    new.master)
     ⊎ ((is_up old.node ≡ false) × (old.is_known ≡ false) × (answer ≡ answers.SeatUnknown) × (new ≡ old))
 
 -- The coordinator's will stays. But once a master has adopted the table, so that a later recovery is for that one, the
@@ -122,15 +132,22 @@ abbrev pub RenewsWill : Session → Session → Type 0
 RenewsWill old new = ((new.master ≡ old.master) × (new.will ≡ old.will))
     ⊎ ((new.master ≡ old.master → ⊥) × (new.will ≡ one_partition (tables_to old.options.tables)))
 
+-- The options stay those of the master that a recovery is for. So once a master has adopted the table, they are those
+-- of later masters.
+abbrev pub RenewsOptions : Session → Session → Type 0
+RenewsOptions old new = ((new.master ≡ old.master) × (new.options ≡ old.options))
+    ⊎ ((new.master ≡ old.master → ⊥) × (new.options ≡ later_options old.lists_lengths old.options))
+
 -- what a recovery makes of a session
 pub record SessionRecovers (old : Session) (line : LineValue) (new : Session) (answer : Answer) : Type 0 where
   pub order : ReplayOrder
   pub asks : line ≡ Recover order
-  pub options : new.options ≡ old.options
+  pub options : RenewsOptions old new
+  pub format : new.lists_lengths ≡ old.lists_lengths
   pub known : new.is_known ≡ old.is_known
   pub covers : Stands old → IsCovered new
   pub numbers : Renumbers old.master old.used new.master new.used
-  pub recovers : Recovers old.node old.options old.master order new.node answer new.master
+  pub recovers : Recovers old.node old.options old.lists_lengths old.master order new.node answer new.master
   pub ends : EndsFor old order new answer
   pub limit : MakesLimit old.node new.node answer
   pub will : RenewsWill old new

@@ -10,7 +10,7 @@ ghost use Rattle.answers.specs.declared.answer.Answer.{Answer as AnswerValue};
 ghost use Rattle.answers.specs.Texts.{reply_text};
 ghost use Rattle.node.specs.Waits.{IsReplyAt};
 ghost use Rattle.lines.specs.Grammar.{Begin, Clean, Clients, Recover, IsLine, IsOrder, shown_command, shown_line};
-ghost use Rattle.lines.specs.Grammar.{Will as WillLine};
+ghost use Rattle.lines.specs.Grammar.{Format, Will as WillLine};
 ghost use Rattle.lines.specs.Numbers.{numbers_of};
 ghost use Rattle.master_state.specs.Config.{config_fault};
 ghost use Rattle.next_master.specs.Configuration.{config_of};
@@ -30,7 +30,7 @@ use driving::push_all;
 use entry::{KeyRef, MAX_VALUE_LEN, NoMemory, Row};
 use lines::{CommandLine, KeyWord, Line, Numbers, ReplayOrder};
 use master::{CommandRef, If, Master, Refusal, Step, ValueRef};
-use next_master::{configuration, recover_node, whole_will};
+use next_master::{configuration, later_options, recover_node, whole_will};
 use node::{Node, Served, Tried};
 use recovery::{PlanFault, RecoveryFault};
 use std::alloc::Global;
@@ -59,7 +59,7 @@ impl From<NoMemory> for LineFault {
 pub(crate) const FIRST_MASTER: u64 = 1;
 
 /// What a script drives: a node, which is a fleet with the master over it if there is one, and what outlives the
-/// masters of a node: the coordinator's will, and the numbers that masters had.
+/// masters of a node: the coordinator's will, the numbers that masters had, and the format of later masters.
 ///
 /// `start` makes an empty fleet with a master whose head is open. `run_line` runs one line, and gives the answer to
 /// print, or the place of the record whose reply is to be printed.
@@ -77,7 +77,10 @@ pub(crate) const FIRST_MASTER: u64 = 1;
 #[derive(Drop)]
 pub struct Session {
     alloc: Global,
+    /// The options of the master that a recovery is for.
     options: Options,
+    /// Whether a line asked for format 2. Then masters that start later list each segment with its length.
+    lists_lengths: bool,
     /// The number of the master that a recovery is for.
     master: u64,
     /// The greatest number that a master had, or was to have.
@@ -111,6 +114,7 @@ impl Session {
         Ok(Session {
             alloc,
             options: *options,
+            lists_lengths: false,
             master: FIRST_MASTER,
             used: FIRST_MASTER,
             will,
@@ -180,6 +184,7 @@ impl Session {
             Line::Hex { segment } => Ok(self.node.hex(segment)),
             Line::Stop { takes } => Ok(self.node.stop(takes)),
             Line::Fault { takes, taken } => Ok(self.node.fault(takes, taken)),
+            Line::Format => Ok(self.run_format()),
             Line::Crash => Ok(self.node.crash()),
             Line::Lose { backup } if backup >= self.options.backups => Err(LineFault::Bad),
             Line::Lose { backup } => Ok(self.node.lose(backup)),
@@ -212,6 +217,14 @@ impl Session {
         }
     }
 
+    /// Runs the line that sets the format of later masters.
+    fn run_format(&mut self) -> Answer
+        ensures { SessionAnswers self.old Format self.new result }
+    {
+        self.lists_lengths = true;
+        Answer::Format
+    }
+
     /// Runs the line that makes the coordinator's will anew of the live objects.
     fn run_will(&mut self) -> Answer
         ensures { SessionAnswers self.old WillLine self.new result }
@@ -224,7 +237,7 @@ impl Session {
     }
 
     /// Runs the line that recovers what the master left. From the end of an adoption on, the new master is the one that
-    /// a recovery is for, and the will is one partition again.
+    /// a recovery is for, the options are those of the new master, and the will is one partition again.
     fn run_recover<H: Threads + Wait + Sync>(&mut self, rt: &H, order: ReplayOrder) -> Answer
         requires order { IsOrder order }
         requires stands { Stands self.old }
@@ -245,6 +258,7 @@ impl Session {
             self.alloc,
             &mut self.node,
             &self.options,
+            self.lists_lengths,
             self.master,
             self.used,
             &self.will,
@@ -253,6 +267,7 @@ impl Session {
         self.used = recovery.used;
         if recovery.master != self.master {
             self.master = recovery.master;
+            self.options = later_options(&self.options, self.lists_lengths);
             self.will = whole;
         }
         recovery.answer

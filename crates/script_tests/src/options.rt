@@ -4,7 +4,7 @@ use script::{Options, options};
 use std::alloc::Global;
 
 /// The numbers of the options, in the order of the help.
-fn numbers(options: &Options) -> [u64; 10] {
+fn numbers(options: &Options) -> [u64; 11] {
     let Options {
         backups,
         replicas,
@@ -19,18 +19,19 @@ fn numbers(options: &Options) -> [u64; 10] {
         history,
         bytes,
         objects,
+        format,
         ..
     } = *options;
     [
-        backups, replicas, step, segment, seglet, seglets, tables, history, bytes, objects,
+        backups, replicas, step, segment, seglet, seglets, tables, history, bytes, objects, format,
     ]
 }
 
 /// Command lines, and what they set.
-const ROWS: &[(&[&str], [u64; 10])] = &[
+const ROWS: &[(&[&str], [u64; 11])] = &[
     (
         &["ramlog"],
-        [3, 2, 1, 512, 64, 64, 4, 1048576, 1048576, 1000000],
+        [3, 2, 1, 512, 64, 64, 4, 1048576, 1048576, 1000000, 1],
     ),
     (
         &[
@@ -45,12 +46,13 @@ const ROWS: &[(&[&str], [u64; 10])] = &[
             "--history",
             "1",
             "--tables=+7",
+            "--format=2",
         ],
-        [64, 2, 3, 8388608, 64, 32, 7, 1, 1048576, 4294967296],
+        [64, 2, 3, 8388608, 64, 32, 7, 1, 1048576, 4294967296, 2],
     ),
 ];
 
-fn are_set(alloc: Global, words: &[&str], want: &[u64; 10]) -> bool {
+fn are_set(alloc: Global, words: &[&str], want: &[u64; 11]) -> bool {
     match &options(alloc, words) {
         Ok(options) => numbers(options) == *want,
         Err(_) => false,

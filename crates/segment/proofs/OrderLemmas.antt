@@ -7,6 +7,7 @@ use Rattle.std.proofs.lemmas.List.{append-nil}
 use Rattle.entry.specs.declared.entry.Role.{Role}
 use Rattle.entry.specs.declared.entry.Role.TheVariants.{Head, Survivor}
 use Rattle.entry.specs.declared.entry.Header.{Header}
+use Rattle.entry.specs.declared.digest.Digest.TheVariants as digest
 use Rattle.entry.specs.declared.entry.Entry.{Entry}
 use Rattle.entry.specs.declared.entry.Entry.TheVariants as entry
 use Rattle.entry.specs.Text.{is_data, are_data, ends_with, is_head_rest, is_rest, is_whole, IsBeginning}
@@ -22,7 +23,7 @@ completion : (x : Expected) → (more : List Entry) × (completes x more ≡ tru
 completion expected.Header = (entry.Header survivor ∷ [], refl)
 completion (expected.Digest segment) =
     let same : (segment == segment) ≡ true = eq-eqb segment segment refl in
-    (entry.Digest (segment ∷ []) ∷ entry.Safe 1 ∷ [], rw same refl)
+    (entry.Digest (digest.Ids (segment ∷ [])) ∷ entry.Safe 1 ∷ [], rw same refl)
 completion expected.Safe = (entry.Safe 1 ∷ [], refl)
 completion expected.Data = ([], refl)
 
@@ -54,8 +55,8 @@ are_data-append (x ∷ xs) ys d = ap (λ (b : Bool). is_data x && b) (are_data-a
 
 is_head_rest-append : (segment : ℕ) (xs ys : List Entry) → are_data ys ≡ true → is_head_rest segment xs ≡ true
     → is_head_rest segment (xs ++ ys) ≡ true
-is_head_rest-append segment (entry.Digest ids ∷ entry.Safe version ∷ rest) ys d whole =
-    rw (are_data-append rest ys d) whole
+is_head_rest-append segment (entry.Digest d ∷ entry.Safe version ∷ rest) ys all whole =
+    rw (are_data-append rest ys all) whole
 is_head_rest-append segment _ ys d whole = absurd (cc)
 
 pub is_whole-append : (xs ys : List Entry) → are_data ys ≡ true → is_whole xs ≡ true → is_whole (xs ++ ys) ≡ true

@@ -27,6 +27,7 @@ whole_len-some kind.Digest bytes = omega arith
 whole_len-some kind.Safe bytes = omega arith
 whole_len-some kind.Object bytes = omega arith
 whole_len-some kind.Tombstone bytes = omega arith
+whole_len-some kind.Lengths bytes = omega arith
 
 abbrev front : Option EntryFault → Entry → ℕ → Option (Entry × ℕ)
 front f e n = if is_none f then Some (e, n) else None

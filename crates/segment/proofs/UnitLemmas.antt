@@ -9,14 +9,17 @@ use Rattle.std.proofs.lemmas.List.{length-append, append-nil, map-append, at_dro
 use Rattle.std.proofs.lemmas.List.Folds.{length-flat_map-take, flat_map-map}
 use Rattle.entry.specs.declared.entry.Role.TheVariants.{Head, Survivor}
 use Rattle.entry.specs.declared.entry.Header.{Header}
+use Rattle.entry.specs.declared.digest.Digest.{Digest}
+use Rattle.entry.specs.declared.digest.Digest.TheVariants as digest
 use Rattle.entry.specs.declared.entry.Entry.{Entry}
 use Rattle.entry.specs.declared.entry.Entry.TheVariants as entry
 use Rattle.entry.specs.declared.view.EntryRef.{EntryRef}
 use Rattle.entry.specs.Format.{spelling, IsEntry}
-use Rattle.entry.specs.Text.{text_of, is_data, are_data, ends_with, IsTextOf, entries_in}
+use Rattle.entry.specs.Text.{text_of, is_data, are_data, ends_with, listed_ids, IsTextOf, entries_in}
 use Rattle.entry.specs.View.{shown}
+use Rattle.entry.proofs.LengthLemmas.{length-ids_in}
 use Rattle.entry.proofs.ListLemmas.{all_append}
-use Rattle.entry.proofs.SpellingLemmas.{length-header, length-digest, length-safe}
+use Rattle.entry.proofs.SpellingLemmas.{length-header, length-digest, length-lengths, length-safe}
 use Rattle.segment.specs.Bytes.{IsSegmentBytes, IsDataText}
 use Rattle.segment.proofs.RowLemmas.{text_of-append}
 use Rattle.segment.proofs.OrderLemmas.{is_whole-append}
@@ -124,27 +127,39 @@ length-three x y z = omega (arith, length-append x (y ++ (z ++ [])), length-appe
 abbrev pub head : ℕ → ℕ → Header
 head master segment = record { master = master; segment = segment; role = Head }
 
-abbrev pub head_of : ℕ → ℕ → List ℕ → ℕ → List Entry
-head_of master segment ids safe = entry.Header (head master segment) ∷ entry.Digest ids ∷ entry.Safe safe ∷ []
+-- a digest of these ids
+abbrev pub head_of : ℕ → ℕ → Digest → ℕ → List Entry
+head_of master segment digest safe = entry.Header (head master segment) ∷ entry.Digest digest ∷ entry.Safe safe ∷ []
 
-pub IsTextOf-head : (master segment : ℕ) (ids : List ℕ) (safe : ℕ) (a b c d : List ℕ)
-    → IsEntry (entry.Header (head master segment)) → IsEntry (entry.Digest ids) → IsEntry (entry.Safe safe)
-    → ends_with segment ids ≡ true → a ≡ [] → b ≡ a ++ spelling (entry.Header (head master segment))
-    → c ≡ b ++ spelling (entry.Digest ids) → d ≡ c ++ spelling (entry.Safe safe)
-    → IsTextOf d (head_of master segment ids safe)
-IsTextOf-head master segment ids safe a b c d header digest version last p q r s = record {
-  segment = record { each = (header, (digest, (version, tt))); order = rw last refl };
+pub IsTextOf-head : (master segment : ℕ) (digest : Digest) (safe : ℕ) (a b c d : List ℕ)
+    → IsEntry (entry.Header (head master segment)) → IsEntry (entry.Digest digest) → IsEntry (entry.Safe safe)
+    → ends_with segment (listed_ids digest) ≡ true → a ≡ [] → b ≡ a ++ spelling (entry.Header (head master segment))
+    → c ≡ b ++ spelling (entry.Digest digest) → d ≡ c ++ spelling (entry.Safe safe)
+    → IsTextOf d (head_of master segment digest safe)
+IsTextOf-head master segment digest safe a b c d header digest_fits version last p q r s = record {
+  segment = record { each = (header, (digest_fits, (version, tt))); order = rw last refl };
   text =
-      three (spelling (entry.Header (head master segment))) (spelling (entry.Digest ids)) (spelling (entry.Safe safe)) a
-      b c d p q r s;
+      three (spelling (entry.Header (head master segment))) (spelling (entry.Digest digest))
+      (spelling (entry.Safe safe)) a b c d p q r s;
 }
 
-pub length-head : (master segment : ℕ) (ids : List ℕ) (safe : ℕ)
-    → length (text_of (head_of master segment ids safe)) ≡ 32 + 8 * length ids
-length-head master segment ids safe =
-    length-three (spelling (entry.Header (head master segment))) (spelling (entry.Digest ids))
-    (spelling (entry.Safe safe))
-    ∙ rw (length-header, length-digest, length-safe) (omega arith)
+-- a digest has at most so many bytes
+pub digest_few : (d : Digest) → length (spelling (entry.Digest d)) ≤ 5 + 16 * length (listed_ids d)
+digest_few (digest.Ids ids) = let len = length-digest ids in omega arith
+digest_few (digest.Lengths segments) =
+    let len = length-lengths segments in
+    let same = length-ids_in segments in
+    omega (arith, len, same)
+
+pub head_few : (master segment : ℕ) (digest : Digest) (safe : ℕ)
+    → length (text_of (head_of master segment digest safe)) ≤ 32 + 16 * length (listed_ids digest)
+head_few master segment digest safe =
+    let three = length-three (spelling (entry.Header (head master segment))) (spelling (entry.Digest digest))
+    (spelling (entry.Safe safe)) in
+    let first = length-header (head master segment) in
+    let few = digest_few digest in
+    let last = length-safe safe in
+    omega (arith, three, first, few, last)
 
 -- ---- the header of a survivor
 

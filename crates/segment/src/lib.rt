@@ -10,6 +10,7 @@
 mod entries;
 mod expected;
 mod fault;
+mod growing;
 mod laws;
 mod reading;
 mod segment;
@@ -18,6 +19,7 @@ mod view;
 
 pub use entries::Entries;
 pub use fault::{AppendFault, SegmentFault};
+pub use growing::{append_text, append_unit, trim_text};
 pub use laws::one_fault;
 pub use reading::read_segment;
 pub use segment::{MAX_SEGMENT_LEN, Segment};

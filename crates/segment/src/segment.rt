@@ -4,27 +4,23 @@ ghost use Rattle.std.specs.Prelude.{◌≡◌, ◌+◌, ◌≤◌, ◌<◌, ◌�
 ghost use Rattle.std.specs.Prelude.{map, true, IfOk, OnOk, OnErr, IsErrOf, IsSomeAnd};
 ghost use Rattle.entry.specs.declared.entry.Entry.{Entry};
 ghost use Rattle.entry.specs.Format.{spelling, IsEntry};
-ghost use Rattle.entry.specs.Text.{text_of, entries_in, IsSegment, ends_with, are_data};
+ghost use Rattle.entry.specs.Text.{text_of, entries_in, IsSegment, ends_with, listed_ids, are_data};
 ghost use Rattle.entry.specs.View.{shown};
 ghost use Rattle.std.specs.Option.{option_map};
-ghost use Rattle.segment.specs.Bytes.{IsSegmentBytes, IsDataText, standing_at};
+ghost use Rattle.segment.specs.Bytes.{IsSegmentBytes, standing_at};
 
 use crate::entries::Entries;
 use crate::fault::AppendFault;
-use crate::unit::{len_within, write_all};
+use crate::growing::{append_unit, trim_text};
 use crate::view::SegmentRef;
 use entry::{
-    DIGEST_LEN, Entry, EntryRef, HEADER_LEN, Header, Ids, NoMemory, Role, SAFE_LEN, SafeVersion,
-    write_entry,
+    Digest, Entry, EntryRef, HEADER_LEN, Header, NoMemory, Role, SAFE_LEN, SafeVersion, write_entry,
 };
 use std::alloc::Global;
 use std::marker::Model;
 
 /// The most bytes of a segment.
 pub const MAX_SEGMENT_LEN: usize = 8_388_608;
-
-/// The bytes of a head's opening entries, but for those of its ids.
-const OPENING_LEN: usize = HEADER_LEN + DIGEST_LEN + SAFE_LEN;
 
 /// A segment: its text. A contract sees the list of its entries.
 #[derive(Drop)]
@@ -61,24 +57,24 @@ impl Segment {
         alloc: Global,
         master: u64,
         id: u64,
-        ids: &Ids,
+        digest: Digest,
         safe: SafeVersion,
     ) -> Result<Segment, NoMemory>
-        requires last { ends_with id ids.now ≡ true }
-        requires count { length ids.now ≤ 262144 }
+        requires last { ends_with id (listed_ids digest) ≡ true }
+        requires count { length (listed_ids digest) ≤ 262144 }
         ensures { IfOk result (λ segment.
             segment ≡ Entry.Header (record { master = master; segment = id; role = Role.Head })
-            ∷ Entry.Digest ids.now ∷ Entry.Safe safe ∷ []) }
+            ∷ Entry.Digest digest ∷ Entry.Safe safe ∷ []) }
     {
-        let mut bytes = Vec::with_capacity(alloc, OPENING_LEN + 8 * ids.as_slice().len())?;
+        let len = HEADER_LEN + digest.spelled_len() + SAFE_LEN;
+        let mut bytes = Vec::with_capacity(alloc, len)?;
         let header = Header {
             master,
             segment: id,
             role: Role::Head,
         };
         append_entry(Entry::Header(header), &mut bytes)?;
-        let ids = Ids::new(Vec::from_slice(alloc, ids.as_slice())?);
-        append_entry(Entry::Digest(ids), &mut bytes)?;
+        append_entry(Entry::Digest(digest), &mut bytes)?;
         append_entry(Entry::Safe(safe), &mut bytes)?;
         Ok(Segment { bytes })
     }
@@ -118,35 +114,7 @@ impl Segment {
             (limit < length (text_of self.old) + length (text_of (map shown unit.now))) }
         ensures err { OnErr result (self.new ≡ self.old) }
     {
-        let at = self.bytes.len();
-        let Some(room) = limit.checked_sub(at) else {
-            return Err(AppendFault::Full);
-        };
-        let Some(len) = len_within(unit, room) else {
-            return Err(AppendFault::Full);
-        };
-        self.bytes.reserve(len)?;
-        write_all(unit, &mut self.bytes);
-        Ok(at)
-    }
-
-    /// Appends the objects and tombstones whose text this is, all or none of them, if the segment then has at most
-    /// `limit` bytes. The answer is the offset of the first.
-    pub fn append_text(&mut self, text: &[u8], limit: usize) -> Result<usize, AppendFault>
-        requires data { IsDataText text.now }
-        requires limit { limit ≤ MAX_SEGMENT_LEN }
-        ensures ok { OnOk result (self.new ≡ self.old ++ entries_in text.now) }
-        ensures place { IfOk result (λ at. at ≡ length (text_of self.old)) }
-        // A text that doesn't fit is reported as such, even if memory is short.
-        ensures full { IsErrOf result AppendFault.Full ↔ (limit < length (text_of self.old) + length text.now) }
-        ensures err { OnErr result (self.new ≡ self.old) }
-    {
-        let at = self.bytes.len();
-        if at + text.len() > limit {
-            return Err(AppendFault::Full);
-        }
-        self.bytes.extend_from_slice(text)?;
-        Ok(at)
+        append_unit(&mut self.bytes, unit, limit)
     }
 
     /// Takes memory for a text of this many bytes, once, so that no append within them takes more.
@@ -157,16 +125,11 @@ impl Segment {
         self.bytes.reserve_exact(more)
     }
 
-    /// Gives back the memory beyond this many bytes, or beyond the text if that is longer. If it is less than a sixteenth
-    /// of the whole, the segment keeps it: so little is of no use to anybody else.
+    /// Gives back the memory beyond this many bytes, or beyond the text if that is longer, unless that is little.
     pub fn trim(&mut self, len: usize)
         ensures { self.new ≡ self.old }
     {
-        let whole = self.bytes.capacity();
-        let kept = len.max(self.bytes.len());
-        if whole.saturating_sub(kept) > whole / 16 {
-            self.bytes.shrink_to(len);
-        }
+        trim_text(&mut self.bytes, len);
     }
 
     /// Moves the text into memory that another segment had, if it takes no more than that.
@@ -180,8 +143,12 @@ impl Segment {
         }
     }
 
-    /// The memory alone, for another segment.
-    pub fn into_memory(self) -> Vec<u8> {
+    /// The text alone.
+    #[inline(always)]
+    pub fn into_text(self) -> Vec<u8>
+        ensures valid { IsSegmentBytes result.items }
+        ensures entries { entries_in result.items ≡ self }
+    {
         self.bytes
     }
 

@@ -59,7 +59,8 @@ pub(crate) fn len_within(unit: &[EntryRef<'_>], room: usize) -> Option<usize>
 pub(crate) fn write_all(unit: &[EntryRef<'_>], out: &mut Vec<u8>)
     requires data { are_data (map shown unit.now) ≡ true }
     requires room { vec_len out.old + length (text_of (map shown unit.now)) ≤ vec_capacity out.old }
-    ensures { out.new.items ≡ out.old.items ++ text_of (map shown unit.now) }
+    ensures items { out.new.items ≡ out.old.items ++ text_of (map shown unit.now) }
+    ensures capacity { vec_capacity out.old ≤ vec_capacity out.new }
 {
     for entry in unit {
         write(entry, out).unwrap();

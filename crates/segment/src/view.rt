@@ -3,7 +3,7 @@
 ghost use Rattle.std.specs.Prelude.{◌≡◌, ◌≤◌, ℕ, List, Some, length, IfOk, IfErr, IsOkAnd, IsSomeAnd, ◌++◌, ◌∷◌};
 ghost use Rattle.std.specs.Option.{option_map};
 ghost use Rattle.entry.specs.declared.entry.Entry.{Entry};
-ghost use Rattle.entry.specs.View.{shown, shown_ids};
+ghost use Rattle.entry.specs.View.{shown, shown_digest};
 ghost use Rattle.entry.specs.Text.{text_of, entries_in, Opening, opening_of, header_of, IsSegment, IsTextOf};
 ghost use Rattle.segment.specs.Bytes.{IsSegmentBytes, standing_at};
 ghost use Rattle.segment.specs.Faults.{IsSegmentFault};
@@ -54,6 +54,7 @@ impl<'a> SegmentRef<'a> {
     }
 
     /// The segment that has this text. The bytes are not read.
+    #[inline(always)]
     pub fn of_text(bytes: &'a [u8]) -> SegmentRef<'a>
         requires { IsSegmentBytes bytes.now }
         ensures { result ≡ entries_in bytes.entry.now }
@@ -62,6 +63,7 @@ impl<'a> SegmentRef<'a> {
     }
 
     /// The same segment. Its text is not copied.
+    #[inline(always)]
     pub fn copy(&self) -> SegmentRef<'a>
         ensures { result ≡ self.entry.now }
     {
@@ -69,6 +71,7 @@ impl<'a> SegmentRef<'a> {
     }
 
     /// The text.
+    #[inline(always)]
     pub fn bytes(&self) -> &'a [u8]
         ensures text { result.now ≡ text_of self.entry.now }
         ensures valid { IsSegment self.entry.now }
@@ -90,8 +93,8 @@ impl<'a> SegmentRef<'a> {
 
     /// The digest of a head; None for a survivor.
     pub fn digest(&self) -> Option<DigestRef<'a>>
-        ensures { option_map shown_ids result ≡
-            option_map (λ (o : Opening). o.ids) (opening_of self.entry.now) }
+        ensures { option_map shown_digest result ≡
+            option_map (λ (o : Opening). o.digest) (opening_of self.entry.now) }
     {
         let mut entries = Entries { rest: self.bytes };
         entries.next();

@@ -2,7 +2,8 @@
 //!
 //! A line is a command, which a seat calls with (`command_of`), some turns of the cleaner or of the log (`turn_line`),
 //! a look (`look_line`, `renew`), or something that ends a life or is for the time between two. `Dialogue` is the open
-//! script. No contract says what a store did under its lock, so nothing is promised here but that the code is safe.
+//! script. No contract says what a store did under its lock, so of lines nothing is promised but that the code is safe.
+//! `first_master` and `next_config` say what a life begins with.
 //!
 //! The crate stands on `locked_log`, and on `script` for options, answers and faults. It waits, and starts no thread.
 #![tactic(auto)]
@@ -11,10 +12,12 @@ mod command;
 mod dialogue;
 mod fault;
 mod looks;
+mod succession;
 mod turns;
 
 pub use command::command_of;
 pub use dialogue::Dialogue;
 pub use fault::{LineFault, tell};
 pub use looks::{look_line, renew};
+pub use succession::{FIRST_MASTER, first_master, next_config, want};
 pub use turns::{Phase, refuse, take_all, turn_line};

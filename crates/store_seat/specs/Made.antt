@@ -29,6 +29,7 @@ nobody = record {
     tablets = [];
     history = 0;
     hasher = fast_hasher;
+    format = 1;
   };
   origin = no_origin;
   begun = [];

@@ -12,7 +12,7 @@ use history::History;
 use history_row::{Receipt, Row};
 use master_core::Refusal;
 use std::alloc::Global;
-use versioned_map::{Record, Reply};
+use versioned_map::Reply;
 
 /// Whether the history has a record of this seat at the place, and the place isn't below the seat's first number. It
 /// takes no memory.
@@ -28,8 +28,8 @@ pub fn owns<B: Naming>(history: &History, seat: &Seat<B>, place: u64) -> bool
     }
 }
 
-/// The reply of a record that the seat owns, and a receipt of its place. Nothing changes. Memory is taken for a copy of
-/// the record; if that is refused, the seat is as unsure of the record as it was.
+/// The reply of a record that the seat owns, and a receipt of its place. Nothing changes. Memory is taken for a
+/// value that was found, above 15 bytes; if that is refused, the seat is as unsure of the record as it was.
 pub fn claim<B: Naming>(
     alloc: Global,
     history: &History,
@@ -56,10 +56,5 @@ fn reply_at(alloc: Global, history: &History, place: u64) -> Result<Reply, NoMem
     let Some(what) = history.get(place as usize) else {
         unreachable!()
     };
-    let Record {
-        seat: _,
-        command: _,
-        reply,
-    } = what.to_record(alloc)?;
-    Ok(reply)
+    what.reply.to_reply(alloc)
 }

@@ -2,6 +2,7 @@
 
 ghost use Rattle.std.specs.Prelude.{◌≡◌, ◌≤◌, ℕ, [], None, IfSome};
 ghost use Rattle.backup.specs.State.{fleet_state};
+ghost use Rattle.master.specs.Registry.{IsUnraised};
 ghost use Rattle.master_state.specs.Config.{config_fault};
 
 use crate::slow::{SlowFleet, Watch};
@@ -51,6 +52,7 @@ fn small_config(alloc: Global) -> Option<Config>
         tablets: Tablets::new(tablets),
         history: RECORDS,
         hasher: KeyHasher::new(),
+        format: 1,
     };
     match config.check() {
         Ok(()) => Some(config),
@@ -62,6 +64,7 @@ fn small_config(alloc: Global) -> Option<Config>
 fn new_fleet(alloc: Global, config: &Config) -> Option<MemoryFleet>
     ensures backups { IfSome result (λ fleet. config.now.backups ≤ (fleet_state fleet).backups) }
     ensures none { IfSome result (λ fleet. (b m s : ℕ) → (fleet_state fleet).picture b m s ≡ None) }
+    ensures least { IfSome result (λ fleet. IsUnraised config.now.master (fleet_state fleet)) }
 {
     match MemoryFleet::new(alloc, config.backups) {
         Ok(fleet) => Some(fleet),

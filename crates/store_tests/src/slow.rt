@@ -93,6 +93,7 @@ impl<'a> Fleet for SlowFleet<'a> {
     ghost use Rattle.std.specs.Prelude.{◌≡◌, ◌≤◌, [], IfOk};
     ghost use Rattle.replica.specs.Op.{shown_op};
     ghost use Rattle.replica.specs.Picture.{AreHeldBy, IsOnce};
+    ghost use Rattle.replica.specs.Registry.{RaiseGives};
     ghost use Rattle.replica.specs.Take.{TakeGives};
     ghost use Rattle.backup.specs.State.{fleet_state};
 
@@ -101,6 +102,15 @@ impl<'a> Fleet for SlowFleet<'a> {
     fn take(&mut self, backup: u64, op: &Op<'_>) -> Result<(), TakeFault> {
         self.watch.hold();
         self.fleet.take(backup, op)
+    }
+
+    fn raise(&mut self, master: u64, id: u64) -> Result<(), TakeFault> {
+        self.watch.hold();
+        self.fleet.raise(master, id)
+    }
+
+    fn least(&self, master: u64) -> u64 {
+        self.fleet.least(master)
     }
 
     fn holdings(&self, alloc: Global, backup: u64) -> Result<Vec<Holding<'_>>, NoMemory> {

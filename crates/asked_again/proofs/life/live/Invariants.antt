@@ -1,4 +1,4 @@
-use Rattle.asked_again.specs.Lives.{IsOpening}
+use Rattle.store_lines.specs.Lives.{IsOpening}
 use Rattle.asked_again.proofs.life.live.Given as goal
 
 abbrev pub invariant-loop : goal.invariant-loop

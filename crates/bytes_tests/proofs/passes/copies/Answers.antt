@@ -9,17 +9,17 @@ loop-becomes-preserved c =
     let p = c.loop-becomes.pass in
     let images = c.loop-becomes.images.images in
     let held = c.loop-becomes.index.held in
-    let q = c.copy_one.new.self in
-    let after = c.copy_one.new.images.images in
-    let later = c.copy_one.new.index.held in
+    let q = c.copy_one-copied.new.self in
+    let after = c.copy_one-copied.new.images.images in
+    let later = c.copy_one-copied.new.index.held in
     let ids = ids_in images 2 (Some 4) in
-    let copied = c.in-Ok.copied in
-    let copies = c.in-Ok.ensures.copied in
+    let copied = c.copy_one-copied.result in
+    let copies = c.copy_one-copied.ensures.copied in
     let i = c.loop-becomes.invariant in
     let same = ids_kept ids p q images after held later copied copies 2 (Some 4) in
     record {
-      pass = c.in-Ok.ensures.pass;
+      pass = c.copy_one-copied.ensures.pass;
       room = subst (λ (ns : List ℕ). HasRoom 512 ns q after later) (sym same)
           (left_room 512 ids p q images after held later copied i.pass copies i.room);
-      size = ap (λ (v : ImagesValue). v.segment) c.in-Ok.ensures.images ∙ i.size;
+      size = ap (λ (v : ImagesValue). v.segment) c.copy_one-copied.ensures.images ∙ i.size;
     }

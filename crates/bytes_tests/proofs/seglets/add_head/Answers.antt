@@ -1,5 +1,5 @@
 use Rattle.std.proofs.Common.{◌≡◌, List, true, None, ap, subst, sym, refl, rules}
-use Rattle.images.specs.declared.image.Image.{Image}
+use Rattle.images.specs.Image.{Image, whole_image}
 use Rattle.images.specs.Images.{ImagesValue}
 use Rattle.images.specs.Sorted.{IsWhole, image_of}
 use Rattle.images.proofs.Callers.{whole_added}
@@ -8,7 +8,7 @@ use Rattle.bytes_tests.proofs.seglets.add_head.Goals as goal
 
 pub returns : goal.returns
 returns c =
-    let image : Image = record { id = c.args.id; segment = c.args.head; is_whole = true } in
+    let image : Image = whole_image c.args.id c.args.head c.args.images.now.segment in
     let none : image_of c.args.images.now.images c.args.id ≡ None = search rules in
     record {
       whole = elim c.match-add.branch [

@@ -31,7 +31,7 @@ overflow_sub-left c =
     let vs = c.args.victims.now in
     let i = c.loop-read.read in
     let s = get_or vs i 0 in
-    let es = c.in-Some.victim.now in
+    let es = c.in-Some.victim in
     let next = left_next (ids_in images c.args.head c.args.new) c.args.index.now.held
     (images_in images) vs i c.loop-read.kept
     c.loop-read.left s es c.loop-read.invariant (drop_more vs i 0 c.loop-read-test.true)
@@ -54,7 +54,7 @@ loop-read-preserved c =
     let vs = c.args.victims.now in
     let i = c.loop-read.read in
     let s = get_or vs i 0 in
-    let es = c.in-Some.victim.now in
+    let es = c.in-Some.victim in
     let kept = c.kept_bytes-kept.ensures in
     read_next (ids_in images c.args.head c.args.new) c.args.index.now.held (images_in images) vs i c.loop-read.kept
     c.loop-read.left c.kept_bytes-kept.result (length c.bytes.result.now) s es c.loop-read.invariant

@@ -9,19 +9,30 @@ use Rattle.cleaner.specs.declared.pass.Copied.TheVariants as copied
 use Rattle.cleaner.specs.Passes.{ids_in, seen_len}
 use Rattle.cleaner.proofs.Copying.{object_kept, tombstone_kept, does_object, does_tombstone}
 use Rattle.cleaner.proofs.Copying.{copy_data, copy_room, copied_is, others_are, treats}
-use Rattle.cleaner.proofs.treating.treat.Goals.{In_ok-to-in-Object, In_ok-copy-in-Tombstone}
+use Rattle.cleaner.proofs.treating.treat.Goals.{After-relocate, After-copy}
 use Rattle.cleaner.proofs.treating.treat.Goals as goal
+
+pub copy-to-requires-clause-of_data : goal.copy-to-requires-clause-of_data
+copy-to-requires-clause-of_data c =
+    let f = c.fate_of.ensures in
+    rw c.len.ensures (copy_data c.args.images.now.images c.args.place (seen_len c.args.seen) f.0 c.requires.there f.1)
 
 pub copy-requires-clause-of_data : goal.copy-requires-clause-of_data
 copy-requires-clause-of_data c =
     let f = c.fate_of.ensures in
-    rw c.len.ensures (copy_data c.args.images.now.images c.args.place (seen_len c.args.seen) f.0 c.requires.there f.1)
-
-pub copy-requires-in-Tombstone-clause-of_data : goal.copy-requires-in-Tombstone-clause-of_data
-copy-requires-in-Tombstone-clause-of_data c =
-    let f = c.fate_of.ensures in
     rw c.len-in-Tombstone.ensures (copy_data c.args.images.now.images c.args.place
     (seen_len c.args.seen) f.0 c.requires.there f.1)
+
+pub copy-to-requires-clause-room : goal.copy-to-requires-clause-room
+copy-to-requires-clause-room c =
+    let images = c.args.images.now.images in
+    let ids = ids_in images c.args.head c.args.new in
+    let held = c.args.index.now.held in
+    let p = c.args.place in
+    let f = c.fate_of.ensures in
+    copy_room images p (seen_len c.args.seen) f.0 c.requires.there f.1 ids held c.args.survivor
+    c.args.images.now.segment
+    (object_kept held p (kept ids held p f.0) f.0 c.in-Object.held (sym f.2 ∙ c.in-Object.is)) c.requires.room
 
 pub copy-requires-clause-room : goal.copy-requires-clause-room
 copy-requires-clause-room c =
@@ -32,74 +43,63 @@ copy-requires-clause-room c =
     let f = c.fate_of.ensures in
     copy_room images p (seen_len c.args.seen) f.0 c.requires.there f.1 ids held c.args.survivor
     c.args.images.now.segment
-    (object_kept held p (kept ids held p f.0) f.0 c.in-Object.held (sym f.2 ∙ c.in-Object.is)) c.requires.room
-
-pub copy-requires-in-Tombstone-clause-room : goal.copy-requires-in-Tombstone-clause-room
-copy-requires-in-Tombstone-clause-room c =
-    let images = c.args.images.now.images in
-    let ids = ids_in images c.args.head c.args.new in
-    let held = c.args.index.now.held in
-    let p = c.args.place in
-    let f = c.fate_of.ensures in
-    copy_room images p (seen_len c.args.seen) f.0 c.requires.there f.1 ids held c.args.survivor
-    c.args.images.now.segment
     (tombstone_kept held p (kept ids held p f.0) f.0 (sym f.2 ∙ c.in-Tombstone.is)) c.requires.room
 
 -- the object is appended to the survivor
-object_copied : (c : In_ok-to-in-Object) → c.copy.new.images ≡ record c.args.images.now {
+object_copied : (c : After-relocate) → c.copy-to.new.images ≡ record c.args.images.now {
   images = changed c.args.images.now.images c.args.survivor (with_unit (c.fate_of.ensures.0 ∷ []));
 }
 object_copied c =
     let f = c.fate_of.ensures in
     copied_is c.args.images.now.images c.args.place (seen_len c.args.seen) f.0 c.requires.there f.1 c.args.survivor
-    c.copy.new.images c.args.images.now c.in_ok-to-in-Object.ensures.ok
+    c.copy-to.new.images c.args.images.now c.copy-to.ensures.copied
 
 -- the tombstone is appended to the survivor
-tombstone_copied : (c : In_ok-copy-in-Tombstone) → c.copy-in-Tombstone.new.images ≡ record c.args.images.now {
+tombstone_copied : (c : After-copy) → c.copy.new.images ≡ record c.args.images.now {
   images = changed c.args.images.now.images c.args.survivor (with_unit (c.fate_of.ensures.0 ∷ []));
 }
 tombstone_copied c =
     let f = c.fate_of.ensures in
     copied_is c.args.images.now.images c.args.place (seen_len c.args.seen) f.0 c.requires.there f.1 c.args.survivor
-    c.copy-in-Tombstone.new.images c.args.images.now c.in_ok-copy-in-Tombstone.ensures.ok
+    c.copy.new.images c.args.images.now c.copy.ensures.copied
 
-pub returns-in_ok-to-in-Object-clause-treated : goal.returns-in_ok-to-in-Object-clause-treated
-returns-in_ok-to-in-Object-clause-treated c =
+pub returns-in-Object-clause-treated : goal.returns-in-Object-clause-treated
+returns-in-Object-clause-treated c =
     let images = c.args.images.now.images in
     let ids = ids_in images c.args.head c.args.new in
     let held = c.args.index.now.held in
     let p = c.args.place in
     let f = c.fate_of.ensures in
     let h = c.in-Object.held in
-    let is = object_copied (goal.at.returns-in_ok-to-in-Object-clause-treated c).In_ok-to-in-Object in
+    let is = object_copied (goal.at.returns-in-Object-clause-treated c).After-relocate in
     let moved =
-    c.relocate.ensures.moved ∙ ap (λ (q : Place). relocated h q held) c.in_ok-to-in-Object.ensures.place in
-    treats images p (seen_len c.args.seen) f.0 f.1 ids held c.args.survivor copied.Moved c.copy.new.images.images
+    c.relocate.ensures.moved ∙ ap (λ (q : Place). relocated h q held) c.copy-to.ensures.place in
+    treats images p (seen_len c.args.seen) f.0 f.1 ids held c.args.survivor copied.Moved c.copy-to.new.images.images
     c.relocate.new.self.held
-    (does_object p c.args.survivor images held (kept ids held p f.0) f.0 h c.copy.new.images.images
+    (does_object p c.args.survivor images held (kept ids held p f.0) f.0 h c.copy-to.new.images.images
     c.relocate.new.self.held (sym f.2 ∙ c.in-Object.is) (ap (λ (v : ImagesValue). v.images) is) moved)
 
-pub returns-in_ok-to-in-Object-clause-images : goal.returns-in_ok-to-in-Object-clause-images
-returns-in_ok-to-in-Object-clause-images c =
-    others_are c.copy.new.images c.args.images.now
+pub returns-in-Object-clause-images : goal.returns-in-Object-clause-images
+returns-in-Object-clause-images c =
+    others_are c.copy-to.new.images c.args.images.now
     (changed c.args.images.now.images c.args.survivor (with_unit (c.fate_of.ensures.0 ∷ [])))
-    (object_copied (goal.at.returns-in_ok-to-in-Object-clause-images c).In_ok-to-in-Object)
+    (object_copied (goal.at.returns-in-Object-clause-images c).After-relocate)
 
-pub returns-in_ok-copy-in-Tombstone-clause-treated : goal.returns-in_ok-copy-in-Tombstone-clause-treated
-returns-in_ok-copy-in-Tombstone-clause-treated c =
+pub returns-in-Tombstone-clause-treated : goal.returns-in-Tombstone-clause-treated
+returns-in-Tombstone-clause-treated c =
     let images = c.args.images.now.images in
     let ids = ids_in images c.args.head c.args.new in
     let held = c.args.index.now.held in
     let p = c.args.place in
     let f = c.fate_of.ensures in
-    let after = c.copy-in-Tombstone.new.images.images in
-    let is = tombstone_copied (goal.at.returns-in_ok-copy-in-Tombstone-clause-treated c).In_ok-copy-in-Tombstone in
+    let after = c.copy.new.images.images in
+    let is = tombstone_copied (goal.at.returns-in-Tombstone-clause-treated c).After-copy in
     treats images p (seen_len c.args.seen) f.0 f.1 ids held c.args.survivor copied.Carried after held
     (does_tombstone p c.args.survivor images held (kept ids held p f.0) f.0 after held (sym f.2 ∙ c.in-Tombstone.is)
     (ap (λ (v : ImagesValue). v.images) is) refl)
 
-pub returns-in_ok-copy-in-Tombstone-clause-images : goal.returns-in_ok-copy-in-Tombstone-clause-images
-returns-in_ok-copy-in-Tombstone-clause-images c =
-    others_are c.copy-in-Tombstone.new.images c.args.images.now
+pub returns-in-Tombstone-clause-images : goal.returns-in-Tombstone-clause-images
+returns-in-Tombstone-clause-images c =
+    others_are c.copy.new.images c.args.images.now
     (changed c.args.images.now.images c.args.survivor (with_unit (c.fate_of.ensures.0 ∷ [])))
-    (tombstone_copied (goal.at.returns-in_ok-copy-in-Tombstone-clause-images c).In_ok-copy-in-Tombstone)
+    (tombstone_copied (goal.at.returns-in-Tombstone-clause-images c).After-copy)

@@ -15,7 +15,7 @@ next_data-requires c =
     let vs = c.args.victims.now in
     let now = c.loop-position.position in
     let s = get_or vs now.victim 0 in
-    let es = c.in-Some.segment.now in
+    let es = c.in-Some.segment in
     going_between (images_in images) vs c.args.from now c.loop-position.invariant s (drop (now.victim + 1) vs)
     (drop_more vs now.victim 0 c.loop-position-test.true) es (image_is images s es c.in-Some.ensures)
 
@@ -25,7 +25,7 @@ returns-in-Some-next_data c =
     let vs = c.args.victims.now in
     let now = c.loop-position.position in
     let s = get_or vs now.victim 0 in
-    let es = c.in-Some.segment.now in
+    let es = c.in-Some.segment in
     going_found (images_in images) vs c.args.from now c.loop-position.invariant s (drop (now.victim + 1) vs)
     (drop_more vs now.victim 0 c.loop-position-test.true) es (image_is images s es c.in-Some.ensures)
     c.in-Some-next_data.at c.in-Some-next_data.ensures
@@ -36,7 +36,7 @@ loop-position-preserved c =
     let vs = c.args.victims.now in
     let now = c.loop-position.position in
     let s = get_or vs now.victim 0 in
-    let es = c.in-Some.segment.now in
+    let es = c.in-Some.segment in
     going_next (images_in images) vs c.args.from now c.loop-position.invariant s (drop (now.victim + 1) vs)
     (drop_more vs now.victim 0 c.loop-position-test.true) es (image_is images s es c.in-Some.ensures)
     c.in_default-next_data.ensures c.loop-position-test.true refl

@@ -12,4 +12,5 @@ returns c = record {
   history = c.number-8.ensures;
   bytes = c.number-9.ensures;
   objects = c.number-10.ensures;
+  format = c.number-11.ensures;
 }

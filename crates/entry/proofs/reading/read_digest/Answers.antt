@@ -10,4 +10,8 @@ invariant_of-digest c =
     let count = c.u32_at-count.result in
     let fits : IsBytes bytes = λ i. omega (arith, c.type_inv.bytes i) in
     let rise : rises (ids_at count 5 bytes) ≡ true = sym c.ids_rise.ensures ∙ c.if-not-ids_rise.false in
-    record { within = omega arith; ids = are_ids bytes count fits c.u32_at-count.ensures rise }
+    record {
+      within = omega arith;
+      ids = λ is. are_ids bytes count fits c.u32_at-count.ensures rise;
+      lengths = λ is. absurd (cc);
+    }

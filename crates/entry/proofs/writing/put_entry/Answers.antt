@@ -1,8 +1,8 @@
-use Rattle.std.proofs.Common.{◌≡◌, ◌+◌, ◌*◌, [], ◌∷◌, length, ap, ◌∙◌, arith}
+use Rattle.std.proofs.Common.{◌≡◌, ◌+◌, [], ◌∷◌, length, ap, ◌∙◌, arith}
 use Rattle.std.proofs.lemmas.List.{append_assoc}
 use Rattle.entry.specs.declared.key.Key.{Key}
 use Rattle.entry.specs.Format.{spelling}
-use Rattle.entry.proofs.SpellingLemmas.{length-header, length-digest, length-safe, length-object, length-tombstone}
+use Rattle.entry.proofs.SpellingLemmas.{length-header, length-safe, length-object, length-tombstone}
 use Rattle.entry.proofs.writing.put_entry.Goals as goal
 
 pub put_u64-requires : goal.put_u64-requires
@@ -12,18 +12,6 @@ put_u64-requires c =
 pub put_u64-requires-in-Header : goal.put_u64-requires-in-Header
 put_u64-requires-in-Header c =
     let len : length (spelling c.args.entry.now) ≡ 18 = rw c.in-Header.is (length-header _) in omega arith
-
-pub put_u32-requires : goal.put_u32-requires
-put_u32-requires c =
-    let len : length (spelling c.args.entry.now) ≡ 5 + 8 * length c.in-Digest.ids =
-    rw c.in-Digest.is (length-digest _) in
-    omega arith
-
-pub put_ids-requires : goal.put_ids-requires
-put_ids-requires c =
-    let len : length (spelling c.args.entry.now) ≡ 5 + 8 * length c.in-Digest.ids =
-    rw c.in-Digest.is (length-digest _) in
-    rw c.as_slice-in-Digest.ensures.ids (omega arith)
 
 pub put_u64-requires-in-Safe : goal.put_u64-requires-in-Safe
 put_u64-requires-in-Safe c =
@@ -36,7 +24,7 @@ put_object-requires-clause-room c =
     rw c.in-Object.is (length-object _) in
     let key : length c.view-key.result.bytes.now ≡ length c.in-Object.object.key.bytes =
     ap (λ (k : Key). length k.bytes) c.view-key.ensures in
-    rw c.as_slice-in-Object.ensures.bytes (omega arith)
+    rw c.as_slice.ensures.bytes (omega arith)
 
 pub put_tombstone-requires : goal.put_tombstone-requires
 put_tombstone-requires c =

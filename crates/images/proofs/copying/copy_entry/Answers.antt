@@ -1,7 +1,7 @@
 use Rattle.std.proofs.Common.{◌≡◌, ℕ, subst, sym, rules}
 use Rattle.std.specs.Prelude.{IfOk}
 use Rattle.std.proofs.Math.Seq.{of_parts}
-use Rattle.images.proofs.Copies.{places_rise, entry_is, data_is, len_here, copied_is, set_part}
+use Rattle.images.proofs.Copies.{places_rise, entry_is, data_is, len_here, copied_is, room_here, set_part}
 use Rattle.images.proofs.copying.copy_entry.Goals as goal
 
 pub bounds-earlier-source : goal.bounds-earlier-source
@@ -58,3 +58,12 @@ returns-clause-ok c =
     cut.ensures.front cut.ensures.back
     c.index-earlier-source.result c.index-later-0.result _ c.append_copy.result c.append_copy.new.target _
     (search (rules, of_parts, set_part)) c.append_copy.ensures.ok)
+
+pub append_copy-requires-clause-room : goal.append_copy-requires-clause-room
+append_copy-requires-clause-room c =
+    let cut = c.split_at_mut-earlier in
+    room_here c.args.images.now c.args.from c.args.to c.in-Some.source
+    c.in-Some-place_of.target c.requires.rising
+    c.in-Some.ensures.found c.in-Some-place_of.ensures.found cut.result.0.now cut.result.1.now
+    cut.ensures.front cut.ensures.back
+    c.index-earlier-source.result c.index-later-0.result c.args.limit c.requires.room

@@ -1,7 +1,7 @@
 use Rattle.images.specs.Images.{count_of}
 use Rattle.images.proofs.Listing.{absent_from_none}
 use Rattle.images.proofs.Adding.{newest_last, rising_added, all_added, ids_added, sum_added}
-use Rattle.images.specs.declared.image.Image.{Image}
+use Rattle.images.specs.Image.{Image}
 use Rattle.std.proofs.Common.{◌<◌}
 use Rattle.images.proofs.laws.images_are_added.Goals as goal
 

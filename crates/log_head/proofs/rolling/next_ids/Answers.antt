@@ -1,6 +1,7 @@
 use Rattle.std.proofs.Common.{◌≡◌, ◌+◌, ◌++◌, ◌∷◌, [], ℕ, List, length, vec_capacity, sym, ap, subst, ◌∙◌, arith}
 use Rattle.std.specs.Option.{option_to_list}
-use Rattle.entry.specs.View.{shown_ids}
+use Rattle.entry.specs.Text.{listed_ids}
+use Rattle.entry.specs.View.{shown_digest, shown_ids}
 use Rattle.log_model.specs.Ids.{all_inserted, without}
 use Rattle.log_head.specs.Head.{digest_of}
 use Rattle.log_head.proofs.Digests.{IsPushed, waits_fits, pushed_fits, pushed_all, pushed_victim, id_fits, pushed_other}
@@ -46,7 +47,8 @@ returns-clause-ids c =
     let end = c.loop-place-test.false in
     let count = c.count-count.ensures in
     let in_force : shown_ids c.in-Some.digest ≡ digest_of c.args.image.now =
-    sym (digest_some _ (shown_ids c.in-Some.digest) c.in-Some.ensures) ∙ ap digest_of c.view.ensures in
+    ap listed_ids (sym (digest_some _ (shown_digest c.in-Some.digest) c.in-Some.ensures))
+    ∙ ap digest_of c.view.ensures in
     c.push_some-2.ensures.items
     ∙ pushed_all _ _ _ _ _ _ _ c.loop-place.invariant (omega arith)
     ∙ ap (λ (l : List ℕ). all_inserted (option_to_list c.args.leaving.survivor)

@@ -2,7 +2,7 @@ use Rattle.std.proofs.Common.{List, subst}
 use Rattle.entry.specs.declared.key.Key.{Key}
 use Rattle.versioned_map.specs.Command.{command_key}
 use Rattle.master_state.specs.contracts.state.Core.{the_view}
-use Rattle.images.specs.declared.image.Image.{Image}
+use Rattle.images.specs.Image.{Image}
 use Rattle.master_state.specs.Data.{MasterData}
 use Rattle.master_state.specs.Images.{images_among}
 use Rattle.compactor.specs.Places.{keys_in}

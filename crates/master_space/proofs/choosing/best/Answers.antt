@@ -1,9 +1,9 @@
-use Rattle.std.proofs.Common.{◌≡◌, List, length, take, sym, ap, ◌∙◌, arith}
+use Rattle.std.proofs.Common.{◌≡◌, ℕ, List, length, take, sym, ap, ◌∙◌, arith}
 use Rattle.entry.specs.Text.{text_of, is_data}
 use Rattle.std.specs.Prelude.{filter}
 use Rattle.cleaner.specs.Passes.{ids_in}
 use Rattle.compactor.specs.Kept.{has_id, kept_of}
-use Rattle.images.specs.declared.image.Image.{Image}
+use Rattle.images.specs.Image.{Image}
 use Rattle.master_state.specs.contracts.state.Core.{the_view}
 use Rattle.master_space.specs.declared.candidates.Candidate.{Candidate}
 use Rattle.master_state.specs.Budget.{survivors_of}
@@ -23,7 +23,8 @@ loop-at-init c = record {
 pub loop-at-preserved : goal.loop-at-preserved
 loop-at-preserved c =
     let d = the_view c.core.inside in
-    let survivor = ap (λ (m : MasterData). has_id (survivors_of m.pass) c.index-images-at.result.id) c.core.view_is
+    let survivor = ap (λ (n : ℕ). has_id (survivors_of d.pass) n) (sym c.id-id.ensures)
+    ∙ ap (λ (m : MasterData). has_id (survivors_of m.pass) c.id-id.result) c.core.view_is
     ∙ sym c.is_survivor.ensures ∙ c.if-not-is_survivor.false in
     record {
       best = c.loop-at.invariant.best
@@ -38,20 +39,21 @@ pub loop-at-preserved-then-not-is_survivor : goal.loop-at-preserved-then-not-is_
 loop-at-preserved-then-not-is_survivor c =
     let d = the_view c.core.inside in
     let image = c.index-images-at.result in
-    let other = ap (λ (m : MasterData). has_id (survivors_of m.pass) image.id) c.core.view_is
+    let other = ap (λ (n : ℕ). has_id (survivors_of d.pass) n) (sym c.id-id.ensures)
+    ∙ ap (λ (m : MasterData). has_id (survivors_of m.pass) c.id-id.result) c.core.view_is
     ∙ sym c.is_survivor.ensures ∙ c.if-not-is_survivor.true in
     let kept : c.kept_bytes-kept.result ≡ (candidate_of d image).kept =
     c.kept_bytes-kept.ensures.kept
     ∙ (λ i. length (text_of (filter is_data (kept_of (ids_in d.closed (c.id.ensures.id i) (c.opening_id.ensures i))
-    d.index image.id image.segment)))) in
+    d.index (c.id-id.ensures i) (c.segment.ensures i))))) in
     record {
       best = c.rank.ensures.placed
-          ∙ ap (λ (xs : List Candidate). take 8 (placed (record { id = image.id; kept = c.kept_bytes-kept.result }) xs))
+          ∙ ap (λ (xs : List Candidate). take 8 (placed (record { id = c.id-id.result; kept = c.kept_bytes-kept.result }) xs))
           c.loop-at.invariant.best
           ∙ walk_placed d c.as_slice-images.result.now c.loop-at.at image c.loop-at-test.true c.loop-at.auto.at
           c.index-images-at.is
-          (record { id = image.id; kept = c.kept_bytes-kept.result })
-          (λ i. record { id = image.id; kept = kept i }) other;
+          (record { id = c.id-id.result; kept = c.kept_bytes-kept.result })
+          (λ i. record { id = c.id-id.ensures i; kept = kept i }) other;
       few = c.rank.ensures.few;
       room = c.rank.ensures.room;
     }

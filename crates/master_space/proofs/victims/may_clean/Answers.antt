@@ -4,9 +4,29 @@ use Rattle.std.proofs.lemmas.Bool.{le-leb}
 use Rattle.master_state.specs.contracts.state.Core.{the_view}
 use Rattle.master_state.specs.Budget.{whole_seglets, free_seglets, newest_digest, most_segments}
 use Rattle.master_state.specs.Data.{MasterData}
+use Rattle.master_state.proofs.LogIds.{few_closed}
 use Rattle.master_space.proofs.PassIds.{head_count, heads_of, newest_count}
 use Rattle.master_space.proofs.victims.may_clean.Goals as goal
 use Rattle.master_space.proofs.victims.may_clean.Goals.{then-is_some, else-is_some}
+
+pub overflow_add-listed : goal.overflow_add-listed
+overflow_add-listed c =
+    let few = few_closed (the_view c.core.inside) c.core.invariant.2 in
+    let count = c.len.ensures in
+    elim c.if-is_some.branch [
+      | then-is_some w ↦ (let heads = w.heads-is in omega (arith, few, count, heads))
+      | else-is_some w ↦ (let heads = w.heads-is in omega (arith, few, count, heads))
+    ]
+
+pub overflow_add-result : goal.overflow_add-result
+overflow_add-result c =
+    let few = few_closed (the_view c.core.inside) c.core.invariant.2 in
+    let count = c.len.ensures in
+    let left = c.saturating_sub.ensures in
+    elim c.if-is_some.branch [
+      | then-is_some w ↦ (let heads = w.heads-is in omega (arith, few, count, left, heads))
+      | else-is_some w ↦ (let heads = w.heads-is in omega (arith, few, count, left, heads))
+    ]
 
 pub returns-then-core-free : goal.returns-then-core-free
 returns-then-core-free c =

@@ -1,11 +1,13 @@
 use Rattle.std.proofs.Common.{◌≡◌, ℕ, suc, max, List, refl, sym, ap, subst, inl, inr, ◌∙◌, rules, arith}
 use Rattle.backup.specs.State.{fleet_state}
+use Rattle.command_line.specs.declared.settings.Options.{Options}
 use Rattle.lines.specs.Grammar.{Recover}
 use Rattle.master_state.specs.declared.config.Config.{Config}
 use Rattle.replica.specs.declared.holding.Holding.{Holding}
 use Rattle.answers.specs.declared.answer.Answer.{Answer}
 use Rattle.node.specs.declared.node.Node.TheVariants.{Down}
-use Rattle.next_master.specs.Configuration.{config_of}
+use Rattle.recovery.specs.Recovered.{IsRebuiltFrom, IsRefusedFrom}
+use Rattle.next_master.specs.Configuration.{config_of, later_options}
 use Rattle.next_master.specs.Numbers.{greatest_of}
 use Rattle.next_master.specs.Recoveries.{FindsNothing, ask, order_named}
 use Rattle.node.specs.Served.{life_of}
@@ -24,9 +26,9 @@ pub returns-in-Err-recover_by-clause-none : goal.returns-in-Err-recover_by-claus
 returns-in-Err-recover_by-clause-none g c = λ order d at s.
     let e = c.in-Err-recover_by in
     loss_told (Down c.args.fleet.now) c.args.fleet.now (config_of c.args.options.now c.args.master) d at refl s
-    c.in-Ok.inventory c.args.master refl
+    c.in-Ok.inventory c.least.result c.args.master c.least.ensures refl
     c.in-Ok.ensures.shown e.fault c.args.will.now (order_named c.args.order) e.ensures.refused e.ensures.fault
-    c.requires.covers (names_groups c.args.order c.in-Ok.inventory c.args.master c.args.will.now) order
+    c.requires.covers (names_groups c.args.order c.in-Ok.inventory c.least.result c.args.master c.args.will.now) order
 
 pub returns-in-Ok-configuration-clause-found : goal.returns-in-Ok-configuration-clause-found
 returns-in-Ok-configuration-clause-found g c =
@@ -40,10 +42,11 @@ returns-in-Ok-configuration-clause-found g c =
     c.in-Some.ensures.next in
     record {
       table = λ d at s. table_found (Down c.args.fleet.now) c.args.fleet.now
-          (config_of c.args.options.now c.args.master) d at refl s c.in-Ok.inventory
-          c.args.master refl c.in-Ok.ensures.shown r.rebuilt r.ensures.ok c.args.will.now
+          (config_of c.args.options.now c.args.master) d at refl s c.in-Ok.inventory c.least.result
+          c.args.master c.least.ensures refl c.in-Ok.ensures.shown r.rebuilt r.ensures.ok c.args.will.now
           (order_named c.args.order) r.ensures.rebuilt;
-      configured = is ∙ ap (λ (n : ℕ). config_of c.args.options.now n) (sym number);
+      configured = is ∙ ap (λ (o : Options). config_of o c.in-Some.number) c.later_options-later.ensures
+          ∙ ap (λ (n : ℕ). config_of (later_options c.args.lists_lengths c.args.options.now) n) (sym number);
       greater = omega arith;
       unused = next_unused c.in-Ok.inventory (fleet_state c.args.fleet.now).picture c.max-greatest.result
           c.in-Ok-configuration.config.master c.in-Ok.ensures.shown
@@ -85,18 +88,27 @@ pub returns-in-Err-recover_by-clause-nothing : goal.returns-in-Err-recover_by-cl
 returns-in-Err-recover_by-clause-nothing g c = inr (
   c.in-Ok.inventory,
   c.in-Ok.ensures.shown,
-  c.in-Err-recover_by.ensures.fault,
+  subst (λ (n : ℕ). IsRefusedFrom c.in-Ok.inventory n c.args.master c.args.will.now (order_named c.args.order)
+      c.in-Err-recover_by.fault) c.least.ensures c.in-Err-recover_by.ensures.fault,
 )
 
 pub returns-in_default-clause-nothing : goal.returns-in_default-clause-nothing
-returns-in_default-clause-nothing g c =
-    (c.in-Ok-recover_by.rebuilt, (c.in-Ok.inventory, c.in-Ok.ensures.shown, c.in-Ok-recover_by.ensures.rebuilt))
+returns-in_default-clause-nothing g c = (
+  c.in-Ok-recover_by.rebuilt,
+  (
+    c.in-Ok.inventory,
+    c.in-Ok.ensures.shown,
+    subst (λ (n : ℕ). IsRebuiltFrom c.in-Ok.inventory n c.args.master c.args.will.now (order_named c.args.order)
+        c.in-Ok-recover_by.rebuilt) c.least.ensures c.in-Ok-recover_by.ensures.rebuilt,
+  ),
+)
 
 pub returns-in-Ok-configuration-clause-rebuilt : goal.returns-in-Ok-configuration-clause-rebuilt
 returns-in-Ok-configuration-clause-rebuilt g c = (
   c.in-Ok.inventory,
   c.in-Ok.ensures.shown,
-  c.in-Ok-recover_by.ensures.rebuilt,
+  subst (λ (n : ℕ). IsRebuiltFrom c.in-Ok.inventory n c.args.master c.args.will.now (order_named c.args.order)
+      c.in-Ok-recover_by.rebuilt) c.least.ensures c.in-Ok-recover_by.ensures.rebuilt,
 )
 
 pub returns-clause-nothing : goal.returns-clause-nothing

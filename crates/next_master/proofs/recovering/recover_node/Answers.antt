@@ -12,8 +12,8 @@ use Rattle.next_master.specs.Configuration.{config_of}
 use Rattle.next_master.specs.Numbers.{AreSpent, IsNextNumber}
 use Rattle.next_master.specs.Recoveries.{IsDeclined, IsTakenOver}
 use Rattle.node.specs.Served.{AnswersLine, IsOf, fleet_of, world_of}
-use Rattle.next_master.proofs.NextLife.{cut_told, declined_told, has_backups, not_of_cut, not_of_refusal}
-use Rattle.next_master.proofs.NextLife.{recovered_told}
+use Rattle.next_master.proofs.NextLife.{cut_told, declined_told, has_backups, is_unraised, not_of_cut}
+use Rattle.next_master.proofs.NextLife.{not_of_refusal, recovered_told}
 use Rattle.next_master.proofs.HowItEnds.{cut_over, down_on, taken_over}
 use Rattle.node.proofs.Standing.{stays_told}
 use Rattle.next_master.proofs.recovering.recover_node.Goals as goal
@@ -34,10 +34,13 @@ adopt-requires-clause-fleet g c =
     let found = c.in-Ok.ensures.found in (
       c.in-Down.fleet,
       refl,
-      has_backups c.in-Down.fleet c.args.options.now c.args.master c.in-Ok.found.rebuilt c.in-Ok.found.config
+      has_backups c.in-Down.fleet c.args.options.now c.args.lists_lengths c.args.master c.in-Ok.found.rebuilt c.in-Ok.found.config
           found c.args.node.now
           c.in-Down.is Forward s.0 s.1 s.2,
       found.unused,
+      is_unraised c.in-Down.fleet c.args.options.now c.args.lists_lengths c.args.master c.in-Ok.found.rebuilt c.in-Ok.found.config
+          found c.args.node.now
+          c.in-Down.is Forward s.0 s.1 s.2,
     )
 
 pub returns-in-Some-clause-recovers : goal.returns-in-Some-clause-recovers
@@ -45,7 +48,7 @@ returns-in-Some-clause-recovers g c =
     let order = c.args.order in
     inl (
       refl,
-      declined_told c.in-Down.fleet c.args.options.now c.args.master c.in-Ok.found.rebuilt c.in-Ok.found.config
+      declined_told c.in-Down.fleet c.args.options.now c.args.lists_lengths c.args.master c.in-Ok.found.rebuilt c.in-Ok.found.config
           c.in-Ok.ensures.found
           c.args.node.now c.in-Down.is order c.adopt.new.node c.in-Some.answer (c.in-Some.ensures c.in-Down.fleet refl),
     )
@@ -54,7 +57,7 @@ pub returns-in-None-clause-recovers : goal.returns-in-None-clause-recovers
 returns-in-None-clause-recovers g c =
     let order = c.args.order in
     let a = c.in_default-adopt.ensures c.in-Down.fleet refl in
-    inr (recovered_told c.in-Down.fleet c.args.options.now c.args.master c.in-Ok.found.rebuilt c.in-Ok.found.config
+    inr (recovered_told c.in-Down.fleet c.args.options.now c.args.lists_lengths c.args.master c.in-Ok.found.rebuilt c.in-Ok.found.config
     c.in-Ok.ensures.found
     c.args.node.now c.in-Down.is order a.0.knows a.2 c.retire.new.node
     (c.in-None.ensures.others a.0.knows (subst (λ (n : Node). IsOf n None a.0.knows) (sym a.1) (refl, refl, a.3))))
@@ -63,7 +66,7 @@ pub returns-in-Some-retire-clause-recovers : goal.returns-in-Some-retire-clause-
 returns-in-Some-retire-clause-recovers g c =
     let order = c.args.order in
     let a = c.in_default-adopt.ensures c.in-Down.fleet refl in
-    inr (cut_told c.in-Down.fleet c.args.options.now c.args.master c.in-Ok.found.rebuilt c.in-Ok.found.config
+    inr (cut_told c.in-Down.fleet c.args.options.now c.args.lists_lengths c.args.master c.in-Ok.found.rebuilt c.in-Ok.found.config
     c.in-Ok.ensures.found
     c.args.node.now c.in-Down.is order a.0.knows a.2 c.retire.new.node c.in-Some-retire.answer
     (c.in-Some-retire.ensures.others a.0.knows (subst (λ (n : Node). IsOf n None a.0.knows) (sym a.1)

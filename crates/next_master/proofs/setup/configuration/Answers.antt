@@ -15,4 +15,5 @@ returns-clause-config c =
       tablets = (c.new.ensures ∙ c.in_ok-tablets.ensures.tables) i;
       history = options.history;
       hasher = c.new-2.ensures i;
+      format = options.format;
     }

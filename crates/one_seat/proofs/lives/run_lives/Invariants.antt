@@ -1,4 +1,4 @@
-use Rattle.one_seat.specs.Lives.{IsOpening}
+use Rattle.store_lines.specs.Lives.{IsOpening}
 use Rattle.one_seat.proofs.lives.run_lives.Given as goal
 
 abbrev pub invariant-loop : goal.invariant-loop

@@ -1,4 +1,4 @@
-use Rattle.std.proofs.Common.{◌≡◌, ℕ, ap, subst, sym}
+use Rattle.std.proofs.Common.{◌≡◌, ◌∙◌, ℕ, ap, subst, sym}
 use Rattle.std.specs.Prelude.{Result, IfOk, IfErr}
 use Rattle.claims.specs.declared.rebuilt.Rebuilt.{Rebuilt}
 use Rattle.master.specs.World.{world}
@@ -10,6 +10,10 @@ use Rattle.recovery.specs.Recovered.{IsRebuiltFrom, IsRefusedFrom, IsSomeLoss, I
 use Rattle.recovery.proofs.Drilling.{drilled, drilled_without}
 use Rattle.recovery.proofs.drill.run_drill.Goals.{in-Ok-inventory_of, in-Err-inventory_of}
 use Rattle.recovery.proofs.drill.run_drill.Goals as goal
+
+-- what a recovery gives of a number and a least head that are these
+given : (P : ℕ → ℕ → Type 0) (l n k m : ℕ) → n ≡ m → l ≡ k → P l n → P k m
+given P l n k m number least p = subst (λ (x : ℕ). P x m) least (subst (λ (x : ℕ). P l x) number p)
 
 pub returns-clause-drill : goal.returns-clause-drill
 returns-clause-drill g c =
@@ -26,22 +30,22 @@ returns-clause-drill g c =
     as (λ _. IsDrill start c.args.steps.now kept will order answers c.match-inventory_of.recovered left) [
       | in-Ok-inventory_of w ↦ (
           let r = w.recover-recovered in
+          let hs = w.in-Ok-inventory_of.inventory in
+          let number = c.number-number.ensures in
+          let least = w.least.ensures ∙ ap left.least number in
           subst (λ (x : Result Rebuilt RecoveryFault). IsDrill start c.args.steps.now kept will order answers x left)
           (sym w.recovered-is)
           (drilled start stop c.args.steps.now kept will order answers c.in-Ok.ensures.ran left same
           c.crash-fleet.ensures.valid
           w.in-Ok-inventory_of.inventory w.in-Ok-inventory_of.ensures.shown r.result
-          (subst (λ (n : ℕ). IfOk r.result (IsSomePrefix w.in-Ok-inventory_of.inventory n)) c.number-number.ensures
-          r.ensures.ok)
-          (subst (λ (n : ℕ). IfErr r.result (IsSomeLoss w.in-Ok-inventory_of.inventory n will order))
-          c.number-number.ensures
-          r.ensures.refused)
-          (subst (λ (n : ℕ). IfOk r.result (IsRebuiltFrom w.in-Ok-inventory_of.inventory n will order))
-          c.number-number.ensures
-          r.ensures.rebuilt)
-          (subst (λ (n : ℕ). IfErr r.result (IsRefusedFrom w.in-Ok-inventory_of.inventory n will order))
-          c.number-number.ensures
-          r.ensures.fault)))
+          (given (λ (l n : ℕ). IfOk r.result (IsSomePrefix hs l n))
+          _ _ _ _ number least r.ensures.ok)
+          (given (λ (l n : ℕ). IfErr r.result (IsSomeLoss hs l n will order))
+          _ _ _ _ number least r.ensures.refused)
+          (given (λ (l n : ℕ). IfOk r.result (IsRebuiltFrom hs l n will order))
+          _ _ _ _ number least r.ensures.rebuilt)
+          (given (λ (l n : ℕ). IfErr r.result (IsRefusedFrom hs l n will order))
+          _ _ _ _ number least r.ensures.fault)))
       | in-Err-inventory_of w ↦
           subst (λ (x : Result Rebuilt RecoveryFault). IsDrill start c.args.steps.now kept will order answers x left)
           (sym w.recovered-is)

@@ -1,8 +1,8 @@
-use Rattle.std.proofs.Common.{◌≡◌, ◌++◌, ◌∷◌, [], take, ◌+◌, sym, subst, arith}
+use Rattle.std.proofs.Common.{◌≡◌, ◌++◌, ◌∷◌, [], take, ◌+◌, ℕ, sym, subst, ◌∙◌, arith}
+use Rattle.std.specs.Prelude.{Some}
 use Rattle.std.proofs.lemmas.List.{take_all}
 use Rattle.replica.specs.declared.holding.Holding.{Holding}
-use Rattle.replica.specs.Choice.{IsUsableHeadOf}
-use Rattle.recovery_plan.specs.Good.{least_head}
+use Rattle.recovery_plan.specs.Good.{IsHeadOf}
 use Rattle.recovery_plan.specs.Planned.{AreNewest}
 use Rattle.recovery_plan.proofs.Bests.{take-more}
 use Rattle.recovery_plan.proofs.Heads.{good-more, first-bad, no-head, head-closed}
@@ -27,15 +27,14 @@ loop-holding-preserved c =
     elim c.if-holding-master.branch [
       | then-holding-master+in-Some+in-Some-of w ↦
           let is : w.in-Some-of.head ≡ h = w.in-Some-of.ensures.some in
-          let usable : IsUsableHeadOf least_head m h =
-          (w.if-holding-master.true, w.in-Some-of.ensures.opens, omega arith) in
+          let head : IsHeadOf m h = (w.if-holding-master.true, w.in-Some-of.ensures.opens) in
           record {
             good = rw more (good-more m before h c.loop-holding.invariant.good (λ _. w.in-Some.ensures.good));
             newest =
                 rw (more, w.newest-is)
                 (subst
                 (λ x. AreNewest m (before ++ x ∷ []) w.with_head-newest.result.id w.with_head-newest.result.taken) is
-                (w.with_head-newest.ensures m before (subst (IsUsableHeadOf least_head m) (sym is) usable)
+                (w.with_head-newest.ensures m before (subst (IsHeadOf m) (sym is) head)
                 c.loop-holding.invariant.newest));
           }
       | then-holding-master+in-Some+in_default-of w ↦
@@ -56,10 +55,14 @@ loop-holding-preserved c =
           }
     ]
 
+some-of : {a b : ℕ} → Some a ≡ Some b → a ≡ b
+some-of e = cc
+
 pub returns-in-None-taken-clause-fault : goal.returns-in-None-taken-clause-fault
 returns-in-None-taken-clause-fault c =
+    let same : c.in-Some-id.id ≡ c.in-Some-2.id = some-of (sym c.in-Some-id.is ∙ c.in-Some-2.is) in
     let i = c.loop-holding.holding-index in
     let all = take_all i c.args.holdings.now c.loop-holding-test.false in
-    head-closed c.args.master (take i c.args.holdings.now) c.args.holdings.now c.loop-holding.newest.id
-    c.loop-holding.newest.taken c.in-Some-id.id all
-    c.loop-holding.invariant.good c.loop-holding.invariant.newest c.in-Some-id.is c.in-None-taken.is
+    head-closed c.args.master c.args.least (take i c.args.holdings.now) c.args.holdings.now c.loop-holding.newest.id
+    c.loop-holding.newest.taken c.in-Some-2.id all
+    c.loop-holding.invariant.good c.loop-holding.invariant.newest c.in-Some-2.is (omega arith) c.in-None-taken.is

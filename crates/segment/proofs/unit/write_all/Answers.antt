@@ -34,4 +34,5 @@ loop-entry-preserved c =
       room =
           room_left unit i entry c.loop-entry-test.true c.entry-item.is (vec_len old) _ (vec_len new) _
           c.loop-entry.invariant.room longer c.write.ensures.capacity;
+      capacity = omega (arith, c.loop-entry.invariant.capacity, c.write.ensures.capacity);
     }

@@ -8,4 +8,5 @@ invariant-loop-entry l =
     record {
       items : l.out.items ≡ l.initial.out.items ++ text_of (map shown (take l.entry-index l.unit));
       room : vec_len l.out + length (text_of (map shown (drop l.entry-index l.unit))) ≤ vec_capacity l.out;
+      capacity : vec_capacity l.initial.out ≤ vec_capacity l.out;
     }

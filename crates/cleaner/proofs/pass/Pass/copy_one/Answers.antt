@@ -3,38 +3,38 @@ use Rattle.cleaner.specs.Passes.{images_in, ids_in, seen_len}
 use Rattle.cleaner.specs.Walks.{GoesTo, Treats}
 use Rattle.cleaner.proofs.Places.{place_at}
 use Rattle.cleaner.proofs.Steps.{own_room, after_there, after_cursor, copies, stays_pass}
-use Rattle.cleaner.proofs.pass.Pass.copy_one.Goals.{In_ok-copied, After-go_on}
+use Rattle.cleaner.proofs.pass.Pass.copy_one.Goals.{After-treat-copied, After-go_on}
 use Rattle.cleaner.proofs.pass.Pass.copy_one.Goals as goal
 
-pub treat-requires-clause-room : goal.treat-requires-clause-room
-treat-requires-clause-room c =
+pub treat-copied-requires-clause-room : goal.treat-copied-requires-clause-room
+treat-copied-requires-clause-room c =
     let images = c.args.images.now.images in
     rw c.as_slice-victims.ensures (own_room c.args.index.now.held.seed c.args.self.now images c.requires.pass
     c.requires.more c.args.images.now.segment (ids_in images c.args.head c.args.new) c.args.index.now.held
     c.requires.room)
 
 -- the entry was treated
-treated : (c : In_ok-copied)
+treated : (c : After-treat-copied)
     → Treats (ids_in c.args.images.now.images c.args.head c.args.new) c.args.images.now.images c.args.index.now.held
     (place_at (get_or c.args.self.now.victims c.args.self.now.cursor.victim 0) c.args.self.now.cursor.at)
-    c.args.self.now.survivor c.in_ok-copied.copied (seen_len c.in-Some.seen) c.treat.new.images.images
-    c.treat.new.index.held
+    c.args.self.now.survivor c.treat-copied.result (seen_len c.in-Some.seen) c.treat-copied.new.images.images
+    c.treat-copied.new.index.held
 treated c =
     let p = c.args.self.now in
     let images = c.args.images.now.images in
     subst (λ (vs : List ℕ). Treats (ids_in images c.args.head c.args.new) images c.args.index.now.held
-    (place_at (get_or vs p.cursor.victim 0) p.cursor.at) p.survivor c.in_ok-copied.copied (seen_len c.in-Some.seen)
-    c.treat.new.images.images c.treat.new.index.held) c.as_slice-victims.ensures c.in_ok-copied.ensures.treated
+    (place_at (get_or vs p.cursor.victim 0) p.cursor.at) p.survivor c.treat-copied.result (seen_len c.in-Some.seen)
+    c.treat-copied.new.images.images c.treat-copied.new.index.held) c.as_slice-victims.ensures c.treat-copied.ensures.treated
 
 -- and the cursor goes on behind it
 gone : (c : After-go_on)
-    → GoesTo c.treat.new.index.held.seed (images_in c.treat.new.images.images) c.args.self.now.victims
+    → GoesTo c.treat-copied.new.index.held.seed (images_in c.treat-copied.new.images.images) c.args.self.now.victims
     (record { victim = c.args.self.now.cursor.victim; at = c.args.self.now.cursor.at + seen_len c.in-Some.seen })
     c.go_on.new.cursor
 gone c =
     let p = c.args.self.now in
-    let seed = c.treat.new.index.held.seed in
-    let images = images_in c.treat.new.images.images in
+    let seed = c.treat-copied.new.index.held.seed in
+    let images = images_in c.treat-copied.new.images.images in
     let from = subst (λ (n : ℕ). GoesTo seed images c.as_slice-victims.result.now
     (record { victim = p.cursor.victim; at = p.cursor.at + n }) c.go_on.new.cursor) c.len.ensures c.go_on.ensures in
     subst (λ (vs : List ℕ). GoesTo seed images vs
@@ -46,24 +46,24 @@ go_on-requires-clause-there c =
     let images = c.args.images.now.images in
     let held = c.args.index.now.held in
     rw c.as_slice-victims.ensures (after_there held.seed c.args.self.now images c.requires.pass c.requires.more
-    (ids_in images c.args.head c.args.new) held refl c.in_ok-copied.copied (seen_len c.in-Some.seen)
-    c.treat.new.images.images c.treat.new.index.held (treated (goal.at.go_on-requires-clause-there c).In_ok-copied))
+    (ids_in images c.args.head c.args.new) held refl c.treat-copied.result (seen_len c.in-Some.seen)
+    c.treat-copied.new.images.images c.treat-copied.new.index.held (treated (goal.at.go_on-requires-clause-there c).After-treat-copied))
 
 pub go_on-requires-clause-cursor : goal.go_on-requires-clause-cursor
 go_on-requires-clause-cursor c =
     let images = c.args.images.now.images in
     let held = c.args.index.now.held in
     rw c.as_slice-victims.ensures (after_cursor held.seed c.args.self.now images c.requires.pass c.requires.more
-    (ids_in images c.args.head c.args.new) held refl c.in_ok-copied.copied (seen_len c.in-Some.seen)
-    c.treat.new.images.images c.treat.new.index.held (treated (goal.at.go_on-requires-clause-cursor c).In_ok-copied))
+    (ids_in images c.args.head c.args.new) held refl c.treat-copied.result (seen_len c.in-Some.seen)
+    c.treat-copied.new.images.images c.treat-copied.new.index.held (treated (goal.at.go_on-requires-clause-cursor c).After-treat-copied))
 
 pub returns-clause-copied : goal.returns-clause-copied
 returns-clause-copied c =
     let images = c.args.images.now.images in
     let held = c.args.index.now.held in
     copies held.seed c.args.self.now images c.requires.pass c.requires.more (ids_in images c.args.head c.args.new)
-    held refl c.in_ok-copied.copied (seen_len c.in-Some.seen) c.treat.new.images.images c.treat.new.index.held
-    (treated (goal.at.returns-clause-copied c).In_ok-copied) c.go_on.new.cursor
+    held refl c.treat-copied.result (seen_len c.in-Some.seen) c.treat-copied.new.images.images c.treat-copied.new.index.held
+    (treated (goal.at.returns-clause-copied c).After-treat-copied) c.go_on.new.cursor
     (gone (goal.at.returns-clause-copied c).After-go_on)
 
 pub returns-clause-pass : goal.returns-clause-pass
@@ -71,6 +71,6 @@ returns-clause-pass c =
     let images = c.args.images.now.images in
     let held = c.args.index.now.held in
     stays_pass held.seed c.args.self.now images c.requires.pass c.requires.more (ids_in images c.args.head c.args.new)
-    held refl c.in_ok-copied.copied (seen_len c.in-Some.seen) c.treat.new.images.images c.treat.new.index.held
-    (treated (goal.at.returns-clause-pass c).In_ok-copied) c.go_on.new.cursor
+    held refl c.treat-copied.result (seen_len c.in-Some.seen) c.treat-copied.new.images.images c.treat-copied.new.index.held
+    (treated (goal.at.returns-clause-pass c).After-treat-copied) c.go_on.new.cursor
     (gone (goal.at.returns-clause-pass c).After-go_on)

@@ -1,6 +1,6 @@
 use Rattle.std.proofs.Common.{sym}
-use Rattle.entry.proofs.IdLemmas.{length-ids_at}
+use Rattle.entry.proofs.DigestLemmas.{length-digest_at}
 use Rattle.entry.proofs.view.DigestRef.count.Goals as goal
 
 pub returns : goal.returns
-returns c = sym (length-ids_at c.args.self.now.count 5 c.args.self.now.text.now)
+returns c = let d = c.args.self.now in sym (length-digest_at d.has_lengths d.count d.text.now)

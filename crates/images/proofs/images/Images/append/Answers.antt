@@ -6,7 +6,7 @@ use Rattle.entry.specs.Text.{text_of}
 use Rattle.entry.specs.View.{shown}
 use Rattle.segment.specs.declared.fault.AppendFault.TheVariants.{Full}
 use Rattle.images.specs.Sorted.{IsWhole}
-use Rattle.images.proofs.Counts.{appended_valid, appended_is, len_is}
+use Rattle.images.proofs.Counts.{appended_valid, appended_is, len_is, read_room}
 use Rattle.images.proofs.images.Images.append.Goals as goal
 
 pub invariant_of-self : goal.invariant_of-self
@@ -44,3 +44,10 @@ returns-clause-full c =
     rw (← c.self.view_is)
     (subst (λ (n : ℕ). IsErrOf c.append.result Full ↔ (c.self.inside.segment
     < n + length (text_of (map shown c.args.unit.now)))) (sym len) c.append.ensures.full)
+
+pub append-requires-clause-room : goal.append-requires-clause-room
+append-requires-clause-room c =
+    let place = rw c.as_slice.ensures.value at c.in-Some.ensures.found in
+    let whole = subst (λ (w : ImagesValue). IsWhole w.images c.args.id) (sym c.self.view_is) c.requires.whole in
+    read_room (the_view c.self.inside) c.self.invariant.1 c.args.id c.in-Some.at place c.index_mut.result.now
+    c.index_mut.ensures.value whole

@@ -1,6 +1,6 @@
 use Rattle.std.proofs.Common.{List, ap, sym}
 use Rattle.images.specs.contracts.images.Images.{the_view}
-use Rattle.images.specs.declared.image.Image.{Image}
+use Rattle.images.specs.Image.{Image}
 use Rattle.images.proofs.Listing.{absent_from_none, without_absent}
 use Rattle.images.proofs.Counts.{without_valid, without_is}
 use Rattle.images.proofs.images.Images.drop_segment.Goals as goal

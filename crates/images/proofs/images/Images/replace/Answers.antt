@@ -1,6 +1,6 @@
 use Rattle.std.proofs.Common.{◌≡◌, ◌+◌, ◌-◌, ◌≤◌, ℕ, List, length, ap, refl, ◌∙◌}
 use Rattle.images.specs.contracts.images.Images.{the_view}
-use Rattle.images.specs.declared.image.Image.{Image}
+use Rattle.images.specs.Image.{Image}
 use Rattle.images.specs.Images.{count_of, used_seglets}
 use Rattle.std.specs.Int.{div_ceil}
 use Rattle.entry.specs.Text.{text_of}
@@ -22,7 +22,7 @@ invariant_of-self-2 c =
     (length (text_of c.args.segment)) v.seglet ≤ v.seglets =
     enough v x (length (text_of c.args.segment)) c.self.inside.used c.count_of.result c.seglets_of-count.result
     c.self.invariant.0 c.count_of.ensures count own c.self.invariant.1.fits c.if-count-self.false in
-    rw (c.self.invariant.0, c.count_of.ensures, count)
+    rw (c.replace.ensures, c.self.invariant.0, c.count_of.ensures, count)
     (replaced_valid v c.self.invariant.1 c.args.id c.in-Some.at place x c.index_mut-image.ensures.value
     c.args.segment len fits)
 
@@ -31,7 +31,7 @@ returns-clause-ok c =
     let place = rw c.as_slice.ensures.value at c.in-Some.ensures.found in
     let images = changed_is (the_view c.self.inside) c.self.invariant.1 c.args.id c.in-Some.at place
     c.index_mut-image.result.now c.index_mut-image.ensures.value (replaced_by c.args.segment) in
-    rw (← c.self.view_is) (ap (λ (xs : List Image). record (the_view c.self.inside) { images = xs }) images)
+    rw (← c.self.view_is, c.replace.ensures) (ap (λ (xs : List Image). record (the_view c.self.inside) { images = xs }) images)
 
 pub returns-then-count-self-clause-no_room : goal.returns-then-count-self-clause-no_room
 returns-then-count-self-clause-no_room c =

@@ -1,6 +1,6 @@
 use Rattle.std.proofs.Common.{List, ap, sym}
 use Rattle.images.specs.contracts.images.Images.{the_view}
-use Rattle.images.specs.declared.image.Image.{Image}
+use Rattle.images.specs.Image.{Image}
 use Rattle.images.specs.Steps.{trimmed}
 use Rattle.images.proofs.Listing.{absent_from_none, changed_absent}
 use Rattle.images.proofs.Counts.{trimmed_valid, changed_is}
@@ -16,7 +16,7 @@ returns-in_default c =
 pub invariant_of-self : goal.invariant_of-self
 invariant_of-self c =
     let place = rw c.as_slice.ensures.value at c.in-Some.ensures.found in
-    rw (c.trim.ensures, c.self.invariant.0, c.count_of-before.ensures, c.count_of-count.ensures)
+    rw (c.trim.ensures, c.self.invariant.0, c.count_of-before.ensures, c.seglets_of-count.ensures, c.bytes_len.ensures)
     (trimmed_valid (the_view c.self.inside) c.self.invariant.1 c.args.id c.in-Some.at place c.index_mut-image.result.now
     c.index_mut-image.ensures.value)
 

@@ -1,12 +1,15 @@
-use Rattle.std.proofs.Common.{◌≡◌, sym, subst}
+use Rattle.std.proofs.Common.{◌≡◌, refl, sym, subst}
 use Rattle.std.specs.Prelude.{Result, Ok, Err, IfOk, OnOk, OnErr}
 use Rattle.replica.specs.Picture.{FleetState}
 use Rattle.master_state.specs.declared.step.Refusal.{Refusal}
+use Rattle.master_state.specs.declared.step.Step.TheVariants.{BeginRoll}
 use Rattle.master_state.specs.declared.step.StepAnswer.{StepAnswer}
 use Rattle.master_state.specs.Data.{MasterData}
 use Rattle.master_state.specs.Invariant.{IsCore}
 use Rattle.master_state.specs.Steps.{BeginsRoll, MayRollNow}
 use Rattle.master.specs.Invariant.{IsWellKept}
+use Rattle.master.specs.Steps.{Accepts}
+use Rattle.master.specs.World.{world_of}
 use Rattle.master.proofs.Rolled.{rolled_kept}
 use Rattle.master.proofs.master.Master.begin_roll.Goals as goal
 
@@ -22,3 +25,15 @@ invariant_of-self g c =
     kept_then c.self.inside.core c.begin_roll.new.self (g.F.Fleet.state c.self.inside.fleet)
     c.begin_roll.result c.self.invariant
     c.begin_roll.ensures.begun c.begin_roll.ensures.may c.begin_roll.ensures.valid c.begin_roll.ensures.err
+
+-- what the core says of an answer, of the world
+accepts : (d e : MasterData) (f : FleetState) (result : Result StepAnswer Refusal)
+    → IfOk result (λ answer. BeginsRoll d answer e)
+    → IfOk result (λ answer. Accepts (world_of d f) BeginRoll answer (world_of e f))
+accepts d e f (Ok answer) is = (is, refl)
+accepts d e f (Err r) is = tt
+
+pub returns-clause-accepted : goal.returns-clause-accepted
+returns-clause-accepted g c =
+    rw (← c.self.view_is) (accepts c.self.inside.core c.begin_roll.new.self (g.F.Fleet.state c.self.inside.fleet)
+    c.begin_roll.result c.begin_roll.ensures.begun)

@@ -10,4 +10,4 @@ invariant_of-master g c =
     subst (λ (m : MasterData). IsWellKept m (g.F.Fleet.state c.args.fleet)) (sym c.in-Ok.ensures.made)
     (fresh_kept c.args.config (g.F.Fleet.state c.args.fleet) c.requires.config
     (subst IsCore c.in-Ok.ensures.made c.in-Ok.ensures.valid)
-    c.requires.backups c.requires.none)
+    c.requires.backups c.requires.none c.requires.least)

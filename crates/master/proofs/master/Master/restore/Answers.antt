@@ -15,4 +15,4 @@ invariant_of-loading g c =
     (restored_loaded c.args.config c.args.safe (g.F.Fleet.state c.args.fleet) c.requires.config
     (subst IsCore made c.in-Ok.ensures.valid)
     (subst (λ (m : MasterData). log_of m ≡ restored (log_config c.args.config) c.args.safe) made c.in-Ok.ensures.log)
-    (subst IsBare made c.in-Ok.ensures.bare) c.requires.backups c.requires.none)
+    (subst IsBare made c.in-Ok.ensures.bare) c.requires.backups c.requires.none c.requires.least)

@@ -1,16 +1,22 @@
-use Rattle.std.proofs.Common.{◌≡◌, ◌+◌, ◌<◌, ◌≤◌, true, List, ℕ, length, sym, ap, subst, ◌∙◌, arith}
-use Rattle.std.specs.Prelude.{Option, Some, IfSome, IsSome}
+use Rattle.std.proofs.Common.{◌≡◌, ◌+◌, ◌<◌, ◌≤◌, true, false, List, ℕ, length, refl, sym, ap, subst, ◌∙◌, arith}
+use Rattle.std.specs.Prelude.{Option, Some, None, IfSome, IsSome}
 use Rattle.std.specs.Vec.{vec_capacity}
 use Rattle.cleaner.specs.declared.pass.Pass.{Pass}
-use Rattle.cleaner.specs.Passes.{ids_in, CopiesOne}
+use Rattle.cleaner.specs.Passes.{ids_in, is_at_end, CopiesOne}
 use Rattle.images.specs.Images.{ImagesValue}
 use Rattle.master_state.specs.contracts.state.Core.{the_view}
+use Rattle.master_state.specs.Causes.{copy_refusal}
 use Rattle.master_state.specs.Data.{MasterData}
 use Rattle.master_state.specs.Invariant.{IsCore, AreImagesOf}
 use Rattle.master_state.specs.Log.{log_set_ids}
 use Rattle.master_space.proofs.CopiedCore.{copied_core}
 use Rattle.master_space.proofs.CopiedImages.{length_same}
 use Rattle.master_space.proofs.cleaning.CoreCleans.copy.Goals as goal
+
+-- no test refused it
+no_refusal : (d : MasterData) (p : Pass) → d.is_halted ≡ false → d.pass ≡ Some p → is_at_end p ≡ false
+    → copy_refusal d ≡ None
+no_refusal d p running opened more = rw (running, opened, more) refl
 
 module _ (c : goal.After-copy_answer) where
   abbrev d : MasterData
@@ -20,38 +26,38 @@ module _ (c : goal.After-copy_answer) where
   p = c.in-Some.pass
 
   abbrev q : Pass
-  q = c.copy_one.new.self
+  q = c.copy_one-copied.new.self
 
   opened : d.pass ≡ Some p
   opened = c.in-Some.is
 
-  one : CopiesOne (log_set_ids d) p d.closed d.index c.in_ok-copied.copied q c.copy_one.new.images.images
-      c.copy_one.new.index.held
+  one : CopiesOne (log_set_ids d) p d.closed d.index c.copy_one-copied.result q c.copy_one-copied.new.images.images
+      c.copy_one-copied.new.index.held
   one =
-      subst (λ (ids : List ℕ). CopiesOne ids p d.closed d.index c.in_ok-copied.copied q c.copy_one.new.images.images
-      c.copy_one.new.index.held)
-      (λ i. ids_in d.closed (c.id-head.ensures.id i) (c.opening_id-new.ensures i)) c.in_ok-copied.ensures.copied
+      subst (λ (ids : List ℕ). CopiesOne ids p d.closed d.index c.copy_one-copied.result q c.copy_one-copied.new.images.images
+      c.copy_one-copied.new.index.held)
+      (λ i. ids_in d.closed (c.id-head.ensures.id i) (c.opening_id-new.ensures i)) c.copy_one-copied.ensures.copied
 
   valid_then : IsCore (record d {
-    closed = c.copy_one.new.images.images;
-    index = c.copy_one.new.index.held;
+    closed = c.copy_one-copied.new.images.images;
+    index = c.copy_one-copied.new.index.held;
     pass = Some q;
   })
   valid_then =
-      copied_core d c.self.invariant.2 p q c.in_ok-copied.copied c.copy_one.new.images.images
-      c.copy_one.new.index.held opened
-      (sym c.is_at_end.ensures ∙ c.if-is_at_end.false) c.show_valid.ensures.rising one c.in_ok-copied.ensures.pass
+      copied_core d c.self.invariant.2 p q c.copy_one-copied.result c.copy_one-copied.new.images.images
+      c.copy_one-copied.new.index.held opened
+      (sym c.is_at_end.ensures ∙ c.if-is_at_end.false) c.show_valid.ensures.rising one c.copy_one-copied.ensures.pass
 
-  room_then : IsSome d.head.roll → length c.copy_one.new.images.images < c.copy_one.new.images.room
+  room_then : IsSome d.head.roll → length c.copy_one-copied.new.images.images < c.copy_one-copied.new.images.room
   room_then some =
       let was = c.self.invariant.0 some in
       let len = ap length one.survivor ∙ length_same d.closed p.survivor one.entry _ in
-      let room = ap (λ (v : ImagesValue). v.room) c.in_ok-copied.ensures.images in
+      let room = ap (λ (v : ImagesValue). v.room) c.copy_one-copied.ensures.images in
       omega (arith, was, len, room)
 
-  sizes_then : AreImagesOf d.config c.copy_one.new.images
+  sizes_then : AreImagesOf d.config c.copy_one-copied.new.images
   sizes_then = (let own = c.self.invariant.1 in
-      subst (AreImagesOf d.config) (sym c.in_ok-copied.ensures.images)
+      subst (AreImagesOf d.config) (sym c.copy_one-copied.ensures.images)
       (record { segment = own.segment; seglet = own.seglet; seglets = own.seglets }))
 
   waiting_then : q.is_committing ≡ true → length d.waiting + length q.victims ≤ vec_capacity c.self.inside.waiting
@@ -67,3 +73,16 @@ invariant_of-self-2 c = (λ some. room_then c some, sizes_then c, valid_then c, 
 
 pub returns-clause-valid : goal.returns-clause-valid
 returns-clause-valid c = valid_then c
+
+pub returns-clause-copied : goal.returns-clause-copied
+returns-clause-copied c = rw (← c.self.view_is) (record {
+  passed = no_refusal (d c) (p c) c.if-self.false (opened c) (sym c.is_at_end.ensures ∙ c.if-is_at_end.false);
+  pass = p c;
+  after = q c;
+  copied = c.copy_one-copied.result;
+  opened = opened c;
+  treats = one c;
+  told = c.copy_answer.ensures;
+  log = refl;
+  rest = refl;
+})

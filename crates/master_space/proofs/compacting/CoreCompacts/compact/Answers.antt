@@ -55,7 +55,7 @@ replace-requires-clause-within c =
     (sym c.admit_compaction.ensures ∙ ap result_err c.in_ok-admit_compaction.was) in
     let image = image_is d core c.args.id none c.get.result c.in-Some.image c.get.ensures c.in-Some.is in
     fits d core c.args.id none c.self.inside.closed refl c.show_valid.ensures c.self.invariant.1
-    (ids_in d.closed ++ c.id.result ∷ option_to_list c.opening_id.result) c.in-Some.image.now c.in_ok-segment.segment
+    (ids_in d.closed ++ c.id.result ∷ option_to_list c.opening_id.result) c.in-Some.image c.in_ok-segment.segment
     c.compact.new.index.held
     (ids_are d c.id.result c.opening_id.result c.id.ensures.id c.opening_id.ensures) image
     c.in_ok-segment.ensures.compacted
@@ -68,7 +68,7 @@ unreachable-requires-in_default-replace c =
     (sym c.admit_compaction.ensures ∙ ap result_err c.in_ok-admit_compaction.was) in
     let image = image_is d core c.args.id none c.get.result c.in-Some.image c.get.ensures c.in-Some.is in
     never_refused d core c.args.id none c.self.inside.closed refl c.show_valid.ensures c.self.invariant.1
-    (ids_in d.closed ++ c.id.result ∷ option_to_list c.opening_id.result) c.in-Some.image.now c.in_ok-segment.segment
+    (ids_in d.closed ++ c.id.result ∷ option_to_list c.opening_id.result) c.in-Some.image c.in_ok-segment.segment
     c.compact.new.index.held
     (ids_are d c.id.result c.opening_id.result c.id.ensures.id c.opening_id.ensures) image
     c.in_ok-segment.ensures.compacted
@@ -83,19 +83,19 @@ invariant_of-self-2 c =
     let image = image_is d core c.args.id none c.get.result c.in-Some.image c.get.ensures c.in-Some.is in
     let ids = ids_in d.closed ++ c.id.result ∷ option_to_list c.opening_id.result in
     let listed = ids_are d c.id.result c.opening_id.result c.id.ensures.id c.opening_id.ensures in
-    let moved = index_then d core ids c.args.id c.in-Some.image.now c.compact.new.index.held image
+    let moved = index_then d core ids c.args.id c.in-Some.image c.compact.new.index.held image
     c.in_ok-segment.ensures.followed in (
       λ some. room_then d core c.args.id none c.self.inside.closed refl c.show_valid.ensures c.self.invariant.1 ids
-          c.in-Some.image.now
+          c.in-Some.image
           c.in_ok-segment.segment c.compact.new.index.held listed image c.in_ok-segment.ensures.compacted moved
           c.replace.new.self
           c.in-Ok.ensures.ok (c.self.invariant.0 some),
       sizes_then d core c.args.id none c.self.inside.closed refl c.show_valid.ensures c.self.invariant.1 ids
-          c.in-Some.image.now
+          c.in-Some.image
           c.in_ok-segment.segment c.compact.new.index.held listed image c.in_ok-segment.ensures.compacted moved
           c.replace.new.self c.in-Ok.ensures.ok,
       compacted_valid d core c.args.id none c.self.inside.closed refl c.show_valid.ensures c.self.invariant.1 ids
-          c.in-Some.image.now
+          c.in-Some.image
           c.in_ok-segment.segment c.compact.new.index.held listed image c.in_ok-segment.ensures.compacted moved
           c.replace.new.self c.in-Ok.ensures.ok
           law,
@@ -111,10 +111,10 @@ returns-clause-valid c =
     let image = image_is d core c.args.id none c.get.result c.in-Some.image c.get.ensures c.in-Some.is in
     let ids = ids_in d.closed ++ c.id.result ∷ option_to_list c.opening_id.result in
     let listed = ids_are d c.id.result c.opening_id.result c.id.ensures.id c.opening_id.ensures in
-    let moved = index_then d core ids c.args.id c.in-Some.image.now c.compact.new.index.held image
+    let moved = index_then d core ids c.args.id c.in-Some.image c.compact.new.index.held image
     c.in_ok-segment.ensures.followed in
     compacted_valid d core c.args.id none c.self.inside.closed refl c.show_valid.ensures c.self.invariant.1 ids
-    c.in-Some.image.now
+    c.in-Some.image
     c.in_ok-segment.segment c.compact.new.index.held listed image c.in_ok-segment.ensures.compacted moved
     c.replace.new.self c.in-Ok.ensures.ok law
 
@@ -127,11 +127,11 @@ returns-clause-compacted c =
     let image = image_is d core c.args.id none c.get.result c.in-Some.image c.get.ensures c.in-Some.is in
     let ids = ids_in d.closed ++ c.id.result ∷ option_to_list c.opening_id.result in
     let listed = ids_are d c.id.result c.opening_id.result c.id.ensures.id c.opening_id.ensures in
-    let moved = index_then d core ids c.args.id c.in-Some.image.now c.compact.new.index.held image
+    let moved = index_then d core ids c.args.id c.in-Some.image c.compact.new.index.held image
     c.in_ok-segment.ensures.followed in
     rw (← c.self.view_is)
     (compacts d core c.args.id none c.self.inside.closed refl c.show_valid.ensures c.self.invariant.1 ids
-    c.in-Some.image.now
+    c.in-Some.image
     c.in_ok-segment.segment c.compact.new.index.held listed image c.in_ok-segment.ensures.compacted moved
     c.replace.new.self c.in-Ok.ensures.ok
     (length c.bytes.result.now) (ap (λ (bytes : List ℕ). length bytes) c.bytes.ensures.text))

@@ -3,7 +3,7 @@ use Rattle.std.specs.Prelude.{None, IsSome, if◌then◌else◌}
 use Rattle.std.specs.List.Sorted.{IsStrictlyIncreasing}
 use Rattle.std.specs.Option.{option_to_list}
 use Rattle.std.specs.Result.{result_err}
-use Rattle.images.specs.declared.image.Image.{Image}
+use Rattle.images.specs.Image.{Image}
 use Rattle.images.specs.Images.{ImagesValue}
 use Rattle.log_head.specs.Head.{IsHeadValue}
 use Rattle.log_head.specs.Steps.{start_after, with_roll}
@@ -14,12 +14,13 @@ use Rattle.master_state.specs.Budget.{is_ready, victims_of, survivors_of}
 use Rattle.master_state.specs.Causes.{roll_refusal}
 use Rattle.master_state.specs.Data.{MasterData}
 use Rattle.master_state.specs.Invariant.{IsCore, AreImagesOf}
-use Rattle.master_state.specs.Steps.{BeginsRoll, MayRollNow, start_now, rolling_data}
+use Rattle.master_state.specs.Steps.{BeginsRoll, MayRollNow, survivor_in, survivor_bytes, start_now, rolling_data}
 use Rattle.std.proofs.lemmas.Grind.{div_ceil_times}
 use Rattle.std.proofs.lemmas.Result.{err_from_is_err_and}
 use Rattle.master_state.proofs.Refusals.{sizes_of}
 use Rattle.master_space.proofs.RollLaws.{roll_begins, may_roll_now}
 use Rattle.master_space.proofs.RollStarts.{new_ids, pass_now, start_now_is, start_parts, pass_marked, room_marked}
+use Rattle.master_space.proofs.SurvivorLens.{entering_fits}
 use Rattle.master_space.proofs.RollStarts.{new_rise, new_count, rolled_core}
 use Rattle.master_space.proofs.rolling.CoreRolls.begin_roll.Goals as goal
 
@@ -41,17 +42,30 @@ module _ (c : goal.After-begin_roll-arg-3-1) where
   ready : is_ready d ≡ c.is_ready-is_commit.result
   ready = ap is_ready c.self.view_is ∙ sym c.is_ready-is_commit.ensures
 
+  -- the images have not changed but for their room
+  closed_same : c.take_spare.new.self.images ≡ d.closed
+  closed_same = ap (λ (v : ImagesValue). v.images)
+      (kept_closed c.self.inside.closed c.reserve.new.self c.take_spare.new.self c.reserve.ensures.same
+      c.take_spare.ensures)
+
+  len_is : c.entering_len.result ≡ (if is_ready d then survivor_bytes d else 0)
+  len_is =
+      c.entering_len.ensures
+      ∙ (λ i. if sym ready i then survivor_in c.self.inside.pass (closed_same i) else 0)
+
   -- the next head begins as it is to
   start_is : start_after d.head c.leaving_victims-victims.result.now
-      (option_to_list c.entering_survivor.result) d.next d.safe ≡ start_now d
+      (option_to_list c.entering_survivor.result) c.entering_len.result d.next d.safe ≡ start_now d
   start_is =
       start_parts d c.leaving_victims-victims.result.now (option_to_list c.entering_survivor.result)
+      c.entering_len.result
       (c.leaving_victims-victims.ensures ∙ ap (λ (b : Bool). if b then victims_of d.pass else []) (sym ready))
       (c.entering_survivor.ensures ∙ ap (λ (b : Bool). if b then survivors_of d.pass else []) (sym ready))
+      len_is
 
   ids_are : new_ids d
       ≡ (start_after d.head c.leaving_victims-victims.result.now
-      (option_to_list c.entering_survivor.result) d.next d.safe).others
+      (option_to_list c.entering_survivor.result) c.entering_len.result d.next d.safe).others
   ids_are = ap (λ (n : Start). n.others) (sym (start_is ∙ start_now_is d))
 
 pub begin_roll-requires-clause-rise : goal.begin_roll-requires-clause-rise
@@ -62,6 +76,12 @@ begin_roll-requires-clause-rise c =
 pub begin_roll-requires-clause-count : goal.begin_roll-requires-clause-count
 begin_roll-requires-clause-count c = subst (λ (ids : List ℕ). length ids < 262144) (ids_are c)
     (new_count (d c) (core c) (passed c))
+
+pub begin_roll-requires-clause-len : goal.begin_roll-requires-clause-len
+begin_roll-requires-clause-len c =
+    entering_fits (d c) (core c) c.entering_survivor.result c.entering_len.result
+    (c.entering_survivor.ensures ∙ ap (λ (b : Bool). if b then survivors_of (d c).pass else []) (sym (ready c)))
+    (len_is c)
 
 module _ (c : goal.After-self-1) where
   abbrev d' : MasterData
@@ -76,13 +96,26 @@ module _ (c : goal.After-self-1) where
   ready' : is_ready d' ≡ c.is_ready-is_commit.result
   ready' = ap is_ready c.self.view_is ∙ sym c.is_ready-is_commit.ensures
 
+  -- the images have not changed but for their room
+  closed_same' : c.take_spare.new.self.images ≡ d'.closed
+  closed_same' = ap (λ (v : ImagesValue). v.images)
+      (kept_closed c.self.inside.closed c.reserve.new.self c.take_spare.new.self c.reserve.ensures.same
+      c.take_spare.ensures)
+
+  len_is' : c.entering_len.result ≡ (if is_ready d' then survivor_bytes d' else 0)
+  len_is' =
+      c.entering_len.ensures
+      ∙ (λ i. if sym ready' i then survivor_in c.self.inside.pass (closed_same' i) else 0)
+
   -- the next head begins as it is to
   start_is' : start_after d'.head c.leaving_victims-victims.result.now
-      (option_to_list c.entering_survivor.result) d'.next d'.safe ≡ start_now d'
+      (option_to_list c.entering_survivor.result) c.entering_len.result d'.next d'.safe ≡ start_now d'
   start_is' =
       start_parts d' c.leaving_victims-victims.result.now (option_to_list c.entering_survivor.result)
+      c.entering_len.result
       (c.leaving_victims-victims.ensures ∙ ap (λ (b : Bool). if b then victims_of d'.pass else []) (sym ready'))
       (c.entering_survivor.ensures ∙ ap (λ (b : Bool). if b then survivors_of d'.pass else []) (sym ready'))
+      len_is'
 
   abbrev begun : c.begin_roll.new.self ≡ with_roll d'.head d'.config.master (start_now d')
   begun = c.in_ok-begin_roll.ensures.begun ∙ ap (with_roll d'.head d'.config.master) start_is'

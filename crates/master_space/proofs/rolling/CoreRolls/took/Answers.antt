@@ -11,11 +11,10 @@ use Rattle.log_head.specs.Head.{HeadValue, IsHeadValue}
 use Rattle.log_head.specs.Next.{IsNextPush}
 use Rattle.log_head.specs.Steps.{with_new_replica}
 use Rattle.master_state.specs.contracts.state.Core.{the_view}
-use Rattle.images.specs.declared.image.Image.{Image}
 use Rattle.master_state.specs.Data.{MasterData}
 use Rattle.images.specs.Images.{ImagesValue}
 use Rattle.master_space.specs.Ends.{closed_left, waiting_left}
-use Rattle.master_state.specs.Images.{closed_image}
+use Rattle.images.specs.Image.{Image, closed_image}
 use Rattle.master_state.specs.Invariant.{IsCore, AreImagesOf}
 use Rattle.master_state.specs.Budget.{seglets_of}
 use Rattle.master_state.specs.Steps.{taken_data}
@@ -126,9 +125,9 @@ module _ (c : goal.After-end_pass) where
   waits-k : IsNextPush k.head (Some c.args.next)
   waits-k = subst (λ (x : MasterData). IsNextPush x.head (Some c.args.next)) (sym c.self.view_is) c.requires
 
-  cs : c.add_reserved.new.self.images ≡ added (closed_image k.head.id c.in-Some.image) k.closed
+  cs : c.add_closed.new.self.images ≡ added (closed_image k.head.id c.in-Some.image) k.closed
   cs =
-      ap (λ (v : ImagesValue). v.images) c.add_reserved.ensures
+      ap (λ (v : ImagesValue). v.images) c.add_closed.ensures
       ∙ ap (λ (id : ℕ). added (closed_image id c.in-Some.image) k.closed) c.id-id.ensures.id
 
   abbrev left : MasterData
@@ -174,7 +173,7 @@ module _ (c : goal.After-end_pass) where
   sizes_then : AreImagesOf k.config c.end_pass.new.closed
   sizes_then =
       subst (AreImagesOf k.config) (sym c.end_pass.ensures.closed)
-      (let own = subst (AreImagesOf k.config) (sym c.add_reserved.ensures) (let first = c.self.invariant.1 in
+      (let own = subst (AreImagesOf k.config) (sym c.add_closed.ensures) (let first = c.self.invariant.1 in
       record { segment = first.segment; seglet = first.seglet; seglets = first.seglets }) in
       record { segment = own.segment; seglet = own.seglet; seglets = own.seglets })
 
@@ -197,7 +196,7 @@ pub returns-in-Some-clause-valid : goal.returns-in-Some-clause-valid
 returns-in-Some-clause-valid c = core_then c
 
 -- the old image goes to the closed ones: none of them has its number, and its seglets are free
-module _ (c : goal.After-add_reserved-arg-1) where
+module _ (c : goal.After-add_closed-arg-1) where
   abbrev w : MasterData
   w = the_view c.self.inside
 
@@ -216,20 +215,20 @@ module _ (c : goal.After-add_reserved-arg-1) where
       c.close_old.result
       c.close_old.ensures.closed c.close_old.ensures.old c.close_old.ensures.valid
 
-pub add_reserved-requires-clause-other : goal.add_reserved-requires-clause-other
-add_reserved-requires-clause-other c =
+pub add_closed-requires-clause-other : goal.add_closed-requires-clause-other
+add_closed-requires-clause-other c =
     subst (λ (id : ℕ). image_of c.self.inside.closed.images id ≡ None) (sym c.id-id.ensures.id)
     (absent (w c).closed (w c).head.id (no_head (w c) c.self.invariant.2))
 
-pub add_reserved-requires-clause-within : goal.add_reserved-requires-clause-within
-add_reserved-requires-clause-within c =
+pub add_closed-requires-clause-within : goal.add_closed-requires-clause-within
+add_closed-requires-clause-within c =
     rw (image_is c, c.self.invariant.1.segment) c.self.invariant.2.within
 
-pub add_reserved-requires-clause-room : goal.add_reserved-requires-clause-room
-add_reserved-requires-clause-room c = c.self.invariant.0 (has_roll c)
+pub add_closed-requires-clause-room : goal.add_closed-requires-clause-room
+add_closed-requires-clause-room c = c.self.invariant.0 (has_roll c)
 
-pub add_reserved-requires-clause-free : goal.add_reserved-requires-clause-free
-add_reserved-requires-clause-free c =
+pub add_closed-requires-clause-free : goal.add_closed-requires-clause-free
+add_closed-requires-clause-free c =
     free_again c.self.inside.config c.self.inside.closed (closed_image c.id-id.result c.in-Some.image)
     c.self.invariant.1
     (subst (λ (es : List Entry). seglets_of c.self.inside.config es

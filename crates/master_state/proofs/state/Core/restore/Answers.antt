@@ -21,7 +21,7 @@ invariant_of-core c =
     let history : c.new.result.records ≡ [] = search rules in
     let waiting : c.new-2.result.items ≡ [] = search rules in
     let head : c.in_ok-head.head ≡ fresh_head c.args.config.master c.args.config.replicas
-    (lone_start c.args.safe) = search rules in
+    (lone_start c.args.config.format c.args.safe) = search rules in
     let made = c.new-closed.ensures in
     let sizes : AreImagesOf c.args.config c.new-closed.result = record {
       segment = ap (λ (v : ImagesValue). v.segment) made;
@@ -42,6 +42,6 @@ returns-clause-log c =
     let nothing : c.nothing.result.objects ≡ [] = search rules in
     let history : c.new.result.records ≡ [] = search rules in
     let head : c.in_ok-head.head ≡ fresh_head c.args.config.master c.args.config.replicas
-    (lone_start c.args.safe) = search rules in
+    (lone_start c.args.config.format c.args.safe) = search rules in
     rw (head, history, nothing)
     (restored_log c.args.config c.args.safe (subst (λ (h : HeadValue). IsHeadValue h) head c.in_ok-head.ensures.valid))

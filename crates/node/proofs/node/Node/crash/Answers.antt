@@ -6,6 +6,7 @@ use Rattle.node.specs.declared.node.Node.{Node}
 use Rattle.node.specs.declared.node.Node.TheVariants.{Up}
 use Rattle.node.specs.Served.{IsOf, fleet_of, is_up}
 use Rattle.node.proofs.WhatIsLeft.{crashed_told}
+use Rattle.node.proofs.Standing.{down_told, not_up}
 use Rattle.node.proofs.node.Node.crash.Goals as goal
 
 pub returns-in-Up-clause-told : goal.returns-in-Up-clause-told
@@ -15,3 +16,9 @@ returns-in-Up-clause-told c = λ config.
     (λ d of.
     let was : IsOf (Up c.in-Up.field-0) None d = subst (λ (n : Node). IsOf n None d) c.in-Up.is of in
     (was.2, c.drop_master.ensures.left d f of (ap fleet_of c.in-Up.is))) refl
+
+pub returns-in_default : goal.returns-in_default
+returns-in_default c =
+    let node = c.args.self.now in
+    let down = not_up node c.in_default.not-Up in
+    record { told = λ config. down_told node config Crash down refl; dropped = (down, refl) }

@@ -10,8 +10,9 @@ use Rattle.driving.specs.Rolls.{IsNotRolled}
 use Rattle.driving.specs.Served.{LivesOn}
 use Rattle.node.specs.Served.{IsOf, is_up}
 use Rattle.node.proofs.Rolls.{no_step_told}
-use Rattle.node.proofs.Standing.{is_up_none}
+use Rattle.node.proofs.Standing.{is_up_none, not_up}
 use Rattle.node.proofs.Steps.{refused_left, roll_at}
+use Rattle.node.proofs.Downs.{down_open, down_room}
 use Rattle.node.proofs.node.Node.make_room.Goals as goal
 
 pub returns-in-Err-clause-told : goal.returns-in-Err-clause-told
@@ -38,3 +39,9 @@ returns-in-Err-clause-rolled c =
     let left = refused_left (Up m) c.refuse.new.self (world fleet_state m) c.in-Err.refusal c.refuse.result refl refl
     c.refuse.ensures in
     rw c.in-Up.is (c.in-Err.refusal, world fleet_state m, c.in-Err.ensures.refused, left.0, left.1)
+
+pub returns-in_default : goal.returns-in_default
+returns-in_default c =
+    let node = c.args.self.now in
+    let down = not_up node c.in_default.not-Up in
+    record { told = λ config. down_room node config down; rolled = down_open node down }

@@ -10,6 +10,8 @@ use Rattle.driving.specs.Rolls.{IsNotRolled, IsRolled}
 use Rattle.driving.specs.Served.{LivesOn}
 use Rattle.node.specs.Served.{IsOf}
 use Rattle.node.proofs.Steps.{head_told, no_step_answered, refused_left, roll_at}
+use Rattle.node.proofs.Downs.{down_roll}
+use Rattle.node.proofs.Standing.{down_told, not_up}
 use Rattle.node.proofs.node.Node.roll.Goals as goal
 
 pub returns-in-Ok-clause-told : goal.returns-in-Ok-clause-told
@@ -62,3 +64,9 @@ returns-in-Err-clause-rolled c =
     let left = refused_left (Up m) c.refuse.new.self (world fleet_state m) c.in-Err.refusal c.refuse.result refl refl
     c.refuse.ensures in
     rw c.in-Up.is (Err c.in-Err.refusal, world fleet_state m, c.in-Err.ensures.refused, left.0, left.1)
+
+pub returns-in_default : goal.returns-in_default
+returns-in_default c =
+    let node = c.args.self.now in
+    let down = not_up node c.in_default.not-Up in
+    record { told = λ config. down_told node config Roll down refl; rolled = down_roll node down }

@@ -37,7 +37,8 @@ returns-clause-told c = λ config.
             was.1,
             same_picture d was.0 (fleet_state w.in-Down.fleet) (fleet_state w.limit-in-Down.new.self)
                 (ap (λ (f : FleetState). f.picture) w.limit-in-Down.ensures.limited)
-                (ap (λ (f : FleetState). f.backups) w.limit-in-Down.ensures.limited) was.2,
+                (ap (λ (f : FleetState). f.backups) w.limit-in-Down.ensures.limited)
+                (ap (λ (f : FleetState). f.least) w.limit-in-Down.ensures.limited) was.2,
           ))
           (λ d at s. (refl, refl)))
       | in-Changing w ↦ λ d at s. absurd (subst (λ (n : Node). IsOf n at.left d) w.in-Changing.is s.node_of)

@@ -21,6 +21,7 @@ returns-in-Some c = (
     makes = λ command asks. not_rolled_makes c.args.self.now.node _ command c.in-Some.answer c.in-Some.ensures.rolled;
     will = refl;
     known = refl;
+    format = refl;
   },
 )
 
@@ -43,6 +44,7 @@ returns-in-Replied c =
             (rolled_makes c.args.self.now.node _ _ tried answer c.in_default.ensures.rolled t.3);
         will = refl;
         known = refl;
+        format = refl;
       },
     )
 
@@ -65,6 +67,7 @@ returns-in-Answered c =
             (rolled_makes c.args.self.now.node _ _ tried answer c.in_default.ensures.rolled t.1);
         will = refl;
         known = refl;
+        format = refl;
       },
     )
 
@@ -88,5 +91,6 @@ returns-in-Waits c =
             (rolling_makes c.args.self.now.node _ _ tried c.in_default.ensures.rolled t.1);
         will = refl;
         known = refl;
+        format = refl;
       },
     )

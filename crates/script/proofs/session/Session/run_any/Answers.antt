@@ -19,6 +19,7 @@ returns-in-Idle-clause-ran g c = rw c.in-Idle.is (inl (record {
   makes = refl;
   wills = refl;
   word = refl;
+  format = refl;
 }))
 
 pub returns-in-Hex-clause-ran : goal.returns-in-Hex-clause-ran
@@ -31,6 +32,7 @@ returns-in-Hex-clause-ran g c = rw c.in-Hex.is (inl (record {
   makes = (refl, c.hex.ensures.shown);
   wills = refl;
   word = refl;
+  format = refl;
 }))
 
 pub returns-in-Stop-clause-ran : goal.returns-in-Stop-clause-ran
@@ -43,6 +45,7 @@ returns-in-Stop-clause-ran g c = rw c.in-Stop.is (inl (record {
   makes = c.stop.ensures.limited;
   wills = refl;
   word = refl;
+  format = refl;
 }))
 
 pub returns-in-Fault-clause-ran : goal.returns-in-Fault-clause-ran
@@ -55,6 +58,7 @@ returns-in-Fault-clause-ran g c = rw c.in-Fault.is (inl (record {
   makes = c.fault.ensures.same;
   wills = refl;
   word = refl;
+  format = refl;
 }))
 
 pub returns-in-Crash-clause-ran : goal.returns-in-Crash-clause-ran
@@ -69,6 +73,7 @@ returns-in-Crash-clause-ran g c = rw c.in-Crash.is (inl
       wills =
           refl;
       word = refl;
+      format = refl;
     }))
 
 pub returns-in-Lose-2-clause-ran : goal.returns-in-Lose-2-clause-ran
@@ -82,6 +87,7 @@ returns-in-Lose-2-clause-ran g c = rw c.in-Lose-2.is (inl
       makes = c.lose.ensures.lost;
       wills = refl;
       word = refl;
+      format = refl;
     }))
 
 pub returns-in-Recover-clause-ran : goal.returns-in-Recover-clause-ran
@@ -98,6 +104,7 @@ returns-in-Roll-clause-ran g c = rw c.in-Roll.is (inl (record {
   wills =
       refl;
   word = refl;
+  format = refl;
 }))
 
 pub returns-in-BeginRoll-clause-ran : goal.returns-in-BeginRoll-clause-ran
@@ -111,6 +118,7 @@ returns-in-BeginRoll-clause-ran g c = rw c.in-BeginRoll.is
       makes = c.step.ensures.stepped;
       wills = refl;
       word = refl;
+      format = refl;
     }))
 
 pub returns-in-Compact-clause-ran : goal.returns-in-Compact-clause-ran
@@ -125,6 +133,7 @@ returns-in-Compact-clause-ran g c = rw c.in-Compact.is
       wills =
           refl;
       word = refl;
+      format = refl;
     }))
 
 pub returns-in-Push-clause-ran : goal.returns-in-Push-clause-ran
@@ -138,6 +147,7 @@ returns-in-Push-clause-ran g c = rw c.in-Push.is (inl (record {
       c.step-in-Push.ensures.stepped;
   wills = refl;
   word = refl;
+  format = refl;
 }))
 
 pub returns-in-Log-clause-ran : goal.returns-in-Log-clause-ran
@@ -150,6 +160,7 @@ returns-in-Log-clause-ran g c = rw c.in-Log.is (inl (record {
   makes = (refl, c.log.ensures.shown);
   wills = refl;
   word = refl;
+  format = refl;
 }))
 
 pub returns-in-Room-clause-ran : goal.returns-in-Room-clause-ran
@@ -162,6 +173,7 @@ returns-in-Room-clause-ran g c = rw c.in-Room.is (inl (record {
   makes = (refl, c.room.ensures.shown);
   wills = refl;
   word = refl;
+  format = refl;
 }))
 
 pub returns-in-Holdings-clause-ran : goal.returns-in-Holdings-clause-ran
@@ -176,6 +188,7 @@ returns-in-Holdings-clause-ran g c = rw c.in-Holdings.is
       wills =
           refl;
       word = refl;
+      format = refl;
     }))
 
 pub returns-in-Copy-clause-ran : goal.returns-in-Copy-clause-ran
@@ -189,6 +202,7 @@ returns-in-Copy-clause-ran g c = rw c.in-Copy.is (inl (record {
       c.step-in-Copy.ensures.stepped;
   wills = refl;
   word = refl;
+  format = refl;
 }))
 
 pub returns-in-Seal-clause-ran : goal.returns-in-Seal-clause-ran
@@ -202,6 +216,7 @@ returns-in-Seal-clause-ran g c = rw c.in-Seal.is (inl (record {
       c.step-in-Seal.ensures.stepped;
   wills = refl;
   word = refl;
+  format = refl;
 }))
 
 pub returns-in-Free-clause-ran : goal.returns-in-Free-clause-ran
@@ -215,6 +230,7 @@ returns-in-Free-clause-ran g c = rw c.in-Free.is (inl (record {
       c.step-in-Free.ensures.stepped;
   wills = refl;
   word = refl;
+  format = refl;
 }))
 
 pub returns-in-Will-clause-ran : goal.returns-in-Will-clause-ran
@@ -222,3 +238,6 @@ returns-in-Will-clause-ran g c = rw c.in-Will.is (inl c.run_will.ensures)
 
 pub returns-in-Clients-clause-ran : goal.returns-in-Clients-clause-ran
 returns-in-Clients-clause-ran g c = rw c.in-Clients.is (inl c.run_clients.ensures)
+
+pub returns-in-Format-clause-ran : goal.returns-in-Format-clause-ran
+returns-in-Format-clause-ran g c = rw c.in-Format.is (inl c.run_format.ensures)

@@ -17,4 +17,5 @@ returns-clause-ran c =
       wills =
           refl;
       word = refl;
+      format = refl;
     })

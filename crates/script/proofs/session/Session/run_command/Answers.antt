@@ -4,7 +4,7 @@ use Rattle.history.specs.View.{shown_command as lent_command}
 use Rattle.answers.specs.declared.answer.Answer.TheVariants as answers
 use Rattle.node.proofs.Steps.{command_makes}
 use Rattle.node.proofs.Tries.{tried_makes, waited_makes}
-use Rattle.script.proofs.Sessions.{command_keeps, command_keeps_word}
+use Rattle.script.proofs.Sessions.{command_keeps, command_keeps_format, command_keeps_word}
 use Rattle.script.proofs.session.Session.run_command.Goals as goal
 
 pub returns-in-Replied : goal.returns-in-Replied
@@ -26,6 +26,7 @@ returns-in-Replied c =
         makes = command_makes _ line _ answer command asks (tried_makes _ _ command answer t.3);
         wills = command_keeps c.args.self.now line left answer refl command asks;
         word = command_keeps_word c.args.self.now line left answer refl command asks;
+        format = command_keeps_format c.args.self.now line left refl command asks;
       },
     )
 
@@ -48,6 +49,7 @@ returns-in-Answered c =
         makes = command_makes _ line _ answer command asks (tried_makes _ _ command answer t.1);
         wills = command_keeps c.args.self.now line left answer refl command asks;
         word = command_keeps_word c.args.self.now line left answer refl command asks;
+        format = command_keeps_format c.args.self.now line left refl command asks;
       },
     )
 
@@ -72,5 +74,6 @@ returns-in-Waits c =
             (waited_makes _ _ _ command answer t.1 (ran.makes command asks));
         wills = command_keeps c.args.self.now line c.run_after_roll.new.self answer ran.will command asks;
         word = command_keeps_word c.args.self.now line c.run_after_roll.new.self answer ran.known command asks;
+        format = command_keeps_format c.args.self.now line c.run_after_roll.new.self ran.format command asks;
       },
     )

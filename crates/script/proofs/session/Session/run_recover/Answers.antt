@@ -1,5 +1,7 @@
-use Rattle.std.proofs.Common.{ℕ, inl, inr, refl, subst, arith}
-use Rattle.next_master.specs.Configuration.{config_of}
+use Rattle.std.proofs.Common.{ℕ, inl, inr, refl, sym, subst, arith}
+use Rattle.command_line.specs.declared.settings.Options.{Options}
+use Rattle.recovery.specs.Orders.{Covers}
+use Rattle.next_master.specs.Configuration.{config_of, later_options, tables_to}
 use Rattle.next_master.specs.Numbers.{Renumbers}
 use Rattle.next_master.specs.Recoveries.{Ends, Recovers}
 use Rattle.script.specs.Sessions.{asked_of}
@@ -18,12 +20,16 @@ returns-in_default-whole_will g c =
     record {
       order = c.args.order;
       asks = refl;
-      options = refl;
+      options = inl (refl, refl);
+      format = refl;
       known = refl;
       covers = λ all. all.0;
       numbers = record { rises = omega arith; fresh = inl refl };
       recovers = inl (refl, want_at s.node config c.args.order down);
-      ends = inl (inr c.if-not-self.false, want_ends s.node s.options (asked_of s c.args.order) fleet.0 fleet.1);
+      ends = inl (
+        inr c.if-not-self.false,
+        want_ends s.node (later_options s.lists_lengths s.options) (asked_of s c.args.order) fleet.0 fleet.1,
+      );
       limit = refl;
       will = inl (refl, refl);
       least = inl refl;
@@ -33,24 +39,26 @@ returns-in_default-whole_will g c =
 pub returns-else-recovery-self : goal.returns-else-recovery-self
 returns-else-recovery-self g c =
     let s = c.args.self.now in
+    let later = later_options s.lists_lengths s.options in
     let r = c.recover_node-recovery in
-    let ended : Ends s.node s.options (asked_of s c.args.order) r.result.used r.new.node r.result.answer
+    let ended : Ends s.node later (asked_of s c.args.order) r.result.used r.new.node r.result.answer
     r.result.master = r.ensures.ends in
     record {
       order = c.args.order;
       asks = refl;
-      options = refl;
+      options = inl (refl, refl);
+      format = refl;
       known = refl;
       covers = λ all. all.0;
       numbers = subst (λ (n : ℕ). Renumbers s.master s.used n r.result.used) c.if-recovery-self.false r.ensures.numbers;
-      recovers = subst (λ (n : ℕ). Recovers s.node s.options s.master c.args.order r.new.node r.result.answer n)
-          c.if-recovery-self.false r.ensures.recovers;
+      recovers = subst (λ (n : ℕ). Recovers s.node s.options s.lists_lengths s.master c.args.order r.new.node
+          r.result.answer n) c.if-recovery-self.false r.ensures.recovers;
       ends = inl (
         inr c.if-not-self.false,
-        subst (λ (n : ℕ). Ends s.node s.options
+        subst (λ (n : ℕ). Ends s.node later
             (asked_of s c.args.order) r.result.used r.new.node r.result.answer n) c.if-recovery-self.false ended,
       );
-      limit = limit_made s.node r.new.node s.options (asked_of s c.args.order) r.result.used r.result.answer
+      limit = limit_made s.node r.new.node later (asked_of s c.args.order) r.result.used r.result.answer
           r.result.master ended;
       will = inl (refl, refl);
       least = r.ensures.least;
@@ -60,19 +68,22 @@ returns-else-recovery-self g c =
 pub returns-then-recovery-self : goal.returns-then-recovery-self
 returns-then-recovery-self g c =
     let s = c.args.self.now in
+    let later = later_options s.lists_lengths s.options in
     let r = c.recover_node-recovery in
-    let ended : Ends s.node s.options (asked_of s c.args.order) r.result.used r.new.node r.result.answer
+    let ended : Ends s.node later (asked_of s c.args.order) r.result.used r.new.node r.result.answer
     r.result.master = r.ensures.ends in
     record {
       order = c.args.order;
       asks = refl;
-      options = refl;
+      options = inr (c.if-recovery-self.true, c.later_options-self.ensures);
+      format = refl;
       known = refl;
-      covers = λ all. c.in-Ok.ensures.covers;
+      covers = λ all. subst (λ (o : Options). Covers (tables_to o.tables) c.in-Ok.whole)
+          (sym c.later_options-self.ensures) c.in-Ok.ensures.covers;
       numbers = r.ensures.numbers;
       recovers = r.ensures.recovers;
       ends = inl (inr c.if-not-self.false, ended);
-      limit = limit_made s.node r.new.node s.options (asked_of s c.args.order) r.result.used r.result.answer
+      limit = limit_made s.node r.new.node later (asked_of s c.args.order) r.result.used r.result.answer
           r.result.master ended;
       will = inr (c.if-recovery-self.true, c.in-Ok.ensures.whole);
       least = r.ensures.least;
@@ -87,7 +98,8 @@ returns-then-not-self g c =
     record {
       order = c.args.order;
       asks = refl;
-      options = refl;
+      options = inl (refl, refl);
+      format = refl;
       known = refl;
       covers = λ all. all.0;
       numbers = record { rises = omega arith; fresh = inl refl };

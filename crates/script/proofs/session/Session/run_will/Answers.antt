@@ -12,4 +12,5 @@ returns c = record {
   makes = refl;
   wills = (c.will.ensures.handed, c.will.ensures.limits);
   word = refl;
+  format = refl;
 }

@@ -16,6 +16,10 @@ pub new-requires-2-clause-none : goal.new-requires-2-clause-none
 new-requires-2-clause-none c = λ b s. ap (λ (f : FleetState). f.picture b c.in_ok-config.config.master s)
     c.in_ok-fleet.ensures.new
 
+pub new-requires-2-clause-least : goal.new-requires-2-clause-least
+new-requires-2-clause-least c =
+    record { least = λ m above. ap (λ (f : FleetState). f.least m) c.in_ok-fleet.ensures.new }
+
 pub returns : goal.returns
 returns c =
     let m = c.push_all.new.master in
@@ -55,4 +59,5 @@ returns c =
       covers = c.in_ok-will.ensures.covers;
       will = c.in_ok-will.ensures.whole;
       known = refl;
+      format = refl;
     }

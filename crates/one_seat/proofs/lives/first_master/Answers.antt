@@ -1,6 +1,0 @@
-use Rattle.std.proofs.Common.{ap}
-use Rattle.replica.specs.Picture.{FleetState}
-use Rattle.one_seat.proofs.lives.first_master.Goals as goal
-
-pub new-requires-2-clause-none : goal.new-requires-2-clause-none
-new-requires-2-clause-none c = λ b s. ap (λ (f : FleetState). f.picture b c.args.config.master s) c.in_ok-fleet.ensures.new

@@ -1,0 +1,78 @@
+//! The first master of a script, and what the next one begins with.
+
+ghost use Rattle.std.specs.Prelude.{◌≡◌, ℕ, suc, max, None, IfOk};
+ghost use Rattle.backup.specs.State.{fleet_state};
+ghost use Rattle.next_master.specs.Numbers.{greatest_of};
+ghost use Rattle.replica.specs.Picture.{AreHeld};
+ghost use Rattle.store_lines.specs.Lives.{CanBegin, IsChecked, IsOpening};
+
+use backup::MemoryFleet;
+use entry::NoMemory;
+use master::{Config, Master};
+use next_master::{later_options, next_number};
+use recovery::{PlanFault, RecoveryFault};
+use replica::Inventory;
+use script::{Answer, Options, configuration};
+use std::alloc::Global;
+
+/// The number of the first master.
+pub const FIRST_MASTER: u64 = 1;
+
+/// A master over an empty fleet. Its head isn't open yet.
+pub fn first_master(
+    alloc: Global,
+    options: &Options,
+    config: Config,
+) -> Result<Master<MemoryFleet>, NoMemory>
+    requires { IsChecked options.now config }
+    ensures { IfOk result (λ m. IsOpening options.now m.knows) }
+{
+    let fleet = MemoryFleet::new(alloc, config.backups)?;
+    match Master::new(alloc, config, fleet) {
+        Ok(master) => Ok(master),
+        Err((fault, _)) => Err(fault),
+    }
+}
+
+/// The configuration of the master that follows those up to the number `greatest`, and those whose replicas were found.
+/// Once format 2 was asked for, it lists each segment with its length.
+pub fn next_config(
+    alloc: Global,
+    options: &Options,
+    lists_lengths: bool,
+    greatest: u64,
+    fleet: &MemoryFleet,
+    inventory: &Inventory<'_>,
+) -> Result<Config, Answer>
+    requires { AreHeld inventory.now (fleet_state fleet.now).picture }
+    ensures { IfOk result (CanBegin options.now (fleet_state fleet.now)) }
+{
+    let Some(number) = next_number(inventory.as_slice(), greatest) else {
+        return Err(Answer::NumbersSpent);
+    };
+    let later = later_options(options, lists_lengths);
+    match configuration(alloc, &later, number) {
+        Ok(config) => fitting(options, fleet, config),
+        Err(NoMemory) => Err(want()),
+    }
+}
+
+/// The configuration, if a master can begin with it over the fleet. That it can't never comes.
+fn fitting(options: &Options, fleet: &MemoryFleet, config: Config) -> Result<Config, Answer>
+    requires records { config.history ≡ options.now.history }
+    requires unused { (b s : ℕ) → (fleet_state fleet.now).picture b config.master s ≡ None }
+    ensures { IfOk result (CanBegin options.now (fleet_state fleet.now)) }
+{
+    if config.backups > fleet.backups() || !fleet.is_unraised(config.master) {
+        return Err(want());
+    }
+    match config.check() {
+        Ok(()) => Ok(config),
+        Err(_) => Err(want()),
+    }
+}
+
+/// The answer if a recovery lacks memory.
+pub fn want() -> Answer {
+    Answer::NotRecovered(RecoveryFault::Plan(PlanFault::NoMemory))
+}
